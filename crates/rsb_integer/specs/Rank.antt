@@ -1,0 +1,22 @@
+-- Values by their ranks, and ranges of values as intervals of ranks.
+use Rattle.std.specs.Prelude.{ℕ, ℤ, pos, negsuc, cond, map, ◌+◌, ◌-◌, ◌*◌, ◌^◌, nat_lt, List}
+use Rattle.std.specs.Int.{Width}
+use Rattle.std.specs.Range.{range_inclusive_start, range_inclusive_end, range_inclusive_exhausted}
+use Rattle.std.specs.declared.ops.RangeInclusive.{RangeInclusive}
+use Rattle.rsb_integer.specs.Runs.{Interval}
+use mir.Val.{hbits}
+
+-- the ranks of a range: none of one that was iterated to its end
+abbrev pub interval_of : {T : Type 0} → (T → ℕ) → RangeInclusive T → Interval
+interval_of rank range = cond (range_inclusive_exhausted range)
+    (record { first = 1; last = 0 })
+    (record { first = rank (range_inclusive_start range); last = rank (range_inclusive_end range) })
+
+abbrev pub intervals_of : {T : Type 0} → (T → ℕ) → List (RangeInclusive T) → List Interval
+intervals_of rank ranges = map (interval_of rank) ranges
+
+-- the rank of a signed number: the negative ones come first, and those that do not fit are past all
+abbrev pub signed_rank : Width → ℤ → ℕ
+signed_rank width (pos n) = 2 ^ hbits width + n
+signed_rank width (negsuc n) =
+    cond (nat_lt n (2 ^ hbits width)) (2 ^ hbits width - 1 - n) (2 * 2 ^ hbits width)

@@ -1,0 +1,56 @@
+-- Sets of ranks and their algebra. A rank is the place of a value in its type, from 0 on.
+use Rattle.std.specs.Prelude.{◌≡◌, ℕ, zero, suc, Bool, true, false, not, ◌&&◌, ◌||◌, cond, ◌+◌, ◌<◌, List, [], ◌∷◌}
+
+-- a set of ranks: it selects those that it is true of
+abbrev pub Selection : Type 0
+Selection = ℕ → Bool
+
+-- one of two, and not both (std's `xor` says the same, and does not unfold by itself)
+abbrev pub exclusive_or : Bool → Bool → Bool
+exclusive_or true b = not b
+exclusive_or false b = b
+
+-- ---- of one set or two, rank by rank
+
+abbrev pub complement : Selection → Selection
+complement selected rank = not (selected rank)
+
+abbrev pub union : Selection → Selection → Selection
+union left right rank = left rank || right rank
+
+abbrev pub intersection : Selection → Selection → Selection
+intersection left right rank = left rank && right rank
+
+abbrev pub difference : Selection → Selection → Selection
+difference left right rank = left rank && not (right rank)
+
+abbrev pub symmetric_difference : Selection → Selection → Selection
+symmetric_difference left right rank = exclusive_or (left rank) (right rank)
+
+-- ---- of any number of sets
+
+-- what lies in some of the sets: nothing, of no sets
+abbrev pub any_of : List Selection → Selection
+any_of [] rank = false
+any_of (set ∷ sets) rank = set rank || any_of sets rank
+
+-- what lies in all of the sets: everything, of no sets
+abbrev pub all_of : List Selection → Selection
+all_of [] rank = true
+all_of (set ∷ sets) rank = set rank && all_of sets rank
+
+-- what lies in an odd number of the sets: nothing, of no sets
+abbrev pub odd_of : List Selection → Selection
+odd_of [] rank = false
+odd_of (set ∷ sets) rank = exclusive_or (set rank) (odd_of sets rank)
+
+-- ---- what a type of n values tells of sets
+
+-- no rank below n tells the two sets apart
+abbrev pub Agree : ℕ → Selection → Selection → Type 0
+Agree n left right = (rank : ℕ) → rank < n → left rank ≡ right rank
+
+-- how many ranks below n the set selects. Not an abbreviation, since n may be 2 ^ 128.
+unfoldable pub count : ℕ → Selection → ℕ
+count zero selected = 0
+count (suc n) selected = count n selected + cond (selected n) 1 0

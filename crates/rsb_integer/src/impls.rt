@@ -1,0 +1,3 @@
+//! The element types that are given.
+
+mod i32;

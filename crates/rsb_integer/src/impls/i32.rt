@@ -1,0 +1,60 @@
+//! `i32` as an element type, with lengths in `u64`.
+
+ghost use Rattle.std.specs.Prelude.{◌^◌};
+ghost use Rattle.std.specs.Int.{w32};
+ghost use Rattle.std.proofs.Common.{lit≤};
+ghost use Rattle.rsb_integer.specs.Rank.{signed_rank};
+ghost use Rattle.rsb_integer.specs.RankLaws.{signed-one_place, signed-in_order};
+
+use crate::integer::Integer;
+use std::ops::RangeInclusive;
+
+impl Integer for i32 {
+    type SafeLen = u64;
+
+    ghost rank = { signed_rank w32 };
+
+    ghost value_count = { 2 ^ 32 };
+
+    fn checked_add_one(self) -> Option<i32> {
+        self.checked_add(1)
+    }
+
+    fn add_one(self) -> i32 {
+        self + 1
+    }
+
+    fn sub_one(self) -> i32 {
+        self - 1
+    }
+
+    fn min_value() -> i32 {
+        i32::MIN
+    }
+
+    fn max_value() -> i32 {
+        i32::MAX
+    }
+
+    fn safe_len(range: &RangeInclusive<i32>) -> u64 {
+        u64::from(range.end().abs_diff(*range.start())) + 1
+    }
+
+    fn inclusive_end_from_start(self, b: u64) -> i32 {
+        self.checked_add_unsigned((b - 1) as u32).unwrap()
+    }
+
+    fn start_from_inclusive_end(self, b: u64) -> i32 {
+        self.checked_sub_unsigned((b - 1) as u32).unwrap()
+    }
+
+    ghost one_place = { signed-one_place w32 };
+
+    ghost in_order = { signed-in_order w32 };
+
+    ghost some_values = { lit≤ tt };
+
+    ghost countable = { lit≤ tt };
+
+    ghost lengths_suffice = { lit≤ tt };
+}
