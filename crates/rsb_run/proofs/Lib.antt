@@ -1,0 +1,5 @@
+pub mod CutLemmas
+pub mod NumberLemmas
+pub mod ParseLemmas
+pub mod SpellingLemmas
+pub mod TransferLemmas
