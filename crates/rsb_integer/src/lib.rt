@@ -3,5 +3,6 @@
 
 mod impls;
 pub mod integer;
+pub mod laws;
 
 pub use integer::Integer;

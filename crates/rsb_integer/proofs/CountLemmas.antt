@@ -1,0 +1,154 @@
+-- How many ranks a set selects.
+use Rattle.std.proofs.Common.{◌≡◌, ℕ, zero, suc, Bool, true, false, ◌||◌, cond, ◌+◌, ◌-◌, ◌<◌, ◌≤◌, min, List, [], ◌∷◌, refl, sym, ap, ◌∙◌, inl, inr, arith}
+use Rattle.std.proofs.lemmas.Bool.{cases_lt}
+use Rattle.std.proofs.lemmas.List.Elements.{All-head, All-tail}
+use Rattle.std.proofs.lemmas.List.Sums.{sum_by-cons}
+use Rattle.std.specs.List.{sum_by}
+use Rattle.rsb_integer.specs.Runs.{Interval, covers, members, length_of, IsCanonicalFrom, AllEndBelow}
+use Rattle.rsb_integer.specs.Selection.{Selection, Agree, count}
+use Rattle.rsb_integer.proofs.RunsLemmas.{covers-bounds, covers-cases, members-cons, members-below}
+
+-- what one rank adds to a count
+abbrev once : Bool → ℕ
+once test = cond test 1 0
+
+once-at_most : (small large : Bool) → (small ≡ true → large ≡ true) → once small ≤ once large
+once-at_most true large within = let same : once large ≡ 1 = ap once (within refl) in omega arith
+once-at_most false true within = omega arith
+once-at_most false false within = omega arith
+
+once-less : (small large : Bool) → once small < once large → (large ≡ true) × (small ≡ false)
+once-less true true less = absurd (omega arith)
+once-less true false less = absurd (omega arith)
+once-less false true less = (refl, refl)
+once-less false false less = absurd (omega arith)
+
+once-or : (left right : Bool) → (left ≡ true → right ≡ false) → once (left || right) ≡ once left + once right
+once-or true right apart = let none : once right ≡ 0 = ap once (apart refl) in omega arith
+once-or false true apart = refl
+once-or false false apart = refl
+
+-- sets that agree have one count
+pub count-agree : (n : ℕ) (left right : Selection) → Agree n left right → count n left ≡ count n right
+unfolding count
+count-agree zero left right same = refl
+count-agree (suc n) left right same =
+    let before = count-agree n left right (λ rank below. same rank (omega arith)) in
+    let here : once (left n) ≡ once (right n) = ap once (same n (omega arith)) in
+    omega arith
+
+-- a set of no rank below n counts 0, and one of every rank counts n
+pub count-none : (n : ℕ) (selected : Selection) → ((rank : ℕ) → rank < n → selected rank ≡ false)
+    → count n selected ≡ 0
+unfolding count
+count-none zero selected none = refl
+count-none (suc n) selected none =
+    let before = count-none n selected (λ rank below. none rank (omega arith)) in
+    let here : once (selected n) ≡ 0 = ap once (none n (omega arith)) in
+    omega arith
+
+pub count-all : (n : ℕ) (selected : Selection) → ((rank : ℕ) → rank < n → selected rank ≡ true)
+    → count n selected ≡ n
+unfolding count
+count-all zero selected all = refl
+count-all (suc n) selected all =
+    let before = count-all n selected (λ rank below. all rank (omega arith)) in
+    let here : once (selected n) ≡ 1 = ap once (all n (omega arith)) in
+    omega arith
+
+-- no set counts more ranks than there are
+pub count-within : (n : ℕ) (selected : Selection) → count n selected ≤ n
+unfolding count
+count-within zero selected = omega arith
+count-within (suc n) selected =
+    let before = count-within n selected in
+    let here : once (selected n) ≤ 1 = once-at_most (selected n) true (λ holds. refl) in
+    omega arith
+
+-- a set that lies within another has no larger count
+pub count-at_most : (n : ℕ) (small large : Selection)
+    → ((rank : ℕ) → small rank ≡ true → large rank ≡ true) → count n small ≤ count n large
+unfolding count
+count-at_most zero small large within = omega arith
+count-at_most (suc n) small large within =
+    let before = count-at_most n small large within in
+    let here = once-at_most (small n) (large n) (within n) in
+    omega arith
+
+-- and a smaller one where the other has a further rank
+pub count-less : (n : ℕ) (small large : Selection)
+    → ((rank : ℕ) → small rank ≡ true → large rank ≡ true)
+    → (rank : ℕ) → rank < n → large rank ≡ true → small rank ≡ false → count n small < count n large
+unfolding count
+count-less zero small large within rank below has lacks = absurd (omega arith)
+count-less (suc n) small large within rank below has lacks = elim (cases_lt rank n) [
+  | inl earlier ↦
+      let before = count-less n small large within rank earlier has lacks in
+      let here = once-at_most (small n) (large n) (within n) in
+      omega arith
+  | inr last ↦
+      let same : rank ≡ n = omega arith in
+      let before = count-at_most n small large within in
+      let none : once (small n) ≡ 0 = ap once (sym (ap small same) ∙ lacks) in
+      let one : once (large n) ≡ 1 = ap once (sym (ap large same) ∙ has) in
+      omega arith
+]
+
+-- of two sets the one with the larger count has a rank that the other lacks
+pub count-finds : (n : ℕ) (small large : Selection) → count n small < count n large
+    → (rank : ℕ) × (rank < n) × (large rank ≡ true) × (small rank ≡ false)
+unfolding count
+count-finds zero small large less = absurd (omega arith)
+count-finds (suc n) small large less = elim (cases_lt (once (small n)) (once (large n))) [
+  | inl more ↦ let tells = once-less (small n) (large n) more in (n, omega arith, tells.0, tells.1)
+  | inr same ↦
+      let found = count-finds n small large (omega arith) in
+      let below = found.1 in
+      (found.0, omega arith, found.2, found.3)
+]
+
+-- the count of two sets with no common rank
+pub count-union : (n : ℕ) (both left right : Selection)
+    → ((rank : ℕ) → both rank ≡ (left rank || right rank))
+    → ((rank : ℕ) → left rank ≡ true → right rank ≡ false) → count n both ≡ count n left + count n right
+unfolding count
+count-union zero both left right are apart = refl
+count-union (suc n) both left right are apart =
+    let before = count-union n both left right are apart in
+    let here : once (both n) ≡ once (left n) + once (right n) =
+        ap once (are n) ∙ once-or (left n) (right n) (apart n) in
+    omega arith
+
+-- the count of an interval
+pub count-covers : (n : ℕ) (run : Interval)
+    → count n (λ rank. covers rank run) ≡ min n (run.last + 1) - run.first
+unfolding count
+count-covers zero run = omega arith
+count-covers (suc n) run =
+    let before = count-covers n run in
+    elim (covers-cases n run) [
+      | inl inside ↦
+          let one : once (covers n run) ≡ 1 = ap once inside.2 in
+          let low = inside.0 in
+          let high = inside.1 in
+          omega arith
+      | inr outside ↦
+          let none : once (covers n run) ≡ 0 = ap once outside.1 in
+          elim outside.0 [ inl below ↦ omega arith | inr past ↦ omega arith ]
+    ]
+
+-- a canonical list has as many members as the lengths of its intervals add up to
+pub count-members : (n low : ℕ) (runs : List Interval) → IsCanonicalFrom low runs → AllEndBelow n runs
+    → count n (members runs) ≡ sum_by length_of runs
+count-members n low [] canonical below = count-none n (members []) (λ rank here. refl)
+count-members n low (run ∷ runs) canonical below =
+    let ends : run.last < n = All-head (λ (each : Interval). each.last < n) run runs below in
+    let tail = All-tail (λ (each : Interval). each.last < n) run runs below in
+    let rest = count-members n (run.last + 2) runs canonical.2 tail in
+    let both = count-union n (members (run ∷ runs)) (λ rank. covers rank run) (members runs)
+        (members-cons run runs)
+        (λ rank here. let bounds = covers-bounds rank run here in
+            members-below (run.last + 2) runs rank canonical.2 (omega (arith, bounds.1))) in
+    let one = count-covers n run in
+    let sum = sum_by-cons length_of run runs in
+    omega arith

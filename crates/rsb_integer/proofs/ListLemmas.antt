@@ -1,0 +1,51 @@
+-- What every list of a head and a tail keeps, where std says it of pushes and appends alone.
+use Rattle.std.proofs.Common.{◌≡◌, ◌⊎◌, ℕ, zero, suc, Bool, true, false, ◌||◌, List, [], ◌∷◌, get_or, refl, inl, inr, arith}
+use Rattle.std.proofs.lemmas.List.Elements.{Contains-append_left, Contains-append_right, Contains-append_cases, Contains-push, Contains-push_cases}
+use Rattle.std.specs.List.{All, AllPairs, Contains}
+
+-- ---- tests
+
+pub true_or_false : (test : Bool) → (test ≡ true) ⊎ (test ≡ false)
+true_or_false true = inl refl
+true_or_false false = inr refl
+
+pub not_both : (test : Bool) → test ≡ true → test ≡ false → ⊥
+not_both test holds fails = absurd (cc)
+
+pub or-true : (test : Bool) → (test || true) ≡ true
+or-true true = refl
+or-true false = refl
+
+-- ---- elements
+
+pub All-both : {X : Type 0} (P Q R : X → Type 0) → ((x : X) → P x → Q x → R x) → (xs : List X)
+    → All P xs → All Q xs → All R xs
+All-both P Q R combine xs ps qs k default within =
+    combine (get_or xs k default) (ps k default within) (qs k default within)
+
+pub AllPairs-cons : {X : Type 0} (R : X → X → Type 0) (x : X) (xs : List X)
+    → All (R x) xs → AllPairs R xs → AllPairs R (x ∷ xs)
+AllPairs-cons R x xs first rest zero zero d i j = absurd (omega arith)
+AllPairs-cons R x xs first rest zero (suc n) d i j = first n d (omega arith)
+AllPairs-cons R x xs first rest (suc m) zero d i j = absurd (omega arith)
+AllPairs-cons R x xs first rest (suc m) (suc n) d i j = rest m n d (omega arith) (omega arith)
+
+pub AllPairs-tail : {X : Type 0} (R : X → X → Type 0) (x : X) (xs : List X)
+    → AllPairs R (x ∷ xs) → AllPairs R xs
+AllPairs-tail R x xs pairs m n d i j = pairs (suc m) (suc n) d (omega arith) (omega arith)
+
+pub Contains-head : {X : Type 0} (x : X) (xs : List X) → Contains (x ∷ xs) x
+Contains-head x xs = Contains-append_left (x ∷ []) xs x (Contains-push [] x)
+
+pub Contains-tail : {X : Type 0} (x : X) (xs : List X) (y : X) → Contains xs y → Contains (x ∷ xs) y
+Contains-tail x xs y found = Contains-append_right (x ∷ []) xs y found
+
+pub Contains-cases : {X : Type 0} (x : X) (xs : List X) (y : X)
+    → Contains (x ∷ xs) y → (x ≡ y) ⊎ Contains xs y
+Contains-cases x xs y found = elim (Contains-append_cases (x ∷ []) xs y found) [
+  | inl head ↦ elim (Contains-push_cases [] x y head) [
+    | inl nothing ↦ let below = nothing.1 in absurd (omega arith)
+    | inr same ↦ inl same
+  ]
+  | inr tail ↦ inr tail
+]

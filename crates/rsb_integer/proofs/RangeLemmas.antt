@@ -1,0 +1,88 @@
+-- Ranges of values are told by their intervals of ranks.
+use Rattle.std.proofs.Common.{◌≡◌, ℕ, Bool, true, false, cond, List, [], ◌∷◌, ◌<◌, ◌≤◌, refl, sym, ap, ◌+◌, ◌∙◌, subst, arith}
+use Rattle.std.proofs.lemmas.List.Elements.{All-head, All-tail}
+use Rattle.std.specs.Range.{range_inclusive_start, range_inclusive_end, range_inclusive_exhausted}
+use Rattle.std.specs.declared.ops.RangeInclusive.{RangeInclusive}
+use Rattle.rsb_integer.specs.Rank.{interval_of, intervals_of}
+use Rattle.rsb_integer.specs.Runs.{Interval, members, AllEndBelow, IsCanonicalFrom, IsCanonical}
+use Rattle.rsb_integer.specs.Selection.{Agree}
+use Rattle.rsb_integer.proofs.RunsLemmas.{canonical-same}
+
+-- the interval of a range by its three parts
+abbrev interval_by : Bool → ℕ → ℕ → Interval
+interval_by exhausted first last =
+    cond exhausted (record { first = 1; last = 0 }) (record { first = first; last = last })
+
+interval_by-some : (exhausted : Bool) (first last : ℕ)
+    → (interval_by exhausted first last).first ≤ (interval_by exhausted first last).last → exhausted ≡ false
+interval_by-some true first last ordered = absurd (omega arith)
+interval_by-some false first last ordered = refl
+
+module _ {T : Type 0} (rank : T → ℕ) where
+  -- a range that has members was not iterated to its end
+  pub exhausted-some : (range : RangeInclusive T)
+      → (interval_of rank range).first ≤ (interval_of rank range).last
+      → range_inclusive_exhausted range ≡ false
+  exhausted-some range ordered = interval_by-some (range_inclusive_exhausted range)
+      (rank (range_inclusive_start range)) (rank (range_inclusive_end range)) ordered
+
+  -- and its interval goes from the rank of its start to that of its end
+  pub interval_of-some : (range : RangeInclusive T)
+      → (interval_of rank range).first ≤ (interval_of rank range).last
+      → interval_of rank range ≡ record {
+        first = rank (range_inclusive_start range);
+        last = rank (range_inclusive_end range);
+      }
+  interval_of-some range ordered =
+      ap (λ exhausted. interval_by exhausted (rank (range_inclusive_start range)) (rank (range_inclusive_end range)))
+      (exhausted-some range ordered)
+
+-- in a type of n values, each of which has a place of its own
+module _ {T : Type 0} (rank : T → ℕ) (n : ℕ)
+    (one_place : (x y : T) → rank x < n → rank x ≡ rank y → x ≡ y) where
+  pub same_range : (range other : RangeInclusive T)
+      → (interval_of rank range).first ≤ (interval_of rank range).last → (interval_of rank range).last < n
+      → interval_of rank range ≡ interval_of rank other → range ≡ other
+  same_range range other ordered below same =
+      let order : (interval_of rank other).first ≤ (interval_of rank other).last =
+          subst (λ (run : Interval). run.first ≤ run.last) same ordered in
+      let parts = sym (interval_of-some rank range ordered) ∙ same ∙ interval_of-some rank other order in
+      let first : rank (range_inclusive_start range) ≡ rank (range_inclusive_start other) =
+          ap (λ (run : Interval). run.first) parts in
+      let last : rank (range_inclusive_end range) ≡ rank (range_inclusive_end other) =
+          ap (λ (run : Interval). run.last) parts in
+      let is = interval_of-some rank range ordered in
+      let starts = ap (λ (run : Interval). run.first) is in
+      let ends = ap (λ (run : Interval). run.last) is in
+      let start = one_place (range_inclusive_start range) (range_inclusive_start other)
+          (omega (arith, starts, ends)) first in
+      let end = one_place (range_inclusive_end range) (range_inclusive_end other)
+          (omega (arith, ends)) last in
+      let exhausted = exhausted-some rank range ordered ∙ sym (exhausted-some rank other order) in
+      λ i. record { start = start i; end = end i; exhausted = exhausted i }
+
+  pub same_ranges : (low : ℕ) (ranges others : List (RangeInclusive T))
+      → IsCanonicalFrom low (intervals_of rank ranges) → AllEndBelow n (intervals_of rank ranges)
+      → intervals_of rank ranges ≡ intervals_of rank others → ranges ≡ others
+  same_ranges low [] [] canonical below same = refl
+  same_ranges low [] (other ∷ others) canonical below same = absurd (cc)
+  same_ranges low (range ∷ ranges) [] canonical below same = absurd (cc)
+  same_ranges low (range ∷ ranges) (other ∷ others) canonical below same =
+      let run = interval_of rank range in
+      let head : interval_of rank range ≡ interval_of rank other = cc in
+      let tail : intervals_of rank ranges ≡ intervals_of rank others = cc in
+      let ends = All-head (λ (each : Interval). each.last < n) run (intervals_of rank ranges) below in
+      let later = All-tail (λ (each : Interval). each.last < n) run (intervals_of rank ranges) below in
+      let first = same_range range other canonical.1 ends head in
+      let rest = same_ranges (run.last + 2) ranges others canonical.2 later tail in
+      λ i. first i ∷ rest i
+
+  -- two canonical lists of ranges with the same members are the same list
+  pub same_members : (ranges others : List (RangeInclusive T))
+      → IsCanonical (intervals_of rank ranges) → IsCanonical (intervals_of rank others)
+      → AllEndBelow n (intervals_of rank ranges) → AllEndBelow n (intervals_of rank others)
+      → Agree n (members (intervals_of rank ranges)) (members (intervals_of rank others))
+      → ranges ≡ others
+  same_members ranges others left right below below_too same =
+      same_ranges 0 ranges others left below
+      (canonical-same n (intervals_of rank ranges) (intervals_of rank others) left right below below_too same)

@@ -1,0 +1,30 @@
+//! Laws that callers rely on. The clause of each function is the law; the function does nothing.
+
+ghost use Rattle.std.specs.Prelude.{◌≡◌, ◌↔◌, List};
+ghost use Rattle.std.specs.declared.ops.RangeInclusive.{RangeInclusive};
+ghost use Rattle.rsb_integer.specs.Rank.{intervals_of};
+ghost use Rattle.rsb_integer.specs.Runs.{Interval, members, AllEndBelow, AreRuns, IsCanonical};
+ghost use Rattle.rsb_integer.specs.Selection.{Agree};
+
+use crate::integer::Integer;
+
+/// Two canonical lists of ranges with the same members are the same list.
+pub fn equal_members_equal_lists<T: Integer>()
+    ensures { (ranges others : List (RangeInclusive T))
+        → IsCanonical (intervals_of T.rank ranges) → IsCanonical (intervals_of T.rank others)
+        → AllEndBelow T.value_count (intervals_of T.rank ranges)
+        → AllEndBelow T.value_count (intervals_of T.rank others)
+        → Agree T.value_count (members (intervals_of T.rank ranges))
+            (members (intervals_of T.rank others))
+        → ranges ≡ others }
+{
+}
+
+/// A list of intervals is canonical, and lies in the type, exactly where it is the ascending list of
+/// all maximal runs of its members.
+pub fn canonical_lists_are_runs<T: Integer>()
+    ensures { (runs : List Interval)
+        → (IsCanonical runs × AllEndBelow T.value_count runs)
+            ↔ AreRuns T.value_count (members runs) runs }
+{
+}
