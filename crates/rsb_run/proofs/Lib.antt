@@ -3,3 +3,4 @@ pub mod NumberLemmas
 pub mod ParseLemmas
 pub mod SpellingLemmas
 pub mod TransferLemmas
+pub mod WriteLemmas

@@ -1,3 +1,5 @@
+pub mod Commands
 pub mod Fault
 pub mod Spelling
+pub mod Text
 pub mod Transfer

@@ -2,9 +2,11 @@
 #![tactic(auto)]
 
 mod command;
+mod commands;
 mod fault;
 mod parse;
 mod set_no;
+mod text;
 mod transfer;
 
 use std::process::ExitCode;
