@@ -1,3 +1,4 @@
+pub mod Answer
 pub mod Commands
 pub mod Fault
 pub mod Spelling

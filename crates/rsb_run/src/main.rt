@@ -4,13 +4,24 @@
 mod command;
 mod commands;
 mod fault;
+mod laws;
 mod parse;
+mod program;
 mod set_no;
 mod text;
 mod transfer;
 
 use std::process::ExitCode;
 
-fn main(_rt: HostRuntime) -> ExitCode {
-    ExitCode::SUCCESS
+fn main(rt: HostRuntime) -> ExitCode {
+    let mut input = rt.stdin();
+    let mut output = rt.stdout();
+    match program::run(rt.alloc(), &mut input, &mut output) {
+        Ok(()) => ExitCode::SUCCESS,
+        Err(fault) => {
+            // There is nowhere left to tell that this failed.
+            let _ = eprintln!(rt; "{fault}");
+            ExitCode::from(fault.status())
+        }
+    }
 }
