@@ -1,4 +1,4 @@
--- What was written of the replies when memory ran out or a write failed.
+-- What was read of an input, and what was written of the replies.
 use Rattle.std.proofs.Common.{◌≡◌, ◌∙◌, ℕ, ℤ, List, [], ◌++◌, take, drop, Option, Some, None, sym, ap, subst}
 use Rattle.std.proofs.lemmas.List.{append-nil, take-append-drop}
 use Rattle.std.specs.Io.KnownBytes.{Appends, Consumes, IsAtEnd}
@@ -11,46 +11,41 @@ use Rattle.rsb_run.specs.Spelling.{AreCommands}
 use Rattle.rsb_run.specs.Text.{text}
 use Rattle.rsb_run.specs.Transfer.{AppendsShortOf}
 
-take-front : (commands : List (Command ℤ)) (at : ℕ) → IsFrontOf (take at commands) commands
-take-front commands at = record { rest = drop at commands; parts = sym (take-append-drop at commands) }
+-- what was read to the end is all that there was
+if_known : (known left : Option (List ℕ)) (bytes : List ℕ) (Fact : List ℕ → Type 0)
+    → Consumes known left bytes → IsAtEnd left → Fact bytes → IfSome known Fact
+if_known None left bytes Fact taken end fact = tt
+if_known (Some input) None bytes Fact taken end fact = absurd taken
+if_known (Some input) (Some none) bytes Fact taken end fact =
+    let same : input ≡ bytes = taken ∙ ap (λ v. bytes ++ v) end ∙ append-nil bytes in
+    subst Fact (sym same) fact
 
-module _ (known left : Option (List ℕ)) (bytes : List ℕ) (commands : List (Command ℤ)) (at : ℕ)
-    (replies : List (Content ℤ)) (old new : Option (List ℕ))
-    (spelled : AreCommands bytes commands) (replied : AreNumberReplies (take at commands) replies) where
-  pub answers_front : Consumes known left bytes → IsAtEnd left → Appends old new (text replies)
-      → IfSome known (λ input. AnswersFront input old new)
-  answers_front taken end written = go known left taken end
-    where
-      go : (known left : Option (List ℕ)) → Consumes known left bytes → IsAtEnd left
-          → IfSome known (λ input. AnswersFront input old new)
-      go None left taken end = tt
-      go (Some input) None taken end = absurd taken
-      go (Some input) (Some none) taken end =
-          let same : input ≡ bytes = taken ∙ ap (λ v. bytes ++ v) end ∙ append-nil bytes in record {
-            commands = commands;
-            spelled = subst (λ all. AreCommands all commands) (sym same) spelled;
-            front = take at commands;
-            is_front = take-front commands at;
-            replies = replies;
-            replied = replied;
-            written = written;
-          }
+take-front : {X : Type 0} (at : ℕ) (whole : List X) → IsFrontOf (take at whole) whole
+take-front at whole = record { rest = drop at whole; parts = sym (take-append-drop at whole) }
 
-  pub answers_short : Consumes known left bytes → IsAtEnd left → AppendsShortOf old new (text replies)
+module _ (known left : Option (List ℕ)) (bytes : List ℕ) (taken : Consumes known left bytes)
+    (end : IsAtEnd left) (commands : List (Command ℤ)) (at : ℕ) (replies : List (Content ℤ))
+    (old new : Option (List ℕ)) (spelled : AreCommands bytes commands)
+    (replied : AreNumberReplies (take at commands) replies) where
+  pub answers_front : Appends old new (text replies) → IfSome known (λ input. AnswersFront input old new)
+  answers_front written = if_known known left bytes (λ input. AnswersFront input old new) taken end (record {
+    commands = commands;
+    spelled = spelled;
+    front = take at commands;
+    is_front = take-front at commands;
+    replies = replies;
+    replied = replied;
+    written = written;
+  })
+
+  pub answers_short : AppendsShortOf old new (text replies)
       → IfSome known (λ input. AnswersShort input old new)
-  answers_short taken end written = go known left taken end
-    where
-      go : (known left : Option (List ℕ)) → Consumes known left bytes → IsAtEnd left
-          → IfSome known (λ input. AnswersShort input old new)
-      go None left taken end = tt
-      go (Some input) None taken end = absurd taken
-      go (Some input) (Some none) taken end =
-          let same : input ≡ bytes = taken ∙ ap (λ v. bytes ++ v) end ∙ append-nil bytes in record {
-            commands = commands;
-            spelled = subst (λ all. AreCommands all commands) (sym same) spelled;
-            front = take at commands;
-            is_front = take-front commands at;
-            replies = replies;
-            replied = replied;
-            written = written;
-          }
+  answers_short written = if_known known left bytes (λ input. AnswersShort input old new) taken end (record {
+    commands = commands;
+    spelled = spelled;
+    front = take at commands;
+    is_front = take-front at commands;
+    replies = replies;
+    replied = replied;
+    written = written;
+  })

@@ -18,8 +18,8 @@ returns-in_err-write_replies-in-Err-clause-io g c = λ is.
         c.in_ok-commands.ensures.commands) in
     let replied = subst (λ rs. AreNumberReplies (take at commands) (contents_of (λ n. n) rs))
         (sym c.deref-in-Err.ensures.value) c.in-Err.ensures.stopped in
-    inr (answers_short _ _ bytes commands at _ _ _ spelled replied c.in_ok-bytes.ensures.bytes
-    c.in_ok-bytes.ensures.end c.in_err-write_replies-in-Err.ensures.1)
+    inr (answers_short _ _ bytes c.in_ok-bytes.ensures.bytes c.in_ok-bytes.ensures.end
+    commands at _ _ _ spelled replied c.in_err-write_replies-in-Err.ensures.1)
 
 -- they were written whole
 pub returns-clause-no_memory : goal.returns-clause-no_memory
@@ -33,5 +33,5 @@ returns-clause-no_memory g c = λ is.
         c.in_ok-commands.ensures.commands) in
     let replied = subst (λ rs. AreNumberReplies (take at commands) (contents_of (λ n. n) rs))
         (sym c.deref-in-Err.ensures.value) c.in-Err.ensures.stopped in
-    inr (answers_front _ _ bytes commands at _ _ _ spelled replied c.in_ok-bytes.ensures.bytes
-    c.in_ok-bytes.ensures.end c.in_ok-write_replies-in-Err.ensures)
+    inr (answers_front _ _ bytes c.in_ok-bytes.ensures.bytes c.in_ok-bytes.ensures.end
+    commands at _ _ _ spelled replied c.in_ok-write_replies-in-Err.ensures)
