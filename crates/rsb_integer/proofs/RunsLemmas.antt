@@ -4,7 +4,7 @@ use Rattle.std.proofs.lemmas.Bool.{cases_lt}
 use Rattle.std.proofs.lemmas.Bool.Decides.{nat_tests}
 use Rattle.std.proofs.lemmas.List.Elements.{All-head, All-tail, All-cons, All-nil, All-contains, All-weaker}
 use Rattle.std.specs.List.{All, AllPairs, Contains}
-use Rattle.rsb_integer.specs.Runs.{Interval, covers, cover, members, IsCanonicalFrom, IsCanonical, AllEndBelow, IsMaximalRun, AreRuns}
+use Rattle.rsb_integer.specs.Runs.{Interval, covers, cover, members, IsCanonicalFrom, IsCanonical, AllEndBelow, IsCanonicalIn, IsMaximalRun, AreRuns}
 use Rattle.rsb_integer.specs.Selection.{Selection, Agree}
 use Rattle.rsb_integer.proofs.ListLemmas.{true_or_false, not_both, or-true, All-both, AllPairs-cons, AllPairs-tail, Contains-head, Contains-tail, Contains-cases}
 
@@ -460,7 +460,7 @@ ascending-canonical n selected low (run ∷ runs) ascending maximal starts =
     )
 
 pub runs-canonical : (n : ℕ) (selected : Selection) (runs : List Interval) → AreRuns n selected runs
-    → IsCanonical runs × AllEndBelow n runs
+    → IsCanonicalIn n runs
 runs-canonical n selected runs all = (
   ascending-canonical n selected 0 runs all.ascending all.maximal (λ k default within. omega arith),
   All-weaker (IsMaximalRun n selected) (λ (run : Interval). run.last < n) (λ run maximal. maximal.in_type)
@@ -537,7 +537,7 @@ agree-everywhere n runs others left right same rank = elim (cases_lt rank n) [
 
 -- a list is canonical exactly where it is the runs of its own members
 pub canonical-is_runs : (n : ℕ) (runs : List Interval)
-    → (IsCanonical runs × AllEndBelow n runs) ↔ AreRuns n (members runs) runs
+    → IsCanonicalIn n runs ↔ AreRuns n (members runs) runs
 canonical-is_runs n runs = (
   (λ canonical. canonical-runs n runs canonical.0 canonical.1),
   (λ all. runs-canonical n (members runs) runs all),

@@ -55,6 +55,10 @@ IsCanonical runs = IsCanonicalFrom 0 runs
 abbrev pub AllEndBelow : ℕ → List Interval → Type 0
 AllEndBelow n runs = All (λ (run : Interval). run.last < n) runs
 
+-- the list is canonical and lies in a type of n values
+abbrev pub IsCanonicalIn : ℕ → List Interval → Type 0
+IsCanonicalIn n runs = IsCanonical runs × AllEndBelow n runs
+
 -- ---- the runs of a set, in a type of n values
 
 module _ (n : ℕ) (selected : Selection) where

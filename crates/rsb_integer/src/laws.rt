@@ -3,7 +3,7 @@
 ghost use Rattle.std.specs.Prelude.{◌≡◌, ◌↔◌, List};
 ghost use Rattle.std.specs.declared.ops.RangeInclusive.{RangeInclusive};
 ghost use Rattle.rsb_integer.specs.Rank.{intervals_of};
-ghost use Rattle.rsb_integer.specs.Runs.{Interval, members, AllEndBelow, AreRuns, IsCanonical};
+ghost use Rattle.rsb_integer.specs.Runs.{Interval, members, AllEndBelow, AreRuns, IsCanonical, IsCanonicalIn};
 ghost use Rattle.rsb_integer.specs.Selection.{Agree};
 
 use crate::integer::Integer;
@@ -24,7 +24,6 @@ pub fn equal_members_equal_lists<T: Integer>()
 /// all maximal runs of its members.
 pub fn canonical_lists_are_runs<T: Integer>()
     ensures { (runs : List Interval)
-        → (IsCanonical runs × AllEndBelow T.value_count runs)
-            ↔ AreRuns T.value_count (members runs) runs }
+        → IsCanonicalIn T.value_count runs ↔ AreRuns T.value_count (members runs) runs }
 {
 }

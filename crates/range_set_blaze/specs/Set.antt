@@ -1,0 +1,70 @@
+-- What the contracts of a set say. A set is seen as the list of its runs, each the interval of its ranks.
+use Rattle.std.specs.Prelude.{◌≡◌, ℕ, ◌&&◌, ◌==◌, ◌+◌, ◌<◌, ◌≤◌, nat_le, nat_lt, List, IsTrue, IsFalse}
+use Rattle.std.specs.declared.ops.Bound.{Bound}
+use Rattle.std.specs.declared.ops.Bound.TheVariants.{Included, Excluded, Unbounded}
+use Rattle.std.specs.declared.ops.RangeInclusive.{RangeInclusive}
+use Rattle.rsb_integer.specs.Rank.{interval_of}
+use Rattle.rsb_integer.specs.Runs.{Interval, covers, members, IsMaximalRun}
+use Rattle.rsb_integer.specs.Selection.{Selection, union}
+
+-- ---- selections of ranks
+
+-- the one rank
+abbrev pub only : ℕ → Selection
+only rank other = other == rank
+
+-- the least rank that a start lets in, and the least past all that an end lets in
+abbrev pub first_rank : {T : Type 0} → (T → ℕ) → Bound T → ℕ
+first_rank rank (Included value) = rank value
+first_rank rank (Excluded value) = rank value + 1
+first_rank rank Unbounded = 0
+
+abbrev pub past_rank : {T : Type 0} → (T → ℕ) → ℕ → Bound T → ℕ
+past_rank rank n (Included value) = rank value + 1
+past_rank rank n (Excluded value) = rank value
+past_rank rank n Unbounded = n
+
+-- the ranks between two bounds, in a type of n values
+abbrev pub between : {T : Type 0} → (T → ℕ) → ℕ → Bound T → Bound T → Selection
+between rank n start end other = nat_le (first_rank rank start) other && nat_lt other (past_rank rank n end)
+
+-- no rank is selected
+abbrev pub IsNothing : Selection → Type 0
+IsNothing selected = (rank : ℕ) → IsFalse (selected rank)
+
+-- each of n ranks is selected
+abbrev pub IsEverything : ℕ → Selection → Type 0
+IsEverything n selected = (rank : ℕ) → rank < n → IsTrue (selected rank)
+
+-- ---- sets before and after a call
+
+-- the new set has the members of the old one and the added ranks, and no others
+abbrev pub Adds : List Interval → List Interval → Selection → Type 0
+Adds old new added = (rank : ℕ) → members new rank ≡ union (members old) added rank
+
+-- some selected rank is no member
+abbrev pub LacksSomeOf : List Interval → Selection → Type 0
+LacksSomeOf set selected = (rank : ℕ) × IsTrue (selected rank) × IsFalse (members set rank)
+
+-- the rank or the one before it is a member, so that a run which starts there or earlier reaches the rank
+abbrev pub IsReached : List Interval → ℕ → Type 0
+IsReached set rank = (member : ℕ) × IsTrue (members set member) × (member ≤ rank) × (rank ≤ member + 1)
+
+-- ---- single ranks and runs
+
+-- the rank is the least that is selected, in a type of n values
+pub record IsLeast (n : ℕ) (selected : Selection) (rank : ℕ) : Type 0 where
+  pub in_type : rank < n
+  pub here : IsTrue (selected rank)
+  pub least : (other : ℕ) → IsTrue (selected other) → rank ≤ other
+
+-- the rank is the greatest that is selected
+pub record IsGreatest (n : ℕ) (selected : Selection) (rank : ℕ) : Type 0 where
+  pub in_type : rank < n
+  pub here : IsTrue (selected rank)
+  pub greatest : (other : ℕ) → IsTrue (selected other) → other ≤ rank
+
+-- the interval is the maximal run that has the rank
+pub record IsRunAround (n : ℕ) (selected : Selection) (rank : ℕ) (run : Interval) : Type 0 where
+  pub maximal : IsMaximalRun n selected run
+  pub around : IsTrue (covers rank run)

@@ -1,0 +1,9 @@
+//! Sets of integers, kept as their maximal runs.
+#![tactic(auto)]
+
+pub mod laws;
+pub mod prelude;
+pub mod ranges_iter;
+pub mod set;
+
+pub use crate::prelude::{Integer, RangeSetBlaze, RangesIter, SafeLength};

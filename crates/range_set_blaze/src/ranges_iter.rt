@@ -1,0 +1,59 @@
+//! The runs of a set, one after the other.
+
+ghost use Rattle.std.specs.Iterator.{YieldsFirst, YieldsLast, item_count};
+ghost use Rattle.rsb_integer.specs.Rank.{intervals_of};
+ghost use Rattle.rsb_integer.specs.Runs.{IsCanonicalIn};
+
+use crate::set::run::Run;
+use rsb_integer::Integer;
+use std::marker::Model;
+use std::ops::RangeInclusive;
+
+/// The runs of a set in ascending order, from both ends. Contracts see it as the list of the ranges
+/// still to come. (`RangesIter` of the Rust crate.)
+#[derive(Drop)]
+pub struct RangesIter<'a, T: Integer> {
+    pub(crate) runs: &'a [Run<T>],
+}
+
+impl<'a, T: Integer> Model for RangesIter<'a, T> {
+    ghost use Rattle.std.specs.Prelude.{List};
+    ghost use Rattle.std.specs.declared.ops.RangeInclusive.{RangeInclusive};
+    ghost use Rattle.range_set_blaze.specs.Kept.{ranges_of};
+
+    ghost Value = { List (RangeInclusive T) };
+
+    ghost view = { λ s. ranges_of s.runs.now };
+}
+
+impl<'a, T: Integer> Iterator for RangesIter<'a, T> {
+    type Item = RangeInclusive<T>;
+
+    ghost can_next = { λ s. IsCanonicalIn T.value_count (intervals_of T.rank s) };
+
+    ghost next_gives = { YieldsFirst (λ s. s) };
+
+    ghost remaining = { item_count (λ s. s) };
+
+    fn next(&mut self) -> Option<RangeInclusive<T>> {
+        let (first, others) = self.runs.split_first()?;
+        self.runs = others;
+        Some(first.start..=first.end)
+    }
+}
+
+impl<'a, T: Integer> DoubleEndedIterator for RangesIter<'a, T> {
+    ghost next_back_gives = { YieldsLast (λ s. s) };
+
+    fn next_back(&mut self) -> Option<RangeInclusive<T>> {
+        let (last, others) = self.runs.split_last()?;
+        self.runs = others;
+        Some(last.start..=last.end)
+    }
+}
+
+impl<'a, T: Integer> ExactSizeIterator for RangesIter<'a, T> {
+    fn len(&self) -> usize {
+        self.runs.len()
+    }
+}

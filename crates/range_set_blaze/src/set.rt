@@ -1,0 +1,113 @@
+//! The set: its runs in ascending order, and how many members they have.
+
+ghost use Rattle.std.specs.Prelude.{◌≡◌, ◌↔◌, ◌<◌, [], length, IfSome, IsNone, IsTrue};
+ghost use Rattle.rsb_integer.specs.Rank.{intervals_of};
+ghost use Rattle.rsb_integer.specs.Runs.{members, AreRuns, IsCanonicalIn};
+ghost use Rattle.rsb_integer.specs.Selection.{count};
+ghost use Rattle.range_set_blaze.specs.Set.{IsGreatest, IsLeast, IsNothing};
+
+mod insert;
+mod look_up;
+pub(crate) mod run;
+
+use crate::ranges_iter::RangesIter;
+use crate::set::run::Run;
+use num_traits::Zero;
+use rsb_integer::Integer;
+use std::alloc::{Allocator, Global};
+use std::marker::Model;
+
+/// A set of integers. Contracts see it as the list of its runs, each as the interval of its ranks.
+/// (`RangeSetBlaze` of the Rust crate.)
+#[derive(Drop)]
+pub struct RangeSetBlaze<T: Integer, A: Allocator = Global> {
+    runs: Vec<Run<T>, A>,
+    length: T::SafeLen,
+}
+
+impl<T: Integer, A: Allocator> Model for RangeSetBlaze<T, A> {
+    ghost use Rattle.std.specs.Prelude.{List};
+    ghost use Rattle.rsb_integer.specs.Runs.{Interval};
+    ghost use Rattle.range_set_blaze.specs.Kept.{runs_of, IsKept};
+
+    ghost Value = { List Interval };
+
+    ghost view = { λ s. runs_of T.rank s.runs.items };
+
+    ghost invariant = { λ s. IsKept T.rank T.value_count s.runs.items (T.SafeLen.number s.length) };
+}
+
+impl<T: Integer, A: Allocator> RangeSetBlaze<T, A> {
+    /// The empty set. It takes no memory. (`RangeSetBlaze::new`.)
+    pub fn new(alloc: A) -> Self
+        ensures { result ≡ [] }
+    {
+        RangeSetBlaze {
+            runs: Vec::new(alloc),
+            length: T::SafeLen::zero(),
+        }
+    }
+
+    /// The empty set. It takes no memory. (`Default` of `RangeSetBlaze`.)
+    pub fn default(alloc: A) -> Self
+        ensures { result ≡ [] }
+    {
+        Self::new(alloc)
+    }
+
+    /// How many members there are. (`RangeSetBlaze::len`.)
+    pub fn len(&self) -> T::SafeLen
+        ensures { T.SafeLen.number result ≡ count T.value_count (members self.now) }
+    {
+        self.length
+    }
+
+    /// How many runs there are. (`RangeSetBlaze::ranges_len`.)
+    pub fn ranges_len(&self) -> usize
+        ensures { result ≡ length self.now }
+    {
+        self.runs.len()
+    }
+
+    /// Whether there is no member. (`RangeSetBlaze::is_empty`.)
+    pub fn is_empty(&self) -> bool
+        ensures { IsTrue result ↔ IsNothing (members self.now) }
+    {
+        self.runs.is_empty()
+    }
+
+    /// The least member, or `None` of the empty set. (`RangeSetBlaze::first`.)
+    pub fn first(&self) -> Option<T>
+        ensures none { IsNone result ↔ (self.now ≡ []) }
+        ensures found { IfSome result (λ first.
+            IsLeast T.value_count (members self.now) (T.rank first)) }
+    {
+        Some(self.runs.first()?.start)
+    }
+
+    /// The greatest member, or `None` of the empty set. (`RangeSetBlaze::last`.)
+    pub fn last(&self) -> Option<T>
+        ensures none { IsNone result ↔ (self.now ≡ []) }
+        ensures found { IfSome result (λ last.
+            IsGreatest T.value_count (members self.now) (T.rank last)) }
+    {
+        Some(self.runs.last()?.end)
+    }
+
+    /// The runs in ascending order, from both ends. (`RangeSetBlaze::ranges`.)
+    pub fn ranges(&self) -> RangesIter<'_, T>
+        ensures ranges { intervals_of T.rank result ≡ self.now }
+        ensures ready { IsCanonicalIn T.value_count (intervals_of T.rank result) }
+        ensures runs { AreRuns T.value_count (members self.now) self.now }
+    {
+        RangesIter { runs: &self.runs }
+    }
+
+    /// Takes all members out. It takes no memory, and gives none back. (`RangeSetBlaze::clear`.)
+    pub fn clear(&mut self)
+        ensures { self.new ≡ [] }
+    {
+        self.runs.clear();
+        self.length = T::SafeLen::zero();
+    }
+}
