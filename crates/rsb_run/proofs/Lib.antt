@@ -3,6 +3,8 @@ pub mod CutLemmas
 pub mod NumberLemmas
 pub mod ParseLemmas
 pub mod ReplyLemmas
+pub mod RunLemmas
+pub mod SetsLemmas
 pub mod SpellingLemmas
 pub mod TransferLemmas
 pub mod WriteLemmas

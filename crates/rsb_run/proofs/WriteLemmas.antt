@@ -19,14 +19,19 @@ short_of_text : (old mid new : Option (List ℕ)) (front piece more text : List 
 short_of_text old mid new front piece more text parts whole cut =
     let rest = cut.is_front.rest in
     let split : text ≡ (front ++ cut.front) ++ (rest ++ more) =
-        parts ∙ ap (λ v. front ++ (v ++ more)) cut.is_front.parts
-        ∙ ap (λ v. front ++ v) (append_assoc cut.front rest more)
-        ∙ sym (append_assoc front cut.front (rest ++ more)) in
+    parts ∙ ap (λ v. front ++ (v ++ more)) cut.is_front.parts
+    ∙ ap (λ v. front ++ v) (append_assoc cut.front rest more)
+    ∙ sym (append_assoc front cut.front (rest ++ more)) in
     let some = ap length cut.is_front.parts ∙ length-append cut.front rest in record {
       front = front ++ cut.front;
       is_front = record { rest = rest ++ more; parts = split };
-      shorter = omega (arith, cut.shorter, some, ap length split ∙ length-append (front ++ cut.front) (rest ++ more),
-          length-append rest more);
+      shorter = omega (
+        arith,
+        cut.shorter,
+        some,
+        ap length split ∙ length-append (front ++ cut.front) (rest ++ more),
+        length-append rest more,
+      );
       written = Appends-then old mid new front cut.front whole cut.written;
     }
 

@@ -1,8 +1,8 @@
 -- What commands do to ten sets, and what they reply.
-use Rattle.std.specs.Prelude.{◌≡◌, ◌↔◌, ◌==◌, ⊤, ℕ, Bool, false, if◌then◌else◌, IsTrue, IsFalse, List, [], ◌∷◌, map}
+use Rattle.std.specs.Prelude.{◌≡◌, ◌↔◌, ◌==◌, ⊤, ℕ, Bool, false, if◌then◌else◌, IsTrue, IsFalse, List, [], ◌∷◌, map, slice_index_or}
 use Rattle.std.specs.declared.ops.RangeInclusive.{RangeInclusive}
 use Rattle.rsb_integer.specs.Rank.{intervals_of}
-use Rattle.rsb_integer.specs.Runs.{AreRuns, covers}
+use Rattle.rsb_integer.specs.Runs.{Interval, AreRuns, covers, members}
 use Rattle.rsb_integer.specs.Selection.{Selection, count, union}
 use Rattle.rsb_run.specs.declared.command.Command.{Command}
 use Rattle.rsb_run.specs.declared.command.Command.TheVariants.{Add, Has, Count, Show}
@@ -33,6 +33,10 @@ Sets = ℕ → Selection
 
 abbrev pub no_members : Sets
 no_members slot rank = false
+
+-- sets that are kept as their runs
+abbrev pub sets_of : List (List Interval) → Sets
+sets_of kept slot = members (slice_index_or kept slot [])
 
 -- the sets with another one in a slot
 unfoldable pub put : Sets → ℕ → Selection → Sets

@@ -11,5 +11,4 @@ pub fn replies_are_unique<T: Integer>()
     ensures { (commands : List (Command T)) (replies others : List (Content T))
         → AreReplies T.rank T.value_count commands replies
         → AreReplies T.rank T.value_count commands others → replies ≡ others }
-{
-}
+{}

@@ -32,12 +32,12 @@ pub fn run<A: Allocator + Copy, R: Read, W: Write>(
     // After the other faults nothing was written, or the first replies, or not even all of those.
     ensures no_memory { result ≡ Err Fault.NoMemory
         → Keeps (W.contents output.old) (W.contents output.new)
-            ⊎ IfSome (R.remaining input.old) (λ bytes.
-                AnswersFront bytes (W.contents output.old) (W.contents output.new)) }
+        ⊎ IfSome (R.remaining input.old) (λ bytes.
+        AnswersFront bytes (W.contents output.old) (W.contents output.new)) }
     ensures io { result ≡ Err Fault.Io
         → Keeps (W.contents output.old) (W.contents output.new)
-            ⊎ IfSome (R.remaining input.old) (λ bytes.
-                AnswersShort bytes (W.contents output.old) (W.contents output.new)) }
+        ⊎ IfSome (R.remaining input.old) (λ bytes.
+        AnswersShort bytes (W.contents output.old) (W.contents output.new)) }
 {
     let bytes = read_all(alloc, input)?;
     let commands = parse_commands(alloc, &bytes)?;

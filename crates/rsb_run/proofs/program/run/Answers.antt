@@ -13,11 +13,11 @@ returns-in_err-write_replies-in-Err-clause-io g c = λ is.
     let commands = c.deref-2.result.now in
     let at = c.in-Err.stopped.at in
     let spelled : AreCommands bytes commands =
-        subst (λ cs. AreCommands bytes cs) (sym c.deref-2.ensures.value)
-        (subst (λ b. AreCommands b c.in_ok-commands.commands.items) c.deref.ensures.value
-        c.in_ok-commands.ensures.commands) in
+    subst (λ cs. AreCommands bytes cs) (sym c.deref-2.ensures.value)
+    (subst (λ b. AreCommands b c.in_ok-commands.commands.items) c.deref.ensures.value
+    c.in_ok-commands.ensures.commands) in
     let replied = subst (λ rs. AreNumberReplies (take at commands) (contents_of (λ n. n) rs))
-        (sym c.deref-in-Err.ensures.value) c.in-Err.ensures.stopped in
+    (sym c.deref-in-Err.ensures.value) c.in-Err.ensures.stopped in
     inr (answers_short _ _ bytes c.in_ok-bytes.ensures.bytes c.in_ok-bytes.ensures.end
     commands at _ _ _ spelled replied c.in_err-write_replies-in-Err.ensures.1)
 
@@ -28,10 +28,10 @@ returns-clause-no_memory g c = λ is.
     let commands = c.deref-2.result.now in
     let at = c.in-Err.stopped.at in
     let spelled : AreCommands bytes commands =
-        subst (λ cs. AreCommands bytes cs) (sym c.deref-2.ensures.value)
-        (subst (λ b. AreCommands b c.in_ok-commands.commands.items) c.deref.ensures.value
-        c.in_ok-commands.ensures.commands) in
+    subst (λ cs. AreCommands bytes cs) (sym c.deref-2.ensures.value)
+    (subst (λ b. AreCommands b c.in_ok-commands.commands.items) c.deref.ensures.value
+    c.in_ok-commands.ensures.commands) in
     let replied = subst (λ rs. AreNumberReplies (take at commands) (contents_of (λ n. n) rs))
-        (sym c.deref-in-Err.ensures.value) c.in-Err.ensures.stopped in
+    (sym c.deref-in-Err.ensures.value) c.in-Err.ensures.stopped in
     inr (answers_front _ _ bytes c.in_ok-bytes.ensures.bytes c.in_ok-bytes.ensures.end
     commands at _ _ _ spelled replied c.in_ok-write_replies-in-Err.ensures)
