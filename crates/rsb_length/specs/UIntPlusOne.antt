@@ -72,22 +72,22 @@ module _ {T : Type 0} (number : T → ℕ) (limit : ℕ) (equal : T → T → Bo
     (of_past_and_value : (b : T) → same MaxPlusOne (UInt b) ≡ false)
     (of_past : same MaxPlusOne MaxPlusOne ≡ true)
   where
-  -- then it tells equal numbers too
-  pub same-number_of : (x y : UIntPlusOne T)
-      → IsTrue (same x y) ↔ (number_of number limit x ≡ number_of number limit y)
-  same-number_of (UInt a) (UInt b) = (
-    (λ h. ap (stretched limit) ((by_number a b).0 (sym (of_values a b) ∙ h))),
-    (λ h. of_values a b ∙ (by_number a b).1 (stretched-same limit (number a) (number b) h)),
-  )
-  same-number_of (UInt a) MaxPlusOne = (
-    (λ h. let other = of_value_and_past a in absurd (cc)),
-    (λ h. absurd (stretched-not_past limit (number a) h)),
-  )
-  same-number_of MaxPlusOne (UInt b) = (
-    (λ h. let other = of_past_and_value b in absurd (cc)),
-    (λ h. absurd (stretched-not_past limit (number b) (sym h))),
-  )
-  same-number_of MaxPlusOne MaxPlusOne = ((λ h. refl), (λ h. of_past))
+    -- then it tells equal numbers too
+    pub same-number_of : (x y : UIntPlusOne T)
+        → IsTrue (same x y) ↔ (number_of number limit x ≡ number_of number limit y)
+    same-number_of (UInt a) (UInt b) = (
+      (λ h. ap (stretched limit) ((by_number a b).0 (sym (of_values a b) ∙ h))),
+      (λ h. of_values a b ∙ (by_number a b).1 (stretched-same limit (number a) (number b) h)),
+    )
+    same-number_of (UInt a) MaxPlusOne = (
+      (λ h. let other = of_value_and_past a in absurd (cc)),
+      (λ h. absurd (stretched-not_past limit (number a) h)),
+    )
+    same-number_of MaxPlusOne (UInt b) = (
+      (λ h. let other = of_past_and_value b in absurd (cc)),
+      (λ h. absurd (stretched-not_past limit (number b) (sym h))),
+    )
+    same-number_of MaxPlusOne MaxPlusOne = ((λ h. refl), (λ h. of_past))
 
 -- the order of numbers is an order of what means them, where `==` tells equal numbers
 pub order-by_number : {A : Type 0} (number : A → ℕ) (same : A → A → Bool)
@@ -95,7 +95,7 @@ pub order-by_number : {A : Type 0} (number : A → ℕ) (same : A → A → Bool
     → IsPartialOrder same (λ x y. Some (nat_cmp (number x) (number y)))
 order-by_number number same by_number = po (on_total number nat_cmp_total) (λ x y.
     one_answer (same x y) (number x == number y) (by_number x y)
-        (unsigned_Decides (number x) (number y))
+    (unsigned_Decides (number x) (number y))
     ∙ unsigned_ties (number x) (number y))
 
 -- a test that tells equal whole numbers tells equal integers

@@ -8,7 +8,7 @@ use num_traits::{One, Zero};
 use std::test::Fail;
 
 /// The length of this number.
-fn length_of(number: u32) -> UIntPlusOne<u8>
+fn from_number(number: u32) -> UIntPlusOne<u8>
     requires { number ≤ 256 }
     ensures { number_of (λ a. a) 255 result ≡ number }
 {
@@ -19,7 +19,7 @@ fn length_of(number: u32) -> UIntPlusOne<u8>
 }
 
 /// The number of this length.
-fn number_of(length: UIntPlusOne<u8>) -> u32 {
+fn to_number(length: UIntPlusOne<u8>) -> u32 {
     match length {
         UIntPlusOne::UInt(value) => u32::from(value),
         UIntPlusOne::MaxPlusOne => 256,
@@ -30,11 +30,11 @@ fn number_of(length: UIntPlusOne<u8>) -> u32 {
 fn sums_are_those_of_the_numbers(rt: HostRuntime) {
     for a in 0..257 {
         for b in 0..257 - a {
-            let (x, y) = (length_of(a), length_of(b));
-            assert_eq!(rt; number_of(x + y), a + b, "{a} + {b}");
+            let (x, y) = (from_number(a), from_number(b));
+            assert_eq!(rt; to_number(x + y), a + b, "{a} + {b}");
             let mut sum = x;
             sum += y;
-            assert_eq!(rt; number_of(sum), a + b, "{a} += {b}");
+            assert_eq!(rt; to_number(sum), a + b, "{a} += {b}");
         }
     }
 }
@@ -43,9 +43,9 @@ fn sums_are_those_of_the_numbers(rt: HostRuntime) {
 fn differences_are_those_of_the_numbers(rt: HostRuntime) {
     for a in 0..257 {
         for b in 0..a + 1 {
-            let mut rest = length_of(a);
-            rest -= length_of(b);
-            assert_eq!(rt; number_of(rest), a - b, "{a} -= {b}");
+            let mut rest = from_number(a);
+            rest -= from_number(b);
+            assert_eq!(rt; to_number(rest), a - b, "{a} -= {b}");
         }
     }
 }
@@ -55,8 +55,8 @@ fn products_are_those_of_the_numbers(rt: HostRuntime) {
     for a in 0..257u32 {
         for b in 0..257u32 {
             if a * b <= 256 {
-                let product = length_of(a) * length_of(b);
-                assert_eq!(rt; number_of(product), a * b, "{a} * {b}");
+                let product = from_number(a) * from_number(b);
+                assert_eq!(rt; to_number(product), a * b, "{a} * {b}");
             }
         }
     }
@@ -66,21 +66,40 @@ fn products_are_those_of_the_numbers(rt: HostRuntime) {
 fn order_is_that_of_the_numbers(rt: HostRuntime) {
     for a in 0..257u32 {
         for b in 0..257u32 {
-            let (x, y) = (length_of(a), length_of(b));
+            let (x, y) = (from_number(a), from_number(b));
             assert_eq!(rt; x.partial_cmp(&y), a.partial_cmp(&b), "{a} and {b}");
             assert_eq!(rt; x == y, a == b, "{a} == {b}");
         }
     }
 }
 
+/// The greatest length, left by one and reached again.
+fn greatest_again<L: SafeLength>() -> L
+    ensures { L.number result ≡ L.limit }
+{
+    let mut length = L::greatest();
+    length -= L::one();
+    length += L::one();
+    length
+}
+
 #[test]
 fn greatest_lengths(rt: HostRuntime) {
-    assert_eq!(rt; u16::greatest(), 65_535);
-    assert_eq!(rt; u32::greatest(), 4_294_967_295);
-    assert_eq!(rt; u64::greatest(), 18_446_744_073_709_551_615);
-    assert_eq!(rt; u128::greatest(), 340_282_366_920_938_463_463_374_607_431_768_211_455);
-    assert_eq!(rt; UIntPlusOne::<u8>::greatest(), UIntPlusOne::MaxPlusOne);
-    assert_eq!(rt; UIntPlusOne::<u128>::greatest(), UIntPlusOne::MaxPlusOne);
+    assert_eq!(rt; greatest_again::<u16>(), 65_535);
+    assert_eq!(rt; greatest_again::<u32>(), 4_294_967_295);
+    assert_eq!(rt; greatest_again::<u64>(), 18_446_744_073_709_551_615);
+    assert_eq!(rt;
+        greatest_again::<u128>(),
+        340_282_366_920_938_463_463_374_607_431_768_211_455
+    );
+    assert_eq!(rt;
+        greatest_again::<UIntPlusOne<u8>>(),
+        UIntPlusOne::MaxPlusOne
+    );
+    assert_eq!(rt;
+        greatest_again::<UIntPlusOne<u128>>(),
+        UIntPlusOne::MaxPlusOne
+    );
 }
 
 #[test]
@@ -110,12 +129,21 @@ fn zero_is_the_only_zero(rt: HostRuntime) {
 
 #[test]
 fn texts(rt: HostRuntime) -> Result<(), Fail> {
-    let of_u8 = format!(in rt.alloc(); "{} {} {}",
-        UIntPlusOne::UInt(0u8), UIntPlusOne::UInt(255u8), UIntPlusOne::<u8>::MaxPlusOne)?;
+    let of_u8 = format!(in rt.alloc();
+        "{} {} {}",
+        UIntPlusOne::UInt(0u8),
+        UIntPlusOne::UInt(255u8),
+        UIntPlusOne::<u8>::MaxPlusOne
+    )?;
     assert_eq!(rt; of_u8.as_str(), "0 255 256");
-    let of_u128 = format!(in rt.alloc(); "{} {}",
-        UIntPlusOne::UInt(u128::MAX), UIntPlusOne::<u128>::MaxPlusOne)?;
-    assert_eq!(rt; of_u128.as_str(),
-        "340282366920938463463374607431768211455 (u128::MAX + 1)");
+    let of_u128 = format!(in rt.alloc();
+        "{} {}",
+        UIntPlusOne::UInt(u128::MAX),
+        UIntPlusOne::<u128>::MaxPlusOne
+    )?;
+    assert_eq!(rt;
+        of_u128.as_str(),
+        "340282366920938463463374607431768211455 (u128::MAX + 1)"
+    );
     Ok(())
 }

@@ -29,7 +29,7 @@ impl<T: UInt> PartialOrd for UIntPlusOne<T> {
 
     ghost laws = { order-by_number (number_of T.number T.limit) Self.eq
         (same-number_of T.number T.limit T.eq Self.eq T.UInt.equal
-            (λ a b. refl) (λ a. refl) (λ b. refl) refl) };
+        (λ a b. refl) (λ a. refl) (λ b. refl) refl) };
 
     fn partial_cmp(&self, other: &Self) -> Option<Ordering> {
         match (self, other) {
@@ -62,8 +62,8 @@ impl<T: UInt> Number for UIntPlusOne<T> {
 
     ghost eq_law = { λ a b _.
         same-integers (Self.eq a b) (number_of T.number T.limit a) (number_of T.number T.limit b)
-            (same-number_of T.number T.limit T.eq Self.eq T.UInt.equal
-            (λ a b. refl) (λ a. refl) (λ b. refl) refl a b) };
+        (same-number_of T.number T.limit T.eq Self.eq T.UInt.equal
+        (λ a b. refl) (λ a. refl) (λ b. refl) refl a b) };
 
     ghost order_law = { λ a b _.
         unsigned-order (number_of T.number T.limit a) (number_of T.number T.limit b) };
@@ -115,19 +115,19 @@ impl<T: UInt> SubAssign for UIntPlusOne<T> {
 
     ghost can_sub_assign = { λ a b.
         (number_of T.number T.limit b ≤ number_of T.number T.limit a)
-            × (number_of T.number T.limit a ≤ T.limit + 1) };
+        × (number_of T.number T.limit a ≤ T.limit + 1) };
 
     ghost sub_assign_gives = { λ a b rest.
         number_of T.number T.limit rest + number_of T.number T.limit b
-            ≡ number_of T.number T.limit a };
+        ≡ number_of T.number T.limit a };
 
     fn sub_assign(&mut self, rhs: Self) {
         *self = match (*self, rhs) {
             (Self::UInt(a), Self::UInt(b)) => Self::UInt(a.checked_difference(b).unwrap()),
             (Self::MaxPlusOne, Self::UInt(b)) => {
-                Self::UInt(T::greatest().checked_difference(b).unwrap()) + Self::UInt(T::one())
+                Self::UInt(T::greatest().checked_difference(b).unwrap()) + Self::one()
             }
-            (Self::MaxPlusOne, Self::MaxPlusOne) => Self::UInt(T::zero()),
+            (Self::MaxPlusOne, Self::MaxPlusOne) => Self::zero(),
             (Self::UInt(_), Self::MaxPlusOne) => unreachable!(),
         };
     }
@@ -198,7 +198,7 @@ impl<T: UInt> One for UIntPlusOne<T> {
 
     ghost one_law = { λ _.
         ap pos (stretched-within T.limit (T.number T.one) 1 T.one_is_1
-            ((T.fitting 1).0 (T.one_fits_law T.exactly))) };
+        ((T.fitting 1).0 (T.one_fits_law T.exactly))) };
 
     ghost one_fits_law = { λ _. one-le_next T.limit };
 
@@ -224,8 +224,7 @@ impl<T: UInt> SafeLength for UIntPlusOne<T> {
 
     ghost fitting = { λ n. ((λ h. h), (λ h. h)) };
 
-    ghost zero_is_0 = {
-        stretched-within T.limit (T.number T.zero) 0 T.zero_is_0 (zero-le T.limit) };
+    ghost zero_is_0 = { stretched-within T.limit (T.number T.zero) 0 T.zero_is_0 (zero-le T.limit) };
 
     ghost one_is_1 = { stretched-within T.limit (T.number T.one) 1 T.one_is_1
         ((T.fitting 1).0 (T.one_fits_law T.exactly)) };
