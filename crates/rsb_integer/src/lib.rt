@@ -3,5 +3,7 @@
 
 mod impls;
 pub mod integer;
+#[cfg(test)]
+mod tests;
 
 pub use integer::Integer;
