@@ -1,94 +1,24 @@
-//! What the types answer at their ends, and an own element type.
+//! What the types answer at their ends.
 
-ghost use Rattle.std.specs.Prelude.{◌≡◌, ◌<◌, ◌≤◌};
-ghost use Rattle.std.specs.Ordering.{nat_cmp};
-ghost use Rattle.std.proofs.Common.{arith, lit≤, refl};
-ghost use Rattle.rsb_integer.specs.declared.tests.Side.{Side};
-ghost use Rattle.rsb_integer.specs.declared.tests.Side.TheVariants.{Lo, Hi};
+mod own_type;
 
 use crate::integer::Integer;
+use own_type::Side;
 use rsb_length::UIntPlusOne;
-use std::ops::RangeInclusive;
 use std::process::Abort;
-
-/// An own type of two values.
-#[derive(Clone, Copy, Debug, PartialEq, Eq, PartialOrd, Ord)]
-enum Side {
-    Lo,
-    Hi,
-}
-
-impl Integer for Side {
-    type SafeLen = u16;
-
-    ghost rank = { λ side. elim side [ Lo ↦ 0 | Hi ↦ 1 ] };
-
-    ghost value_count = { 2 };
-
-    fn checked_add_one(self) -> Option<Side> {
-        match self {
-            Side::Lo => Some(Side::Hi),
-            Side::Hi => None,
-        }
-    }
-
-    fn add_one(self) -> Side {
-        Side::Hi
-    }
-
-    fn sub_one(self) -> Side {
-        Side::Lo
-    }
-
-    fn min_value() -> Side {
-        Side::Lo
-    }
-
-    fn max_value() -> Side {
-        Side::Hi
-    }
-
-    fn safe_len(range: &RangeInclusive<Side>) -> u16 {
-        if range.start() == range.end() { 1 } else { 2 }
-    }
-
-    fn inclusive_end_from_start(self, b: u16) -> Side {
-        if b == 1 { self } else { Side::Hi }
-    }
-
-    fn start_from_inclusive_end(self, b: u16) -> Side {
-        if b == 1 { self } else { Side::Lo }
-    }
-
-    ghost one_place = { λ x y value. elim x as (λ x. rank x ≡ rank y → x ≡ y) [
-        | Lo ↦ elim y as (λ y. rank Lo ≡ rank y → Lo ≡ y) [
-            | Lo ↦ λ same. refl
-            | Hi ↦ λ same. absurd (omega (arith, same))
-        ]
-        | Hi ↦ elim y as (λ y. rank Hi ≡ rank y → Hi ≡ y) [
-            | Lo ↦ λ same. absurd (omega (arith, same))
-            | Hi ↦ λ same. refl
-        ]
-    ] };
-
-    ghost in_order = { λ x y left right. elim x as (λ x. Self.cmp x y ≡ nat_cmp (rank x) (rank y)) [
-        | Lo ↦ elim y as (λ y. Self.cmp Lo y ≡ nat_cmp 0 (rank y)) [ Lo ↦ refl | Hi ↦ refl ]
-        | Hi ↦ elim y as (λ y. Self.cmp Hi y ≡ nat_cmp 1 (rank y)) [ Lo ↦ refl | Hi ↦ refl ]
-    ] };
-
-    ghost some_values = { lit≤ tt };
-
-    ghost countable = { lit≤ tt };
-
-    ghost lengths_suffice = { lit≤ tt };
-}
 
 /// Crosses the type from its least value to its greatest and back, by its whole length.
 fn crosses<T: Integer>(rt: &impl Abort, whole: T::SafeLen) {
     let length = T::safe_len(&(T::min_value()..=T::max_value()));
     assert!(rt; length == whole);
-    assert_eq!(rt; T::min_value().inclusive_end_from_start(length), T::max_value());
-    assert_eq!(rt; T::max_value().start_from_inclusive_end(length), T::min_value());
+    assert_eq!(rt;
+        T::min_value().inclusive_end_from_start(length),
+        T::max_value()
+    );
+    assert_eq!(rt;
+        T::max_value().start_from_inclusive_end(length),
+        T::min_value()
+    );
 }
 
 #[test]
@@ -159,7 +89,7 @@ fn an_emptied_range_has_no_member(rt: HostRuntime) {
 }
 
 #[test]
-fn a_step_down_goes_below_zero_only_where_there_are_values(rt: HostRuntime) {
+fn a_step_down_crosses_zero(rt: HostRuntime) {
     let mut signed = 0_i128;
     signed.assign_sub_one();
     assert_eq!(rt; signed, -1);
@@ -170,7 +100,7 @@ fn a_step_down_goes_below_zero_only_where_there_are_values(rt: HostRuntime) {
 
 #[test]
 fn characters_are_counted_without_the_surrogates(rt: HostRuntime) {
-    let mut before = None;
+    let mut before: Option<char> = None;
     for (count, c) in (1_u32..).zip('\0'..=char::MAX) {
         let below = char::safe_len(&('\0'..=c));
         let above = char::safe_len(&(c..=char::MAX));
@@ -181,9 +111,9 @@ fn characters_are_counted_without_the_surrogates(rt: HostRuntime) {
         assert_eq!(rt; c.inclusive_end_from_start(above), char::MAX);
         assert_eq!(rt; char::MAX.start_from_inclusive_end(above), c);
         if let Some(before) = before {
-            assert_eq!(rt; c.sub_one(), before);
             assert_eq!(rt; before.checked_add_one(), Some(c));
             assert_eq!(rt; before.add_one(), c);
+            assert_eq!(rt; c.sub_one(), before);
         }
         before = Some(c);
     }
@@ -209,9 +139,18 @@ fn lengths_of_i8_lead_to_its_ends(rt: HostRuntime) {
 
 #[test]
 fn the_widest_lengths_are_exact(rt: HostRuntime) {
-    assert_eq!(rt; usize::safe_len(&(0..=usize::MAX)), 18_446_744_073_709_551_616);
-    assert_eq!(rt; i128::MIN.inclusive_end_from_start(UIntPlusOne::MaxPlusOne), i128::MAX);
-    assert_eq!(rt; i128::MAX.start_from_inclusive_end(UIntPlusOne::MaxPlusOne), i128::MIN);
+    assert_eq!(rt;
+        usize::safe_len(&(0..=usize::MAX)),
+        18_446_744_073_709_551_616
+    );
+    assert_eq!(rt;
+        i128::MIN.inclusive_end_from_start(UIntPlusOne::MaxPlusOne),
+        i128::MAX
+    );
+    assert_eq!(rt;
+        i128::MAX.start_from_inclusive_end(UIntPlusOne::MaxPlusOne),
+        i128::MIN
+    );
     assert_eq!(rt; u128::safe_len(&(0..=0)), UIntPlusOne::UInt(1));
     assert_eq!(rt; u128::safe_len(&(0..=1)), UIntPlusOne::UInt(2));
 }

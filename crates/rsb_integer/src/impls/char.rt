@@ -9,7 +9,9 @@ use std::ops::RangeInclusive;
 
 // The codes from the one to the other are no characters.
 const SURROGATE_START: u32 = 0xD800;
+
 const SURROGATE_END: u32 = 0xDFFF;
+
 const SURROGATE_COUNT: u32 = 2048;
 
 impl Integer for char {
