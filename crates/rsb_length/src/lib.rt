@@ -2,6 +2,8 @@
 #![tactic(auto)]
 
 pub mod safe_length;
+#[cfg(test)]
+mod tests;
 pub mod uint;
 pub mod uint_plus_one;
 

@@ -3,6 +3,8 @@
 ghost use Rattle.std.specs.Prelude.{◌≡◌, ◌≢◌, ℕ, ◌+◌, ◌*◌, ◌≤◌, ⊤, Some, pos};
 ghost use Rattle.std.specs.Ordering.{nat_cmp};
 ghost use Rattle.std.proofs.Common.{ap, refl};
+ghost use Rattle.num_traits.specs.Ints.{unsigned-order};
+ghost use Rattle.rsb_length.specs.UIntPlusOne.{IsUpTo, IsUpTo-between, number_of, one-le_next, order-by_number, same-integers, same-number_of, stretched-within, text_of, zero-le};
 
 use crate::safe_length::SafeLength;
 use crate::uint::UInt;
@@ -11,8 +13,9 @@ use std::cmp::Ordering;
 use std::fmt::{self, Display, Formatter};
 use std::ops::{Add, AddAssign, Mul, SubAssign};
 
-/// The whole numbers from 0 to one past the greatest of `T`: every length that a range of `T` can
-/// have. Arithmetic is exact, and may be used where the result is one of them.
+/// The whole numbers from 0 to one past the greatest of `T`, in order: each length that a range of
+/// `T` can have. `+`, `+=`, `-=` and `*` are exact, and may be used where the result is one of
+/// them. (The Rust crate panics elsewhere.)
 #[derive(Debug, Clone, Copy, PartialEq, Eq, Hash)]
 pub enum UIntPlusOne<T: UInt> {
     /// A number that `T` has.
@@ -21,20 +24,19 @@ pub enum UIntPlusOne<T: UInt> {
     MaxPlusOne,
 }
 
+// They are ordered as their numbers are.
 impl<T: UInt> PartialOrd for UIntPlusOne<T> {
-    ghost use Rattle.rsb_length.specs.UIntPlusOne.{number_of, order-by_number, same-number_of};
-
     ghost partial_cmp = { λ a b.
         Some (nat_cmp (number_of T.number T.limit a) (number_of T.number T.limit b)) };
 
     ghost laws = { order-by_number (number_of T.number T.limit) Self.eq
         (same-number_of T.number T.limit T.eq Self.eq T.UInt.equal
-            (λ a b. refl) (λ a. refl) (λ b. refl) refl) };
+        (λ a b. refl) (λ a. refl) (λ b. refl) refl) };
 
     fn partial_cmp(&self, other: &Self) -> Option<Ordering> {
         match (self, other) {
             (Self::MaxPlusOne, Self::MaxPlusOne) => Some(Ordering::Equal),
-            // One past the greatest is above what the greatest is above, and above the greatest.
+            // `T` says that no value is above its greatest. One past it is above that one too.
             (Self::MaxPlusOne, Self::UInt(b)) => {
                 Some(T::greatest().partial_cmp(b)?.then(Ordering::Greater))
             }
@@ -46,10 +48,8 @@ impl<T: UInt> PartialOrd for UIntPlusOne<T> {
     }
 }
 
+// To `num_traits` they are integers: exact, and never negative.
 impl<T: UInt> Number for UIntPlusOne<T> {
-    ghost use Rattle.num_traits.specs.Ints.{unsigned-order};
-    ghost use Rattle.rsb_length.specs.UIntPlusOne.{IsUpTo, IsUpTo-between, number_of, same-number_of, same-integers};
-
     ghost exact = { ⊤ };
 
     ghost value = { λ a. pos (number_of T.number T.limit a) };
@@ -62,8 +62,8 @@ impl<T: UInt> Number for UIntPlusOne<T> {
 
     ghost eq_law = { λ a b _.
         same-integers (Self.eq a b) (number_of T.number T.limit a) (number_of T.number T.limit b)
-            (same-number_of T.number T.limit T.eq Self.eq T.UInt.equal
-            (λ a b. refl) (λ a. refl) (λ b. refl) refl a b) };
+        (same-number_of T.number T.limit T.eq Self.eq T.UInt.equal
+        (λ a b. refl) (λ a. refl) (λ b. refl) refl a b) };
 
     ghost order_law = { λ a b _.
         unsigned-order (number_of T.number T.limit a) (number_of T.number T.limit b) };
@@ -73,9 +73,8 @@ impl<T: UInt> Number for UIntPlusOne<T> {
     ghost nonzero_law = { λ z _ _. ((λ h. h), (λ h. h)) };
 }
 
+// A sum up to one past the greatest may be formed, and is exact.
 impl<T: UInt> Add for UIntPlusOne<T> {
-    ghost use Rattle.rsb_length.specs.UIntPlusOne.{number_of};
-
     type Output = Self;
 
     ghost can_add = { λ a b.
@@ -96,9 +95,8 @@ impl<T: UInt> Add for UIntPlusOne<T> {
     }
 }
 
+// `+=` is `+`.
 impl<T: UInt> AddAssign for UIntPlusOne<T> {
-    ghost use Rattle.rsb_length.specs.UIntPlusOne.{number_of};
-
     ghost can_add_assign = { λ a b.
         number_of T.number T.limit a + number_of T.number T.limit b ≤ T.limit + 1 };
 
@@ -110,32 +108,31 @@ impl<T: UInt> AddAssign for UIntPlusOne<T> {
     }
 }
 
+// A difference from 0 on may be formed, and is exact. That the greater number is one of the type
+// is known of each value.
 impl<T: UInt> SubAssign for UIntPlusOne<T> {
-    ghost use Rattle.rsb_length.specs.UIntPlusOne.{number_of};
-
     ghost can_sub_assign = { λ a b.
         (number_of T.number T.limit b ≤ number_of T.number T.limit a)
-            × (number_of T.number T.limit a ≤ T.limit + 1) };
+        × (number_of T.number T.limit a ≤ T.limit + 1) };
 
     ghost sub_assign_gives = { λ a b rest.
         number_of T.number T.limit rest + number_of T.number T.limit b
-            ≡ number_of T.number T.limit a };
+        ≡ number_of T.number T.limit a };
 
     fn sub_assign(&mut self, rhs: Self) {
         *self = match (*self, rhs) {
             (Self::UInt(a), Self::UInt(b)) => Self::UInt(a.checked_difference(b).unwrap()),
             (Self::MaxPlusOne, Self::UInt(b)) => {
-                Self::UInt(T::greatest().checked_difference(b).unwrap()) + Self::UInt(T::one())
+                Self::UInt(T::greatest().checked_difference(b).unwrap()) + Self::one()
             }
-            (Self::MaxPlusOne, Self::MaxPlusOne) => Self::UInt(T::zero()),
+            (Self::MaxPlusOne, Self::MaxPlusOne) => Self::zero(),
             (Self::UInt(_), Self::MaxPlusOne) => unreachable!(),
         };
     }
 }
 
+// A product up to one past the greatest may be formed, and is exact.
 impl<T: UInt> Mul for UIntPlusOne<T> {
-    ghost use Rattle.rsb_length.specs.UIntPlusOne.{number_of};
-
     type Output = Self;
 
     ghost can_mul = { λ a b.
@@ -160,7 +157,6 @@ impl<T: UInt> Mul for UIntPlusOne<T> {
 }
 
 impl<T: UInt> Zero for UIntPlusOne<T> {
-    ghost use Rattle.rsb_length.specs.UIntPlusOne.{stretched-within, zero-le};
     ghost use Rattle.rsb_length.specs.declared.uint_plus_one.UIntPlusOne.TheVariants.{UInt};
 
     ghost zero = { UInt T.zero };
@@ -170,10 +166,7 @@ impl<T: UInt> Zero for UIntPlusOne<T> {
     }
 
     fn is_zero(&self) -> bool {
-        match self {
-            Self::UInt(v) => v.is_zero(),
-            Self::MaxPlusOne => false,
-        }
+        matches!(self, Self::UInt(v) if v.is_zero())
     }
 
     ghost zero_law = { λ _.
@@ -187,7 +180,6 @@ impl<T: UInt> Zero for UIntPlusOne<T> {
 }
 
 impl<T: UInt> One for UIntPlusOne<T> {
-    ghost use Rattle.rsb_length.specs.UIntPlusOne.{one-le_next, stretched-within};
     ghost use Rattle.rsb_length.specs.declared.uint_plus_one.UIntPlusOne.TheVariants.{UInt};
 
     ghost one = { UInt T.one };
@@ -198,7 +190,7 @@ impl<T: UInt> One for UIntPlusOne<T> {
 
     ghost one_law = { λ _.
         ap pos (stretched-within T.limit (T.number T.one) 1 T.one_is_1
-            ((T.fitting 1).0 (T.one_fits_law T.exactly))) };
+        ((T.fitting 1).0 (T.one_fits_law T.exactly))) };
 
     ghost one_fits_law = { λ _. one-le_next T.limit };
 
@@ -208,8 +200,6 @@ impl<T: UInt> One for UIntPlusOne<T> {
 }
 
 impl<T: UInt> SafeLength for UIntPlusOne<T> {
-    ghost use Rattle.rsb_length.specs.UIntPlusOne.{number_of, same-number_of, stretched-within, zero-le};
-
     ghost number = { number_of T.number T.limit };
 
     ghost limit = { T.limit + 1 };
@@ -224,8 +214,8 @@ impl<T: UInt> SafeLength for UIntPlusOne<T> {
 
     ghost fitting = { λ n. ((λ h. h), (λ h. h)) };
 
-    ghost zero_is_0 = {
-        stretched-within T.limit (T.number T.zero) 0 T.zero_is_0 (zero-le T.limit) };
+    ghost zero_is_0 = { stretched-within T.limit (T.number T.zero) 0 T.zero_is_0
+        (zero-le T.limit) };
 
     ghost one_is_1 = { stretched-within T.limit (T.number T.one) 1 T.one_is_1
         ((T.fitting 1).0 (T.one_fits_law T.exactly)) };
@@ -244,9 +234,9 @@ impl<T: UInt> SafeLength for UIntPlusOne<T> {
     ghost in_order = { λ a b. refl };
 }
 
+/// A number that `T` has is written as `T` writes it, and the one past them as `one_past_text`
+/// says. (The Rust crate writes `(u128::MAX + 1)` at every `T`.)
 impl<T: UInt> Display for UIntPlusOne<T> {
-    ghost use Rattle.rsb_length.specs.UIntPlusOne.{text_of};
-
     ghost output = { text_of T.output T.past_text };
 
     fn fmt<W: fmt::Write>(&self, f: &mut Formatter<W>) -> fmt::Result {
