@@ -7,12 +7,12 @@ ghost use Rattle.rsb_integer.specs.RankLaws.{scalar-one_place, scalar-in_order};
 use crate::integer::Integer;
 use std::ops::RangeInclusive;
 
-// The codes from the one to the other are no characters.
+// The codes from this one to the next are no characters.
 const SURROGATE_START: u32 = 0xD800;
 
 const SURROGATE_END: u32 = 0xDFFF;
 
-const SURROGATE_COUNT: u32 = 2048;
+const SURROGATE_COUNT: u32 = SURROGATE_END - SURROGATE_START + 1;
 
 impl Integer for char {
     type SafeLen = u32;
