@@ -64,7 +64,7 @@ module _ {T : Type 0} (rank : T → ℕ) where
       (item_count (λ (ranges : List (RangeInclusive T)). ranges)) before (Some item) after
   canonical-goes_back n before after last item is canonical =
       let rest = canonical-front n after last
-          (subst (λ ranges. IsCanonicalIn n (intervals_of rank ranges)) is canonical) in
+      (subst (λ ranges. IsCanonicalIn n (intervals_of rank ranges)) is canonical) in
       let count = ap length is ∙ length-append after (last ∷ []) in
       record {
         on = λ finite. (rest, tt, omega (arith, count));

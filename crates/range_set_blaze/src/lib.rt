@@ -8,4 +8,4 @@ pub mod set;
 #[cfg(test)]
 mod tests;
 
-pub use crate::prelude::{Integer, RangeSetBlaze, RangesIter, SafeLength};
+pub use crate::prelude::{Integer, RangeSetBlaze, RangesIter, SafeLength, UInt, UIntPlusOne};

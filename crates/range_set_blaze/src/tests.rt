@@ -1,6 +1,6 @@
 //! What no clause of the set says: rows worked by hand, and growths that are refused in turn.
 
-use crate::RangeSetBlaze;
+use crate::{RangeSetBlaze, UIntPlusOne};
 use linked_list_allocator::LocalHeap;
 use std::alloc::{AllocError, Global};
 use std::ops::Bound;
@@ -151,9 +151,9 @@ fn filled<'a>(alloc: Global, heap: &'a LocalHeap) -> Result<Filler<'a>, AllocErr
 #[test]
 fn each_growth_is_refused_in_turn(rt: HostRuntime) -> Result<(), Fail> {
     let heap = LocalHeap::new(rt.alloc(), 8192)?;
-    let mut set = RangeSetBlaze::<i32, &LocalHeap>::new(&heap);
+    let mut set = RangeSetBlaze::<u8, &LocalHeap>::new(&heap);
     let mut refused = 0u8;
-    for place in 0..100i32 {
+    for place in 0..100u8 {
         let value = 2 * place;
         let before = set.len();
         let filler = filled(rt.alloc(), &heap)?;
@@ -183,8 +183,8 @@ fn each_growth_is_refused_in_turn(rt: HostRuntime) -> Result<(), Fail> {
 #[test]
 fn a_run_that_is_reached_grows_with_no_memory(rt: HostRuntime) -> Result<(), Fail> {
     let heap = LocalHeap::new(rt.alloc(), 8192)?;
-    let mut set = RangeSetBlaze::<i32, &LocalHeap>::new(&heap);
-    for place in 0..100i32 {
+    let mut set = RangeSetBlaze::<u8, &LocalHeap>::new(&heap);
+    for place in 0..100u8 {
         set.insert(2 * place)?;
     }
     let filler = filled(rt.alloc(), &heap)?;
@@ -195,5 +195,37 @@ fn a_run_that_is_reached_grows_with_no_memory(rt: HostRuntime) -> Result<(), Fai
     assert_eq!(rt; set.len(), 199);
     assert_eq!(rt; set.ranges_len(), 1);
     drop(filler);
+    Ok(())
+}
+
+#[test]
+fn sets_reach_both_ends_of_their_types(rt: HostRuntime) -> Result<(), Fail> {
+    let mut bytes = RangeSetBlaze::<u8>::new(rt.alloc());
+    bytes.ranges_insert(1..=3)?;
+    bytes.ranges_insert(7..=10)?;
+    assert!(rt; bytes.range_or_gap_at(0) == (0..=0, false));
+    assert!(rt; bytes.range_or_gap_at(5) == (4..=6, false));
+    assert!(rt; bytes.range_or_gap_at(255) == (11..=255, false));
+
+    let mut wide = RangeSetBlaze::<u128>::new(rt.alloc());
+    wide.ranges_insert(0..=0)?;
+    wide.ranges_insert(2..=u128::MAX)?;
+    assert!(rt; wide.len() == UIntPlusOne::UInt(u128::MAX));
+    assert!(rt; wide.ranges_insert(0..=u128::MAX)?);
+    assert!(rt; wide.len() == UIntPlusOne::MaxPlusOne);
+    assert!(rt; wide.is_universal());
+
+    let mut signed = RangeSetBlaze::<i128>::new(rt.alloc());
+    signed.ranges_insert(i128::MIN..=-1)?;
+    signed.ranges_insert(1..=i128::MAX)?;
+    assert!(rt; signed.insert(0)?);
+    assert_eq!(rt; signed.ranges_len(), 1);
+    assert!(rt; signed.is_universal());
+
+    let mut letters = RangeSetBlaze::<char>::new(rt.alloc());
+    letters.ranges_insert('\u{D7FF}'..='\u{E000}')?;
+    assert_eq!(rt; letters.len(), 2);
+    assert_eq!(rt; letters.first(), Some('\u{D7FF}'));
+    assert_eq!(rt; letters.last(), Some('\u{E000}'));
     Ok(())
 }
