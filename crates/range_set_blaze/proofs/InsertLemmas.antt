@@ -94,8 +94,8 @@ module _ {T : Type 0} (rank : T → ℕ) (n : ℕ) (runs : List (Run T)) (at pas
       let point = rank joined.start in
       let rest = members (runs_of rank (drop past runs)) point in
       let here : (covers point (run_of rank run) || members (runs_of rank (drop at runs)) point) ≡ true =
-          sym (same point) ∙ ap (λ test. test || rest)
-          (covers-inside point (run_of rank joined) (omega arith) order) in
+      sym (same point) ∙ ap (λ test. test || rest)
+      (covers-inside point (run_of rank joined) (omega arith) order) in
       elim (true_or_false (covers point (run_of rank run))) [
         | inl covered ↦ let bounds = covers-bounds point (run_of rank run) covered in inl bounds.0
         | inr outside ↦ inr (sym (ap (λ test. test || members (runs_of rank (drop at runs)) point) outside) ∙ here)
@@ -109,7 +109,7 @@ module _ {T : Type 0} (rank : T → ℕ) (n : ℕ) (runs : List (Run T)) (at pas
   replaced-canonical =
       let front = runs_of rank (take at runs) in
       let both = canonical-parts 0 front (runs_of rank (drop at runs))
-          (subst IsCanonical (runs_of-parts rank runs at) canonical.0) in
+      (subst IsCanonical (runs_of-parts rank runs at) canonical.0) in
       let low = next_start-before rank (rank run.start) 0 (take at runs) (omega arith) before in
       let starts : next_start 0 front ≤ rank joined.start = elim start-of [
         | inl later ↦ omega (arith, low)
@@ -125,9 +125,9 @@ module _ {T : Type 0} (rank : T → ℕ) (n : ℕ) (runs : List (Run T)) (at pas
   replaced-below : AllEndBelow n (runs_of rank (take at runs ++ joined ∷ drop past runs))
   replaced-below =
       let front = subst (AllEndBelow n) (take-map (run_of rank) at runs)
-          (All-take (λ (each : Interval). each.last < n) at (runs_of rank runs) canonical.1) in
+      (All-take (λ (each : Interval). each.last < n) at (runs_of rank runs) canonical.1) in
       let rest = subst (AllEndBelow n) (drop-map (run_of rank) past runs)
-          (All-drop (λ (each : Interval). each.last < n) past (runs_of rank runs) canonical.1) in
+      (All-drop (λ (each : Interval). each.last < n) past (runs_of rank runs) canonical.1) in
       subst (AllEndBelow n) (sym parts)
       (All-append (λ (each : Interval). each.last < n) (runs_of rank (take at runs))
       (run_of rank joined ∷ runs_of rank (drop past runs)) front
@@ -141,9 +141,9 @@ module _ {T : Type 0} (rank : T → ℕ) (n : ℕ) (runs : List (Run T)) (at pas
       let after = runs_of rank (drop past runs) in
       let now : IsCanonicalIn n new = (replaced-canonical, replaced-below) in
       let sum : sum_by length_of new
-          ≡ sum_by length_of front + (length_of (run_of rank joined) + sum_by length_of after) =
-          ap (sum_by length_of) parts ∙ sum_by-append length_of front (run_of rank joined ∷ after)
-          ∙ ap (λ k. sum_by length_of front + k) (sum_by-cons length_of (run_of rank joined) after) in
+      ≡ sum_by length_of front + (length_of (run_of rank joined) + sum_by length_of after) =
+      ap (sum_by length_of) parts ∙ sum_by-append length_of front (run_of rank joined ∷ after)
+      ∙ ap (λ k. sum_by length_of front + k) (sum_by-cons length_of (run_of rank joined) after) in
       let sum_now = sum_by-canonical n new now in
       let sum_before = sum_by-canonical n (runs_of rank runs) canonical in
       let both = sum_by-parts rank runs at in
@@ -169,12 +169,12 @@ module _ {T : Type 0} (rank : T → ℕ) (n : ℕ) (runs : List (Run T)) (at pas
       let near = reached.2 in
       let far = reached.3 in
       let rest : IsCanonicalFrom (rank joined.end + 2) (runs_of rank (drop at runs)) =
-          subst (λ i. IsCanonicalFrom (rank joined.end + 2) (runs_of rank (drop i runs))) none apart in
+      subst (λ i. IsCanonicalFrom (rank joined.end + 2) (runs_of rank (drop i runs))) none apart in
       let member : members (runs_of rank (drop at runs)) point ≡ true =
-          sym (ap (λ test. test || members (runs_of rank (drop at runs)) point)
-          (members-before rank (rank run.start) point (take at runs) before far))
-          ∙ sym (members-append (runs_of rank (take at runs)) (runs_of rank (drop at runs)) point)
-          ∙ sym (ap (λ list. members list point) (runs_of-parts rank runs at)) ∙ reached.1 in
+      sym (ap (λ test. test || members (runs_of rank (drop at runs)) point)
+      (members-before rank (rank run.start) point (take at runs) before far))
+      ∙ sym (members-append (runs_of rank (take at runs)) (runs_of rank (drop at runs)) point)
+      ∙ sym (ap (λ list. members list point) (runs_of-parts rank runs at)) ∙ reached.1 in
       elim start-of [
         | inl later ↦
             not_both _ member (members-below (rank joined.end + 2) _ point rest (omega arith))

@@ -85,7 +85,7 @@ module _ {T : Type 0} (rank : T → ℕ) where
   ends-from start low [] i run canonical within is reached = absurd (omega arith)
   ends-from start low (first ∷ runs) zero run canonical within is reached =
       let here : start ≤ rank first.end + 1 =
-          subst (λ (each : Run T). start ≤ rank each.end + 1) is reached in
+      subst (λ (each : Run T). start ≤ rank each.end + 1) is reached in
       All-cons (λ (each : Run T). start ≤ rank each.end + 1) first runs here
       (ends-past start (rank first.end + 2) runs canonical.2 (omega arith))
   ends-from start low (first ∷ runs) (suc i) run canonical within is reached =

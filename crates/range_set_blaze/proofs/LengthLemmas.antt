@@ -34,7 +34,7 @@ grows : (n : ℕ) (old new : List Interval) (added : Selection) → Adds old new
     → (count n (members old) < count n (members new)) ↔ LacksSomeOf old added
 grows n old new added adds below =
     let kept : (rank : ℕ) → members old rank ≡ true → members new rank ≡ true = λ rank member.
-        adds rank ∙ or-left (members old rank) (added rank) member in (
+    adds rank ∙ or-left (members old rank) (added rank) member in (
       (λ less.
           let found = count-finds n (members old) (members new) less in
           (found.0, or-second (members old found.0) (added found.0) (sym (adds found.0) ∙ found.2) found.3, found.3)),
@@ -50,10 +50,10 @@ pub length-changed : (n first past : ℕ) (run : Interval) (old new : List Inter
     → IsTrue (not same) ↔ LacksSomeOf old (λ rank. nat_le first rank && nat_lt rank past)
 length-changed n first past run old new adds starts ends below same tells =
     let between : (rank : ℕ) → covers rank run ≡ (nat_le first rank && nat_lt rank past) =
-        λ rank. grind (arith, nat_tests) in
+    λ rank. grind (arith, nat_tests) in
     let more = grows n old new (λ rank. covers rank run) adds (λ rank here. grind (arith, nat_tests, here)) in
     let least = count-at_most n (members old) (members new)
-        (λ rank member. adds rank ∙ or-left (members old rank) (covers rank run) member) in (
+    (λ rank member. adds rank ∙ or-left (members old rank) (covers rank run) member) in (
       (λ differ. elim (cases_lt (count n (members old)) (count n (members new))) [
         | inl less ↦ let lacks = more.0 less in (lacks.0, sym (between lacks.0) ∙ lacks.1, lacks.2)
         | inr most ↦ absurd (not-holds same differ (tells.1 (omega (arith, most, least))))

@@ -1,13 +1,21 @@
 -- The ranges of a set, one after the other.
-use Rattle.std.proofs.Common.{◌≡◌, ℕ, ◌+◌, ◌<◌, List, [], ◌∷◌, Some, refl, ap, arith, subst}
-use Rattle.std.proofs.lemmas.List.Elements.{All-tail}
+use Rattle.std.proofs.Common.{◌≡◌, ℕ, ◌+◌, ◌<◌, List, [], ◌∷◌, ◌++◌, ◌∙◌, Some, refl, ap, arith, length, length-append, subst}
+use Rattle.std.proofs.lemmas.List.Elements.{All-cons, All-head, All-nil, All-tail}
+use Rattle.std.proofs.lemmas.List.{map-append}
+use Rattle.std.specs.List.{All}
 use Rattle.std.specs.Iterator.{MakesProgress, item_count}
 use Rattle.std.specs.declared.ops.RangeInclusive.{RangeInclusive}
 use Rattle.rsb_integer.specs.Rank.{interval_of, intervals_of}
 use Rattle.rsb_integer.specs.Runs.{Interval, IsCanonicalIn}
-use Rattle.rsb_integer.proofs.RunsLemmas.{canonical-lower}
+use Rattle.rsb_integer.proofs.RunsLemmas.{canonical-lower, canonical-parts}
 use Rattle.range_set_blaze.specs.Kept.{range_of, ranges_of, run_of, runs_of}
 use Rattle.range_set_blaze.specs.declared.set.run.Run.{Run}
+
+-- what holds of each of two lists put together holds of each of the first
+All-front : {X : Type 0} (P : X → Type 0) (xs ys : List X) → All P (xs ++ ys) → All P xs
+All-front P [] ys all = All-nil P
+All-front P (x ∷ xs) ys all =
+    All-cons P x xs (All-head P x (xs ++ ys) all) (All-front P xs ys (All-tail P x (xs ++ ys) all))
 
 module _ {T : Type 0} (rank : T → ℕ) where
   -- the ranges of runs have the intervals of the runs
@@ -31,9 +39,35 @@ module _ {T : Type 0} (rank : T → ℕ) where
       (item_count (λ (ranges : List (RangeInclusive T)). ranges)) before (Some item) after
   canonical-goes n before after first item is canonical =
       let rest = canonical-rest n first after
-          (subst (λ ranges. IsCanonicalIn n (intervals_of rank ranges)) is canonical) in
+      (subst (λ ranges. IsCanonicalIn n (intervals_of rank ranges)) is canonical) in
       record {
         on = λ finite. (rest, tt, rw is (omega arith));
+        keeps = rest;
+        rests = λ finite. tt;
+      }
+
+  -- and so is what is left when the last one is taken
+  pub canonical-front : (n : ℕ) (ranges : List (RangeInclusive T)) (range : RangeInclusive T)
+      → IsCanonicalIn n (intervals_of rank (ranges ++ range ∷ [])) → IsCanonicalIn n (intervals_of rank ranges)
+  canonical-front n ranges range canonical =
+      let front = intervals_of rank ranges in
+      let last = interval_of rank range ∷ [] in
+      let parts = map-append (interval_of rank) ranges (range ∷ []) in
+      let both = subst (IsCanonicalIn n) parts canonical in (
+        (canonical-parts 0 front last both.0).0,
+        All-front (λ (each : Interval). each.last < n) front last both.1,
+      )
+
+  pub canonical-goes_back : (n : ℕ) (before after : List (RangeInclusive T)) (last item : RangeInclusive T)
+      → before ≡ after ++ last ∷ [] → IsCanonicalIn n (intervals_of rank before)
+      → MakesProgress (λ ranges. IsCanonicalIn n (intervals_of rank ranges))
+      (item_count (λ (ranges : List (RangeInclusive T)). ranges)) before (Some item) after
+  canonical-goes_back n before after last item is canonical =
+      let rest = canonical-front n after last
+      (subst (λ ranges. IsCanonicalIn n (intervals_of rank ranges)) is canonical) in
+      let count = ap length is ∙ length-append after (last ∷ []) in
+      record {
+        on = λ finite. (rest, tt, omega (arith, count));
         keeps = rest;
         rests = λ finite. tt;
       }

@@ -5,5 +5,7 @@ pub mod laws;
 pub mod prelude;
 pub mod ranges_iter;
 pub mod set;
+#[cfg(test)]
+mod tests;
 
-pub use crate::prelude::{Integer, RangeSetBlaze, RangesIter, SafeLength};
+pub use crate::prelude::{Integer, RangeSetBlaze, RangesIter, SafeLength, UInt, UIntPlusOne};

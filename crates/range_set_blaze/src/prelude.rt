@@ -3,4 +3,4 @@
 pub use crate::ranges_iter::RangesIter;
 pub use crate::set::RangeSetBlaze;
 pub use rsb_integer::Integer;
-pub use rsb_length::SafeLength;
+pub use rsb_length::{SafeLength, UInt, UIntPlusOne};

@@ -6,6 +6,7 @@ ghost use Rattle.rsb_integer.specs.Runs.{IsCanonicalIn};
 
 use crate::set::run::Run;
 use rsb_integer::Integer;
+use std::iter::FusedIterator;
 use std::marker::Model;
 use std::ops::RangeInclusive;
 
@@ -42,7 +43,11 @@ impl<'a, T: Integer> Iterator for RangesIter<'a, T> {
     }
 }
 
+impl<'a, T: Integer> FusedIterator for RangesIter<'a, T> {}
+
 impl<'a, T: Integer> DoubleEndedIterator for RangesIter<'a, T> {
+    ghost can_next_back = { λ s. IsCanonicalIn T.value_count (intervals_of T.rank s) };
+
     ghost next_back_gives = { YieldsLast (λ s. s) };
 
     fn next_back(&mut self) -> Option<RangeInclusive<T>> {

@@ -1,14 +1,15 @@
 -- Why the given types keep the laws of `Integer`.
 use Rattle.std.specs.Prelude.{◌≡◌, ◌⊎◌, ℕ, ℤ, Bool, true, false, pos, negsuc, cond, ◌-◌, ◌*◌, ◌^◌, ◌<◌, ◌≤◌, ◌<ℤ◌, nat_lt}
-use Rattle.std.specs.Cmp.{int_ranked, nat_cmp_is}
+use Rattle.std.specs.Cmp.{int_ranked, nat_cmp_is, ranked}
 use Rattle.std.specs.Int.{Width}
 use Rattle.std.specs.Ordering.{MatchOrdering, nat_cmp, int_cmp}
 use Rattle.std.specs.declared.cmp.Ordering.{Ordering}
 use Rattle.std.specs.declared.cmp.Ordering.TheVariants.{Less, Equal, Greater}
 use Rattle.std.proofs.Common.{arith, refl, ap, inl, inr}
+use Rattle.std.proofs.lemmas.Bool.Decides.{nat_tests}
 use Rattle.std.proofs.lemmas.Int.{ints}
 use Rattle.std.proofs.lemmas.Nat.{pow_pos}
-use Rattle.rsb_integer.specs.Rank.{signed_rank}
+use Rattle.rsb_integer.specs.Rank.{scalar_rank, signed_rank}
 use borrow.Author.Tests.{ltb-true, ltb-false}
 use mir.Val.{hbits}
 
@@ -82,3 +83,27 @@ signed-in_order width x y left right =
     ranks Less less = signed-less width x y left right less
     ranks Equal equal = ap (signed_rank width) equal
     ranks Greater greater = signed-less width y x right left greater
+
+-- ---- characters: 1112064 is how many there are
+
+-- ranks tell characters apart
+pub scalar-one_place : (c d : ℕ) → scalar_rank c < 1112064 → scalar_rank c ≡ scalar_rank d → c ≡ d
+scalar-one_place c d value same = grind (arith, nat_tests)
+
+scalar-less : (c d : ℕ) → scalar_rank c < 1112064 → scalar_rank d < 1112064 → c < d
+    → scalar_rank c < scalar_rank d
+scalar-less c d left right less = grind (arith, nat_tests)
+
+-- characters are ordered as their ranks are
+pub scalar-in_order : (c d : ℕ) → scalar_rank c < 1112064 → scalar_rank d < 1112064
+    → nat_cmp c d ≡ nat_cmp (scalar_rank c) (scalar_rank d)
+scalar-in_order c d left right =
+    nat_cmp_is (scalar_rank c) (scalar_rank d) (nat_cmp c d)
+    (ranks (nat_cmp c d) (ranked c d (nat_cmp c d) refl))
+  where
+    ranks : (order : Ordering) → MatchOrdering order (c < d) (c ≡ d) (d < c)
+        → MatchOrdering order (scalar_rank c < scalar_rank d) (scalar_rank c ≡ scalar_rank d)
+        (scalar_rank d < scalar_rank c)
+    ranks Less less = scalar-less c d left right less
+    ranks Equal equal = ap scalar_rank equal
+    ranks Greater greater = scalar-less d c right left greater

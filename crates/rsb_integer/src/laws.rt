@@ -1,9 +1,9 @@
 //! Laws that callers rely on. The clause of each function is the law; the function does nothing.
 
-ghost use Rattle.std.specs.Prelude.{◌≡◌, ◌↔◌, List};
+ghost use Rattle.std.specs.Prelude.{◌≡◌, ◌↔◌, ℕ, ◌+◌, ◌<◌, ◌≤◌, List};
 ghost use Rattle.std.specs.declared.ops.RangeInclusive.{RangeInclusive};
 ghost use Rattle.rsb_integer.specs.Rank.{intervals_of};
-ghost use Rattle.rsb_integer.specs.Runs.{Interval, members, AllEndBelow, AreRuns, IsCanonical, IsCanonicalIn};
+ghost use Rattle.rsb_integer.specs.Runs.{Interval, length_of, members, AllEndBelow, AreRuns, IsCanonical, IsCanonicalIn};
 ghost use Rattle.rsb_integer.specs.Selection.{Agree};
 
 use crate::integer::Integer;
@@ -25,5 +25,19 @@ pub fn equal_members_equal_lists<T: Integer>()
 pub fn canonical_lists_are_runs<T: Integer>()
     ensures { (runs : List Interval)
         → IsCanonicalIn T.value_count runs ↔ AreRuns T.value_count (members runs) runs }
+{
+}
+
+/// The length of a range leads from its start to its end, and from its end to its start: whatever
+/// `inclusive_end_from_start` and `start_from_inclusive_end` may answer by it is that value.
+pub fn offsets_undo_length<T: Integer>()
+    ensures end { (start end found : T) (length : ℕ)
+        → T.rank start ≤ T.rank end → T.rank end < T.value_count
+        → length ≡ length_of (record { first = T.rank start; last = T.rank end })
+        → T.rank found + 1 ≡ T.rank start + length → found ≡ end }
+    ensures start { (start end found : T) (length : ℕ)
+        → T.rank start ≤ T.rank end → T.rank end < T.value_count
+        → length ≡ length_of (record { first = T.rank start; last = T.rank end })
+        → T.rank found + length ≡ T.rank end + 1 → found ≡ start }
 {
 }

@@ -4,5 +4,7 @@
 mod impls;
 pub mod integer;
 pub mod laws;
+#[cfg(test)]
+mod tests;
 
 pub use integer::Integer;

@@ -1,1 +1,2 @@
 pub mod SafeLength
+pub mod UIntPlusOne

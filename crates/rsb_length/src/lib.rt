@@ -2,5 +2,11 @@
 #![tactic(auto)]
 
 pub mod safe_length;
+#[cfg(test)]
+mod tests;
+pub mod uint;
+pub mod uint_plus_one;
 
 pub use safe_length::SafeLength;
+pub use uint::UInt;
+pub use uint_plus_one::UIntPlusOne;

@@ -8,8 +8,9 @@ ghost use Rattle.rsb_length.specs.SafeLength.{unsigned-difference, unsigned-equa
 use num_traits::{One, Zero};
 use std::ops::{AddAssign, SubAssign};
 
-/// A type of lengths: the whole numbers from 0 to a greatest one, in order. `+=` and `-=` are exact,
-/// and may be used where the result is one of them. (Own: the Rust crate asks num-traits alone.)
+/// A type of lengths: the whole numbers from 0 to a greatest one, in order. `+=` and `-=` are
+/// exact, and may be used where the result is one of them. (Own: the Rust crate asks num-traits
+/// alone.)
 pub trait SafeLength: Copy + PartialOrd + Zero + One + AddAssign + SubAssign {
     // The whole number that a length means.
     ghost number: { Self → ℕ };

@@ -22,7 +22,7 @@ impl<T: Integer, A: Allocator> RangeSetBlaze<T, A> {
             (between T.rank T.value_count (R.start_bound range) (R.end_bound range))) }
         ensures added { R.has_bounds range → IfOk result (λ added. IsTrue added ↔
             LacksSomeOf self.old
-                (between T.rank T.value_count (R.start_bound range) (R.end_bound range))) }
+            (between T.rank T.value_count (R.start_bound range) (R.end_bound range))) }
         ensures err { OnErr result (self.new ≡ self.old) }
 
         // No memory is taken where nothing is to be added, nor where a run can be made longer.
@@ -96,7 +96,7 @@ impl<T: Integer, A: Allocator> RangeSetBlaze<T, A> {
 fn run_between<T: Integer, R: RangeBounds<T>>(range: &R) -> Option<Run<T>>
     ensures none { R.has_bounds range.now → IsNone result →
         past_rank T.rank T.value_count (R.end_bound range.now)
-            ≤ first_rank T.rank (R.start_bound range.now) }
+        ≤ first_rank T.rank (R.start_bound range.now) }
     ensures start { R.has_bounds range.now → IfSome result (λ run.
         T.rank run.start ≡ first_rank T.rank (R.start_bound range.now)) }
     ensures end { R.has_bounds range.now → IfSome result (λ run.
@@ -168,12 +168,12 @@ fn join<T: Integer>(runs: &[Run<T>], at: usize, run: Run<T>, total: T::SafeLen) 
 
     // The joined run and those after it have what the run and those from the position on have.
     ensures members { (rank : ℕ) → (covers rank (run_of T.rank result.run)
-            || members (runs_of T.rank (drop result.past runs.now)) rank)
+        || members (runs_of T.rank (drop result.past runs.now)) rank)
         ≡ (covers rank (run_of T.rank run) || members (runs_of T.rank (drop at runs.now)) rank) }
     ensures apart { IsCanonicalFrom (T.rank result.run.end + 2)
         (runs_of T.rank (drop result.past runs.now)) }
     ensures others { T.SafeLen.number result.others
-            + sum_by length_of (runs_of T.rank (drop at runs.now))
+        + sum_by length_of (runs_of T.rank (drop at runs.now))
         ≡ T.SafeLen.number total + sum_by length_of (runs_of T.rank (drop result.past runs.now)) }
 {
     let mut start = run.start;

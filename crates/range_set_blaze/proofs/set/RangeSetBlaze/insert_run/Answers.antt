@@ -46,10 +46,10 @@ pub add_length-requires-clause-fits : goal.add_length-requires-clause-fits
 add_length-requires-clause-fits g c κs within =
     let joined = c.join-joined in
     let new = inserted g.T.Integer.rank g.T.Integer.value_count c.self.inside.runs.items
-        c.first_reaching-at.result joined.result.past c.args.run joined.result.run c.self.invariant.canonical
-        (rw (← c.deref.ensures.value) c.first_reaching-at.ensures.before) joined.ensures.order
-        joined.ensures.value (rw (← c.deref-2.ensures.value) joined.ensures.members)
-        (rw (← c.deref-2.ensures.value) joined.ensures.apart) in
+    c.first_reaching-at.result joined.result.past c.args.run joined.result.run c.self.invariant.canonical
+    (rw (← c.deref.ensures.value) c.first_reaching-at.ensures.before) joined.ensures.order
+    joined.ensures.value (rw (← c.deref-2.ensures.value) joined.ensures.members)
+    (rw (← c.deref-2.ensures.value) joined.ensures.apart) in
     let others = rw c.deref-2.ensures.value at joined.ensures.others in
     omega (arith, new.counted, new.fits, others, c.self.invariant.length)
 
@@ -57,10 +57,10 @@ pub invariant_of-self-2 : goal.invariant_of-self-2
 invariant_of-self-2 g c =
     let joined = c.join-joined in
     let new = inserted g.T.Integer.rank g.T.Integer.value_count c.self.inside.runs.items
-        c.first_reaching-at.result joined.result.past c.args.run joined.result.run c.self.invariant.canonical
-        (rw (← c.deref.ensures.value) c.first_reaching-at.ensures.before) joined.ensures.order
-        joined.ensures.value (rw (← c.deref-2.ensures.value) joined.ensures.members)
-        (rw (← c.deref-2.ensures.value) joined.ensures.apart) in
+    c.first_reaching-at.result joined.result.past c.args.run joined.result.run c.self.invariant.canonical
+    (rw (← c.deref.ensures.value) c.first_reaching-at.ensures.before) joined.ensures.order
+    joined.ensures.value (rw (← c.deref-2.ensures.value) joined.ensures.members)
+    (rw (← c.deref-2.ensures.value) joined.ensures.apart) in
     let others = rw c.deref-2.ensures.value at joined.ensures.others in
     rw c.in_ok-replace_runs.ensures.replaced (record {
       canonical = new.canonical;
@@ -72,8 +72,8 @@ pub returns-clause-members : goal.returns-clause-members
 returns-clause-members g c =
     let joined = c.join-joined in
     let new = inserted g.T.Integer.rank g.T.Integer.value_count c.self.inside.runs.items
-        c.first_reaching-at.result joined.result.past c.args.run joined.result.run c.self.invariant.canonical
-        (rw (← c.deref.ensures.value) c.first_reaching-at.ensures.before) joined.ensures.order
-        joined.ensures.value (rw (← c.deref-2.ensures.value) joined.ensures.members)
-        (rw (← c.deref-2.ensures.value) joined.ensures.apart) in
+    c.first_reaching-at.result joined.result.past c.args.run joined.result.run c.self.invariant.canonical
+    (rw (← c.deref.ensures.value) c.first_reaching-at.ensures.before) joined.ensures.order
+    joined.ensures.value (rw (← c.deref-2.ensures.value) joined.ensures.members)
+    (rw (← c.deref-2.ensures.value) joined.ensures.apart) in
     rw (c.in_ok-replace_runs.ensures.replaced, ← c.self.view_is) new.adds

@@ -25,9 +25,9 @@ returns-clause-added g c has =
     let n = g.T.Integer.value_count in
     let lengths = g.T.SafeLen.SafeLength in
     let old : lengths.number c.self.inside.length ≡ count n (members c.args.self.now) =
-        rw (← c.self.view_is) c.self.invariant.length in
+    rw (← c.self.view_is) c.self.invariant.length in
     let new : lengths.number c.self-2.inside.length ≡ count n (members c.insert_run.new.self) =
-        rw (← c.self-2.view_is) c.self-2.invariant.length in
+    rw (← c.self-2.view_is) c.self-2.invariant.length in
     let same = rw (new, old) at (g.met.T.SafeLen.SafeLength.equal c.self-2.inside.length c.self.inside.length) in
     rw c.ne.ensures (length-changed n _ _ (run_of g.T.Integer.rank c.in-Some.run') c.args.self.now
     c.insert_run.new.self c.in_ok-insert_run.ensures.members (c.in-Some.ensures.start has)

@@ -10,15 +10,15 @@ use Rattle.range_set_blaze.proofs.set.insert.join.Goals.{else-loop-past-test, th
 pub reaches-requires-after_bounds : goal.reaches-requires-after_bounds
 reaches-requires-after_bounds g c κs within =
     let at = runs_of-at g.T.Integer.rank g.T.Integer.value_count 0 c.args.runs.now c.loop-past.past
-        c.index-runs-past.result c.requires.canonical.0 c.requires.canonical.1 c.loop-past-test.true
-        c.index-runs-past.is in
+    c.index-runs-past.result c.requires.canonical.0 c.requires.canonical.1 c.loop-past-test.true
+    c.index-runs-past.is in
     omega (arith, at.0, at.1)
 
 pub lesser-start-requires-clause-right : goal.lesser-start-requires-clause-right
 lesser-start-requires-clause-right g c κs within =
     let at = runs_of-at g.T.Integer.rank g.T.Integer.value_count 0 c.args.runs.now c.loop-past.past
-        c.index-runs-past.result c.requires.canonical.0 c.requires.canonical.1 c.loop-past-test.true
-        c.index-runs-past.is in
+    c.index-runs-past.result c.requires.canonical.0 c.requires.canonical.1 c.loop-past-test.true
+    c.index-runs-past.is in
     omega (arith, at.0, at.1)
 
 pub greater-end-requires-clause-right : goal.greater-end-requires-clause-right
@@ -41,12 +41,12 @@ loop-past-preserved g c =
     let next = c.index-runs-past.result in
     let i = c.loop-past.invariant in
     let at = runs_of-at rank g.T.Integer.value_count 0 runs c.loop-past.past next c.requires.canonical.0
-        c.requires.canonical.1 c.loop-past-test.true c.index-runs-past.is in
+    c.requires.canonical.1 c.loop-past-test.true c.index-runs-past.is in
     let rest = runs_of-drop rank runs c.loop-past.past next c.loop-past-test.true c.index-runs-past.is in
     let sum = sum_by-drop rank runs c.loop-past.past next c.loop-past-test.true c.index-runs-past.is in
     let near = c.reaches.ensures.0 c.if-not-reaches.false in
     let far = All-from (λ other. rank c.args.run.start ≤ rank other.end + 1) runs c.args.at c.loop-past.past
-        next c.requires.from i.at c.loop-past-test.true c.index-runs-past.is in
+    next c.requires.from i.at c.loop-past-test.true c.index-runs-past.is in
     record {
       at = omega (arith, i.at);
       within = omega (arith, c.loop-past-test.true);

@@ -1,0 +1,69 @@
+//! `i128` as an element type, with lengths in `UIntPlusOne<u128>`.
+
+ghost use Rattle.std.specs.Prelude.{◌^◌};
+ghost use Rattle.std.specs.Int.{w128};
+ghost use Rattle.std.proofs.Common.{lit≤};
+ghost use Rattle.rsb_integer.specs.Rank.{signed_rank};
+ghost use Rattle.rsb_integer.specs.RankLaws.{signed-one_place, signed-in_order};
+
+use crate::integer::Integer;
+use rsb_length::UIntPlusOne;
+use std::ops::RangeInclusive;
+
+impl Integer for i128 {
+    type SafeLen = UIntPlusOne<u128>;
+
+    ghost rank = { signed_rank w128 };
+
+    ghost value_count = { 2 ^ 128 };
+
+    fn checked_add_one(self) -> Option<i128> {
+        self.checked_add(1)
+    }
+
+    fn add_one(self) -> i128 {
+        self + 1
+    }
+
+    fn sub_one(self) -> i128 {
+        self - 1
+    }
+
+    fn min_value() -> i128 {
+        i128::MIN
+    }
+
+    fn max_value() -> i128 {
+        i128::MAX
+    }
+
+    fn safe_len(range: &RangeInclusive<i128>) -> UIntPlusOne<u128> {
+        UIntPlusOne::UInt(range.end().abs_diff(*range.start())) + UIntPlusOne::UInt(1)
+    }
+
+    fn inclusive_end_from_start(self, b: UIntPlusOne<u128>) -> i128 {
+        match b {
+            UIntPlusOne::UInt(length) => self.checked_add_unsigned(length - 1).unwrap(),
+            // The whole type.
+            UIntPlusOne::MaxPlusOne => i128::MAX,
+        }
+    }
+
+    fn start_from_inclusive_end(self, b: UIntPlusOne<u128>) -> i128 {
+        match b {
+            UIntPlusOne::UInt(length) => self.checked_sub_unsigned(length - 1).unwrap(),
+            // The whole type.
+            UIntPlusOne::MaxPlusOne => i128::MIN,
+        }
+    }
+
+    ghost one_place = { signed-one_place w128 };
+
+    ghost in_order = { signed-in_order w128 };
+
+    ghost some_values = { lit≤ tt };
+
+    ghost countable = { lit≤ tt };
+
+    ghost lengths_suffice = { lit≤ tt };
+}

@@ -1,0 +1,60 @@
+//! `i16` as an element type, with lengths in `u32`.
+
+ghost use Rattle.std.specs.Prelude.{◌^◌};
+ghost use Rattle.std.specs.Int.{w16};
+ghost use Rattle.std.proofs.Common.{lit≤};
+ghost use Rattle.rsb_integer.specs.Rank.{signed_rank};
+ghost use Rattle.rsb_integer.specs.RankLaws.{signed-one_place, signed-in_order};
+
+use crate::integer::Integer;
+use std::ops::RangeInclusive;
+
+impl Integer for i16 {
+    type SafeLen = u32;
+
+    ghost rank = { signed_rank w16 };
+
+    ghost value_count = { 2 ^ 16 };
+
+    fn checked_add_one(self) -> Option<i16> {
+        self.checked_add(1)
+    }
+
+    fn add_one(self) -> i16 {
+        self + 1
+    }
+
+    fn sub_one(self) -> i16 {
+        self - 1
+    }
+
+    fn min_value() -> i16 {
+        i16::MIN
+    }
+
+    fn max_value() -> i16 {
+        i16::MAX
+    }
+
+    fn safe_len(range: &RangeInclusive<i16>) -> u32 {
+        u32::from(range.end().abs_diff(*range.start())) + 1
+    }
+
+    fn inclusive_end_from_start(self, b: u32) -> i16 {
+        self.checked_add_unsigned((b - 1) as u16).unwrap()
+    }
+
+    fn start_from_inclusive_end(self, b: u32) -> i16 {
+        self.checked_sub_unsigned((b - 1) as u16).unwrap()
+    }
+
+    ghost one_place = { signed-one_place w16 };
+
+    ghost in_order = { signed-in_order w16 };
+
+    ghost some_values = { lit≤ tt };
+
+    ghost countable = { lit≤ tt };
+
+    ghost lengths_suffice = { lit≤ tt };
+}

@@ -1,0 +1,60 @@
+//! `i8` as an element type, with lengths in `u16`.
+
+ghost use Rattle.std.specs.Prelude.{◌^◌};
+ghost use Rattle.std.specs.Int.{w8};
+ghost use Rattle.std.proofs.Common.{lit≤};
+ghost use Rattle.rsb_integer.specs.Rank.{signed_rank};
+ghost use Rattle.rsb_integer.specs.RankLaws.{signed-one_place, signed-in_order};
+
+use crate::integer::Integer;
+use std::ops::RangeInclusive;
+
+impl Integer for i8 {
+    type SafeLen = u16;
+
+    ghost rank = { signed_rank w8 };
+
+    ghost value_count = { 2 ^ 8 };
+
+    fn checked_add_one(self) -> Option<i8> {
+        self.checked_add(1)
+    }
+
+    fn add_one(self) -> i8 {
+        self + 1
+    }
+
+    fn sub_one(self) -> i8 {
+        self - 1
+    }
+
+    fn min_value() -> i8 {
+        i8::MIN
+    }
+
+    fn max_value() -> i8 {
+        i8::MAX
+    }
+
+    fn safe_len(range: &RangeInclusive<i8>) -> u16 {
+        u16::from(range.end().abs_diff(*range.start())) + 1
+    }
+
+    fn inclusive_end_from_start(self, b: u16) -> i8 {
+        self.checked_add_unsigned((b - 1) as u8).unwrap()
+    }
+
+    fn start_from_inclusive_end(self, b: u16) -> i8 {
+        self.checked_sub_unsigned((b - 1) as u8).unwrap()
+    }
+
+    ghost one_place = { signed-one_place w8 };
+
+    ghost in_order = { signed-in_order w8 };
+
+    ghost some_values = { lit≤ tt };
+
+    ghost countable = { lit≤ tt };
+
+    ghost lengths_suffice = { lit≤ tt };
+}

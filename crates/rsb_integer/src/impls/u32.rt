@@ -1,0 +1,57 @@
+//! `u32` as an element type, with lengths in `u64`.
+
+ghost use Rattle.std.specs.Prelude.{◌^◌};
+ghost use Rattle.std.proofs.Common.{lit≤, refl};
+
+use crate::integer::Integer;
+use std::ops::RangeInclusive;
+
+impl Integer for u32 {
+    type SafeLen = u64;
+
+    ghost rank = { λ x. x };
+
+    ghost value_count = { 2 ^ 32 };
+
+    fn checked_add_one(self) -> Option<u32> {
+        self.checked_add(1)
+    }
+
+    fn add_one(self) -> u32 {
+        self + 1
+    }
+
+    fn sub_one(self) -> u32 {
+        self - 1
+    }
+
+    fn min_value() -> u32 {
+        u32::MIN
+    }
+
+    fn max_value() -> u32 {
+        u32::MAX
+    }
+
+    fn safe_len(range: &RangeInclusive<u32>) -> u64 {
+        u64::from(range.end() - range.start()) + 1
+    }
+
+    fn inclusive_end_from_start(self, b: u64) -> u32 {
+        self + (b - 1) as u32
+    }
+
+    fn start_from_inclusive_end(self, b: u64) -> u32 {
+        self - (b - 1) as u32
+    }
+
+    ghost one_place = { λ x y value same. same };
+
+    ghost in_order = { λ x y left right. refl };
+
+    ghost some_values = { lit≤ tt };
+
+    ghost countable = { lit≤ tt };
+
+    ghost lengths_suffice = { lit≤ tt };
+}

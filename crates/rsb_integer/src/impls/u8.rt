@@ -1,0 +1,57 @@
+//! `u8` as an element type, with lengths in `u16`.
+
+ghost use Rattle.std.specs.Prelude.{◌^◌};
+ghost use Rattle.std.proofs.Common.{lit≤, refl};
+
+use crate::integer::Integer;
+use std::ops::RangeInclusive;
+
+impl Integer for u8 {
+    type SafeLen = u16;
+
+    ghost rank = { λ x. x };
+
+    ghost value_count = { 2 ^ 8 };
+
+    fn checked_add_one(self) -> Option<u8> {
+        self.checked_add(1)
+    }
+
+    fn add_one(self) -> u8 {
+        self + 1
+    }
+
+    fn sub_one(self) -> u8 {
+        self - 1
+    }
+
+    fn min_value() -> u8 {
+        u8::MIN
+    }
+
+    fn max_value() -> u8 {
+        u8::MAX
+    }
+
+    fn safe_len(range: &RangeInclusive<u8>) -> u16 {
+        u16::from(range.end() - range.start()) + 1
+    }
+
+    fn inclusive_end_from_start(self, b: u16) -> u8 {
+        self + (b - 1) as u8
+    }
+
+    fn start_from_inclusive_end(self, b: u16) -> u8 {
+        self - (b - 1) as u8
+    }
+
+    ghost one_place = { λ x y value same. same };
+
+    ghost in_order = { λ x y left right. refl };
+
+    ghost some_values = { lit≤ tt };
+
+    ghost countable = { lit≤ tt };
+
+    ghost lengths_suffice = { lit≤ tt };
+}

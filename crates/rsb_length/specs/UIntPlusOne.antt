@@ -1,0 +1,101 @@
+-- What a `UIntPlusOne` means, and why it keeps the laws of lengths. `number` and `limit` are those
+-- of the unsigned type under it.
+use Rattle.std.specs.Prelude.{◌≡◌, ◌≢◌, ◌↔◌, ◌==◌, ℕ, ℤ, Bool, List, Option, Some, true, false, pos, negsuc, cond, nat_le, ◌+◌, ◌≤◌, ◌≤ℤ◌, IsTrue}
+use Rattle.std.specs.Bool.{one_answer}
+use Rattle.std.specs.Cmp.{IsPartialOrder, nat_cmp_total, on_total, po, unsigned_Decides, unsigned_ties}
+use Rattle.std.specs.Ordering.{nat_cmp}
+use Rattle.std.proofs.Common.{arith, ap, refl, sym, ◌∙◌}
+use Rattle.std.proofs.lemmas.Bool.Decides.{nat_tests}
+use Rattle.std.proofs.lemmas.Int.{ints}
+use Rattle.rsb_length.specs.declared.uint_plus_one.UIntPlusOne.{UIntPlusOne}
+use Rattle.rsb_length.specs.declared.uint_plus_one.UIntPlusOne.TheVariants.{UInt, MaxPlusOne}
+
+-- The number that `UInt` of n means: n itself up to the limit, so at each value of the unsigned
+-- type. No code can make `UInt` of a number past the limit, but the laws of `==` and of the order
+-- speak of those too. If `UInt` of limit + 1 meant limit + 1, as `MaxPlusOne` does, the derived
+-- `==`, which tells the two apart, would not be equality of numbers. So a number past the limit
+-- means the one after it, and limit + 1 is left to `MaxPlusOne`.
+abbrev pub stretched : ℕ → ℕ → ℕ
+stretched limit n = cond (nat_le n limit) n (n + 1)
+
+-- the number that a `UIntPlusOne` means
+abbrev pub number_of : {T : Type 0} → (T → ℕ) → ℕ → UIntPlusOne T → ℕ
+number_of number limit (UInt value) = stretched limit (number value)
+number_of number limit MaxPlusOne = limit + 1
+
+-- the text of a `UIntPlusOne`, from the texts of the values and that of the number past the limit
+abbrev pub text_of : {T : Type 0} → (T → Option (List ℕ)) → List ℕ → UIntPlusOne T → Option (List ℕ)
+text_of output past_text (UInt value) = output value
+text_of output past_text MaxPlusOne = Some past_text
+
+-- the integer is a whole number up to n
+abbrev pub IsUpTo : ℕ → ℤ → Type 0
+IsUpTo n (pos m) = m ≤ n
+IsUpTo n (negsuc m) = ⊥
+
+-- an integer between two whole numbers up to n is one too
+pub IsUpTo-between : (n : ℕ) (x y z : ℤ) → IsUpTo n x → IsUpTo n z → x ≤ℤ y → y ≤ℤ z → IsUpTo n y
+IsUpTo-between n x (pos m) (pos k) f g low high = let h : k ≤ n = g in omega (arith, ints)
+IsUpTo-between n x (pos m) (negsuc k) f g low high = absurd g
+IsUpTo-between n (pos j) (negsuc m) z f g low high = absurd (omega (arith, ints))
+IsUpTo-between n (negsuc j) (negsuc m) z f g low high = absurd f
+
+-- a number within the limit means itself
+pub stretched-within : (limit n m : ℕ) → n ≡ m → m ≤ limit → stretched limit n ≡ m
+stretched-within limit n m e h = grind (arith, nat_tests)
+
+-- what means one number is one
+pub stretched-same : (limit m n : ℕ) → stretched limit m ≡ stretched limit n → m ≡ n
+stretched-same limit m n e = grind (arith, nat_tests)
+
+-- no `UInt` means the number one past the limit
+pub stretched-not_past : (limit n : ℕ) → stretched limit n ≢ limit + 1
+stretched-not_past limit n e = grind (arith, nat_tests)
+
+-- `same` compares `UInt`s by `equal`, which tells equal numbers, and tells `MaxPlusOne` from them,
+-- as the derived `==` does
+module _ {T : Type 0} (number : T → ℕ) (limit : ℕ) (equal : T → T → Bool)
+    (same : UIntPlusOne T → UIntPlusOne T → Bool)
+    (by_number : (a b : T) → IsTrue (equal a b) ↔ (number a ≡ number b))
+    (of_values : (a b : T) → same (UInt a) (UInt b) ≡ equal a b)
+    (of_value_and_past : (a : T) → same (UInt a) MaxPlusOne ≡ false)
+    (of_past_and_value : (b : T) → same MaxPlusOne (UInt b) ≡ false)
+    (of_past : same MaxPlusOne MaxPlusOne ≡ true)
+  where
+    -- then it tells equal numbers too
+    pub same-number_of : (x y : UIntPlusOne T)
+        → IsTrue (same x y) ↔ (number_of number limit x ≡ number_of number limit y)
+    same-number_of (UInt a) (UInt b) = (
+      (λ h. ap (stretched limit) ((by_number a b).0 (sym (of_values a b) ∙ h))),
+      (λ h. of_values a b ∙ (by_number a b).1 (stretched-same limit (number a) (number b) h)),
+    )
+    same-number_of (UInt a) MaxPlusOne = (
+      (λ h. let other = of_value_and_past a in absurd (cc)),
+      (λ h. absurd (stretched-not_past limit (number a) h)),
+    )
+    same-number_of MaxPlusOne (UInt b) = (
+      (λ h. let other = of_past_and_value b in absurd (cc)),
+      (λ h. absurd (stretched-not_past limit (number b) (sym h))),
+    )
+    same-number_of MaxPlusOne MaxPlusOne = ((λ h. refl), (λ h. of_past))
+
+-- what means numbers is ordered as they are, where `==` tells equal numbers
+pub order-by_number : {A : Type 0} (number : A → ℕ) (same : A → A → Bool)
+    → ((x y : A) → IsTrue (same x y) ↔ (number x ≡ number y))
+    → IsPartialOrder same (λ x y. Some (nat_cmp (number x) (number y)))
+order-by_number number same by_number = po (on_total number nat_cmp_total) (λ x y.
+    one_answer (same x y) (number x == number y) (by_number x y)
+    (unsigned_Decides (number x) (number y))
+    ∙ unsigned_ties (number x) (number y))
+
+-- a test that tells equal whole numbers tells equal integers
+pub same-integers : (same : Bool) (m n : ℕ) → IsTrue same ↔ (m ≡ n) → IsTrue same ↔ (pos m ≡ pos n)
+same-integers same m n told = ((λ h. ap pos (told.0 h)), (λ h. told.1 (omega (arith, ints))))
+
+-- no number is below 0
+pub zero-le : (n : ℕ) → 0 ≤ n
+zero-le n = omega arith
+
+-- one past a number is at least 1
+pub one-le_next : (n : ℕ) → 1 ≤ n + 1
+one-le_next n = omega arith

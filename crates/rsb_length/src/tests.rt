@@ -1,0 +1,149 @@
+//! `UIntPlusOne<u8>` against the numbers from 0 to 256, the greatest lengths, and the texts.
+
+ghost use Rattle.std.specs.Prelude.{◌≡◌, ◌≤◌};
+ghost use Rattle.rsb_length.specs.UIntPlusOne.{number_of};
+
+use crate::{SafeLength, UIntPlusOne};
+use num_traits::{One, Zero};
+use std::test::Fail;
+
+/// The length of this number.
+fn from_number(number: u32) -> UIntPlusOne<u8>
+    requires { number ≤ 256 }
+    ensures { number_of (λ a. a) 255 result ≡ number }
+{
+    match u8::try_from(number) {
+        Ok(value) => UIntPlusOne::UInt(value),
+        Err(_) => UIntPlusOne::MaxPlusOne,
+    }
+}
+
+/// The number of this length.
+fn to_number(length: UIntPlusOne<u8>) -> u32 {
+    match length {
+        UIntPlusOne::UInt(value) => u32::from(value),
+        UIntPlusOne::MaxPlusOne => 256,
+    }
+}
+
+#[test]
+fn sums_are_those_of_the_numbers(rt: HostRuntime) {
+    for a in 0..=256 {
+        for b in 0..=256 - a {
+            let (x, y) = (from_number(a), from_number(b));
+            assert_eq!(rt; to_number(x + y), a + b, "{a} + {b}");
+            let mut sum = x;
+            sum += y;
+            assert_eq!(rt; to_number(sum), a + b, "{a} += {b}");
+        }
+    }
+}
+
+#[test]
+fn differences_are_those_of_the_numbers(rt: HostRuntime) {
+    for a in 0..=256 {
+        for b in 0..=a {
+            let mut rest = from_number(a);
+            rest -= from_number(b);
+            assert_eq!(rt; to_number(rest), a - b, "{a} -= {b}");
+        }
+    }
+}
+
+#[test]
+fn products_are_those_of_the_numbers(rt: HostRuntime) {
+    for a in 0..=256u32 {
+        for b in 0..=256u32 {
+            if a * b <= 256 {
+                let product = from_number(a) * from_number(b);
+                assert_eq!(rt; to_number(product), a * b, "{a} * {b}");
+            }
+        }
+    }
+}
+
+#[test]
+fn order_is_that_of_the_numbers(rt: HostRuntime) {
+    for a in 0..=256u32 {
+        for b in 0..=256u32 {
+            let (x, y) = (from_number(a), from_number(b));
+            assert_eq!(rt; x.partial_cmp(&y), a.partial_cmp(&b), "{a} and {b}");
+            assert_eq!(rt; x == y, a == b, "{a} == {b}");
+        }
+    }
+}
+
+/// The greatest length, left by one and reached again.
+fn greatest_again<L: SafeLength>() -> L
+    ensures { L.number result ≡ L.limit }
+{
+    let mut length = L::greatest();
+    length -= L::one();
+    length += L::one();
+    length
+}
+
+#[test]
+fn greatest_is_left_and_reached_again(rt: HostRuntime) {
+    assert_eq!(rt; greatest_again::<u16>(), 65_535);
+    assert_eq!(rt; greatest_again::<u32>(), 4_294_967_295);
+    assert_eq!(rt; greatest_again::<u64>(), 18_446_744_073_709_551_615);
+    assert_eq!(rt;
+        greatest_again::<u128>(),
+        340_282_366_920_938_463_463_374_607_431_768_211_455
+    );
+    assert_eq!(rt;
+        greatest_again::<UIntPlusOne<u8>>(),
+        UIntPlusOne::MaxPlusOne
+    );
+    assert_eq!(rt;
+        greatest_again::<UIntPlusOne<u128>>(),
+        UIntPlusOne::MaxPlusOne
+    );
+}
+
+#[test]
+fn one_past_the_greatest_is_reached_and_left(rt: HostRuntime) {
+    let half = UIntPlusOne::UInt(128u8);
+    assert_eq!(rt; half + half, UIntPlusOne::MaxPlusOne);
+    let mut length: UIntPlusOne<u8> = UIntPlusOne::MaxPlusOne;
+    length -= UIntPlusOne::UInt(1);
+    assert_eq!(rt; length, UIntPlusOne::UInt(255));
+
+    let half = UIntPlusOne::UInt(1u128 << 127);
+    assert_eq!(rt; half + half, UIntPlusOne::MaxPlusOne);
+    let mut length: UIntPlusOne<u128> = UIntPlusOne::MaxPlusOne;
+    length -= UIntPlusOne::UInt(1);
+    assert_eq!(rt; length, UIntPlusOne::UInt(u128::MAX));
+}
+
+#[test]
+fn zero_is_the_only_zero(rt: HostRuntime) {
+    let mut length: UIntPlusOne<u128> = UIntPlusOne::one();
+    length += UIntPlusOne::UInt(1);
+    assert_eq!(rt; length, UIntPlusOne::UInt(2));
+    assert!(rt; UIntPlusOne::<u128>::zero().is_zero());
+    assert!(rt; !UIntPlusOne::UInt(1u128).is_zero());
+    assert!(rt; !UIntPlusOne::<u128>::MaxPlusOne.is_zero());
+}
+
+#[test]
+fn one_past_the_greatest_has_a_text(rt: HostRuntime) -> Result<(), Fail> {
+    let of_u8 = format!(in rt.alloc();
+        "{} {} {}",
+        UIntPlusOne::UInt(0u8),
+        UIntPlusOne::UInt(255u8),
+        UIntPlusOne::<u8>::MaxPlusOne
+    )?;
+    assert_eq!(rt; of_u8.as_str(), "0 255 256");
+    let of_u128 = format!(in rt.alloc();
+        "{} {}",
+        UIntPlusOne::UInt(u128::MAX),
+        UIntPlusOne::<u128>::MaxPlusOne
+    )?;
+    assert_eq!(rt;
+        of_u128.as_str(),
+        "340282366920938463463374607431768211455 (u128::MAX + 1)"
+    );
+    Ok(())
+}

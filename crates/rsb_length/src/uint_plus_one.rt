@@ -1,0 +1,248 @@
+//! The whole numbers from 0 to one past the greatest of an unsigned type.
+
+ghost use Rattle.std.specs.Prelude.{◌≡◌, ◌≢◌, ℕ, ◌+◌, ◌*◌, ◌≤◌, ⊤, Some, pos};
+ghost use Rattle.std.specs.Ordering.{nat_cmp};
+ghost use Rattle.std.proofs.Common.{ap, refl};
+ghost use Rattle.num_traits.specs.Ints.{unsigned-order};
+ghost use Rattle.rsb_length.specs.UIntPlusOne.{IsUpTo, IsUpTo-between, number_of, one-le_next, order-by_number, same-integers, same-number_of, stretched-within, text_of, zero-le};
+
+use crate::safe_length::SafeLength;
+use crate::uint::UInt;
+use num_traits::{Number, One, Zero};
+use std::cmp::Ordering;
+use std::fmt::{self, Display, Formatter};
+use std::ops::{Add, AddAssign, Mul, SubAssign};
+
+/// The whole numbers from 0 to one past the greatest of `T`, in order: each length that a range of
+/// `T` can have. `+`, `+=`, `-=` and `*` are exact, and may be used where the result is one of
+/// them. (The Rust crate panics elsewhere.)
+#[derive(Debug, Clone, Copy, PartialEq, Eq, Hash)]
+pub enum UIntPlusOne<T: UInt> {
+    /// A number that `T` has.
+    UInt(T),
+    /// The number one past the greatest of `T`.
+    MaxPlusOne,
+}
+
+// They are ordered as their numbers are.
+impl<T: UInt> PartialOrd for UIntPlusOne<T> {
+    ghost partial_cmp = { λ a b.
+        Some (nat_cmp (number_of T.number T.limit a) (number_of T.number T.limit b)) };
+
+    ghost laws = { order-by_number (number_of T.number T.limit) Self.eq
+        (same-number_of T.number T.limit T.eq Self.eq T.UInt.equal
+        (λ a b. refl) (λ a. refl) (λ b. refl) refl) };
+
+    fn partial_cmp(&self, other: &Self) -> Option<Ordering> {
+        match (self, other) {
+            (Self::MaxPlusOne, Self::MaxPlusOne) => Some(Ordering::Equal),
+            // `T` says that no value is above its greatest. One past it is above that one too.
+            (Self::MaxPlusOne, Self::UInt(b)) => {
+                Some(T::greatest().partial_cmp(b)?.then(Ordering::Greater))
+            }
+            (Self::UInt(a), Self::MaxPlusOne) => {
+                Some(a.partial_cmp(&T::greatest())?.then(Ordering::Less))
+            }
+            (Self::UInt(a), Self::UInt(b)) => a.partial_cmp(b),
+        }
+    }
+}
+
+// To `num_traits` they are integers: exact, and never negative.
+impl<T: UInt> Number for UIntPlusOne<T> {
+    ghost exact = { ⊤ };
+
+    ghost value = { λ a. pos (number_of T.number T.limit a) };
+
+    ghost fits = { IsUpTo (T.limit + 1) };
+
+    ghost nonzero = { λ z. z ≢ pos 0 };
+
+    ghost wrap = { λ z. z };
+
+    ghost eq_law = { λ a b _.
+        same-integers (Self.eq a b) (number_of T.number T.limit a) (number_of T.number T.limit b)
+        (same-number_of T.number T.limit T.eq Self.eq T.UInt.equal
+        (λ a b. refl) (λ a. refl) (λ b. refl) refl a b) };
+
+    ghost order_law = { λ a b _.
+        unsigned-order (number_of T.number T.limit a) (number_of T.number T.limit b) };
+
+    ghost between_law = { λ x y z _. IsUpTo-between (T.limit + 1) x y z };
+
+    ghost nonzero_law = { λ z _ _. ((λ h. h), (λ h. h)) };
+}
+
+// A sum up to one past the greatest may be formed, and is exact.
+impl<T: UInt> Add for UIntPlusOne<T> {
+    type Output = Self;
+
+    ghost can_add = { λ a b.
+        number_of T.number T.limit a + number_of T.number T.limit b ≤ T.limit + 1 };
+
+    ghost add_gives = { λ a b sum. number_of T.number T.limit sum
+        ≡ number_of T.number T.limit a + number_of T.number T.limit b };
+
+    fn add(self, rhs: Self) -> Self {
+        match (self, rhs) {
+            (Self::UInt(a), Self::UInt(b)) => match a.checked_sum(b) {
+                Some(sum) => Self::UInt(sum),
+                None => Self::MaxPlusOne,
+            },
+            // The other number is 0.
+            _ => Self::MaxPlusOne,
+        }
+    }
+}
+
+// `+=` is `+`.
+impl<T: UInt> AddAssign for UIntPlusOne<T> {
+    ghost can_add_assign = { λ a b.
+        number_of T.number T.limit a + number_of T.number T.limit b ≤ T.limit + 1 };
+
+    ghost add_assign_gives = { λ a b sum. number_of T.number T.limit sum
+        ≡ number_of T.number T.limit a + number_of T.number T.limit b };
+
+    fn add_assign(&mut self, rhs: Self) {
+        *self = *self + rhs;
+    }
+}
+
+// A difference from 0 on may be formed, and is exact. That the greater number is one of the type
+// is known of each value.
+impl<T: UInt> SubAssign for UIntPlusOne<T> {
+    ghost can_sub_assign = { λ a b.
+        (number_of T.number T.limit b ≤ number_of T.number T.limit a)
+        × (number_of T.number T.limit a ≤ T.limit + 1) };
+
+    ghost sub_assign_gives = { λ a b rest.
+        number_of T.number T.limit rest + number_of T.number T.limit b
+        ≡ number_of T.number T.limit a };
+
+    fn sub_assign(&mut self, rhs: Self) {
+        *self = match (*self, rhs) {
+            (Self::UInt(a), Self::UInt(b)) => Self::UInt(a.checked_difference(b).unwrap()),
+            (Self::MaxPlusOne, Self::UInt(b)) => {
+                Self::UInt(T::greatest().checked_difference(b).unwrap()) + Self::one()
+            }
+            (Self::MaxPlusOne, Self::MaxPlusOne) => Self::zero(),
+            (Self::UInt(_), Self::MaxPlusOne) => unreachable!(),
+        };
+    }
+}
+
+// A product up to one past the greatest may be formed, and is exact.
+impl<T: UInt> Mul for UIntPlusOne<T> {
+    type Output = Self;
+
+    ghost can_mul = { λ a b.
+        number_of T.number T.limit a * number_of T.number T.limit b ≤ T.limit + 1 };
+
+    ghost mul_gives = { λ a b product. number_of T.number T.limit product
+        ≡ number_of T.number T.limit a * number_of T.number T.limit b };
+
+    #[tactic(auto, using(crate::proofs::UIntPlusOneLemmas::stretched_product))]
+    fn mul(self, rhs: Self) -> Self {
+        match (self, rhs) {
+            (Self::UInt(a), Self::UInt(b)) => match a.checked_product(b) {
+                Some(product) => Self::UInt(product),
+                None => Self::MaxPlusOne,
+            },
+            // The other number is 0 or 1.
+            (Self::UInt(a), Self::MaxPlusOne) => if a.is_zero() { self } else { rhs },
+            (Self::MaxPlusOne, Self::UInt(b)) => if b.is_zero() { rhs } else { self },
+            (Self::MaxPlusOne, Self::MaxPlusOne) => Self::MaxPlusOne,
+        }
+    }
+}
+
+impl<T: UInt> Zero for UIntPlusOne<T> {
+    ghost use Rattle.rsb_length.specs.declared.uint_plus_one.UIntPlusOne.TheVariants.{UInt};
+
+    ghost zero = { UInt T.zero };
+
+    fn zero() -> Self {
+        Self::UInt(T::zero())
+    }
+
+    fn is_zero(&self) -> bool {
+        matches!(self, Self::UInt(v) if v.is_zero())
+    }
+
+    ghost zero_law = { λ _.
+        ap pos (stretched-within T.limit (T.number T.zero) 0 T.zero_is_0 (zero-le T.limit)) };
+
+    ghost zero_fits_law = { λ _. zero-le (T.limit + 1) };
+
+    ghost can_add_law = { λ a b fits. fits tt };
+
+    ghost add_law = { λ a b sum h _ _. ap pos h };
+}
+
+impl<T: UInt> One for UIntPlusOne<T> {
+    ghost use Rattle.rsb_length.specs.declared.uint_plus_one.UIntPlusOne.TheVariants.{UInt};
+
+    ghost one = { UInt T.one };
+
+    fn one() -> Self {
+        Self::UInt(T::one())
+    }
+
+    ghost one_law = { λ _.
+        ap pos (stretched-within T.limit (T.number T.one) 1 T.one_is_1
+        ((T.fitting 1).0 (T.one_fits_law T.exactly))) };
+
+    ghost one_fits_law = { λ _. one-le_next T.limit };
+
+    ghost can_mul_law = { λ a b fits. fits tt };
+
+    ghost mul_law = { λ a b product h _ _. ap pos h };
+}
+
+impl<T: UInt> SafeLength for UIntPlusOne<T> {
+    ghost number = { number_of T.number T.limit };
+
+    ghost limit = { T.limit + 1 };
+
+    fn greatest() -> Self {
+        Self::MaxPlusOne
+    }
+
+    ghost exactly = { tt };
+
+    ghost values = { λ a. refl };
+
+    ghost fitting = { λ n. ((λ h. h), (λ h. h)) };
+
+    ghost zero_is_0 = { stretched-within T.limit (T.number T.zero) 0 T.zero_is_0
+        (zero-le T.limit) };
+
+    ghost one_is_1 = { stretched-within T.limit (T.number T.one) 1 T.one_is_1
+        ((T.fitting 1).0 (T.one_fits_law T.exactly)) };
+
+    ghost sum_allowed = { λ a b h. h };
+
+    ghost sum_exact = { λ a b sum h. h };
+
+    ghost difference_allowed = { λ a b within a_within. (within, a_within) };
+
+    ghost difference_exact = { λ a b rest _ h. h };
+
+    ghost equal = { same-number_of T.number T.limit T.eq Self.eq T.UInt.equal
+        (λ a b. refl) (λ a. refl) (λ b. refl) refl };
+
+    ghost in_order = { λ a b. refl };
+}
+
+/// A number that `T` has is written as `T` writes it, and the one past them as `one_past_text`
+/// says. (The Rust crate writes `(u128::MAX + 1)` at every `T`.)
+impl<T: UInt> Display for UIntPlusOne<T> {
+    ghost output = { text_of T.output T.past_text };
+
+    fn fmt<W: fmt::Write>(&self, f: &mut Formatter<W>) -> fmt::Result {
+        match self {
+            Self::UInt(v) => write!(f, "{v}"),
+            Self::MaxPlusOne => f.write_str(T::one_past_text()),
+        }
+    }
+}
