@@ -28,8 +28,8 @@ fn to_number(length: UIntPlusOne<u8>) -> u32 {
 
 #[test]
 fn sums_are_those_of_the_numbers(rt: HostRuntime) {
-    for a in 0..257 {
-        for b in 0..257 - a {
+    for a in 0..=256 {
+        for b in 0..=256 - a {
             let (x, y) = (from_number(a), from_number(b));
             assert_eq!(rt; to_number(x + y), a + b, "{a} + {b}");
             let mut sum = x;
@@ -41,8 +41,8 @@ fn sums_are_those_of_the_numbers(rt: HostRuntime) {
 
 #[test]
 fn differences_are_those_of_the_numbers(rt: HostRuntime) {
-    for a in 0..257 {
-        for b in 0..a + 1 {
+    for a in 0..=256 {
+        for b in 0..=a {
             let mut rest = from_number(a);
             rest -= from_number(b);
             assert_eq!(rt; to_number(rest), a - b, "{a} -= {b}");
@@ -52,8 +52,8 @@ fn differences_are_those_of_the_numbers(rt: HostRuntime) {
 
 #[test]
 fn products_are_those_of_the_numbers(rt: HostRuntime) {
-    for a in 0..257u32 {
-        for b in 0..257u32 {
+    for a in 0..=256u32 {
+        for b in 0..=256u32 {
             if a * b <= 256 {
                 let product = from_number(a) * from_number(b);
                 assert_eq!(rt; to_number(product), a * b, "{a} * {b}");
@@ -64,8 +64,8 @@ fn products_are_those_of_the_numbers(rt: HostRuntime) {
 
 #[test]
 fn order_is_that_of_the_numbers(rt: HostRuntime) {
-    for a in 0..257u32 {
-        for b in 0..257u32 {
+    for a in 0..=256u32 {
+        for b in 0..=256u32 {
             let (x, y) = (from_number(a), from_number(b));
             assert_eq!(rt; x.partial_cmp(&y), a.partial_cmp(&b), "{a} and {b}");
             assert_eq!(rt; x == y, a == b, "{a} == {b}");
@@ -84,7 +84,7 @@ fn greatest_again<L: SafeLength>() -> L
 }
 
 #[test]
-fn greatest_lengths(rt: HostRuntime) {
+fn greatest_is_left_and_reached_again(rt: HostRuntime) {
     assert_eq!(rt; greatest_again::<u16>(), 65_535);
     assert_eq!(rt; greatest_again::<u32>(), 4_294_967_295);
     assert_eq!(rt; greatest_again::<u64>(), 18_446_744_073_709_551_615);
@@ -128,7 +128,7 @@ fn zero_is_the_only_zero(rt: HostRuntime) {
 }
 
 #[test]
-fn texts(rt: HostRuntime) -> Result<(), Fail> {
+fn one_past_the_greatest_has_a_text(rt: HostRuntime) -> Result<(), Fail> {
     let of_u8 = format!(in rt.alloc();
         "{} {} {}",
         UIntPlusOne::UInt(0u8),
