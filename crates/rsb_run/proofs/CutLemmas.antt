@@ -1,0 +1,140 @@
+-- Bytes cut at the first line feed, and at the first blank.
+use Rattle.std.proofs.Common.{◌≡◌, ◌∙◌, ℕ, ◌+◌, ◌<◌, ◌≤◌, Bool, true, false, cond, eqb, ltb, List, [], ◌∷◌, ◌++◌, length, take, drop, map, append_assoc, Some, None, refl, sym, ap, subst, arith}
+use Rattle.std.proofs.lemmas.Bool.{ltb-true, ltb-false, lt-ltb, ne_eqb}
+use Rattle.std.proofs.lemmas.List.{length-take, nil_from_length, map-append, append-nil}
+use Rattle.std.proofs.lemmas.List.Elements.{All-from_get_or}
+use Rattle.std.proofs.lemmas.List.Splits.{slice_split_first, slice_split_none, length-slice_split}
+use Rattle.std.proofs.lemmas.List.Sums.{fails_before_first}
+use Rattle.std.specs.Borrow.{Bor}
+use Rattle.std.specs.List.{slice_split, position, position_or_len, filter}
+use Rattle.std.specs.Str.Lines.{lines, lines_of_parts, strip_carriage_return}
+use Rattle.rsb_run.specs.Spelling.{is_blank, has_bytes, words}
+
+-- ---- at the first element that passes a test
+
+found : (passes : Bool) (n i : ℕ) → cond passes (Some n) None ≡ Some i → (passes ≡ true) × (n ≡ i)
+found true n i is = (refl, cc)
+found false n i is = absurd cc
+
+not_found : (passes : Bool) (n : ℕ) → cond passes (Some n) None ≡ None → passes ≡ false
+not_found true n is = absurd cc
+not_found false n is = refl
+
+slice_split-Some : (test : ℕ → Bool) (xs : List ℕ) (i : ℕ) → position test xs ≡ Some i
+    → slice_split test xs ≡ take i xs ∷ slice_split test (drop (i + 1) xs)
+slice_split-Some test xs i is =
+    let at = found (ltb (position_or_len test xs) (length xs)) (position_or_len test xs) i is in
+    subst (λ (n : ℕ). slice_split test xs ≡ take n xs ∷ slice_split test (drop (n + 1) xs)) at.1
+    (slice_split_first test xs 0 (ltb-true _ _ at.0))
+
+slice_split-None : (test : ℕ → Bool) (xs : List ℕ) → position test xs ≡ None
+    → slice_split test xs ≡ xs ∷ []
+slice_split-None test xs is =
+    let first = position_or_len test xs in
+    let past : length xs ≤ first = ltb-false _ _ (not_found (ltb first (length xs)) first is) in
+    slice_split_none test xs (All-from_get_or (λ x. test x ≡ false) xs 0
+    (λ k within. fails_before_first test xs k 0 (omega (arith, past, within))))
+
+-- ---- lines
+
+abbrev is_line_feed : ℕ → Bool
+is_line_feed byte = eqb byte 10
+
+last_line : (bytes : List ℕ) → 0 < length bytes → lines_of_parts (bytes ∷ []) ≡ bytes ∷ []
+last_line bytes some = rw (ne_eqb (length bytes) 0 (λ none. absurd (omega (arith, none, some)))) refl
+
+more_lines : (part : List ℕ) (parts : List (List ℕ)) → 0 < length parts
+    → lines_of_parts (part ∷ parts) ≡ strip_carriage_return part ∷ lines_of_parts parts
+more_lines part [] some = absurd (omega (arith, some))
+more_lines part (next ∷ parts) some = refl
+
+pub lines-None : (bytes : List ℕ) → 0 < length bytes → position is_line_feed bytes ≡ None
+    → lines bytes ≡ bytes ∷ []
+lines-None bytes some is =
+    ap lines_of_parts (slice_split-None is_line_feed bytes is) ∙ last_line bytes some
+
+pub lines-Some : (bytes : List ℕ) (i : ℕ) → position is_line_feed bytes ≡ Some i
+    → lines bytes ≡ strip_carriage_return (take i bytes) ∷ lines (drop (i + 1) bytes)
+lines-Some bytes i is =
+    let rest = drop (i + 1) bytes in
+    ap lines_of_parts (slice_split-Some is_line_feed bytes i is)
+    ∙ more_lines (take i bytes) (slice_split is_line_feed rest)
+    (omega (arith, length-slice_split is_line_feed rest))
+
+-- ---- words
+
+kept_first : (keeps : Bool) (part : List ℕ) (parts : List (List ℕ))
+    → cond keeps (part ∷ parts) parts ≡ cond keeps (part ∷ []) [] ++ parts
+kept_first true part parts = refl
+kept_first false part parts = refl
+
+words-Some : (line : List ℕ) (i : ℕ) → position is_blank line ≡ Some i
+    → words line ≡ filter has_bytes (take i line ∷ []) ++ words (drop (i + 1) line)
+words-Some line i is =
+    ap (filter has_bytes) (slice_split-Some is_blank line i is)
+    ∙ kept_first (has_bytes (take i line)) (take i line) (words (drop (i + 1) line))
+
+words-after_blank : (line : List ℕ) → position is_blank line ≡ Some 0
+    → words line ≡ words (drop (0 + 1) line)
+words-after_blank line is = words-Some line 0 is
+
+words-after_word : (line : List ℕ) (i : ℕ) → position is_blank line ≡ Some i
+    → 0 < i → i < length line → words line ≡ take i line ∷ words (drop (i + 1) line)
+words-after_word line i is some within =
+    let word = take i line in
+    let kept = lt-ltb 0 (length word) (omega (arith, length-take i line)) in
+    words-Some line i is ∙ ap (λ keeps. cond keeps (word ∷ []) [] ++ words (drop (i + 1) line)) kept
+
+words-None : (line : List ℕ) → position is_blank line ≡ None → 0 < length line
+    → words line ≡ line ∷ []
+words-None line is some =
+    ap (filter has_bytes) (slice_split-None is_blank line is)
+    ∙ ap (λ keeps. cond keeps (line ∷ []) []) (lt-ltb 0 (length line) some)
+
+words-empty : (line : List ℕ) → length line ≡ 0 → words line ≡ []
+words-empty line none = rw (nil_from_length line none) refl
+
+-- ---- one step over the parts of a line: the words found so far, then those of the rest
+
+abbrev texts : List (Bor (List ℕ)) → List (List ℕ)
+texts found = map (λ word. word.now) found
+
+texts-push : (found more : List (Bor (List ℕ))) (word : Bor (List ℕ)) → more ≡ found ++ word ∷ []
+    → texts more ≡ texts found ++ word.now ∷ []
+texts-push found more word is = ap texts is ∙ map-append (λ w. w.now) found (word ∷ [])
+
+pub found_word : (found more : List (Bor (List ℕ))) (word : Bor (List ℕ)) (rest line : List ℕ) (i : ℕ)
+    → position is_blank rest ≡ Some i → 0 < i → i < length rest
+    → more ≡ found ++ word ∷ [] → word.now ≡ take i rest
+    → texts found ++ words rest ≡ words line → texts more ++ words (drop (i + 1) rest) ≡ words line
+found_word found more word rest line i is some within grown taken so_far =
+    let later = words (drop (i + 1) rest) in
+    ap (λ v. v ++ later) (texts-push found more word grown)
+    ∙ append_assoc (texts found) (word.now ∷ []) later
+    ∙ ap (λ v. texts found ++ v ∷ later) taken
+    ∙ ap (λ v. texts found ++ v) (sym (words-after_word rest i is some within))
+    ∙ so_far
+
+pub found_blank : (found : List (Bor (List ℕ))) (rest line : List ℕ) (i : ℕ)
+    → position is_blank rest ≡ Some i → i ≤ 0
+    → texts found ++ words rest ≡ words line → texts found ++ words (drop (i + 1) rest) ≡ words line
+found_blank found rest line i is none so_far =
+    let first : i ≡ 0 = omega (arith, none) in
+    ap (λ n. texts found ++ words (drop (n + 1) rest)) first
+    ∙ ap (λ v. texts found ++ v) (sym (words-after_blank rest (is ∙ ap (λ n. Some n) first)))
+    ∙ so_far
+
+pub found_last : (found more : List (Bor (List ℕ))) (word : Bor (List ℕ)) (rest line : List ℕ)
+    → position is_blank rest ≡ None → 0 < length rest
+    → more ≡ found ++ word ∷ [] → word.now ≡ rest
+    → texts found ++ words rest ≡ words line → texts more ≡ words line
+found_last found more word rest line is some grown taken so_far =
+    texts-push found more word grown
+    ∙ ap (λ v. texts found ++ v ∷ []) taken
+    ∙ ap (λ v. texts found ++ v) (sym (words-None rest is some))
+    ∙ so_far
+
+pub found_all : (found : List (Bor (List ℕ))) (rest line : List ℕ) → length rest ≡ 0
+    → texts found ++ words rest ≡ words line → texts found ≡ words line
+found_all found rest line none so_far =
+    sym (append-nil (texts found)) ∙ ap (λ v. texts found ++ v) (sym (words-empty rest none)) ∙ so_far

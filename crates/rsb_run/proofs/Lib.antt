@@ -1,0 +1,10 @@
+pub mod AnswerLemmas
+pub mod CutLemmas
+pub mod NumberLemmas
+pub mod ParseLemmas
+pub mod ReplyLemmas
+pub mod RunLemmas
+pub mod SetsLemmas
+pub mod SpellingLemmas
+pub mod TransferLemmas
+pub mod WriteLemmas

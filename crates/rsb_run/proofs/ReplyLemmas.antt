@@ -1,0 +1,58 @@
+-- Commands have one list of replies, and the first commands have the first replies.
+use Rattle.std.proofs.Common.{◌≡◌, ◌∙◌, ◌↔◌, ℕ, zero, suc, Bool, true, false, ◌<◌, IsTrue, List, [], ◌∷◌, refl, sym, ap}
+use Rattle.std.specs.declared.ops.RangeInclusive.{RangeInclusive}
+use Rattle.rsb_integer.specs.Rank.{intervals_of}
+use Rattle.rsb_integer.specs.Runs.{AreRuns}
+use Rattle.rsb_integer.specs.Selection.{Selection}
+use Rattle.rsb_integer.proofs.RangeLemmas.{same_ranges}
+use Rattle.rsb_integer.proofs.RunsLemmas.{runs-canonical, runs-same}
+use Rattle.rsb_run.specs.declared.command.Command.{Command}
+use Rattle.rsb_run.specs.declared.command.Command.TheVariants.{Add, Has, Count, Show}
+use Rattle.rsb_run.specs.Commands.{Content, flag, number, ranges, Sets, after, IsReply, AreRepliesFrom}
+
+-- two answers to one question are equal
+same_answer : (left right : Bool) (Fact : Type 0) → IsTrue left ↔ Fact → IsTrue right ↔ Fact
+    → left ≡ right
+same_answer true true Fact l r = refl
+same_answer true false Fact l r = sym (r.1 (l.0 refl))
+same_answer false true Fact l r = l.1 (r.0 refl)
+same_answer false false Fact l r = refl
+
+module _ {T : Type 0} (rank : T → ℕ) (value_count : ℕ)
+    (one_place : (x y : T) → rank x < value_count → rank x ≡ rank y → x ≡ y) where
+  -- a set has one list of ranges
+  one_ranges : (set : Selection) (left right : List (RangeInclusive T))
+      → AreRuns value_count set (intervals_of rank left)
+      → AreRuns value_count set (intervals_of rank right) → left ≡ right
+  one_ranges set left right are also =
+      let canonical = runs-canonical value_count set (intervals_of rank left) are in
+      let same = runs-same value_count set set (intervals_of rank left) (intervals_of rank right)
+      are also (λ at below. refl) in
+      same_ranges rank value_count one_place 0 left right canonical.0 canonical.1 same
+
+  one_reply : (sets : Sets) (command : Command T) (left right : Content T)
+      → IsReply rank value_count sets command left → IsReply rank value_count sets command right
+      → left ≡ right
+  one_reply sets (Add slot first last) (flag l) (flag r) is also = ap flag (same_answer l r _ is also)
+  one_reply sets (Has slot value) (flag l) (flag r) is also = ap flag (is ∙ sym also)
+  one_reply sets (Count slot) (number l) (number r) is also = ap number (is ∙ sym also)
+  one_reply sets (Show slot) (ranges l) (ranges r) is also =
+      ap ranges (one_ranges (sets slot) l r is also)
+  one_reply sets (Add slot first last) (flag l) _ is also = absurd also
+  one_reply sets (Has slot value) (flag l) _ is also = absurd also
+  one_reply sets (Count slot) (number l) _ is also = absurd also
+  one_reply sets (Show slot) (ranges l) _ is also = absurd also
+  one_reply sets _ _ _ is also = absurd is
+
+  pub replies_unique : (sets : Sets) (commands : List (Command T)) (left right : List (Content T))
+      → AreRepliesFrom rank value_count sets commands left
+      → AreRepliesFrom rank value_count sets commands right → left ≡ right
+  replies_unique sets [] [] [] are also = refl
+  replies_unique sets [] [] (r ∷ rs) are also = absurd also
+  replies_unique sets [] (l ∷ ls) right are also = absurd are
+  replies_unique sets (c ∷ cs) [] right are also = absurd are
+  replies_unique sets (c ∷ cs) (l ∷ ls) [] are also = absurd also
+  replies_unique sets (c ∷ cs) (l ∷ ls) (r ∷ rs) are also =
+      let first = one_reply sets c l r are.0 also.0 in
+      let others = replies_unique (after rank value_count sets c) cs ls rs are.1 also.1 in
+      λ i. first i ∷ others i

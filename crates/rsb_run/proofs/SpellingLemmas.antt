@@ -1,0 +1,127 @@
+-- What words spell: one command at most, and none where the arguments are wrong.
+use Rattle.std.proofs.Common.{◌≡◌, ◌∙◌, ℕ, ℤ, ◌+◌, ◌*◌, Bool, true, false, List, [], ◌∷◌, get_or, length, map, arith, refl, sym, ap, subst}
+use Rattle.std.proofs.lemmas.List.{length-map}
+use Rattle.std.proofs.lemmas.Slice.Zip.{AllZip-long}
+use Rattle.std.specs.Borrow.{Bor}
+use Rattle.std.specs.List.{AllZip}
+use Rattle.rsb_run.specs.declared.command.Command.{Command}
+use Rattle.rsb_run.specs.declared.command.Command.TheVariants.{Add, Has, Count, Show}
+use Rattle.rsb_run.specs.Spelling.{Argument, slot, number, IsArgument, IsNumber, IsSlot, Spells, line_of}
+
+-- ---- what a word stands for, by its kind
+
+same_slot : (word : List ℕ) (m n : ℕ) → IsSlot word m → IsSlot word n → m ≡ n
+same_slot word m n left right =
+    let same : 48 + m ≡ 48 + n = cc (left.digit, right.digit) in omega (arith, same)
+
+same_number : (word : List ℕ) (y z : ℤ) → IsNumber word y → IsNumber word z → y ≡ z
+same_number word y z left right = left.value ∙ sym right.value
+
+abbrev pub is_slot : Argument → Bool
+is_slot (slot n) = true
+is_slot (number z) = false
+
+abbrev pub kinds : List Argument → List Bool
+kinds arguments = map is_slot arguments
+
+same_arguments : (words : List (List ℕ)) (xs ys : List Argument) → kinds xs ≡ kinds ys
+    → AllZip IsArgument words xs → AllZip IsArgument words ys → xs ≡ ys
+same_arguments words [] [] same left right = refl
+same_arguments words [] (slot n ∷ ys) same left right = absurd cc
+same_arguments words [] (number z ∷ ys) same left right = absurd cc
+same_arguments words (slot m ∷ xs) [] same left right = absurd cc
+same_arguments words (number y ∷ xs) [] same left right = absurd cc
+same_arguments words (slot m ∷ xs) (number z ∷ ys) same left right = absurd cc
+same_arguments words (number y ∷ xs) (slot n ∷ ys) same left right = absurd cc
+same_arguments [] (slot m ∷ xs) (slot n ∷ ys) same left right = absurd left
+same_arguments [] (number y ∷ xs) (number z ∷ ys) same left right = absurd left
+same_arguments (word ∷ words) (slot m ∷ xs) (slot n ∷ ys) same left right =
+    let rest : kinds xs ≡ kinds ys = cc in
+    cc (same_slot word m n left.0 right.0, same_arguments words xs ys rest left.1 right.1)
+same_arguments (word ∷ words) (number y ∷ xs) (number z ∷ ys) same left right =
+    let rest : kinds xs ≡ kinds ys = cc in
+    cc (same_number word y z left.0 right.0, same_arguments words xs ys rest left.1 right.1)
+
+pub wrong_count : (arguments : List (Bor (List ℕ))) (xs : List Argument)
+    → (length arguments ≡ length xs → ⊥) → AllZip IsArgument (map (λ word. word.now) arguments) xs → ⊥
+wrong_count arguments xs other are =
+    let long = AllZip-long IsArgument (map (λ word. word.now) arguments) xs are in
+    other (omega (arith, long, length-map arguments (λ word. word.now)))
+
+-- ---- commands, by their keywords
+
+-- the first two letters tell the keywords apart
+abbrev letters : List ℕ → ℕ
+letters keyword = get_or keyword 0 0 * 256 + get_or keyword 1 0
+
+-- commands of one keyword take arguments of the same kinds, and are told apart by them alone
+record AreAlike (left right : Command ℤ) : Type 0 where
+  same_kinds : kinds (line_of left).arguments ≡ kinds (line_of right).arguments
+  told_apart : (line_of left).arguments ≡ (line_of right).arguments → left ≡ right
+
+alike : (left right : Command ℤ) → (line_of left).keyword ≡ (line_of right).keyword
+    → AreAlike left right
+alike (Add m v w) (Add n x y) is = record { same_kinds = refl; told_apart = λ same. cc }
+alike (Has m v) (Has n x) is = record { same_kinds = refl; told_apart = λ same. cc }
+alike (Count m) (Count n) is = record { same_kinds = refl; told_apart = λ same. cc }
+alike (Show m) (Show n) is = record { same_kinds = refl; told_apart = λ same. cc }
+alike (Add m v w) _ is = let e = ap letters is in absurd (omega (arith, e))
+alike (Has m v) _ is = let e = ap letters is in absurd (omega (arith, e))
+alike (Count m) _ is = let e = ap letters is in absurd (omega (arith, e))
+alike (Show m) _ is = let e = ap letters is in absurd (omega (arith, e))
+
+-- the first word is the command's keyword, and the others are its arguments
+record Spelled (keyword : List ℕ) (arguments : List (List ℕ)) (command : Command ℤ) : Type 0 where
+  same_keyword : (line_of command).keyword ≡ keyword
+  stand_for : AllZip IsArgument arguments (line_of command).arguments
+
+spelled : (words arguments : List (List ℕ)) (keyword : List ℕ) (command : Command ℤ)
+    → words ≡ keyword ∷ arguments → Spells words command → Spelled keyword arguments command
+spelled words arguments keyword command parts is =
+    let same : is.arguments ≡ arguments = cc (parts, is.parts) in record {
+      same_keyword = cc (parts, is.parts);
+      stand_for = subst (λ (args : List (List ℕ)). AllZip IsArgument args (line_of command).arguments)
+          same is.stand_for;
+    }
+
+-- words spell one command at most
+pub one_command : (words : List (List ℕ)) (left right : Command ℤ)
+    → Spells words left → Spells words right → left ≡ right
+one_command words left right is_left is_right =
+    let l = spelled words is_right.arguments (line_of right).keyword left is_right.parts is_left in
+    let both = alike left right l.same_keyword in
+    both.told_apart (same_arguments is_right.arguments (line_of left).arguments
+    (line_of right).arguments both.same_kinds l.stand_for is_right.stand_for)
+
+pub one_list : (lines : List (List (List ℕ))) (left right : List (Command ℤ))
+    → AllZip Spells lines left → AllZip Spells lines right → left ≡ right
+one_list [] [] [] is_left is_right = refl
+one_list [] (c ∷ cs) right is_left is_right = absurd is_left
+one_list [] [] (d ∷ ds) is_left is_right = absurd is_right
+one_list (line ∷ lines) [] right is_left is_right = absurd is_left
+one_list (line ∷ lines) (c ∷ cs) [] is_left is_right = absurd is_right
+one_list (line ∷ lines) (c ∷ cs) (d ∷ ds) is_left is_right =
+    cc (one_command line c d is_left.0 is_right.0, one_list lines cs ds is_left.1 is_right.1)
+
+-- ---- no command: the arguments are not of the kinds that the keyword asks for
+
+pub no_arguments : (words arguments : List (List ℕ)) (keyword : List ℕ) (asked : Command ℤ)
+    → words ≡ keyword ∷ arguments → keyword ≡ (line_of asked).keyword
+    → ((xs : List Argument) → kinds xs ≡ kinds (line_of asked).arguments → AllZip IsArgument arguments xs → ⊥)
+    → (command : Command ℤ) → Spells words command → ⊥
+no_arguments words arguments keyword asked parts same none command is =
+    let c = spelled words arguments keyword command parts is in
+    let both = alike command asked (c.same_keyword ∙ same) in
+    none (line_of command).arguments both.same_kinds c.stand_for
+
+pub slot_range_none : (words : List (List ℕ))
+    → ((read : ℕ × ℤ × ℤ) → AllZip IsArgument words (slot read.0 ∷ number read.1 ∷ number read.2 ∷ []) → ⊥)
+    → (xs : List Argument) → kinds xs ≡ true ∷ false ∷ false ∷ [] → AllZip IsArgument words xs → ⊥
+slot_range_none words none (slot n ∷ number x ∷ number y ∷ []) same are = none (n, x, y) are
+slot_range_none words none _ same are = absurd cc
+
+pub slot_value_none : (words : List (List ℕ))
+    → ((read : ℕ × ℤ) → AllZip IsArgument words (slot read.0 ∷ number read.1 ∷ []) → ⊥)
+    → (xs : List Argument) → kinds xs ≡ true ∷ false ∷ [] → AllZip IsArgument words xs → ⊥
+slot_value_none words none (slot n ∷ number x ∷ []) same are = none (n, x) are
+slot_value_none words none _ same are = absurd cc

@@ -1,0 +1,52 @@
+-- Bytes that a reader gives and a writer takes, part by part.
+use Rattle.std.proofs.Common.{◌≡◌, ◌∙◌, ℕ, List, [], ◌++◌, take, drop, Option, Some, None, sym, ap, append_assoc}
+use Rattle.std.proofs.lemmas.List.{append-nil, take-append-drop}
+use Rattle.std.specs.Io.KnownBytes.{Appends, Consumes, Keeps}
+
+-- ---- reading
+
+pub Consumes-then : (old mid new : Option (List ℕ)) (xs ys both : List ℕ) → both ≡ xs ++ ys
+    → Consumes old mid xs → Consumes mid new ys → Consumes old new both
+Consumes-then None mid new xs ys both parts first second = tt
+Consumes-then (Some before) None new xs ys both parts first second = absurd first
+Consumes-then (Some before) (Some between) None xs ys both parts first second = absurd second
+Consumes-then (Some before) (Some between) (Some after) xs ys both parts first second =
+    first ∙ ap (λ v. xs ++ v) second ∙ sym (append_assoc xs ys after) ∙ ap (λ v. v ++ after) (sym parts)
+
+pub Consumes-keeps : (old mid new : Option (List ℕ)) (xs : List ℕ)
+    → Consumes old mid xs → Keeps mid new → Consumes old new xs
+Consumes-keeps None mid new xs first same = tt
+Consumes-keeps (Some before) None new xs first same = absurd first
+Consumes-keeps (Some before) (Some between) None xs first same = absurd same
+Consumes-keeps (Some before) (Some between) (Some after) xs first same =
+    first ∙ ap (λ v. xs ++ v) (sym same)
+
+-- ---- writing
+
+pub Appends-nothing : (known : Option (List ℕ)) → Appends known known []
+Appends-nothing None = tt
+Appends-nothing (Some xs) = sym (append-nil xs)
+
+pub Appends-then : (old mid new : Option (List ℕ)) (xs ys : List ℕ)
+    → Appends old mid xs → Appends mid new ys → Appends old new (xs ++ ys)
+Appends-then None mid new xs ys first second = tt
+Appends-then (Some before) None new xs ys first second = absurd first
+Appends-then (Some before) (Some between) None xs ys first second = absurd second
+Appends-then (Some before) (Some between) (Some after) xs ys first second =
+    second ∙ ap (λ v. v ++ ys) first ∙ append_assoc before xs ys
+
+-- all of the text but `rest` was written
+pub record HasWritten (old new : Option (List ℕ)) (text rest : List ℕ) : Type 0 where
+  pub front : List ℕ
+  pub parts : text ≡ front ++ rest
+  pub written : Appends old new front
+
+pub has_written_more : (old mid new : Option (List ℕ)) (text rest : List ℕ) (n : ℕ)
+    → HasWritten old mid text rest → Appends mid new (take n rest)
+    → HasWritten old new text (drop n rest)
+has_written_more old mid new text rest n before more = record {
+  front = before.front ++ take n rest;
+  parts = before.parts ∙ ap (λ v. before.front ++ v) (sym (take-append-drop n rest))
+      ∙ sym (append_assoc before.front (take n rest) (drop n rest));
+  written = Appends-then old mid new before.front (take n rest) before.written more;
+}

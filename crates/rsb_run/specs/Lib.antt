@@ -1,0 +1,6 @@
+pub mod Answer
+pub mod Commands
+pub mod Fault
+pub mod Spelling
+pub mod Text
+pub mod Transfer

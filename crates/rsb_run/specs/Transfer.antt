@@ -1,0 +1,19 @@
+-- What writing a text does to the bytes of a writer, where they are known.
+use Rattle.std.specs.Prelude.{◌≡◌, ℕ, ◌<◌, List, length, MatchResult, Option, Result}
+use Rattle.std.specs.Io.KnownBytes.{Appends}
+use Rattle.rsb_integer.specs.Front.{IsFrontOf}
+use Rattle.rsb_run.specs.declared.fault.Fault.{Fault}
+use Rattle.rsb_run.specs.declared.fault.Fault.TheVariants.{Io}
+
+-- known bytes grow by a front of the text, which is shorter than the whole
+pub record AppendsShortOf (old new : Option (List ℕ)) (text : List ℕ) : Type 0 where
+  pub front : List ℕ
+  pub is_front : IsFrontOf front text
+  pub shorter : length front < length text
+  pub written : Appends old new front
+
+-- known bytes grow by the text; or a write failed, and they grow by less
+abbrev pub Writes : Option (List ℕ) → Option (List ℕ) → Result (Unit {0}) Fault → List ℕ → Type 0
+Writes old new result text = MatchResult result
+    (λ _. Appends old new text)
+    (λ fault. (fault ≡ Io) × AppendsShortOf old new text)

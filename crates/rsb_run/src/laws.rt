@@ -1,0 +1,14 @@
+//! Laws of replies. The clause of each function is the law; the function does nothing.
+
+ghost use Rattle.std.specs.Prelude.{◌≡◌, List};
+ghost use Rattle.rsb_run.specs.declared.command.Command.{Command};
+ghost use Rattle.rsb_run.specs.Commands.{AreReplies, Content};
+
+use rsb_integer::Integer;
+
+/// Commands have one list of replies.
+pub fn replies_are_unique<T: Integer>()
+    ensures { (commands : List (Command T)) (replies others : List (Content T))
+        → AreReplies T.rank T.value_count commands replies
+        → AreReplies T.rank T.value_count commands others → replies ≡ others }
+{}
