@@ -1,9 +1,9 @@
 -- The definitions, worked out on small sets of a type of 256 values.
-use Rattle.std.proofs.Common.{◌≡◌, ℕ, Bool, true, false, ◌<◌, List, [], ◌∷◌, lit<, lit≤, arith, nat_lt}
+use Rattle.std.proofs.Common.{ℕ, ◌<◌, List, [], ◌∷◌, lit<, lit≤, arith}
 use Rattle.std.proofs.lemmas.Bool.Decides.{nat_tests}
 use Rattle.std.proofs.lemmas.List.Elements.{All-cons, All-nil}
 use Rattle.rsb_integer.specs.Runs.{Interval, covers, members, AreRuns, AllEndBelow}
-use Rattle.rsb_integer.specs.Selection.{Selection, complement, union}
+use Rattle.rsb_integer.specs.Selection.{complement, union}
 use Rattle.rsb_integer.proofs.RunsLemmas.{runs-from_canonical}
 
 -- the ranks from one to another
