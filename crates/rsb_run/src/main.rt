@@ -1,13 +1,13 @@
 //! Range sets by lines: reads commands to ten sets, runs them, and writes a line for each reply.
 #![tactic(auto)]
 
-mod command;
-mod commands;
-mod fault;
-mod laws;
-mod parse;
-mod program;
-mod set_no;
+pub mod command;
+pub mod commands;
+pub mod fault;
+pub mod laws;
+pub mod parse;
+pub mod program;
+pub mod set_no;
 mod text;
 mod transfer;
 
@@ -25,3 +25,6 @@ fn main(rt: HostRuntime) -> ExitCode {
         }
     }
 }
+
+#[cfg(test)]
+mod tests;

@@ -1,0 +1,89 @@
+//! The calls of the library part, each once.
+
+use crate::command::Command;
+use crate::commands::{Reply, run_commands};
+use crate::fault::Fault;
+use crate::laws::replies_are_unique;
+use crate::parse::parse_commands;
+use crate::set_no::SetNo;
+use std::process::Abort;
+use std::test::*;
+
+fn slot(rt: &impl Abort, n: u8) -> SetNo {
+    SetNo::new(n).expect(rt, "a set number")
+}
+
+#[test]
+fn set_numbers_end_at_nine(rt: HostRuntime) {
+    for n in 0..=9u8 {
+        assert_eq!(rt; slot(&rt, n).index(), n as usize);
+    }
+    for n in [10, 11, 48, 255] {
+        assert_eq!(rt; SetNo::new(n), None, "at {n}");
+    }
+}
+
+#[test]
+fn lines_spell_commands(rt: HostRuntime) -> Result<(), Fail> {
+    let commands = parse_commands(rt.alloc(), b"add 3 -1 +02\nhas 0 7\n\nlen 9\nshow 5")?;
+    let wanted = [
+        Command::Add {
+            slot: slot(&rt, 3),
+            first: -1,
+            last: 2,
+        },
+        Command::Has {
+            slot: slot(&rt, 0),
+            value: 7,
+        },
+        Command::Count { slot: slot(&rt, 9) },
+        Command::Show { slot: slot(&rt, 5) },
+    ];
+    assert_eq!(rt; commands.as_slice(), wanted.as_slice());
+    Ok(())
+}
+
+#[test]
+fn commands_run_over_another_element_type(rt: HostRuntime) -> Result<(), Fail> {
+    replies_are_unique::<u8>();
+    let set = slot(&rt, 4);
+    let commands = [
+        Command::Add {
+            slot: set,
+            first: 250u8,
+            last: 255,
+        },
+        Command::Has {
+            slot: set,
+            value: 249,
+        },
+        Command::Count { slot: set },
+        Command::Show { slot: set },
+    ];
+    let Ok(replies) = run_commands(rt.alloc(), &commands) else {
+        return Err(Fail::from("no memory"));
+    };
+    let mut ranges = Vec::new(rt.alloc());
+    ranges.push(250..=255)?;
+    let wanted = [
+        Reply::Flag(true),
+        Reply::Flag(false),
+        Reply::Count(6),
+        Reply::Ranges(ranges),
+    ];
+    assert_eq!(rt; replies.as_slice(), wanted.as_slice());
+    Ok(())
+}
+
+#[test]
+fn each_fault_has_a_status_and_a_line(rt: HostRuntime) -> Result<(), Fail> {
+    for (fault, status, line) in [
+        (Fault::BadLine(12), 2, "bad line 12"),
+        (Fault::NoMemory, 3, "no memory"),
+        (Fault::Io, 4, "read or write failed"),
+    ] {
+        assert_eq!(rt; fault.status(), status);
+        assert_eq!(rt; format!(in rt.alloc(); "{fault}")?.as_str(), line);
+    }
+    Ok(())
+}

@@ -1,0 +1,162 @@
+//! The program from bytes to bytes.
+
+use crate::fault::Fault;
+use crate::program::run;
+use crate::tests::ends::{Dripping, Filling};
+use std::test::*;
+
+const SESSION: &[u8] = b"add 0 1 2\nadd 0 4 5\nadd 0 3 3\nadd 0 2 4\nhas 0 3\nlen 0\nshow 0\n";
+
+const REPLIES: &[u8] = b"true\ntrue\ntrue\nfalse\ntrue\n5\n1..=5\n";
+
+#[test]
+fn commands_are_answered(rt: HostRuntime) {
+    let rows: [(&str, &[u8], &[u8]); 10] = [
+        ("the worked session", SESSION, REPLIES),
+        ("no bytes", b"", b""),
+        ("no words", b"\n \t\r\n", b""),
+        ("no last line feed", b"len 9", b"0\n"),
+        (
+            "blanks around words",
+            b"\t add\t0  1 2 \n\nlen 0\r\n",
+            b"true\n2\n",
+        ),
+        (
+            "signs and zeros",
+            b"add 0 -02 +3\nhas 0 -0\nlen 0\n",
+            b"true\ntrue\n6\n",
+        ),
+        ("an empty set", b"show 0\n", b"\n"),
+        ("a reversed range", b"add 0 5 3\nlen 0\n", b"false\n0\n"),
+        (
+            "all numbers",
+            b"add 0 -2147483648 2147483647\nlen 0\nshow 0\n",
+            b"true\n4294967296\n-2147483648..=2147483647\n",
+        ),
+        (
+            "two sets",
+            b"add 1 7 10\nadd 2 8 8\nadd 1 1 3\nhas 2 7\nshow 1\nshow 2\n",
+            b"true\ntrue\ntrue\nfalse\n1..=3, 7..=10\n8..=8\n",
+        ),
+    ];
+    for (what, input, wanted) in rows {
+        let mut rest = input;
+        let mut output = Vec::new(rt.alloc());
+        assert_eq!(rt; run(rt.alloc(), &mut rest, &mut output), Ok(()), "{what}");
+        assert_eq!(rt; output.as_slice(), wanted, "{what}");
+    }
+}
+
+#[test]
+fn bad_lines_are_told_by_their_number(rt: HostRuntime) {
+    let rows: [(&[u8], u64); 38] = [
+        (b"len 0\nlen 10\n", 2),
+        (b"\n\t\nlen 0\nlen\nlen\n", 4),
+        (b"plus 0 1 2\n", 1),
+        (b"Len 0\n", 1),
+        (b"le 0\n", 1),
+        (b"lens 0\n", 1),
+        (b"add\n", 1),
+        (b"add 0 1\n", 1),
+        (b"add 0 1 2 3\n", 1),
+        (b"has 0\n", 1),
+        (b"has 0 1 2\n", 1),
+        (b"len 0 0\n", 1),
+        (b"show\n", 1),
+        (b"len 00\n", 1),
+        (b"len +0\n", 1),
+        (b"len a\n", 1),
+        (b"len :\n", 1),
+        (b"add 0 0 2147483648\n", 1),
+        (b"add 0 -2147483649 0\n", 1),
+        (b"has 0 99999999999999999999\n", 1),
+        (b"has 0 -\n", 1),
+        (b"has 0 +\n", 1),
+        (b"has 0 +-1\n", 1),
+        (b"has 0 1x\n", 1),
+        (b"has 0 0x1\n", 1),
+        (b"has 0 1.0\n", 1),
+        (b"has 0 \xff\n", 1),
+        (b"\xff\n", 1),
+        (b"len 0\0\n", 1),
+        (b"len 0\r", 1),
+        (b"len 0\r\r\n", 1),
+        (b"del 0 1\n", 1),
+        (b"gap 0 1\n", 1),
+        (b"or 0 1 2\n", 1),
+        (b"sub 0 1 2\n", 1),
+        (b"xor 0 1 2\n", 1),
+        (b"not 0 1\n", 1),
+        (b"cmp 0 1\n", 1),
+    ];
+    for (row, (input, number)) in rows.iter().enumerate() {
+        let mut rest = *input;
+        let mut output = Vec::new(rt.alloc());
+        let told = run(rt.alloc(), &mut rest, &mut output);
+        assert_eq!(rt; told, Err(Fault::BadLine(*number)), "row {row}");
+        assert!(rt; output.is_empty(), "row {row}");
+    }
+}
+
+#[test]
+fn one_byte_a_call_and_interruptions_change_nothing(rt: HostRuntime) {
+    let mut input = Dripping {
+        bytes: SESSION,
+        fails: false,
+        is_interrupted: false,
+    };
+    let mut output = Filling {
+        taken: Vec::new(rt.alloc()),
+        room: REPLIES.len(),
+        fails: true,
+        is_interrupted: false,
+    };
+    assert_eq!(rt; run(rt.alloc(), &mut input, &mut output), Ok(()));
+    assert_eq!(rt; output.taken.as_slice(), REPLIES);
+}
+
+#[test]
+fn a_failed_read_is_told_and_nothing_is_written(rt: HostRuntime) {
+    for bytes in [
+        b"".as_slice(),
+        b"len 0\n".as_slice(),
+        b"nonsense\n".as_slice(),
+    ] {
+        let mut input = Dripping {
+            bytes,
+            fails: true,
+            is_interrupted: false,
+        };
+        let mut output = Vec::new(rt.alloc());
+        let told = run(rt.alloc(), &mut input, &mut output);
+        assert_eq!(rt; told, Err(Fault::Io), "after {} bytes", bytes.len());
+        assert!(rt; output.is_empty(), "after {} bytes", bytes.len());
+    }
+}
+
+#[test]
+fn a_failed_write_is_told_where_it_stopped(rt: HostRuntime) {
+    for (room, fails) in [
+        (0, true),
+        (0, false),
+        (3, true),
+        (3, false),
+        (33, true),
+        (33, false),
+    ] {
+        let mut input = SESSION;
+        let mut output = Filling {
+            taken: Vec::new(rt.alloc()),
+            room,
+            fails,
+            is_interrupted: false,
+        };
+        let told = run(rt.alloc(), &mut input, &mut output);
+        assert_eq!(rt; told, Err(Fault::Io), "room for {room} bytes");
+        assert_eq!(rt;
+            output.taken.as_slice(),
+            &REPLIES[..room],
+            "room for {room} bytes"
+        );
+    }
+}
