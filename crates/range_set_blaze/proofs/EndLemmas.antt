@@ -21,15 +21,18 @@ module _ {T : Type 0} (rank : T → ℕ) (n : ℕ) where
   }
 
   -- the first run starts with the least member
-  pub first-least : (runs : List (Run T)) (run : Run T) → IsCanonicalIn n (runs_of rank runs) → 0 < length runs
+  pub first-least : (runs : List (Run T)) (run : Run T) → IsCanonicalIn n (runs_of rank runs)
+      → 0 < length runs
       → run ≡ get_or runs 0 run → IsLeast n (members (runs_of rank runs)) (rank run.start)
   first-least [] run canonical some is = absurd (omega arith)
   first-least (first ∷ runs) run canonical some is =
       let ordered = canonical.0.1 in
-      let below = All-head (λ (each : Interval). each.last < n) (run_of rank first) (runs_of rank runs) canonical.1 in
+      let below = All-head (λ (each : Interval). each.last < n) (run_of rank first)
+      (runs_of rank runs) canonical.1 in
       rw is (record {
         in_type = omega arith;
-        here = members-head (run_of rank first) (runs_of rank runs) (rank first.start) (omega arith) ordered;
+        here = members-head (run_of rank first) (runs_of rank runs) (rank first.start) (omega arith)
+            ordered;
         least = λ other member. elim (cases_lt other (rank first.start)) [
           | inl before ↦
               absurd (not_both _ member
@@ -40,7 +43,8 @@ module _ {T : Type 0} (rank : T → ℕ) (n : ℕ) where
       })
 
   -- the run at the last position ends with the greatest member
-  last-at : (low : ℕ) (runs : List (Run T)) (i : ℕ) (run : Run T) → IsCanonicalFrom low (runs_of rank runs)
+  last-at : (low : ℕ) (runs : List (Run T)) (i : ℕ) (run : Run T)
+      → IsCanonicalFrom low (runs_of rank runs)
       → AllEndBelow n (runs_of rank runs) → i + 1 ≡ length runs
       → IsGreatest n (members (runs_of rank runs)) (rank (get_or runs i run).end)
       × (low ≤ rank (get_or runs i run).end)
@@ -52,7 +56,8 @@ module _ {T : Type 0} (rank : T → ℕ) (n : ℕ) where
           in_type = All-head (λ (each : Interval). each.last < n) (run_of rank first) [] below;
           here = members-head (run_of rank first) [] (rank first.end) ordered (omega arith);
           greatest = λ other member. elim (cases_lt (rank first.end) other) [
-            | inl past ↦ absurd (not_both _ member (members-tail (run_of rank first) [] other (inr past)))
+            | inl past ↦ absurd
+                (not_both _ member (members-tail (run_of rank first) [] other (inr past)))
             | inr within ↦ within
           ];
         },
@@ -60,7 +65,8 @@ module _ {T : Type 0} (rank : T → ℕ) (n : ℕ) where
       )
   last-at low (first ∷ second ∷ runs) zero run canonical below last = absurd (omega (arith, last))
   last-at low (first ∷ runs) (suc i) run canonical below last =
-      let tail = All-tail (λ (each : Interval). each.last < n) (run_of rank first) (runs_of rank runs) below in
+      let tail = All-tail (λ (each : Interval). each.last < n) (run_of rank first)
+      (runs_of rank runs) below in
       let rest = last-at (rank first.end + 2) runs i run canonical.2 tail (omega (arith, last)) in
       let greatest = rest.0 in
       let past = rest.1 in
@@ -76,15 +82,18 @@ module _ {T : Type 0} (rank : T → ℕ) (n : ℕ) where
           greatest = λ other member. elim (cases_lt (rank first.end) other) [
             | inl later ↦
                 greatest.greatest other
-                (sym (members-tail (run_of rank first) (runs_of rank runs) other (inr later)) ∙ member)
+                (sym (members-tail (run_of rank first) (runs_of rank runs) other (inr later))
+                ∙ member)
             | inr within ↦ omega (arith, past)
           ];
         },
         omega (arith, past),
       )
 
-  pub last-greatest : (runs : List (Run T)) (run : Run T) → IsCanonicalIn n (runs_of rank runs) → 0 < length runs
-      → run ≡ get_or runs (length runs - 1) run → IsGreatest n (members (runs_of rank runs)) (rank run.end)
+  pub last-greatest : (runs : List (Run T)) (run : Run T) → IsCanonicalIn n (runs_of rank runs)
+      → 0 < length runs
+      → run ≡ get_or runs (length runs - 1) run
+      → IsGreatest n (members (runs_of rank runs)) (rank run.end)
   last-greatest runs run canonical some is =
       rw is (last-at 0 runs (length runs - 1) run canonical.0 canonical.1 (omega arith)).0
 
@@ -95,6 +104,7 @@ module _ {T : Type 0} (rank : T → ℕ) (n : ℕ) where
   nothing-kept (run ∷ runs) canonical = (
     (λ none. absurd (grind (arith, nat_tests, none))),
     (λ nothing. absurd (not_both _
-        (members-head (run_of rank run) (runs_of rank runs) (rank run.start) (omega arith) canonical.1)
+        (members-head (run_of rank run) (runs_of rank runs) (rank run.start) (omega arith)
+        canonical.1)
         (nothing (rank run.start)))),
   )

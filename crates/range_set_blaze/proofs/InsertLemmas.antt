@@ -30,7 +30,8 @@ covers-joined point run next ordered order near far = grind (arith, nat_tests)
 
 -- what a step of a join keeps
 pub members-joined : (point : ℕ) (run next : Interval) (rest : List Interval)
-    → run.first ≤ run.last → next.first ≤ next.last → next.first ≤ run.last + 1 → run.first ≤ next.last + 1
+    → run.first ≤ run.last → next.first ≤ next.last → next.first ≤ run.last + 1
+    → run.first ≤ next.last + 1
     → (covers point (record { first = min run.first next.first; last = max run.last next.last })
     || members rest point) ≡ (covers point run || members (next ∷ rest) point)
 members-joined point run next rest ordered order near far =
@@ -71,7 +72,8 @@ or-shift false middle right = or-comm right middle
 
 -- no rank from the one before the start on is a member of runs that end more than one before it
 members-before : {T : Type 0} (rank : T → ℕ) (start point : ℕ) (runs : List (Run T))
-    → All (λ run. rank run.end + 1 < start) runs → start ≤ point + 1 → members (runs_of rank runs) point ≡ false
+    → All (λ run. rank run.end + 1 < start) runs → start ≤ point + 1
+    → members (runs_of rank runs) point ≡ false
 members-before rank start point [] before from = refl
 members-before rank start point (run ∷ runs) before from =
     let here = All-head (λ (each : Run _). rank each.end + 1 < start) run runs before in
@@ -79,12 +81,14 @@ members-before rank start point (run ∷ runs) before from =
     ∙ members-before rank start point runs
     (All-tail (λ (each : Run _). rank each.end + 1 < start) run runs before) from
 
-module _ {T : Type 0} (rank : T → ℕ) (n : ℕ) (runs : List (Run T)) (at past : ℕ) (run joined : Run T)
+module _ {T : Type 0} (rank : T → ℕ) (n : ℕ) (runs : List (Run T)) (at past : ℕ)
+    (run joined : Run T)
     (canonical : IsCanonicalIn n (runs_of rank runs))
     (before : All (λ each. rank each.end + 1 < rank run.start) (take at runs))
     (order : rank joined.start ≤ rank joined.end)
     (value : rank joined.end < n)
-    (same : (point : ℕ) → (covers point (run_of rank joined) || members (runs_of rank (drop past runs)) point)
+    (same : (point : ℕ)
+    → (covers point (run_of rank joined) || members (runs_of rank (drop past runs)) point)
     ≡ (covers point (run_of rank run) || members (runs_of rank (drop at runs)) point))
     (apart : IsCanonicalFrom (rank joined.end + 2) (runs_of rank (drop past runs))) where
   -- the start of the joined run is of the run or of those from the position on
@@ -93,12 +97,14 @@ module _ {T : Type 0} (rank : T → ℕ) (n : ℕ) (runs : List (Run T)) (at pas
   start-of =
       let point = rank joined.start in
       let rest = members (runs_of rank (drop past runs)) point in
-      let here : (covers point (run_of rank run) || members (runs_of rank (drop at runs)) point) ≡ true =
+      let here : (covers point (run_of rank run) || members (runs_of rank (drop at runs)) point)
+      ≡ true =
       sym (same point) ∙ ap (λ test. test || rest)
       (covers-inside point (run_of rank joined) (omega arith) order) in
       elim (true_or_false (covers point (run_of rank run))) [
         | inl covered ↦ let bounds = covers-bounds point (run_of rank run) covered in inl bounds.0
-        | inr outside ↦ inr (sym (ap (λ test. test || members (runs_of rank (drop at runs)) point) outside) ∙ here)
+        | inr outside ↦ inr
+            (sym (ap (λ test. test || members (runs_of rank (drop at runs)) point) outside) ∙ here)
       ]
 
   parts : runs_of rank (take at runs ++ joined ∷ drop past runs)
@@ -115,12 +121,14 @@ module _ {T : Type 0} (rank : T → ℕ) (n : ℕ) (runs : List (Run T)) (at pas
         | inl later ↦ omega (arith, low)
         | inr member ↦ elim (cases_lt (rank joined.start) (next_start 0 front)) [
           | inl below ↦
-              absurd (not_both _ member (members-below (next_start 0 front) _ (rank joined.start) both.1 below))
+              absurd (not_both _ member (members-below (next_start 0 front) _ (rank joined.start)
+              both.1 below))
           | inr from ↦ from
         ]
       ] in
       subst IsCanonical (sym parts)
-      (canonical-append 0 front (run_of rank joined ∷ runs_of rank (drop past runs)) both.0 (starts, order, apart))
+      (canonical-append 0 front (run_of rank joined ∷ runs_of rank (drop past runs)) both.0
+      (starts, order, apart))
 
   replaced-below : AllEndBelow n (runs_of rank (take at runs ++ joined ∷ drop past runs))
   replaced-below =
@@ -131,7 +139,8 @@ module _ {T : Type 0} (rank : T → ℕ) (n : ℕ) (runs : List (Run T)) (at pas
       subst (AllEndBelow n) (sym parts)
       (All-append (λ (each : Interval). each.last < n) (runs_of rank (take at runs))
       (run_of rank joined ∷ runs_of rank (drop past runs)) front
-      (All-cons (λ (each : Interval). each.last < n) (run_of rank joined) (runs_of rank (drop past runs)) value rest))
+      (All-cons (λ (each : Interval). each.last < n) (run_of rank joined)
+      (runs_of rank (drop past runs)) value rest))
 
   -- the joined run takes the place of those that it joins
   pub inserted : IsInserted rank n runs at past run joined
@@ -152,7 +161,8 @@ module _ {T : Type 0} (rank : T → ℕ) (n : ℕ) (runs : List (Run T)) (at pas
         adds = λ point.
             ap (λ list. members list point) parts
             ∙ members-append front (run_of rank joined ∷ after) point
-            ∙ ap (λ test. members front point || test) (members-cons (run_of rank joined) after point ∙ same point)
+            ∙ ap (λ test. members front point || test)
+            (members-cons (run_of rank joined) after point ∙ same point)
             ∙ or-shift (members front point) (members (runs_of rank (drop at runs)) point)
             (covers point (run_of rank run))
             ∙ ap (λ test. test || covers point (run_of rank run))
@@ -179,5 +189,6 @@ module _ {T : Type 0} (rank : T → ℕ) (n : ℕ) (runs : List (Run T)) (at pas
         | inl later ↦
             not_both _ member (members-below (rank joined.end + 2) _ point rest (omega arith))
         | inr here ↦
-            not_both _ here (members-below (rank joined.end + 2) _ (rank joined.start) rest (omega arith))
+            not_both _ here (members-below (rank joined.end + 2) _ (rank joined.start) rest
+            (omega arith))
       ]

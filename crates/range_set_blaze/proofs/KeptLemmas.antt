@@ -17,21 +17,24 @@ pub sum_by-canonical : (n : ℕ) (runs : List Interval) → IsCanonicalIn n runs
     → sum_by length_of runs ≡ count n (members runs)
 sum_by-canonical n runs canonical = sym (count-members n 0 runs canonical.0 canonical.1)
 
-pub sum_by-within : (n : ℕ) (runs : List Interval) → IsCanonicalIn n runs → sum_by length_of runs ≤ n
+pub sum_by-within : (n : ℕ) (runs : List Interval) → IsCanonicalIn n runs
+    → sum_by length_of runs ≤ n
 sum_by-within n runs canonical =
     let sum = sum_by-canonical n runs canonical in
     let within = count-within n (members runs) in
     omega arith
 
 -- a test of `<` that failed tells the other order
-pub lt-fails : (test : Bool) (left right : ℕ) → IsTrue test ↔ (left < right) → test ≡ false → right ≤ left
+pub lt-fails : (test : Bool) (left right : ℕ) → IsTrue test ↔ (left < right) → test ≡ false
+    → right ≤ left
 lt-fails test left right tells fails = elim (cases_lt left right) [
   | inl less ↦ absurd (not_both test (tells.1 less) fails)
   | inr most ↦ most
 ]
 
 -- and so does one of `≤`
-pub le-fails : (test : Bool) (left right : ℕ) → IsTrue test ↔ (left ≤ right) → test ≡ false → right < left
+pub le-fails : (test : Bool) (left right : ℕ) → IsTrue test ↔ (left ≤ right) → test ≡ false
+    → right < left
 le-fails test left right tells fails = elim (cases_lt right left) [
   | inl less ↦ less
   | inr most ↦ absurd (not_both test (tells.1 most) fails)
@@ -57,7 +60,8 @@ module _ {T : Type 0} (rank : T → ℕ) where
   -- a run at a position is in order, and lies in the type
   pub runs_of-at : (n low : ℕ) (runs : List (Run T)) (i : ℕ) (run : Run T)
       → IsCanonicalFrom low (runs_of rank runs) → AllEndBelow n (runs_of rank runs)
-      → i < length runs → run ≡ get_or runs i run → (rank run.start ≤ rank run.end) × (rank run.end < n)
+      → i < length runs → run ≡ get_or runs i run → (rank run.start ≤ rank run.end)
+      × (rank run.end < n)
   runs_of-at n low [] i run canonical below within is = absurd (omega arith)
   runs_of-at n low (first ∷ runs) zero run canonical below within is = rw is (
     canonical.1,
@@ -69,7 +73,8 @@ module _ {T : Type 0} (rank : T → ℕ) where
       (omega arith) is
 
   -- the runs of a list that starts past a point end past it
-  ends-past : (start low : ℕ) (runs : List (Run T)) → IsCanonicalFrom low (runs_of rank runs) → start ≤ low
+  ends-past : (start low : ℕ) (runs : List (Run T)) → IsCanonicalFrom low (runs_of rank runs)
+      → start ≤ low
       → All (λ run. start ≤ rank run.end + 1) runs
   ends-past start low [] canonical past = All-nil (λ (run : Run T). start ≤ rank run.end + 1)
   ends-past start low (first ∷ runs) canonical past =
@@ -105,10 +110,12 @@ module _ {T : Type 0} (rank : T → ℕ) where
   pub canonical-end : (bound : ℕ) (runs : List (Run T)) (i : ℕ) → length runs ≤ i
       → IsCanonicalFrom bound (runs_of rank (drop i runs))
   canonical-end bound runs i past =
-      subst (λ (rest : List (Run T)). IsCanonicalFrom bound (runs_of rank rest)) (sym (drop_all i runs past)) tt
+      subst (λ (rest : List (Run T)). IsCanonicalFrom bound (runs_of rank rest))
+      (sym (drop_all i runs past)) tt
 
   -- the runs from a position on are one and the others
-  pub runs_of-drop : (runs : List (Run T)) (i : ℕ) (run : Run T) → i < length runs → run ≡ get_or runs i run
+  pub runs_of-drop : (runs : List (Run T)) (i : ℕ) (run : Run T) → i < length runs → run
+      ≡ get_or runs i run
       → runs_of rank (drop i runs) ≡ run_of rank run ∷ runs_of rank (drop (i + 1) runs)
   runs_of-drop runs i run within is =
       let next : i + 1 ≡ suc i = omega arith in
@@ -116,7 +123,8 @@ module _ {T : Type 0} (rank : T → ℕ) where
       (drop-cons runs i run within ∙ ap (λ (first : Run T). first ∷ drop (suc i) runs) (sym is)))
 
   -- and so are their lengths
-  pub sum_by-drop : (runs : List (Run T)) (i : ℕ) (run : Run T) → i < length runs → run ≡ get_or runs i run
+  pub sum_by-drop : (runs : List (Run T)) (i : ℕ) (run : Run T) → i < length runs → run
+      ≡ get_or runs i run
       → sum_by length_of (runs_of rank (drop i runs))
       ≡ length_of (run_of rank run) + sum_by length_of (runs_of rank (drop (i + 1) runs))
   sum_by-drop runs i run within is =
@@ -127,11 +135,13 @@ module _ {T : Type 0} (rank : T → ℕ) where
   pub runs_of-parts : (runs : List (Run T)) (i : ℕ)
       → runs_of rank runs ≡ runs_of rank (take i runs) ++ runs_of rank (drop i runs)
   runs_of-parts runs i =
-      ap (runs_of rank) (sym (take-append-drop i runs)) ∙ map-append (run_of rank) (take i runs) (drop i runs)
+      ap (runs_of rank) (sym (take-append-drop i runs))
+      ∙ map-append (run_of rank) (take i runs) (drop i runs)
 
   -- and their lengths add up to those of the whole
   pub sum_by-parts : (runs : List (Run T)) (i : ℕ) → sum_by length_of (runs_of rank runs)
-      ≡ sum_by length_of (runs_of rank (take i runs)) + sum_by length_of (runs_of rank (drop i runs))
+      ≡ sum_by length_of (runs_of rank (take i runs)) + sum_by length_of
+      (runs_of rank (drop i runs))
   sum_by-parts runs i =
       ap (sum_by length_of) (runs_of-parts runs i)
       ∙ sum_by-append length_of (runs_of rank (take i runs)) (runs_of rank (drop i runs))

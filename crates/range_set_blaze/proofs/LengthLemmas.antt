@@ -36,22 +36,29 @@ grows n old new added adds below =
     let kept : (rank : ℕ) → members old rank ≡ true → members new rank ≡ true = λ rank member.
     adds rank ∙ or-left (members old rank) (added rank) member in (
       (λ less.
-          let found = count-finds n (members old) (members new) less in
-          (found.0, or-second (members old found.0) (added found.0) (sym (adds found.0) ∙ found.2) found.3, found.3)),
+          let found = count-finds n (members old) (members new) less in (
+            found.0,
+            or-second (members old found.0) (added found.0) (sym (adds found.0) ∙ found.2)
+                found.3,
+            found.3,
+          )),
       (λ lacks.
           count-less n (members old) (members new) kept lacks.0 (below lacks.0 lacks.1)
           (adds lacks.0 ∙ or-right (members old lacks.0) (added lacks.0) lacks.1) lacks.2),
     )
 
--- so whether the length has changed says whether one of the ranks from `first` on and before `past` was added
+-- so whether the length has changed says whether one of the ranks from `first` on and before `past`
+-- was added
 pub length-changed : (n first past : ℕ) (run : Interval) (old new : List Interval)
-    → Adds old new (λ rank. covers rank run) → run.first ≡ first → run.last + 1 ≡ past → run.last < n
+    → Adds old new (λ rank. covers rank run) → run.first ≡ first → run.last + 1 ≡ past
+    → run.last < n
     → (same : Bool) → IsTrue same ↔ (count n (members new) ≡ count n (members old))
     → IsTrue (not same) ↔ LacksSomeOf old (λ rank. nat_le first rank && nat_lt rank past)
 length-changed n first past run old new adds starts ends below same tells =
     let between : (rank : ℕ) → covers rank run ≡ (nat_le first rank && nat_lt rank past) =
     λ rank. grind (arith, nat_tests) in
-    let more = grows n old new (λ rank. covers rank run) adds (λ rank here. grind (arith, nat_tests, here)) in
+    let more = grows n old new (λ rank. covers rank run) adds
+    (λ rank here. grind (arith, nat_tests, here)) in
     let least = count-at_most n (members old) (members new)
     (λ rank member. adds rank ∙ or-left (members old rank) (covers rank run) member) in (
       (λ differ. elim (cases_lt (count n (members old)) (count n (members new))) [
@@ -65,7 +72,9 @@ length-changed n first past run old new adds starts ends below same tells =
 
 -- the ranks from one to itself are that one alone
 pub adds-only : (old new : List Interval) (rank : ℕ)
-    → Adds old new (λ other. nat_le rank other && nat_lt other (rank + 1)) → Adds old new (only rank)
+    → Adds old new (λ other. nat_le rank other && nat_lt other (rank + 1))
+    → Adds old new (only rank)
 adds-only old new rank adds other =
-    let same : (nat_le rank other && nat_lt other (rank + 1)) ≡ only rank other = grind (arith, nat_tests) in
+    let same : (nat_le rank other && nat_lt other (rank + 1))
+    ≡ only rank other = grind (arith, nat_tests) in
     adds other ∙ ap (λ test. members old other || test) same

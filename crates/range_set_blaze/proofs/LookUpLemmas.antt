@@ -28,23 +28,28 @@ ahead-all all rest start canonical is zero = rw (is, zero) (record {
 })
 
 -- one run more is passed
-pub ahead-next : (all rest : List Interval) (run : Interval) (start : ℕ) → IsAhead all (run ∷ rest) start
+pub ahead-next : (all rest : List Interval) (run : Interval) (start : ℕ)
+    → IsAhead all (run ∷ rest) start
     → IsAhead all rest (run.last + 1)
 ahead-next all rest run start ahead =
     let from = ahead.canonical.0 in
     let ordered = ahead.canonical.1 in
     record {
-      same = λ rank past. ahead.same rank (omega arith) ∙ members-tail run rest rank (inr (omega arith));
+      same = λ rank past. ahead.same rank (omega arith)
+          ∙ members-tail run rest rank (inr (omega arith));
       passed = λ above.
           let last : run.last + 1 - 1 ≡ run.last = omega arith in
-          rw last (ahead.same run.last (omega arith) ∙ members-head run rest run.last ordered (omega arith));
-      canonical = canonical-lower (run.last + 2) (run.last + 1) rest (omega arith) ahead.canonical.2;
+          rw last (ahead.same run.last (omega arith)
+          ∙ members-head run rest run.last ordered (omega arith));
+      canonical = canonical-lower (run.last + 2) (run.last + 1) rest (omega arith)
+          ahead.canonical.2;
       apart = λ above.
           canonical-lower (run.last + 2) (run.last + 1 + 1) rest (omega arith) ahead.canonical.2;
     }
 
 -- before the next run, and past all, nothing is a member
-pub free-before : (rank start : ℕ) (all rest : List Interval) (run : Interval) → IsAhead all (run ∷ rest) start
+pub free-before : (rank start : ℕ) (all rest : List Interval) (run : Interval)
+    → IsAhead all (run ∷ rest) start
     → start ≤ rank → rank < run.first → members all rank ≡ false
 free-before rank start all rest run ahead from before =
     let ordered = ahead.canonical.1 in
@@ -57,7 +62,8 @@ free-after rank start all ahead from = ahead.same rank from
 
 -- the rank lies in the gap before the next run
 pub gap-before : (n rank last start : ℕ) (all rest : List Interval) (run : Interval)
-    → IsAhead all (run ∷ rest) start → start ≤ rank → rank < run.first → last + 1 ≡ run.first → run.first < n
+    → IsAhead all (run ∷ rest) start → start ≤ rank → rank < run.first → last + 1 ≡ run.first
+    → run.first < n
     → IsRunAround n (complement (members all)) rank (record { first = start; last = last })
 gap-before n rank last start all rest run ahead from before end below =
     let ordered = ahead.canonical.1 in
@@ -77,8 +83,10 @@ gap-before n rank last start all rest run ahead from before end below =
     }
 
 -- the rank lies in the gap past all runs
-pub gap-after : (n rank last start : ℕ) (all : List Interval) → IsAhead all [] start → start ≤ rank → rank < n
-    → last + 1 ≡ n → IsRunAround n (complement (members all)) rank (record { first = start; last = last })
+pub gap-after : (n rank last start : ℕ) (all : List Interval) → IsAhead all [] start → start ≤ rank
+    → rank < n
+    → last + 1 ≡ n → IsRunAround n (complement (members all)) rank
+    (record { first = start; last = last })
 gap-after n rank last start all ahead from below end = record {
   maximal = record {
     in_order = omega arith;
@@ -93,13 +101,15 @@ gap-after n rank last start all ahead from below end = record {
 }
 
 -- the rank lies in the next run
-pub present-here : (rank start : ℕ) (all rest : List Interval) (run : Interval) → IsAhead all (run ∷ rest) start
+pub present-here : (rank start : ℕ) (all rest : List Interval) (run : Interval)
+    → IsAhead all (run ∷ rest) start
     → run.first ≤ rank → rank ≤ run.last → members all rank ≡ true
 present-here rank start all rest run ahead low high =
     let from = ahead.canonical.0 in
     ahead.same rank (omega arith) ∙ members-head run rest rank low high
 
-pub run-here : (n rank start : ℕ) (all rest : List Interval) (run : Interval) → IsAhead all (run ∷ rest) start
+pub run-here : (n rank start : ℕ) (all rest : List Interval) (run : Interval)
+    → IsAhead all (run ∷ rest) start
     → run.first ≤ rank → rank ≤ run.last → run.last < n → IsRunAround n (members all) rank run
 run-here n rank start all rest run ahead low high below =
     let from = ahead.canonical.0 in
@@ -114,7 +124,8 @@ run-here n rank start all rest run ahead low high below =
         begins_here = λ above. elim (cases_lt (run.first - 1) start) [
           | inl passed ↦
               let apart = (ahead.apart (omega arith)).0 in absurd (omega arith)
-          | inr ahead_of ↦ free-before (run.first - 1) start all rest run ahead ahead_of (omega arith)
+          | inr ahead_of ↦ free-before (run.first - 1) start all rest run ahead ahead_of
+              (omega arith)
         ];
         ends_here = λ more.
             ahead.same (run.last + 1) (omega arith)
@@ -130,9 +141,11 @@ module _ {T : Type 0} (rank : T → ℕ) (runs : List (Run T)) (i start : ℕ)
   pub ahead-at : (run : Run T) → i < length runs → run ≡ get_or runs i run
       → IsAhead (runs_of rank runs) (run_of rank run ∷ runs_of rank (drop (i + 1) runs)) start
   ahead-at run within is =
-      subst (λ (rest : List Interval). IsAhead (runs_of rank runs) rest start) (runs_of-drop rank runs i run within is) ahead
+      subst (λ (rest : List Interval). IsAhead (runs_of rank runs) rest start)
+      (runs_of-drop rank runs i run within is) ahead
 
   -- at the end none is
   pub ahead-end : length runs ≤ i → IsAhead (runs_of rank runs) [] start
   ahead-end past =
-      subst (λ (rest : List (Run T)). IsAhead (runs_of rank runs) (runs_of rank rest) start) (drop_all i runs past) ahead
+      subst (λ (rest : List (Run T)). IsAhead (runs_of rank runs) (runs_of rank rest) start)
+      (drop_all i runs past) ahead

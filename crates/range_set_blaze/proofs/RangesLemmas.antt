@@ -19,21 +19,24 @@ All-front P (x ∷ xs) ys all =
 
 module _ {T : Type 0} (rank : T → ℕ) where
   -- the ranges of runs have the intervals of the runs
-  pub intervals_of-ranges : (runs : List (Run T)) → intervals_of rank (ranges_of runs) ≡ runs_of rank runs
+  pub intervals_of-ranges : (runs : List (Run T)) → intervals_of rank (ranges_of runs)
+      ≡ runs_of rank runs
   intervals_of-ranges [] = refl
   intervals_of-ranges (run ∷ runs) =
       ap (λ (rest : List Interval). run_of rank run ∷ rest) (intervals_of-ranges runs)
 
   -- what is left of canonical ranges is canonical
   pub canonical-rest : (n : ℕ) (range : RangeInclusive T) (ranges : List (RangeInclusive T))
-      → IsCanonicalIn n (intervals_of rank (range ∷ ranges)) → IsCanonicalIn n (intervals_of rank ranges)
+      → IsCanonicalIn n (intervals_of rank (range ∷ ranges))
+      → IsCanonicalIn n (intervals_of rank ranges)
   canonical-rest n range ranges canonical =
       let run = interval_of rank range in (
         canonical-lower (run.last + 2) 0 (intervals_of rank ranges) (omega arith) canonical.0.2,
         All-tail (λ (each : Interval). each.last < n) run (intervals_of rank ranges) canonical.1,
       )
 
-  pub canonical-goes : (n : ℕ) (before after : List (RangeInclusive T)) (first item : RangeInclusive T)
+  pub canonical-goes : (n : ℕ) (before after : List (RangeInclusive T))
+      (first item : RangeInclusive T)
       → before ≡ first ∷ after → IsCanonicalIn n (intervals_of rank before)
       → MakesProgress (λ ranges. IsCanonicalIn n (intervals_of rank ranges))
       (item_count (λ (ranges : List (RangeInclusive T)). ranges)) before (Some item) after
@@ -48,7 +51,8 @@ module _ {T : Type 0} (rank : T → ℕ) where
 
   -- and so is what is left when the last one is taken
   pub canonical-front : (n : ℕ) (ranges : List (RangeInclusive T)) (range : RangeInclusive T)
-      → IsCanonicalIn n (intervals_of rank (ranges ++ range ∷ [])) → IsCanonicalIn n (intervals_of rank ranges)
+      → IsCanonicalIn n (intervals_of rank (ranges ++ range ∷ []))
+      → IsCanonicalIn n (intervals_of rank ranges)
   canonical-front n ranges range canonical =
       let front = intervals_of rank ranges in
       let last = interval_of rank range ∷ [] in
@@ -58,7 +62,8 @@ module _ {T : Type 0} (rank : T → ℕ) where
         All-front (λ (each : Interval). each.last < n) front last both.1,
       )
 
-  pub canonical-goes_back : (n : ℕ) (before after : List (RangeInclusive T)) (last item : RangeInclusive T)
+  pub canonical-goes_back : (n : ℕ) (before after : List (RangeInclusive T))
+      (last item : RangeInclusive T)
       → before ≡ after ++ last ∷ [] → IsCanonicalIn n (intervals_of rank before)
       → MakesProgress (λ ranges. IsCanonicalIn n (intervals_of rank ranges))
       (item_count (λ (ranges : List (RangeInclusive T)). ranges)) before (Some item) after

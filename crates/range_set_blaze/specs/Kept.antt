@@ -19,7 +19,9 @@ range_of run = record { start = run.start; end = run.end; exhausted = false }
 abbrev pub ranges_of : {T : Type 0} → List (Run T) → List (RangeInclusive T)
 ranges_of runs = map range_of runs
 
--- the runs are canonical in a type of n values, and the length that is kept is the number of their members
-pub record IsKept {T : Type 0} (rank : T → ℕ) (n : ℕ) (runs : List (Run T)) (kept : ℕ) : Type 0 where
-  pub canonical : IsCanonicalIn n (runs_of rank runs)
-  pub length : kept ≡ count n (members (runs_of rank runs))
+-- the runs are canonical in a type of n values, and the length that is kept is the number of their
+-- members
+pub record IsKept {T : Type 0} (rank : T → ℕ) (n : ℕ) (runs : List (Run T)) (kept : ℕ) : Type 0
+  where
+    pub canonical : IsCanonicalIn n (runs_of rank runs)
+    pub length : kept ≡ count n (members (runs_of rank runs))

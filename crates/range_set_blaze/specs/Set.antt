@@ -1,4 +1,5 @@
--- What the contracts of a set say. A set is seen as the list of its runs, each the interval of its ranks.
+-- What the contracts of a set say. A set is seen as the list of its runs, each the interval of its
+-- ranks.
 use Rattle.std.specs.Prelude.{◌≡◌, ℕ, ◌&&◌, ◌==◌, ◌+◌, ◌<◌, ◌≤◌, nat_le, nat_lt, List, IsTrue, IsFalse}
 use Rattle.std.specs.declared.ops.Bound.{Bound}
 use Rattle.std.specs.declared.ops.Bound.TheVariants.{Included, Excluded, Unbounded}
@@ -26,7 +27,8 @@ past_rank rank n Unbounded = n
 
 -- the ranks between two bounds, in a type of n values
 abbrev pub between : {T : Type 0} → (T → ℕ) → ℕ → Bound T → Bound T → Selection
-between rank n start end other = nat_le (first_rank rank start) other && nat_lt other (past_rank rank n end)
+between rank n start end other = nat_le (first_rank rank start) other && nat_lt other
+    (past_rank rank n end)
 
 -- no rank is selected
 abbrev pub IsNothing : Selection → Type 0
@@ -46,9 +48,11 @@ Adds old new added = (rank : ℕ) → members new rank ≡ union (members old) a
 abbrev pub LacksSomeOf : List Interval → Selection → Type 0
 LacksSomeOf set selected = (rank : ℕ) × IsTrue (selected rank) × IsFalse (members set rank)
 
--- the rank or the one before it is a member, so that a run which starts there or earlier reaches the rank
+-- the rank or the one before it is a member, so that a run which starts there or earlier reaches
+-- the rank
 abbrev pub IsReached : List Interval → ℕ → Type 0
-IsReached set rank = (member : ℕ) × IsTrue (members set member) × (member ≤ rank) × (rank ≤ member + 1)
+IsReached set rank = (member : ℕ) × IsTrue (members set member) × (member ≤ rank)
+    × (rank ≤ member + 1)
 
 -- ---- single ranks and runs
 

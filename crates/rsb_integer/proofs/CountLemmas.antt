@@ -23,13 +23,15 @@ once-less true false less = absurd (omega arith)
 once-less false true less = (refl, refl)
 once-less false false less = absurd (omega arith)
 
-once-or : (left right : Bool) → (left ≡ true → right ≡ false) → once (left || right) ≡ once left + once right
+once-or : (left right : Bool) → (left ≡ true → right ≡ false) → once (left || right)
+    ≡ once left + once right
 once-or true right apart = let none : once right ≡ 0 = ap once (apart refl) in omega arith
 once-or false true apart = refl
 once-or false false apart = refl
 
 -- sets that agree have one count
-pub count-agree : (n : ℕ) (left right : Selection) → Agree n left right → count n left ≡ count n right
+pub count-agree : (n : ℕ) (left right : Selection) → Agree n left right → count n left
+    ≡ count n right
 unfolding count
 count-agree zero left right same = refl
 count-agree (suc n) left right same =
@@ -110,13 +112,14 @@ count-finds (suc n) small large less = elim (cases_lt (once (small n)) (once (la
 -- the count of two sets with no common rank
 pub count-union : (n : ℕ) (both left right : Selection)
     → ((rank : ℕ) → both rank ≡ (left rank || right rank))
-    → ((rank : ℕ) → left rank ≡ true → right rank ≡ false) → count n both ≡ count n left + count n right
+    → ((rank : ℕ) → left rank ≡ true → right rank ≡ false) → count n both
+    ≡ count n left + count n right
 unfolding count
 count-union zero both left right are apart = refl
 count-union (suc n) both left right are apart =
     let before = count-union n both left right are apart in
     let here : once (both n) ≡ once (left n) + once (right n) =
-        ap once (are n) ∙ once-or (left n) (right n) (apart n) in
+    ap once (are n) ∙ once-or (left n) (right n) (apart n) in
     omega arith
 
 -- the count of an interval
@@ -138,7 +141,8 @@ count-covers (suc n) run =
     ]
 
 -- a canonical list has as many members as the lengths of its intervals add up to
-pub count-members : (n low : ℕ) (runs : List Interval) → IsCanonicalFrom low runs → AllEndBelow n runs
+pub count-members : (n low : ℕ) (runs : List Interval) → IsCanonicalFrom low runs
+    → AllEndBelow n runs
     → count n (members runs) ≡ sum_by length_of runs
 count-members n low [] canonical below = count-none n (members []) (λ rank here. refl)
 count-members n low (run ∷ runs) canonical below =
@@ -146,9 +150,9 @@ count-members n low (run ∷ runs) canonical below =
     let tail = All-tail (λ (each : Interval). each.last < n) run runs below in
     let rest = count-members n (run.last + 2) runs canonical.2 tail in
     let both = count-union n (members (run ∷ runs)) (λ rank. covers rank run) (members runs)
-        (members-cons run runs)
-        (λ rank here. let bounds = covers-bounds rank run here in
-            members-below (run.last + 2) runs rank canonical.2 (omega (arith, bounds.1))) in
+    (members-cons run runs)
+    (λ rank here. let bounds = covers-bounds rank run here in
+    members-below (run.last + 2) runs rank canonical.2 (omega (arith, bounds.1))) in
     let one = count-covers n run in
     let sum = sum_by-cons length_of run runs in
     omega arith

@@ -1,9 +1,9 @@
 -- The definitions, worked out on small sets of a type of 256 values.
-use Rattle.std.proofs.Common.{◌≡◌, ℕ, Bool, true, false, ◌<◌, List, [], ◌∷◌, lit<, lit≤, arith, nat_lt}
+use Rattle.std.proofs.Common.{ℕ, ◌<◌, List, [], ◌∷◌, lit<, lit≤, arith}
 use Rattle.std.proofs.lemmas.Bool.Decides.{nat_tests}
 use Rattle.std.proofs.lemmas.List.Elements.{All-cons, All-nil}
 use Rattle.rsb_integer.specs.Runs.{Interval, covers, members, AreRuns, AllEndBelow}
-use Rattle.rsb_integer.specs.Selection.{Selection, complement, union}
+use Rattle.rsb_integer.specs.Selection.{complement, union}
 use Rattle.rsb_integer.proofs.RunsLemmas.{runs-from_canonical}
 
 -- the ranks from one to another
@@ -23,19 +23,22 @@ pub touching_ranges_join : AreRuns 256
     (union (members (from_to 1 3 ∷ [])) (λ rank. covers rank (from_to 4 5))) (from_to 1 5 ∷ [])
 touching_ranges_join = runs-from_canonical 256
     (union (members (from_to 1 3 ∷ [])) (λ rank. covers rank (from_to 4 5))) (from_to 1 5 ∷ [])
-    (lit≤ tt, lit≤ tt, tt) (below-cons 1 5 [] (lit< tt) below-nil) (λ rank below. grind (arith, nat_tests))
+    (lit≤ tt, lit≤ tt, tt) (below-cons 1 5 [] (lit< tt) below-nil)
+    (λ rank below. grind (arith, nat_tests))
 
 -- {1..=1} with the reversed 5..=3 added is unchanged
 pub reversed_adds_nothing : AreRuns 256
     (union (members (from_to 1 1 ∷ [])) (λ rank. covers rank (from_to 5 3))) (from_to 1 1 ∷ [])
 reversed_adds_nothing = runs-from_canonical 256
     (union (members (from_to 1 1 ∷ [])) (λ rank. covers rank (from_to 5 3))) (from_to 1 1 ∷ [])
-    (lit≤ tt, lit≤ tt, tt) (below-cons 1 1 [] (lit< tt) below-nil) (λ rank below. grind (arith, nat_tests))
+    (lit≤ tt, lit≤ tt, tt) (below-cons 1 1 [] (lit< tt) below-nil)
+    (λ rank below. grind (arith, nat_tests))
 
 -- the complement of the empty set is 0..=255
 pub complement_of_nothing : AreRuns 256 (complement (members [])) (from_to 0 255 ∷ [])
 complement_of_nothing = runs-from_canonical 256 (complement (members [])) (from_to 0 255 ∷ [])
-    (lit≤ tt, lit≤ tt, tt) (below-cons 0 255 [] (lit< tt) below-nil) (λ rank below. grind (arith, nat_tests))
+    (lit≤ tt, lit≤ tt, tt) (below-cons 0 255 [] (lit< tt) below-nil)
+    (λ rank below. grind (arith, nat_tests))
 
 -- the complement of the universe is empty
 pub complement_of_everything : AreRuns 256 (complement (members (from_to 0 255 ∷ []))) []
@@ -46,7 +49,8 @@ complement_of_everything = runs-from_canonical 256 (complement (members (from_to
 pub gaps_reach_both_ends : AreRuns 256 (complement (members (from_to 1 3 ∷ from_to 7 10 ∷ [])))
     (from_to 0 0 ∷ from_to 4 6 ∷ from_to 11 255 ∷ [])
 gaps_reach_both_ends = runs-from_canonical 256
-    (complement (members (from_to 1 3 ∷ from_to 7 10 ∷ []))) (from_to 0 0 ∷ from_to 4 6 ∷ from_to 11 255 ∷ [])
+    (complement (members (from_to 1 3 ∷ from_to 7 10 ∷ [])))
+    (from_to 0 0 ∷ from_to 4 6 ∷ from_to 11 255 ∷ [])
     (lit≤ tt, lit≤ tt, (lit≤ tt, lit≤ tt, (lit≤ tt, lit≤ tt, tt)))
     (below-cons 0 0 (from_to 4 6 ∷ from_to 11 255 ∷ []) (lit< tt)
     (below-cons 4 6 (from_to 11 255 ∷ []) (lit< tt) (below-cons 11 255 [] (lit< tt) below-nil)))

@@ -14,7 +14,8 @@ interval_by exhausted first last =
     cond exhausted (record { first = 1; last = 0 }) (record { first = first; last = last })
 
 interval_by-some : (exhausted : Bool) (first last : ℕ)
-    → (interval_by exhausted first last).first ≤ (interval_by exhausted first last).last → exhausted ≡ false
+    → (interval_by exhausted first last).first ≤ (interval_by exhausted first last).last → exhausted
+    ≡ false
 interval_by-some true first last ordered = absurd (omega arith)
 interval_by-some false first last ordered = refl
 
@@ -34,30 +35,33 @@ module _ {T : Type 0} (rank : T → ℕ) where
         last = rank (range_inclusive_end range);
       }
   interval_of-some range ordered =
-      ap (λ exhausted. interval_by exhausted (rank (range_inclusive_start range)) (rank (range_inclusive_end range)))
+      ap (λ exhausted. interval_by exhausted (rank (range_inclusive_start range))
+      (rank (range_inclusive_end range)))
       (exhausted-some range ordered)
 
 -- in a type of n values, each of which has a place of its own
 module _ {T : Type 0} (rank : T → ℕ) (n : ℕ)
     (one_place : (x y : T) → rank x < n → rank x ≡ rank y → x ≡ y) where
   pub same_range : (range other : RangeInclusive T)
-      → (interval_of rank range).first ≤ (interval_of rank range).last → (interval_of rank range).last < n
+      → (interval_of rank range).first ≤ (interval_of rank range).last
+      → (interval_of rank range).last < n
       → interval_of rank range ≡ interval_of rank other → range ≡ other
   same_range range other ordered below same =
       let order : (interval_of rank other).first ≤ (interval_of rank other).last =
-          subst (λ (run : Interval). run.first ≤ run.last) same ordered in
-      let parts = sym (interval_of-some rank range ordered) ∙ same ∙ interval_of-some rank other order in
+      subst (λ (run : Interval). run.first ≤ run.last) same ordered in
+      let parts = sym (interval_of-some rank range ordered) ∙ same
+      ∙ interval_of-some rank other order in
       let first : rank (range_inclusive_start range) ≡ rank (range_inclusive_start other) =
-          ap (λ (run : Interval). run.first) parts in
+      ap (λ (run : Interval). run.first) parts in
       let last : rank (range_inclusive_end range) ≡ rank (range_inclusive_end other) =
-          ap (λ (run : Interval). run.last) parts in
+      ap (λ (run : Interval). run.last) parts in
       let is = interval_of-some rank range ordered in
       let starts = ap (λ (run : Interval). run.first) is in
       let ends = ap (λ (run : Interval). run.last) is in
       let start = one_place (range_inclusive_start range) (range_inclusive_start other)
-          (omega (arith, starts, ends)) first in
+      (omega (arith, starts, ends)) first in
       let end = one_place (range_inclusive_end range) (range_inclusive_end other)
-          (omega (arith, ends)) last in
+      (omega (arith, ends)) last in
       let exhausted = exhausted-some rank range ordered ∙ sym (exhausted-some rank other order) in
       λ i. record { start = start i; end = end i; exhausted = exhausted i }
 
@@ -71,8 +75,10 @@ module _ {T : Type 0} (rank : T → ℕ) (n : ℕ)
       let run = interval_of rank range in
       let head : interval_of rank range ≡ interval_of rank other = cc in
       let tail : intervals_of rank ranges ≡ intervals_of rank others = cc in
-      let ends = All-head (λ (each : Interval). each.last < n) run (intervals_of rank ranges) below in
-      let later = All-tail (λ (each : Interval). each.last < n) run (intervals_of rank ranges) below in
+      let ends = All-head (λ (each : Interval). each.last < n) run (intervals_of rank ranges) below
+      in
+      let later = All-tail (λ (each : Interval). each.last < n) run (intervals_of rank ranges) below
+      in
       let first = same_range range other canonical.1 ends head in
       let rest = same_ranges (run.last + 2) ranges others canonical.2 later tail in
       λ i. first i ∷ rest i
@@ -85,4 +91,5 @@ module _ {T : Type 0} (rank : T → ℕ) (n : ℕ)
       → ranges ≡ others
   same_members ranges others left right below below_too same =
       same_ranges 0 ranges others left below
-      (canonical-same n (intervals_of rank ranges) (intervals_of rank others) left right below below_too same)
+      (canonical-same n (intervals_of rank ranges) (intervals_of rank others) left right below
+      below_too same)

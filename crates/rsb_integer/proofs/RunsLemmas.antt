@@ -10,16 +10,19 @@ use Rattle.rsb_integer.proofs.ListLemmas.{true_or_false, not_both, or-true, All-
 
 -- ---- what an interval covers
 
-pub covers-inside : (rank : ℕ) (run : Interval) → run.first ≤ rank → rank ≤ run.last → covers rank run ≡ true
+pub covers-inside : (rank : ℕ) (run : Interval) → run.first ≤ rank → rank ≤ run.last
+    → covers rank run ≡ true
 covers-inside rank run low high = grind (arith, nat_tests)
 
-pub covers-outside : (rank : ℕ) (run : Interval) → (rank < run.first) ⊎ (run.last < rank) → covers rank run ≡ false
+pub covers-outside : (rank : ℕ) (run : Interval) → (rank < run.first) ⊎ (run.last < rank)
+    → covers rank run ≡ false
 covers-outside rank run outside = elim outside [
   | inl below ↦ grind (arith, nat_tests)
   | inr past ↦ grind (arith, nat_tests)
 ]
 
-pub covers-bounds : (rank : ℕ) (run : Interval) → covers rank run ≡ true → (run.first ≤ rank) × (rank ≤ run.last)
+pub covers-bounds : (rank : ℕ) (run : Interval) → covers rank run ≡ true → (run.first ≤ rank)
+    × (rank ≤ run.last)
 covers-bounds rank run is = (grind (arith, nat_tests), grind (arith, nat_tests))
 
 -- a rank is one of the interval's, or lies on one side of it
@@ -66,7 +69,8 @@ members-below low (run ∷ runs) rank canonical below =
     members-tail run runs rank (inl (omega arith))
     ∙ members-below (run.last + 2) runs rank canonical.2 (omega arith)
 
-members-cases : (run : Interval) (runs : List Interval) (rank : ℕ) → members (run ∷ runs) rank ≡ true
+members-cases : (run : Interval) (runs : List Interval) (rank : ℕ) → members (run ∷ runs) rank
+    ≡ true
     → (covers rank run ≡ true) ⊎ (members runs rank ≡ true)
 members-cases run runs rank member = elim (covers-cases rank run) [
   | inl inside ↦ inl inside.2
@@ -210,20 +214,23 @@ tail-maximal n run runs other later maximal =
           members-tail run runs (other.last + 1) (inr (omega arith)) ∙ maximal.ends_here more;
     }
 
-pub canonical-maximal : (n low : ℕ) (runs : List Interval) → IsCanonicalFrom low runs → AllEndBelow n runs
+pub canonical-maximal : (n low : ℕ) (runs : List Interval) → IsCanonicalFrom low runs
+    → AllEndBelow n runs
     → All (IsMaximalRun n (members runs)) runs
 canonical-maximal n low [] canonical below = All-nil (IsMaximalRun n (members []))
 canonical-maximal n low (run ∷ runs) canonical below =
     let tail = All-tail (λ (other : Interval). other.last < n) run runs below in
     All-cons (IsMaximalRun n (members (run ∷ runs))) run runs
-    (head-maximal n run runs canonical.1 (All-head (λ (other : Interval). other.last < n) run runs below)
+    (head-maximal n run runs canonical.1
+    (All-head (λ (other : Interval). other.last < n) run runs below)
     canonical.2)
     (All-both (λ (other : Interval). run.last + 2 ≤ other.first) (IsMaximalRun n (members runs))
     (IsMaximalRun n (members (run ∷ runs))) (tail-maximal n run runs) runs
     (canonical-starts (run.last + 2) runs canonical.2)
     (canonical-maximal n (run.last + 2) runs canonical.2 tail))
 
-same_interval : (run other : Interval) → run.first ≡ other.first → run.last ≡ other.last → run ≡ other
+same_interval : (run other : Interval) → run.first ≡ other.first → run.last ≡ other.last → run
+    ≡ other
 same_interval run other first last = λ i. record { first = first i; last = last i }
 
 -- a maximal run that starts within the first interval is that interval
@@ -234,8 +241,8 @@ maximal-head : (n : ℕ) (run : Interval) (runs : List Interval) (other : Interv
 maximal-head n run runs other ordered below rest maximal low high =
     let order = maximal.in_order in
     let gap : members (run ∷ runs) (run.last + 1) ≡ false =
-        members-tail run runs (run.last + 1) (inr (omega arith))
-        ∙ members-below (run.last + 2) runs (run.last + 1) rest (omega arith) in
+    members-tail run runs (run.last + 1) (inr (omega arith))
+    ∙ members-below (run.last + 2) runs (run.last + 1) rest (omega arith) in
     let first : run.first ≡ other.first = elim (cases_lt run.first other.first) [
       | inl less ↦
           absurd (not_both (members (run ∷ runs) (other.first - 1))
@@ -246,7 +253,8 @@ maximal-head n run runs other ordered below rest maximal low high =
     let last : run.last ≡ other.last = elim (cases_lt run.last other.last) [
       | inl less ↦
           absurd (not_both (members (run ∷ runs) (run.last + 1))
-          (maximal.whole (run.last + 1) (covers-inside (run.last + 1) other (omega arith) (omega arith)))
+          (maximal.whole (run.last + 1) (covers-inside (run.last + 1) other (omega arith)
+          (omega arith)))
           gap)
       | inr most ↦ elim (cases_lt other.last run.last) [
         | inl less ↦
@@ -259,7 +267,8 @@ maximal-head n run runs other ordered below rest maximal low high =
     same_interval run other first last
 
 -- a maximal run that starts past the first interval is one of the others
-maximal-tail : (n : ℕ) (run : Interval) (runs : List Interval) (other : Interval) → run.last + 1 < other.first
+maximal-tail : (n : ℕ) (run : Interval) (runs : List Interval) (other : Interval)
+    → run.last + 1 < other.first
     → IsMaximalRun n (members (run ∷ runs)) other → IsMaximalRun n (members runs) other
 maximal-tail n run runs other past maximal =
     let ordered = maximal.in_order in
@@ -268,32 +277,37 @@ maximal-tail n run runs other past maximal =
       in_type = maximal.in_type;
       whole = λ rank here.
           let bounds = covers-bounds rank other here in
-          sym (members-tail run runs rank (inr (omega (arith, bounds.0)))) ∙ maximal.whole rank here;
+          sym (members-tail run runs rank (inr (omega (arith, bounds.0))))
+          ∙ maximal.whole rank here;
       begins_here = λ above.
-          sym (members-tail run runs (other.first - 1) (inr (omega arith))) ∙ maximal.begins_here above;
+          sym (members-tail run runs (other.first - 1) (inr (omega arith)))
+          ∙ maximal.begins_here above;
       ends_here = λ more.
           sym (members-tail run runs (other.last + 1) (inr (omega arith))) ∙ maximal.ends_here more;
     }
 
-pub canonical-complete : (n low : ℕ) (runs : List Interval) (other : Interval) → IsCanonicalFrom low runs
+pub canonical-complete : (n low : ℕ) (runs : List Interval) (other : Interval)
+    → IsCanonicalFrom low runs
     → AllEndBelow n runs → IsMaximalRun n (members runs) other → Contains runs other
 canonical-complete n low [] other canonical below maximal =
     absurd (not_both (members [] other.first)
-    (maximal.whole other.first (covers-inside other.first other (omega arith) maximal.in_order)) refl)
+    (maximal.whole other.first (covers-inside other.first other (omega arith) maximal.in_order))
+    refl)
 canonical-complete n low (run ∷ runs) other canonical below maximal =
     let starts = canonical.0 in
     let ordered = canonical.1 in
     let ends : run.last < n = All-head (λ (each : Interval). each.last < n) run runs below in
     let tail = All-tail (λ (each : Interval). each.last < n) run runs below in
     let start : members (run ∷ runs) other.first ≡ true =
-        maximal.whole other.first (covers-inside other.first other (omega arith) maximal.in_order) in
+    maximal.whole other.first (covers-inside other.first other (omega arith) maximal.in_order)
+    in
     elim (cases_lt run.last other.first) [
       | inl past ↦
           let here : members runs other.first ≡ true =
-              sym (members-tail run runs other.first (inr past)) ∙ start in
+          sym (members-tail run runs other.first (inr past)) ∙ start in
           let apart : other.first ≢ run.last + 1 = λ touching.
-              not_both (members runs other.first) here
-              (members-below (run.last + 2) runs other.first canonical.2 (omega arith)) in
+          not_both (members runs other.first) here
+          (members-below (run.last + 2) runs other.first canonical.2 (omega arith)) in
           Contains-tail run runs other
           (canonical-complete n (run.last + 2) runs other canonical.2 tail
           (maximal-tail n run runs other (omega arith) maximal))
@@ -321,7 +335,8 @@ canonical-runs n runs canonical below = record {
 
 -- down from the rank to the first that is selected with all after it
 run-first : (selected : Selection) (rank : ℕ) → selected rank ≡ true
-    → (first : ℕ) × (first ≤ rank) × ((other : ℕ) → first ≤ other → other ≤ rank → selected other ≡ true)
+    → (first : ℕ) × (first ≤ rank)
+    × ((other : ℕ) → first ≤ other → other ≤ rank → selected other ≡ true)
     × (0 < first → selected (first - 1) ≡ false)
 run-first selected zero here = (
   0,
@@ -432,13 +447,15 @@ maximal-apart n selected run other maximal next less =
     elim (cases_lt run.last other.first) [
       | inr within ↦
           absurd (not_both (selected (other.first - 1))
-          (maximal.whole (other.first - 1) (covers-inside (other.first - 1) run (omega arith) (omega arith)))
+          (maximal.whole (other.first - 1)
+          (covers-inside (other.first - 1) run (omega arith) (omega arith)))
           (next.begins_here (omega arith)))
       | inl past ↦ elim (cases_lt (run.last + 1) other.first) [
         | inl apart ↦ omega arith
         | inr touching ↦
             absurd (not_both (selected (run.last + 1))
-            (next.whole (run.last + 1) (covers-inside (run.last + 1) other (omega arith) (omega arith)))
+            (next.whole (run.last + 1) (covers-inside (run.last + 1) other (omega arith)
+            (omega arith)))
             (maximal.ends_here (omega arith)))
       ]
     ]
@@ -451,11 +468,13 @@ ascending-canonical n selected low [] ascending maximal starts = tt
 ascending-canonical n selected low (run ∷ runs) ascending maximal starts =
     let first = All-head (IsMaximalRun n selected) run runs maximal in
     let others = All-tail (IsMaximalRun n selected) run runs maximal in
-    let later = AllPairs-tail (λ (before after : Interval). before.first < after.first) run runs ascending in (
+    let later = AllPairs-tail (λ (before after : Interval). before.first < after.first) run runs
+    ascending in (
       All-head (λ (each : Interval). low ≤ each.first) run runs starts,
       first.in_order,
       ascending-canonical n selected (run.last + 2) runs later others
-          (λ k default within. maximal-apart n selected run (get_or runs k default) first (others k default within)
+          (λ k default within. maximal-apart n selected run (get_or runs k default) first
+          (others k default within)
           (ascending 0 (suc k) default (omega arith) (omega arith))),
     )
 
@@ -463,7 +482,8 @@ pub runs-canonical : (n : ℕ) (selected : Selection) (runs : List Interval) →
     → IsCanonicalIn n runs
 runs-canonical n selected runs all = (
   ascending-canonical n selected 0 runs all.ascending all.maximal (λ k default within. omega arith),
-  All-weaker (IsMaximalRun n selected) (λ (run : Interval). run.last < n) (λ run maximal. maximal.in_type)
+  All-weaker (IsMaximalRun n selected) (λ (run : Interval). run.last < n)
+      (λ run maximal. maximal.in_type)
       runs all.maximal,
 )
 
@@ -475,7 +495,8 @@ unique-first : (run other : Interval) (runs others : List Interval) → run.firs
     → other.first ≤ other.last → other.first ≤ run.first
 unique-first run other runs others ordered rest same order = elim (cases_lt run.first other.first) [
   | inl less ↦
-      absurd (not_both (members (run ∷ runs) run.first) (members-head run runs run.first (omega arith) ordered)
+      absurd (not_both (members (run ∷ runs) run.first)
+      (members-head run runs run.first (omega arith) ordered)
       (same run.first ∙ members-tail other others run.first (inl less)
       ∙ members-below (other.last + 2) others run.first rest (omega arith)))
   | inr most ↦ most
@@ -483,7 +504,8 @@ unique-first run other runs others ordered rest same order = elim (cases_lt run.
 
 unique-last : (run other : Interval) (runs others : List Interval) → run.first ≡ other.first
     → run.first ≤ run.last → IsCanonicalFrom (run.last + 2) runs
-    → ((rank : ℕ) → members (run ∷ runs) rank ≡ members (other ∷ others) rank) → other.last ≤ run.last
+    → ((rank : ℕ) → members (run ∷ runs) rank ≡ members (other ∷ others) rank)
+    → other.last ≤ run.last
 unique-last run other runs others first ordered rest same = elim (cases_lt run.last other.last) [
   | inl less ↦
       absurd (not_both (members (other ∷ others) (run.last + 1))
@@ -494,7 +516,8 @@ unique-last run other runs others first ordered rest same = elim (cases_lt run.l
 ]
 
 pub canonical-unique : (low lower : ℕ) (runs others : List Interval) → IsCanonicalFrom low runs
-    → IsCanonicalFrom lower others → ((rank : ℕ) → members runs rank ≡ members others rank) → runs ≡ others
+    → IsCanonicalFrom lower others → ((rank : ℕ) → members runs rank ≡ members others rank) → runs
+    ≡ others
 canonical-unique low lower [] [] left right same = refl
 canonical-unique low lower [] (other ∷ others) left right same =
     absurd (not_both (members (other ∷ others) other.first)
@@ -505,19 +528,21 @@ canonical-unique low lower (run ∷ runs) [] left right same =
 canonical-unique low lower (run ∷ runs) (other ∷ others) left right same =
     let ordered = left.1 in
     let order = right.1 in
-    let back : (rank : ℕ) → members (other ∷ others) rank ≡ members (run ∷ runs) rank = λ rank. sym (same rank) in
+    let back : (rank : ℕ) → members (other ∷ others) rank
+    ≡ members (run ∷ runs) rank = λ rank. sym (same rank) in
     let first : run.first ≡ other.first = omega (
-          arith,
-          unique-first run other runs others ordered right.2 same order,
-          unique-first other run others runs order left.2 back ordered,
-        ) in
+      arith,
+      unique-first run other runs others ordered right.2 same order,
+      unique-first other run others runs order left.2 back ordered,
+    ) in
     let last : run.last ≡ other.last = omega (
-          arith,
-          unique-last run other runs others first ordered left.2 same,
-          unique-last other run others runs (sym first) order right.2 back,
-        ) in
+      arith,
+      unique-last run other runs others first ordered left.2 same,
+      unique-last other run others runs (sym first) order right.2 back,
+    ) in
     let head : run ≡ other = same_interval run other first last in
-    let rest : (rank : ℕ) → members runs rank ≡ members others rank = λ rank. elim (cases_lt (run.last + 1) rank) [
+    let rest : (rank : ℕ) → members runs rank
+    ≡ members others rank = λ rank. elim (cases_lt (run.last + 1) rank) [
       | inl past ↦
           sym (members-tail run runs rank (inr (omega arith))) ∙ same rank
           ∙ members-tail other others rank (inr (omega arith))
@@ -545,12 +570,15 @@ canonical-is_runs n runs = (
 
 -- two canonical lists with the same members are the same list
 pub canonical-same : (n : ℕ) (runs others : List Interval) → IsCanonical runs → IsCanonical others
-    → AllEndBelow n runs → AllEndBelow n others → Agree n (members runs) (members others) → runs ≡ others
+    → AllEndBelow n runs → AllEndBelow n others → Agree n (members runs) (members others) → runs
+    ≡ others
 canonical-same n runs others left right ends other_ends same =
-    canonical-unique 0 0 runs others left right (agree-everywhere n runs others ends other_ends same)
+    canonical-unique 0 0 runs others left right
+    (agree-everywhere n runs others ends other_ends same)
 
 -- sets that agree have the same runs
-pub runs-same : (n : ℕ) (selected other : Selection) (runs others : List Interval) → AreRuns n selected runs
+pub runs-same : (n : ℕ) (selected other : Selection) (runs others : List Interval)
+    → AreRuns n selected runs
     → AreRuns n other others → Agree n selected other → runs ≡ others
 runs-same n selected other runs others left right same =
     let canonical = runs-canonical n selected runs left in
@@ -575,14 +603,17 @@ maximal-along n selected other same run maximal =
     }
 
 -- the runs of a set are the runs of each set that agrees with it
-pub runs-along : (n : ℕ) (selected other : Selection) (runs : List Interval) → Agree n selected other
+pub runs-along : (n : ℕ) (selected other : Selection) (runs : List Interval)
+    → Agree n selected other
     → AreRuns n selected runs → AreRuns n other runs
 runs-along n selected other runs same all = record {
   ascending = all.ascending;
-  maximal = All-weaker (IsMaximalRun n selected) (IsMaximalRun n other) (maximal-along n selected other same)
+  maximal = All-weaker (IsMaximalRun n selected) (IsMaximalRun n other)
+      (maximal-along n selected other same)
       runs all.maximal;
   complete = λ run maximal.
-      all.complete run (maximal-along n other selected (λ rank below. sym (same rank below)) run maximal);
+      all.complete run (maximal-along n other selected (λ rank below. sym (same rank below)) run
+      maximal);
 }
 
 -- a canonical list with the members of a set is the runs of it

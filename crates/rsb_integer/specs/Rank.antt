@@ -21,7 +21,7 @@ signed_rank width (pos n) = 2 ^ hbits width + n
 signed_rank width (negsuc n) =
     cond (nat_lt n (2 ^ hbits width)) (2 ^ hbits width - 1 - n) (2 * 2 ^ hbits width)
 
--- the rank of a character, by its code: past the 2048 codes that are no characters it is so many less, and
--- those codes are past all
+-- the rank of a character, by its code: past the 2048 codes that are no characters, that many less;
+-- those codes themselves are past all
 abbrev pub scalar_rank : ℕ → ℕ
 scalar_rank code = cond (nat_lt code 0xD800) code (cond (nat_lt code 0xE000) 1112064 (code - 2048))

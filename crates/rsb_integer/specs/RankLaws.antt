@@ -1,38 +1,23 @@
 -- Why the given types keep the laws of `Integer`.
-use Rattle.std.specs.Prelude.{◌≡◌, ◌⊎◌, ℕ, ℤ, Bool, true, false, pos, negsuc, cond, ◌-◌, ◌*◌, ◌^◌, ◌<◌, ◌≤◌, ◌<ℤ◌, nat_lt}
+use Rattle.std.specs.Prelude.{◌≡◌, ℕ, ℤ, pos, negsuc, ◌-◌, ◌*◌, ◌^◌, ◌<◌, ◌<ℤ◌}
 use Rattle.std.specs.Cmp.{int_ranked, nat_cmp_is, ranked}
 use Rattle.std.specs.Int.{Width}
 use Rattle.std.specs.Ordering.{MatchOrdering, nat_cmp, int_cmp}
 use Rattle.std.specs.declared.cmp.Ordering.{Ordering}
 use Rattle.std.specs.declared.cmp.Ordering.TheVariants.{Less, Equal, Greater}
-use Rattle.std.proofs.Common.{arith, refl, ap, inl, inr}
+use Rattle.std.proofs.Common.{arith, refl, ap}
 use Rattle.std.proofs.lemmas.Bool.Decides.{nat_tests}
 use Rattle.std.proofs.lemmas.Int.{ints}
 use Rattle.std.proofs.lemmas.Nat.{pow_pos}
 use Rattle.rsb_integer.specs.Rank.{scalar_rank, signed_rank}
-use borrow.Author.Tests.{ltb-true, ltb-false}
 use mir.Val.{hbits}
 
 -- ---- signed types: 2 ^ hbits width is half as many as there are values
 
-negative-cases : (width : Width) (n : ℕ)
-    → ((n < 2 ^ hbits width) × (signed_rank width (negsuc n) ≡ 2 ^ hbits width - 1 - n))
-    ⊎ ((2 ^ hbits width ≤ n) × (signed_rank width (negsuc n) ≡ 2 * 2 ^ hbits width))
-negative-cases width n = go (nat_lt n (2 ^ hbits width)) refl
-  where
-    go : (fits : Bool) → nat_lt n (2 ^ hbits width) ≡ fits
-        → ((n < 2 ^ hbits width) × (cond fits (2 ^ hbits width - 1 - n) (2 * 2 ^ hbits width) ≡ 2 ^ hbits width - 1 - n))
-        ⊎ ((2 ^ hbits width ≤ n) × (cond fits (2 ^ hbits width - 1 - n) (2 * 2 ^ hbits width) ≡ 2 * 2 ^ hbits width))
-    go true is = inl (ltb-true n (2 ^ hbits width) is, refl)
-    go false is = inr (ltb-false n (2 ^ hbits width) is, refl)
-
 -- a negative number that is a value
 negative : (width : Width) (n : ℕ) → signed_rank width (negsuc n) < 2 * 2 ^ hbits width
     → (n < 2 ^ hbits width) × (signed_rank width (negsuc n) ≡ 2 ^ hbits width - 1 - n)
-negative width n value = elim (negative-cases width n) [
-  | inl fits ↦ fits
-  | inr past ↦ let rank = past.1 in absurd (omega arith)
-]
+negative width n value = grind (arith, nat_tests)
 
 -- ranks tell signed values apart
 pub signed-one_place : (width : Width) (x y : ℤ) → signed_rank width x < 2 * 2 ^ hbits width
@@ -51,6 +36,7 @@ signed-one_place width (negsuc m) (negsuc n) value same =
     let right = negative width n (omega arith) in
     ap negsuc (omega (arith, left.0, left.1, right.0, right.1))
 
+-- a lower signed value has a lower rank
 signed-less : (width : Width) (x y : ℤ)
     → signed_rank width x < 2 * 2 ^ hbits width → signed_rank width y < 2 * 2 ^ hbits width
     → x <ℤ y → signed_rank width x < signed_rank width y
@@ -61,13 +47,9 @@ signed-less width (negsuc m) (pos n) left right less =
     let below = negative width m left in
     omega (arith, below.0, below.1)
 signed-less width (negsuc m) (negsuc n) left right less =
-    let a = negative width m left in
-    let b = negative width n right in
-    let a0 = a.0 in
-    let a1 = a.1 in
-    let b0 = b.0 in
-    let b1 = b.1 in
-    omega (arith, ints)
+    let lower = negative width m left in
+    let upper = negative width n right in
+    omega (arith, ints, lower.0, lower.1, upper.0, upper.1)
 
 -- signed values are ordered as their ranks are
 pub signed-in_order : (width : Width) (x y : ℤ)
@@ -90,6 +72,7 @@ signed-in_order width x y left right =
 pub scalar-one_place : (c d : ℕ) → scalar_rank c < 1112064 → scalar_rank c ≡ scalar_rank d → c ≡ d
 scalar-one_place c d value same = grind (arith, nat_tests)
 
+-- a lower character has a lower rank
 scalar-less : (c d : ℕ) → scalar_rank c < 1112064 → scalar_rank d < 1112064 → c < d
     → scalar_rank c < scalar_rank d
 scalar-less c d left right less = grind (arith, nat_tests)

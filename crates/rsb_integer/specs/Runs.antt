@@ -21,7 +21,8 @@ IsNonEmpty run = run.first ≤ run.last
 abbrev pub IsEmpty : Interval → Type 0
 IsEmpty run = run.last < run.first
 
--- the rest of an interval when its first rank is taken out, or its last: empty where it had one or none
+-- the rest of an interval when its first rank is taken out, or its last: empty where it had one or
+-- none
 pub record IsAfterFirst (run rest : Interval) : Type 0 where
   pub more : run.first < run.last → (rest.first ≡ run.first + 1) × (rest.last ≡ run.last)
   pub none : run.last ≤ run.first → IsEmpty rest
@@ -41,8 +42,8 @@ cover (run ∷ runs) rank = cond (covers rank run) 1 0 + cover runs rank
 abbrev pub members : List Interval → Selection
 members runs rank = nat_lt 0 (cover runs rank)
 
--- the intervals are non-empty, the first starts at `low` or past it, and each other one starts more than
--- one rank past the end of the one before
+-- the intervals are non-empty, the first starts at `low` or past it, and each other one starts more
+-- than one rank past the end of the one before
 abbrev pub IsCanonicalFrom : ℕ → List Interval → Type 0
 IsCanonicalFrom low [] = Unit {0}
 IsCanonicalFrom low (run ∷ runs) =

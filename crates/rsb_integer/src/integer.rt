@@ -12,8 +12,8 @@ use std::fmt::Debug;
 use std::hash::Hash;
 use std::ops::{AddAssign, RangeInclusive, SubAssign};
 
-/// A type of elements: finitely many values in a row, each one step from the next. The rank of a value
-/// is its place in that row, from 0 on. (`Integer` of the Rust crate.)
+/// A type of elements: finitely many values in a row, each one step from the next. The rank of a
+/// value is its place in that row, from 0 on. (`Integer` of the Rust crate.)
 ///
 /// An own type says its `rank` and its `value_count`, and proves the five laws below.
 pub trait Integer: Copy + PartialEq + PartialOrd + Ord + Debug + Send + Sync {
@@ -28,7 +28,8 @@ pub trait Integer: Copy + PartialEq + PartialOrd + Ord + Debug + Send + Sync {
         + AddAssign
         + SubAssign;
 
-    // The place of a value, from 0 on. What is no value, as 256 at `u8`, has a rank past all places.
+    // The place of a value, from 0 on. What is no value, as 256 at `u8`, has a rank past all
+    // places.
     ghost rank: { Self → ℕ };
 
     // How many values there are.
@@ -92,8 +93,8 @@ pub trait Integer: Copy + PartialEq + PartialOrd + Ord + Debug + Send + Sync {
         Self::max_value()..=Self::min_value()
     }
 
-    /// The first member of a range, which leaves the range, or `None` exactly where it has none. Which
-    /// ends an emptied range has is left open.
+    /// The first member of a range, which leaves the range, or `None` exactly where it has none.
+    /// Which ends an emptied range has is left open.
     fn range_next(range: &mut RangeInclusive<Self>) -> Option<Self>
         ensures value { (interval_of rank range.old).last < value_count }
         ensures none { IsNone result ↔ IsEmpty (interval_of rank range.old) }
@@ -116,8 +117,8 @@ pub trait Integer: Copy + PartialEq + PartialOrd + Ord + Debug + Send + Sync {
         Some(start)
     }
 
-    /// The last member of a range, which leaves the range, or `None` exactly where it has none. Which
-    /// ends an emptied range has is left open.
+    /// The last member of a range, which leaves the range, or `None` exactly where it has none.
+    /// Which ends an emptied range has is left open.
     fn range_next_back(range: &mut RangeInclusive<Self>) -> Option<Self>
         ensures value { (interval_of rank range.old).last < value_count }
         ensures none { IsNone result ↔ IsEmpty (interval_of rank range.old) }

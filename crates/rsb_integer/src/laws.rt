@@ -15,18 +15,16 @@ pub fn equal_members_equal_lists<T: Integer>()
         → AllEndBelow T.value_count (intervals_of T.rank ranges)
         → AllEndBelow T.value_count (intervals_of T.rank others)
         → Agree T.value_count (members (intervals_of T.rank ranges))
-            (members (intervals_of T.rank others))
+        (members (intervals_of T.rank others))
         → ranges ≡ others }
-{
-}
+{}
 
-/// A list of intervals is canonical, and lies in the type, exactly where it is the ascending list of
-/// all maximal runs of its members.
+/// A list of intervals is canonical, and lies in the type, exactly where it is the ascending list
+/// of all maximal runs of its members.
 pub fn canonical_lists_are_runs<T: Integer>()
     ensures { (runs : List Interval)
         → IsCanonicalIn T.value_count runs ↔ AreRuns T.value_count (members runs) runs }
-{
-}
+{}
 
 /// The length of a range leads from its start to its end, and from its end to its start: whatever
 /// `inclusive_end_from_start` and `start_from_inclusive_end` may answer by it is that value.
@@ -39,5 +37,4 @@ pub fn offsets_undo_length<T: Integer>()
         → T.rank start ≤ T.rank end → T.rank end < T.value_count
         → length ≡ length_of (record { first = T.rank start; last = T.rank end })
         → T.rank found + length ≡ T.rank end + 1 → found ≡ start }
-{
-}
+{}

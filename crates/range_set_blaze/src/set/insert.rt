@@ -13,8 +13,9 @@ use std::alloc::{AllocError, Allocator};
 use std::ops::{Bound, RangeBounds};
 
 impl<T: Integer, A: Allocator> RangeSetBlaze<T, A> {
-    /// Adds the values between two bounds, and says whether one of them was new. Bounds with nothing
-    /// between them add nothing. Without memory the set is as it was. (`RangeSetBlaze::ranges_insert`.)
+    /// Adds the values between two bounds, and says whether one of them was new. Bounds with
+    /// nothing between them add nothing. Without memory the set is as it was.
+    /// (`RangeSetBlaze::ranges_insert`.)
     ///
     /// Nothing is said of a `RangeInclusive` that was iterated to its end.
     pub fn ranges_insert<R: RangeBounds<T>>(&mut self, range: R) -> Result<bool, AllocError>
@@ -54,8 +55,8 @@ impl<T: Integer, A: Allocator> RangeSetBlaze<T, A> {
         self.ranges_insert(value..=value)
     }
 
-    /// Adds a value, and gives it back exactly where it was a member. Without memory the set is as it
-    /// was. (`RangeSetBlaze::replace`.)
+    /// Adds a value, and gives it back exactly where it was a member. Without memory the set is as
+    /// it was. (`RangeSetBlaze::replace`.)
     pub fn replace(&mut self, value: T) -> Result<Option<T>, AllocError>
         ensures members { OnOk result (Adds self.old self.new (only (T.rank value))) }
         ensures found { IfOk result (λ found.

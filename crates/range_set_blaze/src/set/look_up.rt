@@ -33,7 +33,8 @@ impl<T: Integer, A: Allocator> RangeSetBlaze<T, A> {
         }
     }
 
-    /// The run that has a value, or `None` where the value is no member. (`RangeSetBlaze::range_at`.)
+    /// The run that has a value, or `None` where the value is no member.
+    /// (`RangeSetBlaze::range_at`.)
     pub fn range_at(&self, value: T) -> Option<RangeInclusive<T>>
         ensures none { IsNone result ↔ IsFalse (members self.now (T.rank value)) }
         ensures run { IfSome result (λ range. IsRunAround T.value_count (members self.now)
@@ -47,8 +48,8 @@ impl<T: Integer, A: Allocator> RangeSetBlaze<T, A> {
         }
     }
 
-    /// The run that has a value and true, or else the gap that it lies in and false. A gap reaches the
-    /// runs beside it or the ends of the type. (`RangeSetBlaze::range_or_gap_at`.)
+    /// The run that has a value and true, or else the gap that it lies in and false. A gap reaches
+    /// the runs beside it or the ends of the type. (`RangeSetBlaze::range_or_gap_at`.)
     pub fn range_or_gap_at(&self, value: T) -> (RangeInclusive<T>, bool)
         ensures found { result.1 ≡ members self.now (T.rank value) }
         ensures run { IsTrue result.1 → IsRunAround T.value_count (members self.now)

@@ -1,4 +1,4 @@
-//! `char` as an element type, with lengths in `u32`.
+//! `char` as an element type of 1112064 values, with lengths in `u32`.
 
 ghost use Rattle.std.proofs.Common.{lit≤};
 ghost use Rattle.rsb_integer.specs.Rank.{scalar_rank};

@@ -6,4 +6,5 @@ use Rattle.range_set_blaze.proofs.set.RangeSetBlaze.clear.Goals as goal
 pub invariant_of-self : goal.invariant_of-self
 invariant_of-self g c =
     rw c.clear.ensures.items (kept-nil g.T.Integer.rank g.T.Integer.value_count _
-    (ap g.T.SafeLen.SafeLength.number c.zero-self-inside.ensures ∙ g.met.T.SafeLen.SafeLength.zero_is_0))
+    (ap g.T.SafeLen.SafeLength.number c.zero-self-inside.ensures
+    ∙ g.met.T.SafeLen.SafeLength.zero_is_0))

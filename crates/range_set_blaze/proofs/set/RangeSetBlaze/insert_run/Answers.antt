@@ -13,9 +13,15 @@ pub join-joined-requires-clause-counted : goal.join-joined-requires-clause-count
 join-joined-requires-clause-counted g c κs within =
     let rank = g.T.Integer.rank in
     let items = c.self.inside.runs.items in
-    let all = sum_by-canonical g.T.Integer.value_count (runs_of rank items) c.self.invariant.canonical in
+    let all = sum_by-canonical g.T.Integer.value_count (runs_of rank items)
+    c.self.invariant.canonical in
     rw c.deref-2.ensures.value
-    (omega (arith, all, sum_by-parts rank items c.first_reaching-at.result, c.self.invariant.length))
+    (omega (
+      arith,
+      all,
+      sum_by-parts rank items c.first_reaching-at.result,
+      c.self.invariant.length,
+    ))
 
 pub join-joined-requires-clause-fits : goal.join-joined-requires-clause-fits
 join-joined-requires-clause-fits g c κs within =
@@ -34,7 +40,8 @@ returns-in_err-replace_runs-clause-succeeds g c reached =
       | inl more ↦ absurd (false≢true (c.in_err-replace_runs.ensures.succeeds more))
       | inr none ↦
           absurd (reached-joined g.T.Integer.rank g.T.Integer.value_count c.self.inside.runs.items
-          c.first_reaching-at.result joined.result.past c.args.run joined.result.run c.self.invariant.canonical
+          c.first_reaching-at.result joined.result.past c.args.run joined.result.run
+          c.self.invariant.canonical
           (rw (← c.deref.ensures.value) c.first_reaching-at.ensures.before) joined.ensures.order
           joined.ensures.value (rw (← c.deref-2.ensures.value) joined.ensures.members)
           (rw (← c.deref-2.ensures.value) joined.ensures.apart) (rw c.self.view_is reached)
@@ -46,7 +53,8 @@ pub add_length-requires-clause-fits : goal.add_length-requires-clause-fits
 add_length-requires-clause-fits g c κs within =
     let joined = c.join-joined in
     let new = inserted g.T.Integer.rank g.T.Integer.value_count c.self.inside.runs.items
-    c.first_reaching-at.result joined.result.past c.args.run joined.result.run c.self.invariant.canonical
+    c.first_reaching-at.result joined.result.past c.args.run joined.result.run
+    c.self.invariant.canonical
     (rw (← c.deref.ensures.value) c.first_reaching-at.ensures.before) joined.ensures.order
     joined.ensures.value (rw (← c.deref-2.ensures.value) joined.ensures.members)
     (rw (← c.deref-2.ensures.value) joined.ensures.apart) in
@@ -57,7 +65,8 @@ pub invariant_of-self-2 : goal.invariant_of-self-2
 invariant_of-self-2 g c =
     let joined = c.join-joined in
     let new = inserted g.T.Integer.rank g.T.Integer.value_count c.self.inside.runs.items
-    c.first_reaching-at.result joined.result.past c.args.run joined.result.run c.self.invariant.canonical
+    c.first_reaching-at.result joined.result.past c.args.run joined.result.run
+    c.self.invariant.canonical
     (rw (← c.deref.ensures.value) c.first_reaching-at.ensures.before) joined.ensures.order
     joined.ensures.value (rw (← c.deref-2.ensures.value) joined.ensures.members)
     (rw (← c.deref-2.ensures.value) joined.ensures.apart) in
@@ -72,7 +81,8 @@ pub returns-clause-members : goal.returns-clause-members
 returns-clause-members g c =
     let joined = c.join-joined in
     let new = inserted g.T.Integer.rank g.T.Integer.value_count c.self.inside.runs.items
-    c.first_reaching-at.result joined.result.past c.args.run joined.result.run c.self.invariant.canonical
+    c.first_reaching-at.result joined.result.past c.args.run joined.result.run
+    c.self.invariant.canonical
     (rw (← c.deref.ensures.value) c.first_reaching-at.ensures.before) joined.ensures.order
     joined.ensures.value (rw (← c.deref-2.ensures.value) joined.ensures.members)
     (rw (← c.deref-2.ensures.value) joined.ensures.apart) in

@@ -28,7 +28,8 @@ returns-clause-added g c has =
     rw (← c.self.view_is) c.self.invariant.length in
     let new : lengths.number c.self-2.inside.length ≡ count n (members c.insert_run.new.self) =
     rw (← c.self-2.view_is) c.self-2.invariant.length in
-    let same = rw (new, old) at (g.met.T.SafeLen.SafeLength.equal c.self-2.inside.length c.self.inside.length) in
+    let same = rw (new, old) at (g.met.T.SafeLen.SafeLength.equal c.self-2.inside.length
+    c.self.inside.length) in
     rw c.ne.ensures (length-changed n _ _ (run_of g.T.Integer.rank c.in-Some.run') c.args.self.now
     c.insert_run.new.self c.in_ok-insert_run.ensures.members (c.in-Some.ensures.start has)
     (c.in-Some.ensures.end has) c.in-Some.ensures.value _ same)

@@ -40,12 +40,16 @@ loop-past-preserved g c =
     let runs = c.args.runs.now in
     let next = c.index-runs-past.result in
     let i = c.loop-past.invariant in
-    let at = runs_of-at rank g.T.Integer.value_count 0 runs c.loop-past.past next c.requires.canonical.0
+    let at = runs_of-at rank g.T.Integer.value_count 0 runs c.loop-past.past next
+    c.requires.canonical.0
     c.requires.canonical.1 c.loop-past-test.true c.index-runs-past.is in
-    let rest = runs_of-drop rank runs c.loop-past.past next c.loop-past-test.true c.index-runs-past.is in
-    let sum = sum_by-drop rank runs c.loop-past.past next c.loop-past-test.true c.index-runs-past.is in
+    let rest = runs_of-drop rank runs c.loop-past.past next c.loop-past-test.true
+    c.index-runs-past.is in
+    let sum = sum_by-drop rank runs c.loop-past.past next c.loop-past-test.true c.index-runs-past.is
+    in
     let near = c.reaches.ensures.0 c.if-not-reaches.false in
-    let far = All-from (λ other. rank c.args.run.start ≤ rank other.end + 1) runs c.args.at c.loop-past.past
+    let far = All-from (λ other. rank c.args.run.start ≤ rank other.end + 1) runs c.args.at
+    c.loop-past.past
     next c.requires.from i.at c.loop-past-test.true c.index-runs-past.is in
     record {
       at = omega (arith, i.at);
@@ -55,9 +59,11 @@ loop-past-preserved g c =
       first = omega (arith, i.first, c.lesser-start.ensures);
       members = λ point.
           rw (c.lesser-start.ensures, c.greater-end.ensures)
-          (members-joined point (record { first = rank c.loop-past.start; last = rank c.loop-past.end })
+          (members-joined point
+          (record { first = rank c.loop-past.start; last = rank c.loop-past.end })
           (run_of rank next) _ i.order at.0 near (omega (arith, far, i.first))
-          ∙ ap (λ others. covers point (record { first = rank c.loop-past.start; last = rank c.loop-past.end })
+          ∙ ap (λ others. covers point
+          (record { first = rank c.loop-past.start; last = rank c.loop-past.end })
           || members others point) (sym rest)
           ∙ i.members point);
       fits = omega (arith, i.fits, c.take_off_length.ensures);
@@ -69,7 +75,8 @@ pub returns-clause-apart : goal.returns-clause-apart
 returns-clause-apart g c =
     let rank = g.T.Integer.rank in
     elim c.loop-past-test.branch [
-      | else-loop-past-test w ↦ canonical-end rank _ c.args.runs.now c.loop-past.past w.loop-past-test.false
+      | else-loop-past-test w ↦ canonical-end rank _ c.args.runs.now c.loop-past.past
+          w.loop-past-test.false
       | then-loop-past-test+then-not-reaches w ↦
           let far = le-fails w.reaches.result _ _ w.reaches.ensures w.if-not-reaches.true in
           canonical-drop rank _ 0 c.args.runs.now c.loop-past.past w.index-runs-past.result

@@ -1,4 +1,5 @@
--- The run so far and the runs that are left have what the run and the runs from the position on had.
+-- The run so far and the runs that are left have what the run and the runs from the position on
+-- had.
 use Rattle.std.proofs.Common.{◌≡◌, ℕ, ◌+◌, ◌-◌, ◌<◌, ◌≤◌, ◌||◌, drop, length}
 use Rattle.std.specs.List.{sum_by}
 use Rattle.rsb_integer.specs.Runs.{covers, length_of, members}
