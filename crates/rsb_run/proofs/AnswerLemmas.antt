@@ -1,5 +1,5 @@
 -- What was read of an input, and what was written of the replies.
-use Rattle.std.proofs.Common.{◌≡◌, ◌∙◌, ℕ, ℤ, List, [], ◌++◌, take, drop, Option, Some, None, sym, ap, subst}
+use Rattle.std.proofs.Common.{◌≡◌, ◌∙◌, ℕ, ℤ, List, ◌++◌, take, drop, Option, Some, None, sym, ap, subst}
 use Rattle.std.proofs.lemmas.List.{append-nil, take-append-drop}
 use Rattle.std.specs.Io.KnownBytes.{Appends, Consumes, IsAtEnd}
 use Rattle.std.specs.Prelude.{IfSome}
@@ -27,25 +27,28 @@ module _ (known left : Option (List ℕ)) (bytes : List ℕ) (taken : Consumes k
     (end : IsAtEnd left) (commands : List (Command ℤ)) (at : ℕ) (replies : List (Content ℤ))
     (old new : Option (List ℕ)) (spelled : AreCommands bytes commands)
     (replied : AreNumberReplies (take at commands) replies) where
-  pub answers_front : Appends old new (text replies) → IfSome known (λ input. AnswersFront input old new)
-  answers_front written = if_known known left bytes (λ input. AnswersFront input old new) taken end (record {
-    commands = commands;
-    spelled = spelled;
-    front = take at commands;
-    is_front = take-front at commands;
-    replies = replies;
-    replied = replied;
-    written = written;
-  })
+  pub answers_front : Appends old new (text replies)
+      → IfSome known (λ input. AnswersFront input old new)
+  answers_front written = if_known known left bytes (λ input. AnswersFront input old new) taken end
+      (record {
+        commands = commands;
+        spelled = spelled;
+        front = take at commands;
+        is_front = take-front at commands;
+        replies = replies;
+        replied = replied;
+        written = written;
+      })
 
   pub answers_short : AppendsShortOf old new (text replies)
       → IfSome known (λ input. AnswersShort input old new)
-  answers_short written = if_known known left bytes (λ input. AnswersShort input old new) taken end (record {
-    commands = commands;
-    spelled = spelled;
-    front = take at commands;
-    is_front = take-front at commands;
-    replies = replies;
-    replied = replied;
-    written = written;
-  })
+  answers_short written = if_known known left bytes (λ input. AnswersShort input old new) taken end
+      (record {
+        commands = commands;
+        spelled = spelled;
+        front = take at commands;
+        is_front = take-front at commands;
+        replies = replies;
+        replied = replied;
+        written = written;
+      })

@@ -1,5 +1,5 @@
 -- Bytes cut at the first line feed, and at the first blank.
-use Rattle.std.proofs.Common.{◌≡◌, ◌∙◌, ℕ, ◌+◌, ◌<◌, ◌≤◌, Bool, true, false, cond, eqb, ltb, List, [], ◌∷◌, ◌++◌, length, take, drop, map, append_assoc, Some, None, refl, sym, ap, subst, arith}
+use Rattle.std.proofs.Common.{◌≡◌, ◌∙◌, ℕ, ◌+◌, ◌<◌, ◌≤◌, Bool, true, false, cond, eqb, ltb, List, [], ◌∷◌, ◌++◌, length, take, drop, append_assoc, Some, None, refl, sym, ap, subst, arith}
 use Rattle.std.proofs.lemmas.Bool.{ltb-true, ltb-false, lt-ltb, ne_eqb}
 use Rattle.std.proofs.lemmas.List.{length-take, nil_from_length, map-append, append-nil}
 use Rattle.std.proofs.lemmas.List.Elements.{All-from_get_or}
@@ -8,7 +8,7 @@ use Rattle.std.proofs.lemmas.List.Sums.{fails_before_first}
 use Rattle.std.specs.Borrow.{Bor}
 use Rattle.std.specs.List.{slice_split, position, position_or_len, filter}
 use Rattle.std.specs.Str.Lines.{lines, lines_of_parts, strip_carriage_return}
-use Rattle.rsb_run.specs.Spelling.{is_blank, has_bytes, words}
+use Rattle.rsb_run.specs.Spelling.{is_blank, has_bytes, texts, words}
 
 -- ---- at the first element that passes a test
 
@@ -41,7 +41,8 @@ abbrev is_line_feed : ℕ → Bool
 is_line_feed byte = eqb byte 10
 
 last_line : (bytes : List ℕ) → 0 < length bytes → lines_of_parts (bytes ∷ []) ≡ bytes ∷ []
-last_line bytes some = rw (ne_eqb (length bytes) 0 (λ none. absurd (omega (arith, none, some)))) refl
+last_line bytes some =
+    rw (ne_eqb (length bytes) 0 (λ none. absurd (omega (arith, none, some)))) refl
 
 more_lines : (part : List ℕ) (parts : List (List ℕ)) → 0 < length parts
     → lines_of_parts (part ∷ parts) ≡ strip_carriage_return part ∷ lines_of_parts parts
@@ -96,15 +97,12 @@ words-empty line none = rw (nil_from_length line none) refl
 
 -- ---- one step over the parts of a line: the words found so far, then those of the rest
 
-abbrev texts : List (Bor (List ℕ)) → List (List ℕ)
-texts found = map (λ word. word.now) found
-
 texts-push : (found more : List (Bor (List ℕ))) (word : Bor (List ℕ)) → more ≡ found ++ word ∷ []
     → texts more ≡ texts found ++ word.now ∷ []
 texts-push found more word is = ap texts is ∙ map-append (λ w. w.now) found (word ∷ [])
 
-pub found_word : (found more : List (Bor (List ℕ))) (word : Bor (List ℕ)) (rest line : List ℕ) (i : ℕ)
-    → position is_blank rest ≡ Some i → 0 < i → i < length rest
+pub found_word : (found more : List (Bor (List ℕ))) (word : Bor (List ℕ)) (rest line : List ℕ)
+    (i : ℕ) → position is_blank rest ≡ Some i → 0 < i → i < length rest
     → more ≡ found ++ word ∷ [] → word.now ≡ take i rest
     → texts found ++ words rest ≡ words line → texts more ++ words (drop (i + 1) rest) ≡ words line
 found_word found more word rest line i is some within grown taken so_far =
@@ -137,4 +135,6 @@ found_last found more word rest line is some grown taken so_far =
 pub found_all : (found : List (Bor (List ℕ))) (rest line : List ℕ) → length rest ≡ 0
     → texts found ++ words rest ≡ words line → texts found ≡ words line
 found_all found rest line none so_far =
-    sym (append-nil (texts found)) ∙ ap (λ v. texts found ++ v) (sym (words-empty rest none)) ∙ so_far
+    sym (append-nil (texts found))
+    ∙ ap (λ v. texts found ++ v) (sym (words-empty rest none))
+    ∙ so_far

@@ -26,14 +26,17 @@ pub record HasRead (input rest : List ℕ) (number : ℕ) (commands : List (Comm
 
 spoken-append : (xs ys : List (List ℕ)) → spoken (xs ++ ys) ≡ spoken xs ++ spoken ys
 spoken-append xs ys =
-    ap (filter has_words) (map-append words xs ys) ∙ filter-append has_words (map words xs) (map words ys)
+    ap (filter has_words) (map-append words xs ys)
+    ∙ filter-append has_words (map words xs) (map words ys)
 
 spoken-silent : (line : List ℕ) → length (words line) ≡ 0 → spoken (line ∷ []) ≡ []
 spoken-silent line none =
-    ap (λ kept. cond kept (words line ∷ []) []) (le-ltb 0 (length (words line)) (omega (arith, none)))
+    ap (λ kept. cond kept (words line ∷ []) [])
+    (le-ltb 0 (length (words line)) (omega (arith, none)))
 
 spoken-one : (line : List ℕ) → 0 < length (words line) → spoken (line ∷ []) ≡ words line ∷ []
-spoken-one line some = ap (λ kept. cond kept (words line ∷ []) []) (lt-ltb 0 (length (words line)) some)
+spoken-one line some =
+    ap (λ kept. cond kept (words line ∷ []) []) (lt-ltb 0 (length (words line)) some)
 
 spells-push : (lines : List (List (List ℕ))) (commands : List (Command ℤ)) (line : List (List ℕ))
     (command : Command ℤ) → AllZip Spells lines commands → Spells line command
@@ -41,7 +44,8 @@ spells-push : (lines : List (List (List ℕ))) (commands : List (Command ℤ)) (
 spells-push [] [] line command all one = (one, tt)
 spells-push [] (c ∷ cs) line command all one = absurd all
 spells-push (l ∷ ls) [] line command all one = absurd all
-spells-push (l ∷ ls) (c ∷ cs) line command all one = (all.0, spells-push ls cs line command all.1 one)
+spells-push (l ∷ ls) (c ∷ cs) line command all one =
+    (all.0, spells-push ls cs line command all.1 one)
 
 module _ (input rest line later : List ℕ) (number : ℕ) (commands : List (Command ℤ))
     (next : lines rest ≡ line ∷ lines later) (before : HasRead input rest number commands) where
@@ -65,8 +69,8 @@ module _ (input rest line later : List ℕ) (number : ℕ) (commands : List (Com
   }
 
   -- its words spell a command
-  pub has_read_command : (command : Command ℤ) → 0 < length (words line) → Spells (words line) command
-      → HasRead input later (number + 1) (commands ++ command ∷ [])
+  pub has_read_command : (command : Command ℤ) → 0 < length (words line)
+      → Spells (words line) command → HasRead input later (number + 1) (commands ++ command ∷ [])
   has_read_command command some one = record {
     front = before.front ++ line ∷ [];
     parts = one_more;
@@ -77,8 +81,8 @@ module _ (input rest line later : List ℕ) (number : ℕ) (commands : List (Com
   }
 
   -- its words spell none
-  pub has_read_bad : 0 < length (words line) → ((command : Command ℤ) → Spells (words line) command → ⊥)
-      → IsFirstBadLine input (number + 1)
+  pub has_read_bad : 0 < length (words line)
+      → ((command : Command ℤ) → Spells (words line) command → ⊥) → IsFirstBadLine input (number + 1)
   has_read_bad some none = record {
     before = before.front;
     line = line;

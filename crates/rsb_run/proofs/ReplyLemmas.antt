@@ -1,5 +1,5 @@
 -- Commands have one list of replies, and the first commands have the first replies.
-use Rattle.std.proofs.Common.{◌≡◌, ◌∙◌, ◌↔◌, ℕ, zero, suc, Bool, true, false, ◌<◌, IsTrue, List, [], ◌∷◌, refl, sym, ap}
+use Rattle.std.proofs.Common.{◌≡◌, ◌∙◌, ◌↔◌, ℕ, zero, suc, Bool, true, false, ◌<◌, IsTrue, List, [], ◌∷◌, take, refl, sym, ap}
 use Rattle.std.specs.declared.ops.RangeInclusive.{RangeInclusive}
 use Rattle.rsb_integer.specs.Rank.{intervals_of}
 use Rattle.rsb_integer.specs.Runs.{AreRuns}
@@ -33,7 +33,8 @@ module _ {T : Type 0} (rank : T → ℕ) (value_count : ℕ)
   one_reply : (sets : Sets) (command : Command T) (left right : Content T)
       → IsReply rank value_count sets command left → IsReply rank value_count sets command right
       → left ≡ right
-  one_reply sets (Add slot first last) (flag l) (flag r) is also = ap flag (same_answer l r _ is also)
+  one_reply sets (Add slot first last) (flag l) (flag r) is also =
+      ap flag (same_answer l r _ is also)
   one_reply sets (Has slot value) (flag l) (flag r) is also = ap flag (is ∙ sym also)
   one_reply sets (Count slot) (number l) (number r) is also = ap number (is ∙ sym also)
   one_reply sets (Show slot) (ranges l) (ranges r) is also =
@@ -56,3 +57,15 @@ module _ {T : Type 0} (rank : T → ℕ) (value_count : ℕ)
       let first = one_reply sets c l r are.0 also.0 in
       let others = replies_unique (after rank value_count sets c) cs ls rs are.1 also.1 in
       λ i. first i ∷ others i
+
+-- the first commands have the first replies
+pub replies-take : {T : Type 0} (rank : T → ℕ) (value_count : ℕ) (sets : Sets) (n : ℕ)
+    (commands : List (Command T)) (replies : List (Content T))
+    → AreRepliesFrom rank value_count sets commands replies
+    → AreRepliesFrom rank value_count sets (take n commands) (take n replies)
+replies-take rank value_count sets zero commands replies are = tt
+replies-take rank value_count sets (suc n) [] [] are = tt
+replies-take rank value_count sets (suc n) [] (r ∷ rs) are = absurd are
+replies-take rank value_count sets (suc n) (c ∷ cs) [] are = absurd are
+replies-take rank value_count sets (suc n) (c ∷ cs) (r ∷ rs) are =
+    (are.0, replies-take rank value_count (after rank value_count sets c) n cs rs are.1)

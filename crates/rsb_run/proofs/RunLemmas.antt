@@ -38,11 +38,12 @@ module _ {T : Type 0} (rank : T → ℕ) (value_count : ℕ) where
     pub left : sets_of kept ≡ after_all no_members (take at commands)
 
   -- one more command
-  pub has_run_more : (commands : List (Command T)) (at : ℕ) (command : Command T) (replies more : List (Content T))
-      (reply : Content T) (kept new : List (List Interval)) → HasRun commands at replies kept
+  pub has_run_more : (commands : List (Command T)) (at : ℕ) (command : Command T)
+      (replies more : List (Content T)) (reply : Content T) (kept new : List (List Interval)) → HasRun commands at replies kept
       → at < length commands → command ≡ get_or commands at command → more ≡ replies ++ reply ∷ []
       → IsReply rank value_count (sets_of kept) command reply
-      → sets_of new ≡ after rank value_count (sets_of kept) command → HasRun commands (at + 1) more new
+      → sets_of new ≡ after rank value_count (sets_of kept) command
+      → HasRun commands (at + 1) more new
   has_run_more commands at command replies more reply kept new before within here grown one next =
       let front = take at commands in
       let longer : take (at + 1) commands ≡ front ++ command ∷ [] =
@@ -52,5 +53,6 @@ module _ {T : Type 0} (rank : T → ℕ) (value_count : ℕ) where
       let all = replies-push no_members front replies command reply before.replied one' in record {
         replied = rw (longer, grown) all;
         left = next ∙ ap (λ sets. after rank value_count sets command) before.left
-            ∙ sym (after_all-push no_members front command) ∙ ap (after_all no_members) (sym longer);
+            ∙ sym (after_all-push no_members front command)
+            ∙ ap (after_all no_members) (sym longer);
       }

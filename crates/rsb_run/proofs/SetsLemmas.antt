@@ -1,5 +1,5 @@
 -- Sets that are kept as their runs.
-use Rattle.std.proofs.Common.{◌≡◌, ◌∙◌, ℕ, ◌+◌, ◌<◌, ◌==◌, zero, suc, Bool, true, false, ◌&&◌, ◌||◌, ◌↔◌, IsTrue, cond, leb, ltb, List, [], ◌∷◌, get_or, length, refl, sym, ap, arith}
+use Rattle.std.proofs.Common.{◌≡◌, ◌∙◌, ℕ, ◌+◌, ◌<◌, ◌==◌, zero, suc, Bool, true, false, ◌&&◌, ◌||◌, ◌↔◌, IsTrue, cond, leb, ltb, List, [], get_or, length, refl, sym, ap, arith}
 use Rattle.std.specs.declared.ops.Bound.TheVariants.{Included}
 use Rattle.std.proofs.Math.ListN.{replicate, set}
 use Rattle.std.proofs.lemmas.Bool.{eqb-true, eqb-false}
@@ -27,13 +27,14 @@ sets_of-empty n = λ i slot rank. members (empty_at n slot i) rank
 
 -- ---- one set put in the place of another
 
-set_at : (kept : List (List Interval)) (slot at rank : ℕ) (runs : List Interval) (selected : Selection)
-    → slot < length kept → ((at : ℕ) → members runs at ≡ selected at)
+set_at : (kept : List (List Interval)) (slot at rank : ℕ) (runs : List Interval)
+    (selected : Selection) → slot < length kept → ((at : ℕ) → members runs at ≡ selected at)
     → sets_of (set kept slot runs) at rank ≡ cond (at == slot) selected (sets_of kept at) rank
 set_at kept slot at rank runs selected within same = go (at == slot) refl
   where
     go : (here : Bool) → (at == slot) ≡ here
-        → members (get_or (set kept slot runs) at []) rank ≡ cond here selected (sets_of kept at) rank
+        → members (get_or (set kept slot runs) at []) rank
+        ≡ cond here selected (sets_of kept at) rank
     go true is =
         let this : at ≡ slot = eqb-true at slot is in
         ap (λ k. members (get_or (set kept slot runs) k []) rank) this
@@ -42,8 +43,8 @@ set_at kept slot at rank runs selected within same = go (at == slot) refl
         ap (λ found. members found rank)
         (get_or-set_other kept slot at runs [] (λ this. absurd (eqb-false at slot is this)))
 
-pub sets_of-put : (kept : List (List Interval)) (slot : ℕ) (runs : List Interval) (selected : Selection)
-    → slot < length kept → ((at : ℕ) → members runs at ≡ selected at)
+pub sets_of-put : (kept : List (List Interval)) (slot : ℕ) (runs : List Interval)
+    (selected : Selection) → slot < length kept → ((at : ℕ) → members runs at ≡ selected at)
     → sets_of (set kept slot runs) ≡ put (sets_of kept) slot selected
 unfolding put
 sets_of-put kept slot runs selected within same =
@@ -66,7 +67,8 @@ module _ {T : Type 0} (rank : T → ℕ) (value_count : ℕ) (first last : T) wh
       → slot < length kept → old ≡ get_or kept slot [] → Adds old new within_bounds
       → sets_of (set kept slot new) ≡ after rank value_count (sets_of kept) (Add slot first last)
   after-added kept slot old new within is added =
-      sets_of-put kept slot new (union (sets_of kept slot) (between rank value_count first last)) within
+      sets_of-put kept slot new
+      (union (sets_of kept slot) (between rank value_count first last)) within
       (λ at. added at ∙ ap (λ runs. members runs at || within_bounds at) is
       ∙ ap (λ more. members (get_or kept slot []) at || more) (same_between at))
 
@@ -74,7 +76,11 @@ module _ {T : Type 0} (rank : T → ℕ) (value_count : ℕ) (first last : T) wh
       → old ≡ get_or kept slot [] → IsTrue added ↔ LacksSomeOf old within_bounds
       → IsReply rank value_count (sets_of kept) (Add slot first last) (flag added)
   reply-added kept slot old added is found = (
-    (λ yes. let more = found.0 yes in
-        (more.0, sym (same_between more.0) ∙ more.1, ap (λ runs. members runs more.0) (sym is) ∙ more.2)),
-    (λ more. found.1 (more.0, same_between more.0 ∙ more.1, ap (λ runs. members runs more.0) is ∙ more.2)),
+    (λ yes.
+        let new = found.0 yes in
+        let absent = ap (λ runs. members runs new.0) (sym is) ∙ new.2 in
+        (new.0, sym (same_between new.0) ∙ new.1, absent)),
+    (λ new.
+        let absent = ap (λ runs. members runs new.0) is ∙ new.2 in
+        found.1 (new.0, same_between new.0 ∙ new.1, absent)),
   )

@@ -6,7 +6,7 @@ use Rattle.std.specs.Borrow.{Bor}
 use Rattle.std.specs.List.{AllZip}
 use Rattle.rsb_run.specs.declared.command.Command.{Command}
 use Rattle.rsb_run.specs.declared.command.Command.TheVariants.{Add, Has, Count, Show}
-use Rattle.rsb_run.specs.Spelling.{Argument, slot, number, IsArgument, IsNumber, IsSlot, Spells, line_of}
+use Rattle.rsb_run.specs.Spelling.{Argument, slot, number, IsArgument, IsNumber, IsSlot, Spells, line_of, texts}
 
 -- ---- what a word stands for, by its kind
 
@@ -43,9 +43,9 @@ same_arguments (word ∷ words) (number y ∷ xs) (number z ∷ ys) same left ri
     cc (same_number word y z left.0 right.0, same_arguments words xs ys rest left.1 right.1)
 
 pub wrong_count : (arguments : List (Bor (List ℕ))) (xs : List Argument)
-    → (length arguments ≡ length xs → ⊥) → AllZip IsArgument (map (λ word. word.now) arguments) xs → ⊥
+    → (length arguments ≡ length xs → ⊥) → AllZip IsArgument (texts arguments) xs → ⊥
 wrong_count arguments xs other are =
-    let long = AllZip-long IsArgument (map (λ word. word.now) arguments) xs are in
+    let long = AllZip-long IsArgument (texts arguments) xs are in
     other (omega (arith, long, length-map arguments (λ word. word.now)))
 
 -- ---- commands, by their keywords
@@ -80,7 +80,8 @@ spelled : (words arguments : List (List ℕ)) (keyword : List ℕ) (command : Co
 spelled words arguments keyword command parts is =
     let same : is.arguments ≡ arguments = cc (parts, is.parts) in record {
       same_keyword = cc (parts, is.parts);
-      stand_for = subst (λ (args : List (List ℕ)). AllZip IsArgument args (line_of command).arguments)
+      stand_for = subst
+          (λ (args : List (List ℕ)). AllZip IsArgument args (line_of command).arguments)
           same is.stand_for;
     }
 
@@ -107,7 +108,8 @@ one_list (line ∷ lines) (c ∷ cs) (d ∷ ds) is_left is_right =
 
 pub no_arguments : (words arguments : List (List ℕ)) (keyword : List ℕ) (asked : Command ℤ)
     → words ≡ keyword ∷ arguments → keyword ≡ (line_of asked).keyword
-    → ((xs : List Argument) → kinds xs ≡ kinds (line_of asked).arguments → AllZip IsArgument arguments xs → ⊥)
+    → ((xs : List Argument) → kinds xs ≡ kinds (line_of asked).arguments
+    → AllZip IsArgument arguments xs → ⊥)
     → (command : Command ℤ) → Spells words command → ⊥
 no_arguments words arguments keyword asked parts same none command is =
     let c = spelled words arguments keyword command parts is in
@@ -115,7 +117,8 @@ no_arguments words arguments keyword asked parts same none command is =
     none (line_of command).arguments both.same_kinds c.stand_for
 
 pub slot_range_none : (words : List (List ℕ))
-    → ((read : ℕ × ℤ × ℤ) → AllZip IsArgument words (slot read.0 ∷ number read.1 ∷ number read.2 ∷ []) → ⊥)
+    → ((read : ℕ × ℤ × ℤ)
+    → AllZip IsArgument words (slot read.0 ∷ number read.1 ∷ number read.2 ∷ []) → ⊥)
     → (xs : List Argument) → kinds xs ≡ true ∷ false ∷ false ∷ [] → AllZip IsArgument words xs → ⊥
 slot_range_none words none (slot n ∷ number x ∷ number y ∷ []) same are = none (n, x, y) are
 slot_range_none words none _ same are = absurd cc

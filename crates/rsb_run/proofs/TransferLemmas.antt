@@ -11,7 +11,8 @@ Consumes-then None mid new xs ys both parts first second = tt
 Consumes-then (Some before) None new xs ys both parts first second = absurd first
 Consumes-then (Some before) (Some between) None xs ys both parts first second = absurd second
 Consumes-then (Some before) (Some between) (Some after) xs ys both parts first second =
-    first ∙ ap (λ v. xs ++ v) second ∙ sym (append_assoc xs ys after) ∙ ap (λ v. v ++ after) (sym parts)
+    first ∙ ap (λ v. xs ++ v) second ∙ sym (append_assoc xs ys after)
+    ∙ ap (λ v. v ++ after) (sym parts)
 
 pub Consumes-keeps : (old mid new : Option (List ℕ)) (xs : List ℕ)
     → Consumes old mid xs → Keeps mid new → Consumes old new xs

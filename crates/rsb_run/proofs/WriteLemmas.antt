@@ -1,5 +1,5 @@
 -- A text written piece by piece.
-use Rattle.std.proofs.Common.{◌≡◌, ◌∙◌, ℕ, ◌<◌, zero, suc, List, [], ◌∷◌, ◌++◌, get_or, length, map, take, drop, Option, Result, Ok, Err, sym, ap, subst, append_assoc, arith}
+use Rattle.std.proofs.Common.{◌≡◌, ◌∙◌, ℕ, ◌<◌, suc, List, [], ◌∷◌, ◌++◌, get_or, length, map, take, drop, Option, Result, Ok, Err, sym, ap, subst, append_assoc, arith}
 use Rattle.std.proofs.lemmas.Grind.{flat_map-append}
 use Rattle.std.proofs.lemmas.List.{append-nil, length-append, map-append, take-append-drop}
 use Rattle.std.proofs.Math.Seq.{drop-cons}
@@ -36,8 +36,8 @@ short_of_text old mid new front piece more text parts whole cut =
     }
 
 -- the last piece
-pub writes_last : (old mid new : Option (List ℕ)) (result : Result (Unit {0}) Fault) (front piece text : List ℕ)
-    → text ≡ front ++ piece → Appends old mid front → Writes mid new result piece
+pub writes_last : (old mid new : Option (List ℕ)) (result : Result (Unit {0}) Fault)
+    (front piece text : List ℕ) → text ≡ front ++ piece → Appends old mid front → Writes mid new result piece
     → Writes old new result text
 writes_last old mid new (Ok done) front piece text parts whole last =
     subst (λ all. Appends old new all) (sym parts) (Appends-then old mid new front piece whole last)
@@ -48,15 +48,15 @@ writes_last old mid new (Err fault) front piece text parts whole last =
 -- the exit after a piece that was cut short
 pub writes_cut : (old mid new : Option (List ℕ)) (result : Result (Unit {0}) Fault)
     (fault : Fault) (front piece more text : List ℕ)
-    → IsErrAnd result (λ other. other ≡ fault) → (fault ≡ Io) × AppendsShortOf mid new piece → Appends old mid front
-    → text ≡ front ++ (piece ++ more) → Writes old new result text
+    → IsErrAnd result (λ other. other ≡ fault) → (fault ≡ Io) × AppendsShortOf mid new piece
+    → Appends old mid front → text ≡ front ++ (piece ++ more) → Writes old new result text
 writes_cut old mid new (Ok done) fault front piece more text same cut whole parts = absurd same
 writes_cut old mid new (Err other) fault front piece more text same cut whole parts =
     (same ∙ cut.0, short_of_text old mid new front piece more text parts whole cut.1)
 
 -- the texts of things, one after the other, around that of the thing with index i
-pub texts_cut : {A B : Type 0} (text_of : B → List ℕ) (view : A → B) (xs : List A) (i : ℕ) (default : A)
-    → i < length xs
+pub texts_cut : {A B : Type 0} (text_of : B → List ℕ) (view : A → B) (xs : List A) (i : ℕ)
+    (default : A) → i < length xs
     → flat_map text_of (map view xs) ≡ flat_map text_of (map view (take i xs))
     ++ (text_of (view (get_or xs i default)) ++ flat_map text_of (map view (drop (suc i) xs)))
 texts_cut text_of view xs i default within =
@@ -67,15 +67,18 @@ texts_cut text_of view xs i default within =
     (sym (take-append-drop i xs) ∙ ap (λ ys. before ++ ys) (drop-cons xs i default within))
     ∙ ap (flat_map text_of) (map-append view before (x ∷ after))
     ∙ flat_map-append text_of (map view before) (map view (x ∷ after))
-    ∙ ap (λ t. flat_map text_of (map view before) ++ t) (flat_map-cons text_of (view x) (map view after))
+    ∙ ap (λ t. flat_map text_of (map view before) ++ t)
+    (flat_map-cons text_of (view x) (map view after))
 
 -- the same, of things that are texts by themselves
-pub items_cut : {A : Type 0} (text_of : A → List ℕ) (xs : List A) (i : ℕ) (default : A) → i < length xs
-    → flat_map text_of xs ≡ flat_map text_of (take i xs)
+pub items_cut : {A : Type 0} (text_of : A → List ℕ) (xs : List A) (i : ℕ) (default : A)
+    → i < length xs → flat_map text_of xs ≡ flat_map text_of (take i xs)
     ++ (text_of (get_or xs i default) ++ flat_map text_of (drop (suc i) xs))
 items_cut text_of xs i default within =
+    let x = get_or xs i default in
     let before = take i xs in
+    let after = drop (suc i) xs in
     ap (flat_map text_of) (sym (take-append-drop i xs)
     ∙ ap (λ ys. before ++ ys) (drop-cons xs i default within))
-    ∙ flat_map-append text_of before (get_or xs i default ∷ drop (suc i) xs)
-    ∙ ap (λ t. flat_map text_of before ++ t) (flat_map-cons text_of (get_or xs i default) (drop (suc i) xs))
+    ∙ flat_map-append text_of before (x ∷ after)
+    ∙ ap (λ t. flat_map text_of before ++ t) (flat_map-cons text_of x after)

@@ -42,9 +42,9 @@ sets_of kept slot = members (slice_index_or kept slot [])
 unfoldable pub put : Sets → ℕ → Selection → Sets
 put sets slot set at = if at == slot then set else sets at
 
--- some rank of the one set is not in the other
-abbrev pub HasMore : Selection → Selection → Type 0
-HasMore more set = (rank : ℕ) × IsTrue (more rank) × IsFalse (set rank)
+-- some rank of the others is not in the set
+abbrev pub LacksSome : Selection → Selection → Type 0
+LacksSome set others = (rank : ℕ) × IsTrue (others rank) × IsFalse (set rank)
 
 -- ---- commands
 
@@ -63,7 +63,7 @@ module _ {T : Type 0} (rank : T → ℕ) (value_count : ℕ) where
   -- the command, given to these sets, replies this
   abbrev pub IsReply : Sets → Command T → Content T → Type 0
   IsReply sets (Add slot first last) (flag added) =
-      IsTrue added ↔ HasMore (between first last) (sets slot)
+      IsTrue added ↔ LacksSome (sets slot) (between first last)
   IsReply sets (Has slot value) (flag found) = found ≡ sets slot (rank value)
   IsReply sets (Count slot) (number length) = length ≡ count value_count (sets slot)
   IsReply sets (Show slot) (ranges runs) = AreRuns value_count (sets slot) (intervals_of rank runs)

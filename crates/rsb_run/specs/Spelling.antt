@@ -1,5 +1,6 @@
 -- Which commands the lines of an input spell.
 use Rattle.std.specs.Prelude.{◌≡◌, ℕ, ℤ, ◌+◌, ◌<◌, ◌==◌, ◌||◌, ◌++◌, Bool, Option, List, [], ◌∷◌, All, IsTrue, MatchOption, codes, filter, length, map, nat_lt}
+use Rattle.std.specs.Borrow.{Bor}
 use Rattle.std.specs.Int.{w32}
 use Rattle.std.specs.Int.RustNames.{FitsSigned}
 use Rattle.std.specs.List.{AllZip, slice_split}
@@ -21,7 +22,7 @@ has_bytes part = nat_lt 0 (length part)
 abbrev pub words : List ℕ → List (List ℕ)
 words line = filter has_bytes (slice_split is_blank line)
 
--- the word is one digit, the number of the set
+-- the word is one digit, which is the number of the set; 48 is the code of '0'
 pub record IsSlot (word : List ℕ) (slot : ℕ) : Type 0 where
   pub digit : word ≡ (48 + slot) ∷ []
   pub one_digit : slot < 10
@@ -94,6 +95,10 @@ pub record IsFirstBadLine (input : List ℕ) (number : ℕ) : Type 0 where
 
 -- ---- reading
 
--- the one value that a fact holds of, or None where it holds of none
+-- the bytes of words that are slices of a line
+abbrev pub texts : List (Bor (List ℕ)) → List (List ℕ)
+texts slices = map (λ slice. slice.now) slices
+
+-- a value that the fact holds of, or None where it holds of none
 abbrev pub Reads : {X : Type 0} → Option X → (X → Type 0) → Type 0
 Reads {X} result Holds = MatchOption result ((x : X) → ¬ Holds x) Holds

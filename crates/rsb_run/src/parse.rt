@@ -1,11 +1,10 @@
 //! Lines, words and commands in bytes.
 
-ghost use Rattle.std.specs.Prelude.{◌≡◌, ◌≢◌, ℕ, ℤ, ◌<◌, ◌==◌, [], ◌∷◌, Err, IfOk, IfSome, List, length, map, position};
+ghost use Rattle.std.specs.Prelude.{◌≡◌, ◌≢◌, ℕ, ℤ, ◌<◌, ◌==◌, [], ◌∷◌, Err, IfOk, IfSome, List, length, position};
 ghost use Rattle.std.specs.List.{AllZip};
 ghost use Rattle.std.specs.Str.Lines.{lines, strip_carriage_return};
 ghost use Rattle.rsb_run.specs.declared.command.Command.{Command};
-ghost use Rattle.rsb_run.specs.Spelling.{AreCommands, IsArgument, IsFirstBadLine, IsNumber, IsSlot, Reads, Spells, is_blank, words};
-ghost use Rattle.rsb_run.specs.Spelling as spelling;
+ghost use Rattle.rsb_run.specs.Spelling.{AreCommands, IsArgument, IsFirstBadLine, IsNumber, IsSlot, Reads, Spells, is_blank, number, slot, texts, words};
 
 use crate::command::Command;
 use crate::fault::Fault;
@@ -77,7 +76,7 @@ fn without_return(line: &[u8]) -> &[u8]
 
 /// The words of a line.
 fn words<A: Allocator>(alloc: A, line: &[u8]) -> Result<Vec<&[u8], A>, AllocError>
-    ensures { IfOk result (λ found. map (λ word. word.now) found.items ≡ words line.now) }
+    ensures { IfOk result (λ found. texts found.items ≡ words line.now) }
 {
     let mut words = Vec::new(alloc);
     let mut rest = line;
@@ -103,7 +102,7 @@ fn blank(line: &[u8]) -> Option<usize>
 
 /// The command that the words of a line spell.
 fn command_of(words: &[&[u8]]) -> Option<Command<i32>>
-    ensures { Reads result (Spells (map (λ word. word.now) words.now)) }
+    ensures { Reads result (Spells (texts words.now)) }
 {
     let (keyword, arguments) = words.split_first()?;
     match *keyword {
@@ -128,8 +127,8 @@ fn command_of(words: &[&[u8]]) -> Option<Command<i32>>
 }
 
 fn slot_and_range(arguments: &[&[u8]]) -> Option<(SetNo, i32, i32)>
-    ensures { Reads result (λ read. AllZip IsArgument (map (λ word. word.now) arguments.now)
-        (spelling.slot read.0 ∷ spelling.number read.1 ∷ spelling.number read.2 ∷ [])) }
+    ensures { Reads result (λ read. AllZip IsArgument (texts arguments.now)
+        (slot read.0 ∷ number read.1 ∷ number read.2 ∷ [])) }
 {
     match arguments {
         [set, first, last] => Some((slot(set)?, number(first)?, number(last)?)),
@@ -138,8 +137,8 @@ fn slot_and_range(arguments: &[&[u8]]) -> Option<(SetNo, i32, i32)>
 }
 
 fn slot_and_value(arguments: &[&[u8]]) -> Option<(SetNo, i32)>
-    ensures { Reads result (λ read. AllZip IsArgument (map (λ word. word.now) arguments.now)
-        (spelling.slot read.0 ∷ spelling.number read.1 ∷ [])) }
+    ensures { Reads result (λ read. AllZip IsArgument (texts arguments.now)
+        (slot read.0 ∷ number read.1 ∷ [])) }
 {
     match arguments {
         [set, value] => Some((slot(set)?, number(value)?)),
@@ -148,8 +147,8 @@ fn slot_and_value(arguments: &[&[u8]]) -> Option<(SetNo, i32)>
 }
 
 fn one_slot(arguments: &[&[u8]]) -> Option<SetNo>
-    ensures { Reads result (λ set. AllZip IsArgument (map (λ word. word.now) arguments.now)
-        (spelling.slot set ∷ [])) }
+    ensures { Reads result (λ set. AllZip IsArgument (texts arguments.now)
+        (slot set ∷ [])) }
 {
     match arguments {
         [set] => slot(set),

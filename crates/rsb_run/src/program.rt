@@ -13,7 +13,8 @@ use crate::transfer::read_all;
 use std::alloc::Allocator;
 use std::io::{Read, Write};
 
-/// Reads all of the input, runs the commands that its lines spell, and writes a line for each reply.
+/// Reads all of the input, runs the commands that its lines spell, and writes a line for each
+/// reply.
 pub fn run<A: Allocator + Copy, R: Read, W: Write>(
     alloc: A,
     input: &mut R,

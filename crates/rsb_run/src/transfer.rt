@@ -8,8 +8,8 @@ use crate::fault::Fault;
 use std::alloc::Allocator;
 use std::io::{ErrorKind, Read, Write};
 
-/// Reads to the end. A reader that has not ended after 2^64 - 1 calls, interrupted ones included, has
-/// failed.
+/// Reads to the end. A reader that has not ended after 2^64 - 1 calls, interrupted ones included,
+/// has failed.
 pub fn read_all<A: Allocator, R: Read>(alloc: A, input: &mut R) -> Result<Vec<u8, A>, Fault>
     ensures bytes { IfOk result (λ bytes.
         Consumes (R.remaining input.old) (R.remaining input.new) bytes.items) }
@@ -32,8 +32,8 @@ pub fn read_all<A: Allocator, R: Read>(alloc: A, input: &mut R) -> Result<Vec<u8
     Err(Fault::Io)
 }
 
-/// Writes all of the text, in as many calls as it takes. A call that takes no byte of some has failed,
-/// and so has a writer that was interrupted 2^64 - 1 times.
+/// Writes all of the text, in as many calls as it takes. A call that takes no byte of some has
+/// failed, and so has a writer that was interrupted 2^64 - 1 times.
 pub fn write_all<W: Write>(output: &mut W, text: &[u8]) -> Result<(), Fault>
     ensures { Writes (W.contents output.old) (W.contents output.new) result text.now }
 {

@@ -3,7 +3,7 @@
 use crate::command::Command;
 use crate::commands::{Reply, run_commands};
 use crate::fault::Fault;
-use crate::laws::replies_are_unique;
+use crate::laws::{first_commands_first_replies, replies_are_unique};
 use crate::parse::parse_commands;
 use crate::set_no::SetNo;
 use std::process::Abort;
@@ -46,6 +46,7 @@ fn lines_spell_commands(rt: HostRuntime) -> Result<(), Fail> {
 #[test]
 fn commands_run_over_another_element_type(rt: HostRuntime) -> Result<(), Fail> {
     replies_are_unique::<u8>();
+    first_commands_first_replies::<u8>();
     let set = slot(&rt, 4);
     let commands = [
         Command::Add {

@@ -25,8 +25,8 @@ impl Read for Dripping<'_> {
     }
 }
 
-/// Takes one byte a call, with an interruption before each, until it is full. Then it fails, or takes
-/// none.
+/// Takes one byte a call, with an interruption before each, until it is full. Then it fails, or
+/// takes none.
 #[derive(Drop)]
 pub struct Filling {
     pub taken: Vec<u8>,

@@ -8,8 +8,8 @@ use std::test::*;
 
 const COMMANDS: &[u8] = b"add 0 1 5\nshow 0\n";
 
-// Over heaps of growing size the growth that is refused comes later and later. What was written is the
-// replies before the command that it stopped.
+// Over heaps of growing size the growth that is refused comes later and later. What was written is
+// the replies before the command that it stopped.
 #[test]
 fn each_growth_is_refused_in_turn(rt: HostRuntime) -> Result<(), Fail> {
     let mut is_stopped_early = false;
@@ -45,8 +45,8 @@ fn each_growth_is_refused_in_turn(rt: HostRuntime) -> Result<(), Fail> {
     Ok(())
 }
 
-// Where the second command finds no memory, and then the first reply can't be written, it is the write
-// that is told.
+// Where the second command finds no memory, and then the first reply can't be written, it is the
+// write that is told.
 #[test]
 fn a_failed_write_is_told_before_refused_memory(rt: HostRuntime) -> Result<(), Fail> {
     let mut is_write_told = false;

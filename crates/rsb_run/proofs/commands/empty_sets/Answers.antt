@@ -1,5 +1,4 @@
-use Rattle.std.proofs.Common.{◌≡◌, [], ap, ◌∙◌}
-use Rattle.std.proofs.Math.ListN.{replicate}
+use Rattle.std.proofs.Common.{ap, ◌∙◌}
 use Rattle.rsb_run.specs.Commands.{sets_of}
 use Rattle.rsb_run.proofs.SetsLemmas.{sets_of-empty}
 use Rattle.rsb_run.proofs.commands.empty_sets.Goals as goal

@@ -1,4 +1,4 @@
-use Rattle.std.proofs.Common.{◌≡◌, [], get_or, arith, refl, rules}
+use Rattle.std.proofs.Common.{◌≡◌, [], get_or, arith}
 use Rattle.std.proofs.lemmas.List.{get_or_read}
 use Rattle.rsb_run.proofs.SetsLemmas.{after-added, reply-added}
 use Rattle.rsb_run.proofs.commands.run_command.Goals as goal

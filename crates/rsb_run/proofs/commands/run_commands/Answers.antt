@@ -11,11 +11,13 @@ loop-at-preserved g c =
     let before = c.loop-at.replies.items in
     let reply = c.in-Ok-run_command.reply in
     let grown : c.push.new.self.items ≡ before ++ reply ∷ [] = search rules in
-    let contents = ap (contents_of number) grown ∙ map-append (content_of number) before (reply ∷ []) in (
+    let contents = ap (contents_of number) grown
+    ∙ map-append (content_of number) before (reply ∷ []) in
+    let done = c.in-Ok-run_command.ensures in (
       has_run_more g.T.Integer.rank g.T.Integer.value_count c.args.commands.now c.loop-at.at
           c.index-commands-at.result (contents_of number before) _ (content_of number reply)
-          c.loop-at.sets.items c.run_command.new.sets.items c.loop-at.invariant.0 c.loop-at-test.true
-          c.index-commands-at.is contents c.in-Ok-run_command.ensures.reply c.in-Ok-run_command.ensures.after,
+          c.loop-at.sets.items c.run_command.new.sets.items c.loop-at.invariant.0
+          c.loop-at-test.true c.index-commands-at.is contents done.reply done.after,
       search rules,
       search rules,
       search rules,
@@ -24,10 +26,12 @@ loop-at-preserved g c =
 -- the replies that were found are the only ones
 pub returns-clause-only : goal.returns-clause-only
 returns-clause-only g c = λ others are.
-    let laws = g.met.T.Integer g.world.𝓛 g.world.𝓜 g.world.𝓡 ((λ s x. x), (λ x. x), (λ x. x), λ x. x) in
+    let laws = g.met.T.Integer g.world.𝓛 g.world.𝓜 g.world.𝓡
+    ((λ s x. x), (λ x. x), (λ x. x), λ x. x) in
     let rank = g.T.Integer.rank in
     let value_count = g.T.Integer.value_count in
     let found = contents_of g.T.SafeLen.SafeLength.number c.loop-at.replies.items in
     let all = subst (λ commands. AreReplies rank value_count commands found)
     (take_all c.loop-at.at c.args.commands.now (omega arith)) c.loop-at.invariant.0.replied in
-    replies_unique rank value_count laws.one_place no_members c.args.commands.now others found are all
+    replies_unique rank value_count laws.one_place no_members c.args.commands.now others found
+    are all

@@ -4,6 +4,7 @@ use Rattle.rsb_run.proofs.laws.replies_are_unique.Goals as goal
 
 pub returns : goal.returns
 returns g c = λ commands replies others.
-    let laws = g.met.T.Integer g.world.𝓛 g.world.𝓜 g.world.𝓡 ((λ s x. x), (λ x. x), (λ x. x), λ x. x) in
+    let laws = g.met.T.Integer g.world.𝓛 g.world.𝓜 g.world.𝓡
+    ((λ s x. x), (λ x. x), (λ x. x), λ x. x) in
     replies_unique g.T.Integer.rank g.T.Integer.value_count laws.one_place no_members
     commands replies others

@@ -16,7 +16,8 @@ loop-i-preserved g c =
             found_word found _ _ rest line c.in-Some.i is (omega arith) c.in-Some.ensures.within
             (ap (λ v. v.items) w.words-is ∙ w.in_ok-push.ensures.items) refl c.loop-i.invariant.0
         | else-i-gt0 w ↦
-            rw w.words-is (found_blank found rest line c.in-Some.i is (omega arith) c.loop-i.invariant.0)
+            rw w.words-is
+            (found_blank found rest line c.in-Some.i is (omega arith) c.loop-i.invariant.0)
       ],
       omega (arith, length-drop (c.in-Some.i + 1) rest),
     )
@@ -28,8 +29,8 @@ returns g c =
     let line = c.args.line.now in
     elim c.if-not-is_empty.branch [
       | then-not-is_empty+in_ok-push-2 w ↦
-          found_last found _ _ rest line (sym c.blank.ensures.place ∙ c.in_default.is) (search rules)
-          (ap (λ v. v.items) w.words-is ∙ w.in_ok-push-2.ensures.items) refl c.loop-i.invariant.0
+          found_last found _ _ rest line (sym c.blank.ensures.place ∙ c.in_default.is)
+          (search rules) (ap (λ v. v.items) w.words-is ∙ w.in_ok-push-2.ensures.items) refl c.loop-i.invariant.0
       | else-not-is_empty w ↦
           rw w.words-is (found_all found rest line (search rules) c.loop-i.invariant.0)
     ]

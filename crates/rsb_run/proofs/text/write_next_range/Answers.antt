@@ -11,4 +11,5 @@ returns-in_err-write_all g c =
     c.from_residual.ensures.1 c.in_err-write_all.ensures (Appends-nothing _) refl
 
 pub returns : goal.returns
-returns g c = writes_last _ _ _ _ (codes ", ") _ _ refl c.in_ok-write_all.ensures c.write_range.ensures
+returns g c =
+    writes_last _ _ _ _ (codes ", ") _ _ refl c.in_ok-write_all.ensures c.write_range.ensures

@@ -27,4 +27,5 @@ returns g c =
     let start = signed_decimal (range_inclusive_start c.args.range.now) in
     let before = Appends-then _ _ _ start (codes "..=")
     (rw c.start.ensures at c.in_ok-write_number.ensures) c.in_ok-write_all.ensures in
-    writes_last _ _ _ _ (start ++ codes "..=") _ _ refl before (rw c.end.ensures at c.write_number-2.ensures)
+    writes_last _ _ _ _ (start ++ codes "..=") _ _ refl before
+    (rw c.end.ensures at c.write_number-2.ensures)

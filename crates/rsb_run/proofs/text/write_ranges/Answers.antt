@@ -22,5 +22,6 @@ returns-in_err-write_next_range g c =
     c.from_residual-in_err-write_next_range.ensures.1 c.in_err-write_next_range.ensures
     (Appends-then _ _ _ first before c.in_ok-write_range.ensures c.loop-range.invariant)
     (ap (λ ranges. ranges_text ranges) split
-    ∙ ap (λ t. first ++ t) (items_cut next_range_text others c.loop-range.range-index _ c.loop-range-test.true)
+    ∙ ap (λ t. first ++ t)
+    (items_cut next_range_text others c.loop-range.range-index _ c.loop-range-test.true)
     ∙ sym (append_assoc first before _))

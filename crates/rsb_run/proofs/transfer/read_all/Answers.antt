@@ -14,5 +14,6 @@ loop-preserved g c =
           (ap (λ v. v.items) w.bytes-is ∙ w.in_ok-extend_from_slice-in-Ok.ensures.items)
           c.loop.invariant w.in-Ok.ensures.bytes.0
       | in-Err+else-ne w ↦
-          rw w.bytes-is (Consumes-keeps _ before after c.loop.bytes.items c.loop.invariant w.in-Err.ensures.bytes)
+          rw w.bytes-is
+          (Consumes-keeps _ before after c.loop.bytes.items c.loop.invariant w.in-Err.ensures.bytes)
     ]
