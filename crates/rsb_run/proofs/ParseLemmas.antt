@@ -82,7 +82,8 @@ module _ (input rest line later : List ℕ) (number : ℕ) (commands : List (Com
 
   -- its words spell none
   pub has_read_bad : 0 < length (words line)
-      → ((command : Command ℤ) → Spells (words line) command → ⊥) → IsFirstBadLine input (number + 1)
+      → ((command : Command ℤ) → Spells (words line) command → ⊥)
+      → IsFirstBadLine input (number + 1)
   has_read_bad some none = record {
     before = before.front;
     line = line;

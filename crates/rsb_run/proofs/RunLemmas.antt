@@ -39,7 +39,8 @@ module _ {T : Type 0} (rank : T → ℕ) (value_count : ℕ) where
 
   -- one more command
   pub has_run_more : (commands : List (Command T)) (at : ℕ) (command : Command T)
-      (replies more : List (Content T)) (reply : Content T) (kept new : List (List Interval)) → HasRun commands at replies kept
+      (replies more : List (Content T)) (reply : Content T)
+      (kept new : List (List Interval)) → HasRun commands at replies kept
       → at < length commands → command ≡ get_or commands at command → more ≡ replies ++ reply ∷ []
       → IsReply rank value_count (sets_of kept) command reply
       → sets_of new ≡ after rank value_count (sets_of kept) command

@@ -37,8 +37,8 @@ short_of_text old mid new front piece more text parts whole cut =
 
 -- the last piece
 pub writes_last : (old mid new : Option (List ℕ)) (result : Result (Unit {0}) Fault)
-    (front piece text : List ℕ) → text ≡ front ++ piece → Appends old mid front → Writes mid new result piece
-    → Writes old new result text
+    (front piece text : List ℕ) → text ≡ front ++ piece → Appends old mid front
+    → Writes mid new result piece → Writes old new result text
 writes_last old mid new (Ok done) front piece text parts whole last =
     subst (λ all. Appends old new all) (sym parts) (Appends-then old mid new front piece whole last)
 writes_last old mid new (Err fault) front piece text parts whole last =

@@ -42,9 +42,9 @@ sets_of kept slot = members (slice_index_or kept slot [])
 unfoldable pub put : Sets → ℕ → Selection → Sets
 put sets slot set at = if at == slot then set else sets at
 
--- some rank of the others is not in the set
+-- the set lacks some of the ranks
 abbrev pub LacksSome : Selection → Selection → Type 0
-LacksSome set others = (rank : ℕ) × IsTrue (others rank) × IsFalse (set rank)
+LacksSome set ranks = (rank : ℕ) × IsTrue (ranks rank) × IsFalse (set rank)
 
 -- ---- commands
 

@@ -30,7 +30,7 @@ pub enum Reply<T: Integer, A: Allocator = Global> {
 pub struct Stopped<T: Integer, A: Allocator = Global> {
     /// The replies to the commands before the one that found no memory.
     pub replies: Vec<Reply<T, A>, A>,
-    /// The place of that command, from 0.
+    /// The place of that command, from 0. It is 0 too where there was no room to begin.
     pub at: usize,
 }
 
@@ -74,6 +74,7 @@ pub fn run_commands<T: Integer, A: Allocator + Copy>(
     Ok(replies)
 }
 
+// Ten sets with no members.
 fn empty_sets<T: Integer, A: Allocator + Copy>(
     alloc: A,
 ) -> Result<Vec<RangeSetBlaze<T, A>, A>, AllocError>
@@ -87,7 +88,7 @@ fn empty_sets<T: Integer, A: Allocator + Copy>(
     Ok(sets)
 }
 
-/// Runs one command, and gives its reply.
+// Runs one command, and gives its reply.
 fn run_command<T: Integer, A: Allocator + Copy>(
     alloc: A,
     sets: &mut Vec<RangeSetBlaze<T, A>, A>,
@@ -112,6 +113,7 @@ fn run_command<T: Integer, A: Allocator + Copy>(
     }
 }
 
+// The set in a slot.
 fn set_at<T: Integer, A: Allocator>(
     sets: &Vec<RangeSetBlaze<T, A>, A>,
     slot: SetNo,
@@ -122,6 +124,7 @@ fn set_at<T: Integer, A: Allocator>(
     &sets[slot.index()]
 }
 
+// The ranges of a set.
 fn ranges_of<T: Integer, A: Allocator>(
     alloc: A,
     set: &RangeSetBlaze<T, A>,

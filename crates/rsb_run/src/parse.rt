@@ -41,7 +41,7 @@ pub fn parse_commands<A: Allocator + Copy>(
     Ok(commands)
 }
 
-/// The first line without its ending, and the bytes after it.
+// The first line without its ending, and the bytes after it.
 fn first_line(bytes: &[u8]) -> (&[u8], &[u8])
     requires { 0 < length bytes.now }
     ensures lines { lines bytes.now ≡ result.0.now ∷ lines result.1.now }
@@ -56,7 +56,7 @@ fn first_line(bytes: &[u8]) -> (&[u8], &[u8])
     }
 }
 
-/// The place of the first line feed.
+// The place of the first line feed.
 fn line_feed(bytes: &[u8]) -> Option<usize>
     ensures place { result ≡ position (λ byte. byte == 10) bytes.now }
     ensures within { IfSome result (λ i. i < length bytes.now) }
@@ -64,7 +64,7 @@ fn line_feed(bytes: &[u8]) -> Option<usize>
     bytes.iter().position(|byte| *byte == b'\n')
 }
 
-/// The line without the carriage return at its end, if it has one.
+// The line without the carriage return at its end, if it has one.
 fn without_return(line: &[u8]) -> &[u8]
     ensures { result.now ≡ strip_carriage_return line.now }
 {
@@ -74,7 +74,7 @@ fn without_return(line: &[u8]) -> &[u8]
     }
 }
 
-/// The words of a line.
+// The words of a line.
 fn words<A: Allocator>(alloc: A, line: &[u8]) -> Result<Vec<&[u8], A>, AllocError>
     ensures { IfOk result (λ found. texts found.items ≡ words line.now) }
 {
@@ -92,7 +92,7 @@ fn words<A: Allocator>(alloc: A, line: &[u8]) -> Result<Vec<&[u8], A>, AllocErro
     Ok(words)
 }
 
-/// The place of the first space or tab.
+// The place of the first space or tab.
 fn blank(line: &[u8]) -> Option<usize>
     ensures place { result ≡ position is_blank line.now }
     ensures within { IfSome result (λ i. i < length line.now) }
@@ -100,7 +100,7 @@ fn blank(line: &[u8]) -> Option<usize>
     line.iter().position(|byte| *byte == b' ' || *byte == b'\t')
 }
 
-/// The command that the words of a line spell.
+// The command that the words of a line spell.
 fn command_of(words: &[&[u8]]) -> Option<Command<i32>>
     ensures { Reads result (Spells (texts words.now)) }
 {
@@ -156,7 +156,7 @@ fn one_slot(arguments: &[&[u8]]) -> Option<SetNo>
     }
 }
 
-/// The set that a word names.
+// The set that a word names.
 fn slot(word: &[u8]) -> Option<SetNo>
     ensures { Reads result (IsSlot word.now) }
 {
@@ -166,7 +166,7 @@ fn slot(word: &[u8]) -> Option<SetNo>
     }
 }
 
-/// The number that a word spells.
+// The number that a word spells.
 fn number(word: &[u8]) -> Option<i32>
     ensures { Reads result (IsNumber word.now) }
 {

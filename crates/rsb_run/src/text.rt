@@ -27,6 +27,7 @@ pub fn write_replies<A: Allocator, W: Write>(
     Ok(())
 }
 
+// Writes a reply and a line feed.
 fn write_line<A: Allocator, W: Write>(output: &mut W, reply: &Reply<i32, A>) -> Result<(), Fault>
     ensures { Writes (W.contents output.old) (W.contents output.new) result
         (line_text (content_of (λ length. length) reply.now)) }

@@ -30,7 +30,8 @@ returns g c =
     elim c.if-not-is_empty.branch [
       | then-not-is_empty+in_ok-push-2 w ↦
           found_last found _ _ rest line (sym c.blank.ensures.place ∙ c.in_default.is)
-          (search rules) (ap (λ v. v.items) w.words-is ∙ w.in_ok-push-2.ensures.items) refl c.loop-i.invariant.0
+          (search rules) (ap (λ v. v.items) w.words-is ∙ w.in_ok-push-2.ensures.items) refl
+          c.loop-i.invariant.0
       | else-not-is_empty w ↦
           rw w.words-is (found_all found rest line (search rules) c.loop-i.invariant.0)
     ]

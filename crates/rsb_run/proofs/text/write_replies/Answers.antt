@@ -12,6 +12,7 @@ returns-in_err-write_line g c =
     let before = text (contents_of (λ length. length) (take at replies)) in
     let after = text (contents_of (λ length. length) (drop (suc at) replies)) in
     writes_cut _ _ _ _ c.in_err-write_line.field-0.0 before
-    (line_text (content c.reply-item.result)) after _ c.from_residual.ensures.1 c.in_err-write_line.ensures c.loop-reply.invariant
+    (line_text (content c.reply-item.result)) after _ c.from_residual.ensures.1
+    c.in_err-write_line.ensures c.loop-reply.invariant
     (texts_cut line_text content replies at c.reply-item.result c.loop-reply-test.true
     ∙ ap (λ reply. before ++ (line_text (content reply) ++ after)) (sym c.reply-item.is))
