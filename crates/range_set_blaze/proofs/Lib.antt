@@ -1,3 +1,4 @@
+pub mod BulkLemmas
 pub mod EndLemmas
 pub mod InsertLemmas
 pub mod KeptLemmas

@@ -12,7 +12,7 @@ use Rattle.range_set_blaze.specs.Kept.{range_of, ranges_of, run_of, runs_of}
 use Rattle.range_set_blaze.specs.declared.set.run.Run.{Run}
 
 -- what holds of each of two lists put together holds of each of the first
-All-front : {X : Type 0} (P : X → Type 0) (xs ys : List X) → All P (xs ++ ys) → All P xs
+pub All-front : {X : Type 0} (P : X → Type 0) (xs ys : List X) → All P (xs ++ ys) → All P xs
 All-front P [] ys all = All-nil P
 All-front P (x ∷ xs) ys all =
     All-cons P x xs (All-head P x (xs ++ ys) all) (All-front P xs ys (All-tail P x (xs ++ ys) all))

@@ -1,6 +1,8 @@
 //! Sets of integers, kept as their maximal runs.
 #![tactic(auto)]
 
+pub mod into_range_set_blaze;
+pub mod into_ranges_iter;
 pub mod laws;
 pub mod prelude;
 pub mod ranges_iter;
@@ -8,4 +10,8 @@ pub mod set;
 #[cfg(test)]
 mod tests;
 
-pub use crate::prelude::{Integer, RangeSetBlaze, RangesIter, SafeLength, UInt, UIntPlusOne};
+pub use crate::prelude::{
+    AnythingGoes, AssumeSortedStarts, CheckSortedDisjoint, Integer, IntoRangeSetBlaze,
+    IntoRangesIter, Merge, NotIter, NotSortedDisjoint, RangeOnce, RangeSetBlaze, RangesIter,
+    SafeLength, SortedDisjoint, SortedStarts, UInt, UIntPlusOne, Union, UnionIter,
+};

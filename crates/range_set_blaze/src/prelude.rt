@@ -1,6 +1,12 @@
 //! All public items of this crate and of those below it.
 
+pub use crate::into_range_set_blaze::IntoRangeSetBlaze;
+pub use crate::into_ranges_iter::IntoRangesIter;
 pub use crate::ranges_iter::RangesIter;
 pub use crate::set::RangeSetBlaze;
 pub use rsb_integer::Integer;
 pub use rsb_length::{SafeLength, UInt, UIntPlusOne};
+pub use rsb_streams::{
+    AnythingGoes, AssumeSortedStarts, CheckSortedDisjoint, Merge, NotIter, NotSortedDisjoint,
+    RangeOnce, SortedDisjoint, SortedStarts, Union, UnionIter,
+};

@@ -3,9 +3,12 @@
 ghost use Rattle.std.specs.Iterator.{YieldsFirst, YieldsLast, item_count};
 ghost use Rattle.rsb_integer.specs.Rank.{intervals_of};
 ghost use Rattle.rsb_integer.specs.Runs.{IsCanonicalIn};
+ghost use Rattle.rsb_streams.specs.Listed.{listed-answers, listed-keeps, listed_may_give};
+ghost use Rattle.rsb_streams.specs.Outcomes.{canonical-starts};
 
 use crate::set::run::Run;
 use rsb_integer::Integer;
+use rsb_streams::{SortedDisjoint, SortedStarts};
 use std::iter::FusedIterator;
 use std::marker::Model;
 use std::ops::RangeInclusive;
@@ -61,4 +64,18 @@ impl<'a, T: Integer> ExactSizeIterator for RangesIter<'a, T> {
     fn len(&self) -> usize {
         self.runs.len()
     }
+}
+
+impl<'a, T: Integer> SortedStarts<T> for RangesIter<'a, T> {
+    ghost may_give = { listed_may_give T.rank (λ s. s) };
+
+    ghost answers = { listed-answers T.rank (λ s. s) };
+
+    ghost sorted = { λ s canonical. canonical-starts T.value_count _ _
+        (listed-keeps T.rank (λ s. s) T.value_count s canonical) };
+}
+
+impl<'a, T: Integer> SortedDisjoint<T> for RangesIter<'a, T> {
+    ghost canonical = { λ s canonical.
+        (listed-keeps T.rank (λ s. s) T.value_count s canonical).all };
 }

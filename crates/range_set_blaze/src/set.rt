@@ -6,6 +6,7 @@ ghost use Rattle.rsb_integer.specs.Runs.{members, AreRuns, IsCanonicalIn};
 ghost use Rattle.rsb_integer.specs.Selection.{count};
 ghost use Rattle.range_set_blaze.specs.Set.{IsGreatest, IsLeast, IsNothing};
 
+mod bulk;
 mod insert;
 mod look_up;
 pub(crate) mod run;

@@ -1,6 +1,6 @@
 //! What no clause of the set says: rows worked by hand, and growths that are refused in turn.
 
-use crate::{RangeSetBlaze, UIntPlusOne};
+use crate::{IntoRangeSetBlaze, RangeSetBlaze, SortedDisjoint, UIntPlusOne};
 use linked_list_allocator::LocalHeap;
 use std::alloc::{AllocError, Global};
 use std::ops::Bound;
@@ -132,6 +132,50 @@ fn ranges_come_from_both_ends(rt: HostRuntime) -> Result<(), Fail> {
     Ok(())
 }
 
+#[test]
+fn streams_of_sets_make_sets(rt: HostRuntime) -> Result<(), Fail> {
+    let left = set_of(rt.alloc(), &[(100, 499), (501, 999)])?;
+    let right = set_of(rt.alloc(), &[(-20, -20), (400, 599)])?;
+    let union = left.ranges().union(right.ranges());
+    let both = union.into_range_set_blaze(rt.alloc())?;
+    assert_eq!(rt;
+        runs_of(rt.alloc(), &both)?.as_slice(),
+        [(-20, -20), (100, 999)].as_slice()
+    );
+    assert_eq!(rt; both.len(), 901);
+
+    let mut bytes = RangeSetBlaze::<u8>::new(rt.alloc());
+    bytes.ranges_insert(0..=9)?;
+    bytes.ranges_insert(20..=255)?;
+    let gaps = RangeSetBlaze::from_sorted_disjoint(rt.alloc(), bytes.ranges().complement())?;
+    assert!(rt; gaps.range_at(15) == Some(10..=19));
+    assert_eq!(rt; gaps.len(), 10);
+    assert!(rt; bytes.ranges().union(gaps.ranges()).is_universal());
+    Ok(())
+}
+
+#[test]
+fn a_range_and_the_universe_make_sets(rt: HostRuntime) -> Result<(), Fail> {
+    let some = RangeSetBlaze::from(rt.alloc(), 3..=7_u8)?;
+    assert!(rt; some.range_at(5) == Some(3..=7));
+    assert!(rt; RangeSetBlaze::from(rt.alloc(), 7..=3_u8)?.is_empty());
+    let letters = RangeSetBlaze::<char>::universe(rt.alloc())?;
+    assert_eq!(rt; letters.len(), 1_112_064);
+    assert!(rt; RangeSetBlaze::<i128>::universe(rt.alloc())?.len() == UIntPlusOne::MaxPlusOne);
+    Ok(())
+}
+
+#[test]
+fn owned_ranges_come_from_both_ends(rt: HostRuntime) -> Result<(), Fail> {
+    let mut ranges = set_of(rt.alloc(), &[(1, 2), (5, 5), (9, 12)])?.into_ranges();
+    assert_eq!(rt; ranges.len(), 3);
+    assert!(rt; ranges.next_back() == Some(9..=12));
+    assert!(rt; ranges.next() == Some(1..=2));
+    assert!(rt; ranges.next() == Some(5..=5));
+    assert!(rt; ranges.next_back() == None);
+    Ok(())
+}
+
 type Filler<'a> = Vec<Vec<u8, &'a LocalHeap>>;
 
 /// Takes all that is left of a heap.
@@ -177,6 +221,27 @@ fn each_growth_is_refused_in_turn(rt: HostRuntime) -> Result<(), Fail> {
     }
     assert_eq!(rt; set.len(), 100);
     assert!(rt; refused >= 6);
+    Ok(())
+}
+
+#[test]
+fn a_refused_growth_makes_no_set(rt: HostRuntime) -> Result<(), Fail> {
+    let heap = LocalHeap::new(rt.alloc(), 8192)?;
+    let one = RangeSetBlaze::<u8>::from(rt.alloc(), 1..=3)?;
+    let filler = filled(rt.alloc(), &heap)?;
+    assert!(rt; RangeSetBlaze::<u8, &LocalHeap>::from(&heap, 1..=3).is_err());
+    assert!(rt; RangeSetBlaze::<u8, &LocalHeap>::universe(&heap).is_err());
+    assert!(rt; one.ranges().into_range_set_blaze(&heap).is_err());
+    drop(filler);
+    assert_eq!(rt;
+        RangeSetBlaze::<u8, &LocalHeap>::from(&heap, 1..=3)?.len(),
+        3
+    );
+    assert_eq!(rt;
+        RangeSetBlaze::<u8, &LocalHeap>::universe(&heap)?.len(),
+        256
+    );
+    assert_eq!(rt; one.ranges().into_range_set_blaze(&heap)?.len(), 3);
     Ok(())
 }
 

@@ -1,0 +1,88 @@
+-- Runs that are taken from a stream, one after the other.
+use Rattle.std.proofs.Common.{◌≡◌, ℕ, Bool, true, false, cond, nat_le, ◌||◌, ◌+◌, ◌<◌, ◌≤◌, List, [], ◌∷◌, ◌++◌, append_assoc, refl, sym, ap, ◌∙◌, subst, arith}
+use Rattle.std.proofs.lemmas.Bool.Decides.{nat_tests}
+use Rattle.std.proofs.lemmas.List.{map-append}
+use Rattle.std.proofs.lemmas.List.Sums.{sum_by-append}
+use Rattle.std.specs.List.{All, sum_by}
+use Rattle.std.specs.Range.{range_inclusive_start, range_inclusive_end}
+use Rattle.std.specs.declared.ops.RangeInclusive.{RangeInclusive}
+use Rattle.rsb_integer.specs.Rank.{interval_of}
+use Rattle.rsb_integer.specs.Runs.{Interval, covers, length_of, members, AllEndBelow, IsCanonicalIn}
+use Rattle.rsb_integer.proofs.RangeLemmas.{interval_of-some}
+use Rattle.rsb_integer.proofs.RunsLemmas.{canonical-parts, members-cons}
+use Rattle.rsb_streams.specs.Outcomes.{settled_canonical_in}
+use Rattle.rsb_streams.specs.Stream.{Outcomes, ◌⊆◌, just, run_if_any, HasOutcome, SomeOutcome}
+use Rattle.range_set_blaze.specs.Kept.{run_of, runs_of}
+use Rattle.range_set_blaze.specs.declared.set.run.Run.{Run}
+use Rattle.range_set_blaze.proofs.KeptLemmas.{sum_by-within}
+use Rattle.range_set_blaze.proofs.RangesLemmas.{All-front}
+
+-- a front of what is canonical in a type is so too
+pub canonical_in-front : (n : ℕ) (runs others : List Interval) → IsCanonicalIn n (runs ++ others)
+    → IsCanonicalIn n runs
+canonical_in-front n runs others canonical = (
+  (canonical-parts 0 runs others canonical.0).0,
+  All-front (λ (each : Interval). each.last < n) runs others canonical.1,
+)
+
+-- the streams before and after a call that answered the run: what was taken before it is `taken`
+module _ (n : ℕ) (all after : Outcomes) (canonical : all ⊆ IsCanonicalIn n)
+    (taken : List Interval) (run : Interval)
+    (given : (rest : List Interval) → after rest → all (taken ++ run ∷ rest))
+    (some : HasOutcome after) where
+  -- what was taken and the run are canonical
+  pub taken-canonical : IsCanonicalIn n (taken ++ run ∷ [])
+  taken-canonical = settled_canonical_in n (taken ++ run ∷ []) (λ fails. some (λ rest may. fails
+      (canonical_in-front n (taken ++ run ∷ []) rest
+      (subst (IsCanonicalIn n) (sym (append_assoc taken (run ∷ []) rest))
+      (canonical (taken ++ run ∷ rest) (given rest may))))))
+
+  -- so the run is in order
+  pub taken-ordered : run.first ≤ run.last
+  taken-ordered = (canonical-parts 0 taken (run ∷ []) taken-canonical.0).1.1
+
+  -- and all of them together have n ranks at most
+  pub taken-within : sum_by length_of taken + length_of run ≤ n
+  taken-within =
+      let all_of = sum_by-within n (taken ++ run ∷ []) taken-canonical in
+      let sum = sum_by-append length_of taken (run ∷ []) in
+      omega (arith, all_of, sum)
+
+-- a run that is kept has the ranks of its range
+pub runs_of-taken : {T : Type 0} (rank : T → ℕ) (runs new : List (Run T)) (run : Run T)
+    (range : RangeInclusive T) → new ≡ runs ++ run ∷ []
+    → run.start ≡ range_inclusive_start range → run.end ≡ range_inclusive_end range
+    → (interval_of rank range).first ≤ (interval_of rank range).last
+    → runs_of rank new ≡ runs_of rank runs ++ interval_of rank range ∷ []
+runs_of-taken {T} rank runs new run range is starts ends ordered =
+    let same : run_of rank run ≡ interval_of rank range =
+    (λ i. record { first = rank (starts i); last = rank (ends i) })
+    ∙ sym (interval_of-some rank range ordered) in
+    ap (runs_of rank) is ∙ map-append (run_of rank) runs (run ∷ [])
+    ∙ ap (λ (last : Interval). runs_of rank runs ++ last ∷ []) same
+
+settled-same : (left right : Bool) → ¬ (¬ (left ≡ right)) → left ≡ right
+settled-same true true holds = refl
+settled-same true false holds = absurd (holds (λ same. absurd (cc)))
+settled-same false true holds = absurd (holds (λ same. absurd (cc)))
+settled-same false false holds = refl
+
+-- what comes of a stream of one list has its members
+pub members-just : (P : Outcomes) (set runs : List Interval) → P ⊆ just runs
+    → SomeOutcome P (λ given. set ≡ given) → (rank : ℕ) → members set rank ≡ members runs rank
+members-just P set runs only some rank = settled-same (members set rank) (members runs rank)
+    (λ fails. some (λ given may same.
+    fails (ap (λ list. members list rank) (same ∙ only given may))))
+
+or-false : (test : Bool) → (test || false) ≡ test
+or-false true = refl
+or-false false = refl
+
+-- the members of one interval are its ranks
+pub members-run_if_any : (run : Interval) (rank : ℕ) → members (run_if_any run) rank ≡ covers rank run
+members-run_if_any run rank = by (nat_le run.first run.last) refl
+  where
+    by : (some : Bool) → nat_le run.first run.last ≡ some
+        → members (cond some (run ∷ []) []) rank ≡ covers rank run
+    by true is = members-cons run [] rank ∙ or-false (covers rank run)
+    by false is = grind (arith, nat_tests, is)

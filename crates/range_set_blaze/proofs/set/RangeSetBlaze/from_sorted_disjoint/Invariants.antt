@@ -1,0 +1,21 @@
+-- What was taken, followed by what may still come, might come of the stream at first.
+use Rattle.std.proofs.Common.{◌≡◌, List, ◌++◌}
+use Rattle.std.specs.Iterator.{IsFinite, size}
+use Rattle.std.specs.List.{sum_by}
+use Rattle.rsb_integer.specs.Runs.{Interval, length_of}
+use Rattle.range_set_blaze.specs.Kept.{runs_of}
+use Rattle.range_set_blaze.proofs.set.RangeSetBlaze.from_sorted_disjoint.Given as goal
+
+abbrev pub invariant-loop-range : goal.invariant-loop-range
+invariant-loop-range g l =
+    let rank = g.T.Integer.rank in
+    record {
+      ready : g.I.Iterator.can_next l.iter;
+      finite : IsFinite (g.I.Iterator.remaining l.iter);
+      given : (rest : List Interval) → g.I.SortedStarts.may_give l.iter rest
+          → g.I.SortedStarts.may_give l.fn.iter (runs_of rank l.runs.items ++ rest);
+      length : g.T.SafeLen.SafeLength.number l.length ≡ sum_by length_of (runs_of rank l.runs.items);
+    }
+
+abbrev pub decreases-loop-range : goal.decreases-loop-range
+decreases-loop-range g l = size (g.I.Iterator.remaining l.iter)

@@ -1,0 +1,14 @@
+use Rattle.range_set_blaze.proofs.RangesLemmas.{intervals_of-ranges}
+use Rattle.range_set_blaze.proofs.set.RangeSetBlaze.into_ranges.Goals as goal
+
+-- the ranges have the intervals of the runs
+pub returns-clause-ranges : goal.returns-clause-ranges
+returns-clause-ranges g c =
+    rw (c.into_iter.ensures.rest, ← c.self.view_is)
+    (intervals_of-ranges g.T.Integer.rank c.self.inside.runs.items)
+
+-- and these are canonical
+pub returns-clause-ready : goal.returns-clause-ready
+returns-clause-ready g c =
+    rw (c.into_iter.ensures.rest, intervals_of-ranges g.T.Integer.rank c.self.inside.runs.items)
+    c.self.invariant.canonical

@@ -1,0 +1,82 @@
+//! The runs of a set that is given up, one after the other.
+
+ghost use Rattle.std.specs.Iterator.{YieldsFirst, YieldsLast, item_count};
+ghost use Rattle.rsb_integer.specs.Rank.{intervals_of};
+ghost use Rattle.rsb_integer.specs.Runs.{IsCanonicalIn};
+ghost use Rattle.rsb_streams.specs.Listed.{listed-answers, listed-keeps, listed_may_give};
+ghost use Rattle.rsb_streams.specs.Outcomes.{canonical-starts};
+
+use crate::set::run::Run;
+use rsb_integer::Integer;
+use rsb_streams::{SortedDisjoint, SortedStarts};
+use std::alloc::{Allocator, Global};
+use std::iter::FusedIterator;
+use std::marker::Model;
+use std::ops::RangeInclusive;
+use std::vec;
+
+/// The runs of a set in ascending order, from both ends. It owns them. Contracts see it as the list of
+/// the ranges still to come. (`IntoRangesIter` of the Rust crate.)
+#[derive(Drop)]
+pub struct IntoRangesIter<T: Integer, A: Allocator = Global> {
+    pub(crate) runs: vec::IntoIter<Run<T>, A>,
+}
+
+impl<T: Integer, A: Allocator> Model for IntoRangesIter<T, A> {
+    ghost use Rattle.std.specs.Prelude.{List};
+    ghost use Rattle.std.specs.Vec.Iter.{into_iter_items};
+    ghost use Rattle.std.specs.declared.ops.RangeInclusive.{RangeInclusive};
+    ghost use Rattle.range_set_blaze.specs.Kept.{ranges_of};
+
+    ghost Value = { List (RangeInclusive T) };
+
+    ghost view = { λ s. ranges_of (into_iter_items s.runs) };
+}
+
+impl<T: Integer, A: Allocator> Iterator for IntoRangesIter<T, A> {
+    type Item = RangeInclusive<T>;
+
+    ghost can_next = { λ s. IsCanonicalIn T.value_count (intervals_of T.rank s) };
+
+    ghost next_gives = { YieldsFirst (λ s. s) };
+
+    ghost remaining = { item_count (λ s. s) };
+
+    fn next(&mut self) -> Option<RangeInclusive<T>> {
+        let run = self.runs.next()?;
+        Some(run.start..=run.end)
+    }
+}
+
+impl<T: Integer, A: Allocator> FusedIterator for IntoRangesIter<T, A> {}
+
+impl<T: Integer, A: Allocator> DoubleEndedIterator for IntoRangesIter<T, A> {
+    ghost can_next_back = { λ s. IsCanonicalIn T.value_count (intervals_of T.rank s) };
+
+    ghost next_back_gives = { YieldsLast (λ s. s) };
+
+    fn next_back(&mut self) -> Option<RangeInclusive<T>> {
+        let run = self.runs.next_back()?;
+        Some(run.start..=run.end)
+    }
+}
+
+impl<T: Integer, A: Allocator> ExactSizeIterator for IntoRangesIter<T, A> {
+    fn len(&self) -> usize {
+        self.runs.len()
+    }
+}
+
+impl<T: Integer, A: Allocator> SortedStarts<T> for IntoRangesIter<T, A> {
+    ghost may_give = { listed_may_give T.rank (λ s. s) };
+
+    ghost answers = { listed-answers T.rank (λ s. s) };
+
+    ghost sorted = { λ s canonical. canonical-starts T.value_count _ _
+        (listed-keeps T.rank (λ s. s) T.value_count s canonical) };
+}
+
+impl<T: Integer, A: Allocator> SortedDisjoint<T> for IntoRangesIter<T, A> {
+    ghost canonical = { λ s canonical.
+        (listed-keeps T.rank (λ s. s) T.value_count s canonical).all };
+}

@@ -1,0 +1,62 @@
+//! Sets from streams of ranges, and back.
+
+ghost use Rattle.std.specs.Prelude.{◌≡◌, [], IfOk};
+ghost use Rattle.rsb_integer.specs.Rank.{intervals_of, interval_of};
+ghost use Rattle.rsb_integer.specs.Runs.{covers, members, IsCanonicalIn};
+ghost use Rattle.rsb_streams.specs.Stream.{SomeOutcome};
+ghost use Rattle.range_set_blaze.specs.Set.{Adds, IsEverything};
+
+use crate::into_ranges_iter::IntoRangesIter;
+use crate::set::RangeSetBlaze;
+use crate::set::run::Run;
+use num_traits::Zero;
+use rsb_integer::Integer;
+use rsb_streams::{RangeOnce, SortedDisjoint};
+use std::alloc::{AllocError, Allocator};
+use std::ops::RangeInclusive;
+
+impl<T: Integer, A: Allocator> RangeSetBlaze<T, A> {
+    /// The set of the ranges of a stream. Without memory nothing is made.
+    /// (`RangeSetBlaze::from_sorted_disjoint`.)
+    pub fn from_sorted_disjoint<I: SortedDisjoint<T>>(alloc: A, iter: I) -> Result<Self, AllocError>
+        requires { I.can_next iter }
+        ensures runs { IfOk result (λ set. SomeOutcome (I.may_give iter) (λ runs. set ≡ runs)) }
+    {
+        let mut iter = iter;
+        let mut runs = Vec::new(alloc);
+        let mut length = T::SafeLen::zero();
+        while let Some(range) = iter.next() {
+            length += T::safe_len(&range);
+            let (start, end) = range.into_inner();
+            runs.push(Run { start, end })?;
+        }
+        Ok(RangeSetBlaze { runs, length })
+    }
+
+    /// The set of the values of a range: the empty set where the range is reversed or was iterated to
+    /// its end. Without memory nothing is made. (`From<RangeInclusive>` of `RangeSetBlaze`.)
+    pub fn from(alloc: A, range: RangeInclusive<T>) -> Result<Self, AllocError>
+        ensures members { IfOk result (λ set.
+            Adds [] set (λ rank. covers rank (interval_of T.rank range))) }
+    {
+        Self::from_sorted_disjoint(alloc, RangeOnce::new(range))
+    }
+
+    /// The set of all values. Without memory nothing is made. (`RangeSetBlaze::universe`.)
+    pub fn universe(alloc: A) -> Result<Self, AllocError>
+        ensures members { IfOk result (λ set. IsEverything T.value_count (members set)) }
+    {
+        Self::from(alloc, T::min_value()..=T::max_value())
+    }
+
+    /// The runs in ascending order, from both ends. They own what the set owned, and take no memory.
+    /// (`RangeSetBlaze::into_ranges`.)
+    pub fn into_ranges(self) -> IntoRangesIter<T, A>
+        ensures ranges { intervals_of T.rank result ≡ self }
+        ensures ready { IsCanonicalIn T.value_count (intervals_of T.rank result) }
+    {
+        IntoRangesIter {
+            runs: self.runs.into_iter(),
+        }
+    }
+}

@@ -1,0 +1,14 @@
+pub mod CheckLemmas
+pub mod Compare
+pub mod FirstItems
+pub mod ListedSources
+pub mod MergeTurns
+pub mod NotLemmas
+pub mod NotTurns
+pub mod OperationLemmas
+pub mod SourceLemmas
+pub mod Sources
+pub mod TryNewLemmas
+pub mod UnionLemmas
+pub mod UnionTurns
+pub mod VecSources

@@ -1,0 +1,122 @@
+-- Iterators whose state shows the list of what is left, as sources of streams.
+use Rattle.std.proofs.Common.{◌≡◌, ℕ, ◌<◌, List, [], ◌∷◌, ◌++◌, refl, sym, ap, ◌∙◌, subst, inl, inr, arith}
+use Rattle.std.specs.Prelude.{Option, Some, None}
+use Rattle.std.proofs.lemmas.List.Elements.{All-cons, All-head, All-nil, All-tail}
+use Rattle.std.specs.Iterator.{Count, IsFinite, Yields, YieldsFirst, item_count}
+use Rattle.std.specs.declared.ops.RangeInclusive.{RangeInclusive}
+use Rattle.rsb_integer.specs.Rank.{interval_of, intervals_of}
+use Rattle.rsb_integer.specs.Runs.{Interval, AllEndBelow, IsCanonicalIn}
+use Rattle.rsb_integer.proofs.RunsLemmas.{canonical-parts}
+use Rattle.rsb_streams.specs.Calls.{Call, IsSource, calls_give}
+use Rattle.rsb_streams.specs.Stream.{◌⊆◌, just}
+use Rattle.rsb_streams.proofs.SourceLemmas.{canonical-tail}
+
+pub intervals-append : {T : Type 0} (rank : T → ℕ) (ranges others : List (RangeInclusive T))
+    → intervals_of rank (ranges ++ others) ≡ intervals_of rank ranges ++ intervals_of rank others
+intervals-append rank [] others = refl
+intervals-append rank (range ∷ ranges) others =
+    ap (λ runs. interval_of rank range ∷ runs) (intervals-append rank ranges others)
+
+below-front : (n : ℕ) (runs others : List Interval) → AllEndBelow n (runs ++ others) → AllEndBelow n runs
+below-front n [] others below = All-nil (λ (run : Interval). run.last < n)
+below-front n (run ∷ runs) others below =
+    let P : Interval → Type 0 = λ each. each.last < n in
+    All-cons P run runs (All-head P run (runs ++ others) below)
+    (below-front n runs others (All-tail P run (runs ++ others) below))
+
+-- a front of a canonical list is canonical
+pub canonical-front : (n : ℕ) (runs others : List Interval) → IsCanonicalIn n (runs ++ others) → IsCanonicalIn n runs
+canonical-front n runs others canonical =
+    ((canonical-parts 0 runs others canonical.0).0, below-front n runs others canonical.1)
+
+module _ {S T : Type 0} (rank : T → ℕ) (can_next : S → Type 0)
+    (steps : S → Option (RangeInclusive T) → S → Type 0) (remaining : S → Count)
+    (left : S → List (RangeInclusive T))
+    (some : (s t : S) (range : RangeInclusive T) → steps s (Some range) t → left s ≡ range ∷ left t)
+    (none : (s t : S) → steps s None t → left s ≡ []) where
+  -- calls give the list from its head on
+  pub listed-yields : (ranges : List (RangeInclusive T)) (s t : S) → Yields steps s ranges t
+      → left s ≡ ranges ++ left t
+  listed-yields [] s t all = ap left all
+  listed-yields (range ∷ ranges) s t all =
+      some s all.0 range all.1 ∙ ap (λ rest. range ∷ rest) (listed-yields ranges all.0 t all.2)
+
+  module _ (finite : (s : S) → IsFinite (remaining s))
+      (more : (s : S) (range : RangeInclusive T) (ranges : List (RangeInclusive T)) → can_next s
+      → left s ≡ range ∷ ranges → (t : S) × Call rank can_next steps remaining s (Some range) t) where
+    called : (ranges : List (RangeInclusive T)) (s t : S) → can_next s
+        → Yields (Call rank can_next steps remaining) s ranges t → (left s ≡ ranges ++ left t) × can_next t
+    called [] s t can all = (ap left all, subst can_next all can)
+    called (range ∷ ranges) s t can all =
+        let rest = called ranges all.0 t (all.1.nearer (finite s)).0 all.2 in
+        (some s all.0 range all.1.gives ∙ ap (λ rest. range ∷ rest) rest.0, rest.1)
+
+    stuck : (t : S) → can_next t
+        → ((range : RangeInclusive T) (u : S) → ¬ (Call rank can_next steps remaining t (Some range) u))
+        → (ranges : List (RangeInclusive T)) → left t ≡ ranges → ranges ≡ []
+    stuck t can never [] is = refl
+    stuck t can never (range ∷ ranges) is =
+        let next = more t range ranges can is in absurd (never range next.0 next.1)
+
+    append-nil : (ranges : List (RangeInclusive T)) → ranges ++ [] ≡ ranges
+    append-nil [] = refl
+    append-nil (range ∷ ranges) = ap (λ rest. range ∷ rest) (append-nil ranges)
+
+    -- the calls give the whole list, and nothing else
+    pub listed-calls : (s : S) → can_next s
+        → calls_give rank can_next steps remaining s ⊆ just (intervals_of rank (left s))
+    listed-calls s can runs at =
+        let ranges = at.0 in
+        let all = called ranges s at.1 can at.3 in
+        let end : left at.1 ≡ [] = elim at.4 [
+          | inl last ↦ none at.1 last.0 last.1.gives
+          | inr never ↦ stuck at.1 all.1 never (left at.1) refl
+        ] in
+        at.2 ∙ ap (intervals_of rank)
+        (sym (append-nil ranges) ∙ ap (λ rest. ranges ++ rest) (sym end) ∙ sym all.0)
+
+-- ---- the list itself as the state, where it is canonical in a type of n values
+module _ {T : Type 0} (rank : T → ℕ) (n : ℕ) where
+  abbrev Ranges : Type 0
+  Ranges = List (RangeInclusive T)
+
+  abbrev can : Ranges → Type 0
+  can ranges = IsCanonicalIn n (intervals_of rank ranges)
+
+  abbrev first : Ranges → Option (RangeInclusive T) → Ranges → Type 0
+  first = YieldsFirst (λ ranges. ranges)
+
+  abbrev size_of : Ranges → Count
+  size_of = item_count (λ ranges. ranges)
+
+  more-left : (s : Ranges) (range : RangeInclusive T) (ranges : Ranges) → can s → s ≡ range ∷ ranges
+      → (t : Ranges) × Call rank can first size_of s (Some range) t
+  more-left s range ranges canonical is = (
+    ranges,
+    record {
+      gives = is;
+      nearer = λ finite. (
+        canonical-tail n (interval_of rank range) (intervals_of rank ranges) (subst can is canonical),
+        tt,
+        rw is (omega arith),
+      );
+    },
+  )
+
+  -- its calls give it
+  pub list-calls : (s : Ranges) → can s → calls_give rank can first size_of s ⊆ just (intervals_of rank s)
+  list-calls =
+      listed-calls rank can first size_of (λ ranges. ranges) (λ s t range call. call) (λ s t call. call.0)
+      (λ s. tt) more-left
+
+  -- and it is a source
+  pub list-source : (s : Ranges) → can s → IsSource rank can first size_of (IsCanonicalIn n) s
+  list-source s canonical = record {
+    callable = canonical;
+    finite = tt;
+    fronts = λ ranges t all.
+        let whole = listed-yields rank can first size_of (λ each. each) (λ s t range call. call)
+        (λ s t call. call.0) ranges s t all in
+        canonical-front n (intervals_of rank ranges) (intervals_of rank t)
+        (subst (IsCanonicalIn n) (ap (intervals_of rank) whole ∙ intervals-append rank ranges t) canonical);
+  }

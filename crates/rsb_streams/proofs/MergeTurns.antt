@@ -1,0 +1,229 @@
+-- One answer of a merge.
+use Rattle.std.proofs.Common.{◌≡◌, ℕ, ◌<◌, ◌≤◌, List, [], ◌∷◌, refl, sym, subst, inl, inr, arith}
+use Rattle.std.specs.Prelude.{Option, Some, None}
+use Rattle.std.specs.Iterator.{MakesProgress}
+use Rattle.std.specs.Range.{range_inclusive_start}
+use Rattle.std.specs.declared.ops.RangeInclusive.{RangeInclusive}
+use Rattle.rsb_integer.specs.Rank.{interval_of}
+use Rattle.rsb_integer.specs.Runs.{Interval}
+use Rattle.rsb_streams.specs.Merge.{MergeReady, merge_may_give, merge_remaining, merge-starts, both-finite}
+use Rattle.rsb_streams.specs.PutBack.{IsPutBack, put_back-rests}
+use Rattle.rsb_streams.specs.Stream.{Outcomes, ◌⊆◌, just, merges, AnswersAndRests, HasSortedStarts, HasSortedStartsFrom, IsMergeOf}
+use Rattle.rsb_streams.specs.declared.merge.Merge.{Merge}
+use Rattle.rsb_streams.specs.declared.put_back.PutBack.{PutBack}
+use Rattle.rsb_streams.proofs.Sources.{Source, IsLawful, put_back_source, put_back-lawful, range-start, put_back-may, put_back-ready, put_back-size}
+use Rattle.rsb_streams.proofs.UnionLemmas.{head-sorted}
+
+-- ---- outcomes, in a type of n values
+
+module _ (n : ℕ) (P Q After Later : Outcomes) (run : Interval) where
+  -- a range of the left list comes first
+  pub head-left : P ⊆ HasSortedStarts n → ((rest : List Interval) → After rest → P (run ∷ rest)) → Later ⊆ Q
+      → Later ⊆ HasSortedStartsFrom n run.first
+      → (rest : List Interval) → merges n After Later rest → merges n P Q (run ∷ rest)
+  head-left sorted answers within past rest may = λ nothing. may (λ left right at also all.
+      let first = sorted (run ∷ left) (answers left at) in
+      let runs = merge-starts n run.first left right rest first.3 (past right also) all.0 all.1 in
+      nothing (run ∷ left) right (answers left at) (within right also)
+      ((first.0, first.1, first.2, runs), inl (left, refl, all.1)))
+
+  -- a range of the right list comes first
+  pub head-right : Q ⊆ HasSortedStarts n → ((rest : List Interval) → Later rest → Q (run ∷ rest)) → After ⊆ P
+      → After ⊆ HasSortedStartsFrom n run.first
+      → (rest : List Interval) → merges n After Later rest → merges n P Q (run ∷ rest)
+  head-right sorted answers within past rest may = λ nothing. may (λ left right at also all.
+      let first = sorted (run ∷ right) (answers right also) in
+      let runs = merge-starts n run.first left right rest (past left at) first.3 all.0 all.1 in
+      nothing left (run ∷ right) (within left at) (answers right also)
+      ((first.0, first.1, first.2, runs), inr (right, refl, all.1)))
+
+-- where nothing comes of both, nothing comes
+no-merge : (runs : List Interval) → IsMergeOf [] [] runs → runs ≡ []
+no-merge [] merged = refl
+no-merge (run ∷ runs) merged = elim merged [
+  | inl from_left ↦ let no = from_left.1 in absurd (cc)
+  | inr from_right ↦ let no = from_right.1 in absurd (cc)
+]
+
+pub no-merges : (n : ℕ) (P Q : Outcomes) → P ⊆ just [] → Q ⊆ just [] → merges n P Q ⊆ just []
+no-merges n P Q first second [] may = refl
+no-merges n P Q first second (run ∷ runs) may = absurd (may (λ left right at also all.
+    let merged = subst (λ each. IsMergeOf left each (run ∷ runs)) (second right also) all.1 in
+    let no = no-merge (run ∷ runs) (subst (λ each. IsMergeOf each [] (run ∷ runs)) (first left at) merged) in
+    absurd (cc)))
+
+module _ {L R T : Type 0} (rank : T → ℕ) (n : ℕ) (left : Source L T) (right : Source R T)
+    (left_laws : IsLawful rank n left) (right_laws : IsLawful rank n right) where
+  abbrev lefts : Source (PutBack T L) T
+  lefts = put_back_source rank n left
+
+  abbrev rights : Source (PutBack T R) T
+  rights = put_back_source rank n right
+
+  left_held : IsLawful rank n lefts
+  left_held = put_back-lawful rank n left left_laws
+
+  right_held : IsLawful rank n rights
+  right_held = put_back-lawful rank n right right_laws
+
+  abbrev Ready : Merge T L R → Type 0
+  Ready = MergeReady rank n left.can_next left.may_give right.can_next right.may_give
+
+  abbrev may : Merge T L R → Outcomes
+  may = merge_may_give rank n left.can_next left.may_give right.can_next right.may_give
+
+  abbrev Answered : Merge T L R → Option (RangeInclusive T) → Merge T L R → Type 0
+  Answered = AnswersAndRests rank Ready may
+
+  -- nothing comes of the left stream
+  pub only-right : (s t : Merge T L R) (item : Option (RangeInclusive T)) → Ready s
+      → lefts.steps s.left None t.left → rights.steps s.right item t.right → Answered s item t
+  only-right s t None ready none call =
+      let first = put_back-rests rank n left.can_next left.may_give left.steps s.left t.left none in
+      let second = put_back-rests rank n right.can_next right.may_give right.steps s.right t.right call in
+      record {
+        answers = λ nothing. nothing [] [] (left_held.answers s.left t.left None none)
+            (right_held.answers s.right t.right None call) (tt, (refl, refl));
+        rests = (
+          record { left = first.0; right = second.0 },
+          no-merges n (lefts.may_give t.left) (rights.may_give t.right) first.1 second.1,
+        );
+      }
+  only-right s t (Some range) ready none call =
+      let first = put_back-rests rank n left.can_next left.may_give left.steps s.left t.left none in
+      record {
+        answers = head-right n (lefts.may_give s.left) (rights.may_give s.right) (lefts.may_give t.left)
+            (rights.may_give t.right) (interval_of rank range) ready.right.sorted
+            (right_held.answers s.right t.right (Some range) call)
+            (λ rest at. rw (first.1 rest at) (left_held.answers s.left t.left None none))
+            (λ rest at. rw (first.1 rest at) tt);
+        rests = tt;
+      }
+
+  -- nothing more comes of the right stream
+  pub only-left : (s t : Merge T L R) (range : RangeInclusive T) → Ready s
+      → lefts.steps s.left (Some range) t.left → rights.steps s.right None t.right → Answered s (Some range) t
+  only-left s t range ready call none =
+      let second = put_back-rests rank n right.can_next right.may_give right.steps s.right t.right none in
+      record {
+        answers = head-left n (lefts.may_give s.left) (rights.may_give s.right) (lefts.may_give t.left)
+            (rights.may_give t.right) (interval_of rank range) ready.left.sorted
+            (left_held.answers s.left t.left (Some range) call)
+            (λ rest at. rw (second.1 rest at) (right_held.answers s.right t.right None none))
+            (λ rest at. rw (second.1 rest at) tt);
+        rests = tt;
+      }
+
+  -- both streams give a range
+  module _ (s : Merge T L R) (u : PutBack T L) (v : PutBack T R) (first second : RangeInclusive T) (ready : Ready s)
+      (left_call : lefts.steps s.left (Some first) u) (right_call : rights.steps s.right (Some second) v)
+      (left_goes : MakesProgress lefts.can_next lefts.remaining s.left (Some first) u)
+      (right_goes : MakesProgress rights.can_next rights.remaining s.right (Some second) v) where
+    left_first : (0 ≤ (interval_of rank first).first) × ((interval_of rank first).first ≤ (interval_of rank first).last)
+        × ((interval_of rank first).last < n)
+    left_first = head-sorted n 0 (interval_of rank first) (lefts.may_give u) (left_held.sorted u left_goes.keeps).some
+        (λ rest at. ready.left.sorted (interval_of rank first ∷ rest) (left_held.answers s.left u (Some first) left_call rest at))
+
+    right_first : (0 ≤ (interval_of rank second).first) × ((interval_of rank second).first ≤ (interval_of rank second).last)
+        × ((interval_of rank second).last < n)
+    right_first = head-sorted n 0 (interval_of rank second) (rights.may_give v) (right_held.sorted v right_goes.keeps).some
+        (λ rest at. ready.right.sorted (interval_of rank second ∷ rest) (right_held.answers s.right v (Some second) right_call rest at))
+
+    -- where they start
+    pub start-values : (rank (range_inclusive_start first) < n) × (rank (range_inclusive_start second) < n)
+    start-values =
+        let one = left_first in
+        let two = right_first in
+        let low = range-start rank first one.1 in
+        let high = range-start rank second two.1 in
+        (omega (arith, one.1, one.2, low), omega (arith, two.1, two.2, high))
+
+    -- the right one starts first, and the left one is put back
+    module _ (w : PutBack T L) (put : IsPutBack first u w)
+        (less : rank (range_inclusive_start second) < rank (range_inclusive_start first)) where
+      held-left : (runs : List Interval) → lefts.may_give w runs
+          → lefts.may_give s.left runs × HasSortedStartsFrom n (interval_of rank second).first runs
+      held-left runs at =
+          let found = put_back-may rank n left first u w runs left_call.room put at in
+          let before = left_held.answers s.left u (Some first) left_call found.0 found.1 in
+          let sorted = ready.left.sorted (interval_of rank first ∷ found.0) before in
+          let low = range-start rank first left_first.1 in
+          let high = range-start rank second right_first.1 in
+          let all : HasSortedStartsFrom n (interval_of rank second).first (interval_of rank first ∷ found.0) =
+          (omega (arith, low, high, less), sorted.1, sorted.2, sorted.3) in (
+            subst (lefts.may_give s.left) (sym found.2) before,
+            subst (HasSortedStartsFrom n (interval_of rank second).first) (sym found.2) all,
+          )
+
+      pub right-answers : Answered s (Some second) (record { left = w; right = v })
+      right-answers = record {
+        answers = head-right n (lefts.may_give s.left) (rights.may_give s.right) (lefts.may_give w) (rights.may_give v)
+            (interval_of rank second) ready.right.sorted (right_held.answers s.right v (Some second) right_call)
+            (λ runs at. (held-left runs at).0) (λ runs at. (held-left runs at).1);
+        rests = tt;
+      }
+
+      pub right-goes : MakesProgress Ready (merge_remaining left.remaining right.remaining) s (Some second)
+          (record { left = w; right = v })
+      right-goes =
+          let one = left_goes.on (left_held.sorted s.left ready.left).ends in
+          let two = right_goes.on (right_held.sorted s.right ready.right).ends in
+          let back = put_back-ready rank n left first u w left_call.room put one.0
+          (λ rest at. ready.left.sorted (interval_of rank first ∷ rest)
+          (left_held.answers s.left u (Some first) left_call rest at)) in
+          let more = put_back-size rank n left first u w left_call.room put in
+          let after : Ready (record { left = w; right = v }) = record { left = back; right = two.0 } in
+          record {
+            on = λ finite. (
+              after,
+              both-finite (lefts.remaining w) (rights.remaining v) (left_held.sorted w back).ends two.1,
+              omega (arith, more, one.2, two.2),
+            );
+            keeps = after;
+            rests = λ finite. tt;
+          }
+
+    -- the left one starts no later, and the right one is put back
+    module _ (w : PutBack T R) (put : IsPutBack second v w)
+        (most : rank (range_inclusive_start first) ≤ rank (range_inclusive_start second)) where
+      held-right : (runs : List Interval) → rights.may_give w runs
+          → rights.may_give s.right runs × HasSortedStartsFrom n (interval_of rank first).first runs
+      held-right runs at =
+          let found = put_back-may rank n right second v w runs right_call.room put at in
+          let before = right_held.answers s.right v (Some second) right_call found.0 found.1 in
+          let sorted = ready.right.sorted (interval_of rank second ∷ found.0) before in
+          let low = range-start rank first left_first.1 in
+          let high = range-start rank second right_first.1 in
+          let all : HasSortedStartsFrom n (interval_of rank first).first (interval_of rank second ∷ found.0) =
+          (omega (arith, low, high, most), sorted.1, sorted.2, sorted.3) in (
+            subst (rights.may_give s.right) (sym found.2) before,
+            subst (HasSortedStartsFrom n (interval_of rank first).first) (sym found.2) all,
+          )
+
+      pub left-answers : Answered s (Some first) (record { left = u; right = w })
+      left-answers = record {
+        answers = head-left n (lefts.may_give s.left) (rights.may_give s.right) (lefts.may_give u) (rights.may_give w)
+            (interval_of rank first) ready.left.sorted (left_held.answers s.left u (Some first) left_call)
+            (λ runs at. (held-right runs at).0) (λ runs at. (held-right runs at).1);
+        rests = tt;
+      }
+
+      pub left-goes : MakesProgress Ready (merge_remaining left.remaining right.remaining) s (Some first)
+          (record { left = u; right = w })
+      left-goes =
+          let one = left_goes.on (left_held.sorted s.left ready.left).ends in
+          let two = right_goes.on (right_held.sorted s.right ready.right).ends in
+          let back = put_back-ready rank n right second v w right_call.room put two.0
+          (λ rest at. ready.right.sorted (interval_of rank second ∷ rest)
+          (right_held.answers s.right v (Some second) right_call rest at)) in
+          let more = put_back-size rank n right second v w right_call.room put in
+          let after : Ready (record { left = u; right = w }) = record { left = one.0; right = back } in
+          record {
+            on = λ finite. (
+              after,
+              both-finite (lefts.remaining u) (rights.remaining w) one.1 (right_held.sorted w back).ends,
+              omega (arith, more, one.2, two.2),
+            );
+            keeps = after;
+            rests = λ finite. tt;
+          }

@@ -1,0 +1,215 @@
+-- The loop of a complement.
+use Rattle.std.proofs.Common.{◌≡◌, ◌↔◌, ℕ, ◌+◌, ◌<◌, ◌≤◌, true, false, List, [], ◌∷◌, refl, sym, ap, ◌∙◌, subst, arith}
+use Rattle.std.specs.Prelude.{Option, Some, None, IfSome, IsNone}
+use Rattle.std.specs.Iterator.{Count, IsFinite, MakesProgress, size}
+use Rattle.std.specs.Range.{range_inclusive_start, range_inclusive_end, range_inclusive_exhausted}
+use Rattle.std.specs.declared.ops.RangeInclusive.{RangeInclusive}
+use Rattle.rsb_integer.specs.Rank.{interval_of}
+use Rattle.rsb_integer.specs.Runs.{Interval, members, IsCanonicalIn, AreRuns}
+use Rattle.rsb_integer.proofs.RunsLemmas.{canonical-lower, runs-along}
+use Rattle.rsb_streams.specs.NotIter.{NotReady, gaps_after, not_can_next, not_may_give, not_remaining}
+use Rattle.rsb_streams.specs.Outcomes.{canonical-sorted}
+use Rattle.rsb_streams.specs.Stream.{Outcomes, ◌⊆◌, just, gaps_from, runs_by, AnswersAndRests, HasSortedStartsFrom, SomeOutcome}
+use Rattle.rsb_streams.specs.declared.not_iter.NotIter.{NotIter}
+use Rattle.std.specs.Ordering.{partial_lt}
+use Rattle.std.specs.declared.cmp.Ordering.{Ordering}
+use Rattle.rsb_streams.proofs.Compare.{IsRanked, less-rank, next-value, not_less-rank}
+use Rattle.rsb_streams.proofs.NotLemmas.{gap-then, gap-last, gaps-along, no-gaps}
+use Rattle.rsb_streams.proofs.Sources.{Source, IsLawful, range-start, range-end}
+use Rattle.rsb_streams.proofs.UnionLemmas.{head-sorted}
+
+module _ {I T : Type 0} (rank : T → ℕ) (n : ℕ) (source : Source I T) where
+  abbrev Ready : I → T → Type 0
+  Ready = NotReady rank n source.can_next source.may_give
+
+  abbrev can : NotIter T I → Type 0
+  can = not_can_next rank n source.can_next source.may_give
+
+  abbrev may : NotIter T I → Outcomes
+  may = not_may_give rank n source.can_next source.may_give
+
+  abbrev left : NotIter T I → Count
+  left = not_remaining source.remaining
+
+  -- what may come now might come at the entry
+  pub record SoFar (entry now : NotIter T I) : Type 0 where
+    pub ready : can now
+    pub same : may now ⊆ may entry
+    pub nearer : size (left now) ≤ size (left entry)
+
+  pub begun : (entry : NotIter T I) → can entry → SoFar entry entry
+  begun entry ready = record { ready = ready; same = λ runs at. at; nearer = omega arith }
+
+  -- the range of ranks from a value to another
+  pub answered : (start end : T) (answer : RangeInclusive T) → range_inclusive_exhausted answer ≡ false
+      → range_inclusive_start answer ≡ start → range_inclusive_end answer ≡ end
+      → interval_of rank answer ≡ record { first = rank start; last = rank end }
+  answered start end answer fresh from to = rw (fresh, from, to) refl
+
+  abbrev Answered : NotIter T I → Option (RangeInclusive T) → NotIter T I → Type 0
+  Answered = AnswersAndRests rank can may
+
+  -- nothing comes after the last gap
+  pub rests : (entry now : NotIter T I) → SoFar entry now → now.start ≡ None → Answered entry None now
+  rests entry now so none =
+      let nothing : may now ⊆ just [] = λ runs at.
+      subst (λ start. gaps_after rank n start (source.may_give now.iter) runs) none at in
+      record {
+        answers = so.same [] (subst (λ start. gaps_after rank n start (source.may_give now.iter) []) (sym none) refl);
+        rests = (so.ready, nothing);
+      }
+
+  module _ (laws : IsLawful rank n source) (canonical : (s : I) → source.can_next s → source.may_give s ⊆ IsCanonicalIn n) where
+    -- the gap to the greatest value
+    pub last-gap : (entry : NotIter T I) (i j : I) (now : Option T) (start greatest : T) (answer : RangeInclusive T)
+        → SoFar entry (record { iter = i; start = now }) → now ≡ Some start → source.steps i None j
+        → rank greatest + 1 ≡ n → range_inclusive_exhausted answer ≡ false
+        → range_inclusive_start answer ≡ start → range_inclusive_end answer ≡ greatest
+        → Answered entry (Some answer) (record { iter = j; start = None })
+    last-gap entry i j now start greatest answer so_now is call top fresh from to =
+        let so = subst (λ each. SoFar entry (record { iter = i; start = each })) is so_now in
+        let gap = answered start greatest answer fresh from to in
+        let low = so.ready.value in
+        let all = gap-last n (rank start) (record { first = rank start; last = rank greatest }) refl (omega (arith, low, top)) top in
+        record {
+          answers = λ rest none. rw none (so.same (interval_of rank answer ∷ []) (λ nothing.
+              nothing [] (laws.answers i j None call)
+              (subst (λ first. AreRuns n (gaps_from (rank start) (members [])) (first ∷ [])) (sym gap) all)));
+          rests = tt;
+        }
+
+    -- one range of the input, and where the next gap may start
+    module _ (entry : NotIter T I) (i j : I) (now : Option T) (start past_gap end : T) (next : Option T)
+        (range : RangeInclusive T) (so_now : SoFar entry (record { iter = i; start = now })) (is : now ≡ Some start)
+        (call : source.steps i (Some range) j)
+        (goes : MakesProgress source.can_next source.remaining i (Some range) j)
+        (from : past_gap ≡ range_inclusive_start range) (to : end ≡ range_inclusive_end range)
+        (none : IsNone next ↔ (rank end + 1 ≡ n)) (some : IfSome next (λ each. rank each ≡ rank end + 1)) where
+      abbrev run : Interval
+      run = interval_of rank range
+
+      so : SoFar entry (record { iter = i; start = Some start })
+      so = subst (λ each. SoFar entry (record { iter = i; start = each })) is so_now
+
+      comes : (rest : List Interval) → source.may_give j rest
+          → IsCanonicalIn n (run ∷ rest) × HasSortedStartsFrom n (rank start) (run ∷ rest)
+      comes rest at =
+          let before = laws.answers i j (Some range) call rest at in
+          let all = canonical i so.ready.callable (run ∷ rest) before in
+          (all, canonical-sorted n (rank start) (run ∷ rest) (so.ready.ahead (run ∷ rest) before) all.1)
+
+      facts : (rank start ≤ run.first) × (run.first ≤ run.last) × (run.last < n)
+      facts = head-sorted n (rank start) run (source.may_give j) (laws.sorted j goes.keeps).some
+          (λ rest at. (comes rest at).1)
+
+      starts-at : run.first ≡ rank past_gap
+      starts-at = range-start rank range facts.1 ∙ sym (ap rank from)
+
+      -- the two values are told apart by their ranks
+      module _ (partial_cmp : T → T → Option Ordering) (cmp : T → T → Ordering)
+          (ranked : IsRanked rank n partial_cmp cmp) where
+        low : rank start < n
+        low = so.ready.value
+
+        high : rank past_gap < n
+        high = let all = facts in omega (arith, all.1, all.2, starts-at)
+
+        pub gap-less : true ≡ partial_lt partial_cmp start past_gap → rank start < rank past_gap
+        gap-less test = less-rank rank n partial_cmp cmp ranked start past_gap low high test
+
+        pub gap-none : false ≡ partial_lt partial_cmp start past_gap → rank past_gap ≤ rank start
+        gap-none test = not_less-rank rank n partial_cmp cmp ranked start past_gap low high test
+
+      last-is : run.last ≡ rank end
+      last-is = range-end rank range facts.1 ∙ sym (ap rank to)
+
+      pub ready-next : can (record { iter = j; start = next })
+      ready-next = ready-by next none some
+        where
+          ready-by : (next : Option T) → (IsNone next ↔ (rank end + 1 ≡ n)) → IfSome next (λ each. rank each ≡ rank end + 1)
+              → can (record { iter = j; start = next })
+          ready-by None none some = tt
+          ready-by (Some each) none some =
+              let below = facts.2 in
+              let is = last-is in
+              record {
+                callable = goes.keeps;
+                value = next-value n (rank end) (rank each) (omega (arith, below, is))
+                    (λ top. let no = none.1 top in absurd (cc)) some;
+                ahead = λ rest at. canonical-lower (run.last + 2) (rank each) rest (omega (arith, some, is))
+                    (comes rest at).0.0.2;
+              }
+
+      -- what comes after it, as gaps past it
+      after-next : (rest : List Interval) → may (record { iter = j; start = next }) rest
+          → SomeOutcome (source.may_give j) (λ given. AreRuns n (gaps_from (run.last + 1) (members given)) rest)
+      after-next rest at = after-by next none some at
+        where
+          after-by : (next : Option T) → (IsNone next ↔ (rank end + 1 ≡ n)) → IfSome next (λ each. rank each ≡ rank end + 1)
+              → may (record { iter = j; start = next }) rest
+              → SomeOutcome (source.may_give j) (λ given. AreRuns n (gaps_from (run.last + 1) (members given)) rest)
+          after-by None none some at =
+              let top : run.last + 1 ≡ n = omega (arith, last-is, none.0 refl) in
+              λ nothing. (laws.sorted j goes.keeps).some (λ given might. nothing given might
+              (rw (at, top) (no-gaps n (members given))))
+          after-by (Some each) none some at =
+              let is : rank each ≡ run.last + 1 = omega (arith, last-is, some) in
+              subst (λ low. runs_by n (gaps_from low) (source.may_give j) rest) is at
+
+      -- a gap before the range
+      pub gap-answers : (before : T) (answer : RangeInclusive T) → rank start < rank past_gap
+          → rank before + 1 ≡ rank past_gap
+          → range_inclusive_exhausted answer ≡ false
+          → range_inclusive_start answer ≡ start → range_inclusive_end answer ≡ before
+          → Answered entry (Some answer) (record { iter = j; start = next })
+      gap-answers before answer less one fresh from till =
+          let all = facts in
+          let low = starts-at in
+          let gap = answered start before answer fresh from till in
+          record {
+            answers = λ rest at. so.same (interval_of rank answer ∷ rest) (λ nothing.
+                after-next rest at (λ given might runs. nothing (run ∷ given)
+                (laws.answers i j (Some range) call given might)
+                (gap-then n (rank start) (interval_of rank answer) run given rest (omega (arith, less, low)) all.1 all.2
+                (ap (λ each. each.first) gap) (ap (λ each. each.last + 1) gap ∙ one ∙ sym low)
+                (comes given might).0.0.2 runs)));
+            rests = tt;
+          }
+
+      -- no gap before the range
+      pub no-gap : rank past_gap ≤ rank start → may (record { iter = j; start = next }) ⊆ may entry
+      no-gap most rest at = so.same rest (λ nothing.
+          let all = facts in
+          let low = starts-at in
+          after-next rest at (λ given might runs. nothing (run ∷ given)
+          (laws.answers i j (Some range) call given might)
+          (runs-along n (gaps_from (run.last + 1) (members given)) (gaps_from (rank start) (members (run ∷ given))) rest
+          (gaps-along n (rank start) run given (omega (arith, all.0, low, most)) all.1) runs)))
+
+      -- fewer gaps are left
+      fewer : (finite : IsFinite (source.remaining i))
+          → IsFinite (left (record { iter = j; start = next })) × (size (left (record { iter = j; start = next })) < size (left entry))
+      fewer finite = fewer-by next
+        where
+          fewer-by : (next : Option T) → IsFinite (left (record { iter = j; start = next }))
+              × (size (left (record { iter = j; start = next })) < size (left entry))
+          fewer-by None = let more = so.nearer in (tt, omega arith)
+          fewer-by (Some each) =
+              let more = so.nearer in
+              let less = goes.on finite in
+              (less.1, omega (arith, less.2))
+
+      input-ends : IsFinite (source.remaining i)
+      input-ends = (laws.sorted i so.ready.callable).ends
+
+      pub gap-goes : (answer : RangeInclusive T)
+          → MakesProgress can left entry (Some answer) (record { iter = j; start = next })
+      gap-goes answer =
+          let ready = ready-next in
+          let less = fewer input-ends in
+          record { on = λ finite. (ready, less.0, less.1); keeps = ready; rests = λ finite. tt }
+
+      pub so-next : rank past_gap ≤ rank start → SoFar entry (record { iter = j; start = next })
+      so-next most =
+          let less = fewer input-ends in
+          record { ready = ready-next; same = no-gap most; nearer = omega (arith, less.1) }

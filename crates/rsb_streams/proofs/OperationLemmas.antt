@@ -1,0 +1,61 @@
+-- What operations on streams may give, composed.
+use Rattle.std.proofs.Common.{◌≡◌, ℕ, Bool, true, false, ◌||◌, not, List, [], ◌∷◌, refl, sym, ap, ◌∙◌, inl, inr}
+use Rattle.rsb_integer.specs.Runs.{Interval, covers, members}
+use Rattle.rsb_integer.specs.Selection.{complement, union}
+use Rattle.rsb_integer.proofs.RunsLemmas.{members-cons, runs-along, runs-members}
+use Rattle.rsb_streams.specs.Stream.{Outcomes, ◌⊆◌, IsMergeOf, joined, merges, runs_by, runs_by_two}
+
+or-head : (head left right : Bool) → (head || (left || right)) ≡ ((head || left) || right)
+or-head true left right = refl
+or-head false left right = refl
+
+or-swap : (head left right : Bool) → (head || (left || right)) ≡ (left || (head || right))
+or-swap true true right = refl
+or-swap true false right = refl
+or-swap false left right = refl
+
+-- a merge has the members of both lists
+pub members-merge : (left right runs : List Interval) (rank : ℕ) → IsMergeOf left right runs
+    → members runs rank ≡ union (members left) (members right) rank
+members-merge left right [] rank merged = rw (merged.0, merged.1) refl
+members-merge left right (run ∷ runs) rank merged = elim merged [
+  | inl from_left ↦
+      let rest = from_left.0 in
+      rw from_left.1 (members-cons run runs rank
+      ∙ ap (λ test. covers rank run || test) (members-merge rest right runs rank from_left.2)
+      ∙ or-head (covers rank run) (members rest rank) (members right rank)
+      ∙ sym (ap (λ test. test || members right rank) (members-cons run rest rank)))
+  | inr from_right ↦
+      let rest = from_right.0 in
+      rw from_right.1 (members-cons run runs rank
+      ∙ ap (λ test. covers rank run || test) (members-merge left rest runs rank from_right.2)
+      ∙ or-swap (covers rank run) (members left rank) (members rest rank)
+      ∙ sym (ap (λ test. members left rank || test) (members-cons run rest rank)))
+]
+
+-- the runs of a merge are the runs of the union
+pub union-of_merge : (n : ℕ) (P Q Merged : Outcomes) → Merged ⊆ merges n P Q
+    → joined n Merged ⊆ runs_by_two n union P Q
+union-of_merge n P Q Merged merge runs may = λ nothing. may (λ given at all.
+    merge given at (λ left right might also merged.
+    nothing left right might also (runs-along n (members given) (union (members left) (members right)) runs
+    (λ rank within. members-merge left right given rank merged.1) all)))
+
+not_not : (test : Bool) → not (not test) ≡ test
+not_not true = refl
+not_not false = refl
+
+-- the complement of a complement has the runs of the members
+pub complement-twice : (n : ℕ) (P Gaps : Outcomes) → Gaps ⊆ runs_by n complement P
+    → runs_by n complement Gaps ⊆ joined n P
+complement-twice n P Gaps gaps runs may = λ nothing. may (λ given at all.
+    gaps given at (λ first might complement_runs.
+    nothing first might (runs-along n (complement (members given)) (members first) runs
+    (λ rank within. ap not (runs-members n (complement (members first)) given complement_runs rank within)
+    ∙ not_not (members first rank)) all)))
+
+-- a union of less gives less
+pub union-within : (n : ℕ) (P Q Less : Outcomes) → Less ⊆ Q
+    → runs_by_two n union P Less ⊆ runs_by_two n union P Q
+union-within n P Q Less within runs may = λ nothing. may (λ left right at also all.
+    nothing left right at (within right also) all)

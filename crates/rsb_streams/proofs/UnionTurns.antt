@@ -1,0 +1,198 @@
+-- The loop of a union.
+use Rattle.std.proofs.Common.{◌≡◌, ℕ, ◌+◌, ◌<◌, ◌≤◌, max, true, false, List, [], ◌∷◌, refl, sym, ap, ◌∙◌, subst, arith}
+use Rattle.std.specs.Prelude.{Option, Some, None}
+use Rattle.std.specs.Iterator.{Count, IsFinite, MakesProgress, size}
+use Rattle.std.specs.Range.{range_inclusive_start, range_inclusive_end, range_inclusive_exhausted}
+use Rattle.std.specs.declared.ops.RangeInclusive.{RangeInclusive}
+use Rattle.rsb_integer.specs.Rank.{interval_of}
+use Rattle.rsb_integer.specs.Runs.{Interval, members}
+use Rattle.rsb_integer.proofs.ListLemmas.{not_both}
+use Rattle.rsb_streams.specs.PutBack.{HasRoom, IsPutBack, put_back-rests}
+use Rattle.rsb_streams.specs.Stream.{Outcomes, joined, AnswersAndRests}
+use Rattle.rsb_streams.specs.UnionIter.{union_can_next, union_may_give, union_remaining}
+use Rattle.rsb_streams.specs.declared.put_back.PutBack.{PutBack}
+use Rattle.rsb_streams.specs.declared.union_iter.UnionIter.{UnionIter}
+use Rattle.rsb_streams.proofs.Sources.{Source, IsLawful, put_back_source, put_back-lawful, range-start, range-end, put_back-may, put_back-ready, put_back-size}
+use Rattle.rsb_streams.proofs.UnionLemmas.{Gathers, gathers-first, gathers-more, gathers-answer, next-sorted, next-past, no-runs, runs-of_nothing}
+
+module _ {S T : Type 0} (rank : T → ℕ) (n : ℕ) (source : Source S T) where
+  -- the ranges drawn since the entry cover those from start to end
+  pub record SoFar (entry now : PutBack T S) (start end : T) : Type 0 where
+    pub room : HasRoom now
+    pub ready : (put_back_source rank n source).can_next now
+    pub gathers : Gathers n ((put_back_source rank n source).may_give entry)
+        ((put_back_source rank n source).may_give now)
+        (record { first = rank start; last = rank end })
+    pub nearer : size ((put_back_source rank n source).remaining now)
+        < size ((put_back_source rank n source).remaining entry)
+
+  module _ (laws : IsLawful rank n source) where
+    abbrev may : PutBack T S → Outcomes
+    may = (put_back_source rank n source).may_give
+
+    abbrev left : PutBack T S → Count
+    left = (put_back_source rank n source).remaining
+
+    held_laws : IsLawful rank n (put_back_source rank n source)
+    held_laws = put_back-lawful rank n source laws
+
+    ends : (s : PutBack T S) → (put_back_source rank n source).can_next s → IsFinite (left s)
+    ends s ready = (held_laws.sorted s ready).ends
+
+    abbrev Goes : PutBack T S → Option (RangeInclusive T) → PutBack T S → Type 0
+    Goes s item t = MakesProgress (put_back_source rank n source).can_next left s item t
+
+    abbrev Union : Type 0
+    Union = UnionIter T S
+
+    abbrev Answered : Union → Option (RangeInclusive T) → Union → Type 0
+    Answered = AnswersAndRests rank
+        (union_can_next rank n source.can_next source.may_give)
+        (union_may_give rank n source.can_next source.may_give)
+
+    abbrev run : T → T → Interval
+    run start end = record { first = rank start; last = rank end }
+
+    -- nothing comes
+    pub rests : (s t : Union) (item : Option (RangeInclusive T)) → item ≡ None
+        → (put_back_source rank n source).steps s.iter None t.iter → Answered s item t
+    rests s t item is call =
+        let nothing = put_back-rests rank n source.can_next source.may_give source.steps
+        s.iter t.iter call in
+        rw is (record {
+          answers = λ never. never [] (held_laws.answers s.iter t.iter None call) (runs-of_nothing n);
+          rests = (
+            nothing.0,
+            λ runs may. no-runs n runs (λ fails. may (λ given at. fails given (nothing.1 given at))),
+          );
+        })
+
+    -- the first range
+    pub begun : (s t : PutBack T S) (range : RangeInclusive T) (start end : T)
+        → (put_back_source rank n source).can_next s → (put_back_source rank n source).steps s (Some range) t
+        → Goes s (Some range) t → start ≡ range_inclusive_start range → end ≡ range_inclusive_end range
+        → SoFar s t start end
+    begun s t range start end ready call goes from to =
+        let on = goes.on (ends s ready) in
+        let first = interval_of rank range in
+        let gathers = gathers-first n (may s) (may t) first (held_laws.sorted s ready).all
+        (held_laws.sorted t on.0).some (held_laws.answers s t (Some range) call) in
+        let low = range-start rank range gathers.ordered ∙ sym (ap rank from) in
+        let high = range-end rank range gathers.ordered ∙ sym (ap rank to) in
+        record {
+          room = call.room;
+          ready = on.0;
+          gathers = subst (Gathers n (may s) (may t)) (λ i. record { first = low i; last = high i }) gathers;
+          nearer = on.2;
+        }
+
+    -- where the next range starts and ends
+    pub next-values : (entry s t : PutBack T S) (start end : T) (range : RangeInclusive T) → SoFar entry s start end
+        → (put_back_source rank n source).steps s (Some range) t → Goes s (Some range) t
+        → (rank (range_inclusive_start range) < n)
+        × (rank (range_inclusive_end range) < n)
+    next-values entry s t start end range so call goes =
+        let facts = next-sorted n (may entry) (may s) (may t) (run start end) (interval_of rank range)
+        so.gathers (held_laws.sorted t goes.keeps).some (held_laws.answers s t (Some range) call) in
+        let low = range-start rank range facts.1 in
+        let high = range-end rank range facts.1 in
+        (omega (arith, facts.1, facts.2, low), omega (arith, facts.2, high))
+
+    -- one more range, which overlaps or touches
+    pub more : (entry s t : PutBack T S) (start end last : T) (range : RangeInclusive T) → SoFar entry s start end
+        → (put_back_source rank n source).steps s (Some range) t → Goes s (Some range) t
+        → rank (range_inclusive_start range) ≤ rank end + 1
+        → rank last ≡ max (rank end) (rank (range_inclusive_end range))
+        → SoFar entry t start last
+    more entry s t start end last range so call goes touching most =
+        let on = goes.on (ends s so.ready) in
+        let next = interval_of rank range in
+        let some = (held_laws.sorted t on.0).some in
+        let answers = held_laws.answers s t (Some range) call in
+        let facts = next-sorted n (may entry) (may s) (may t) (run start end) next so.gathers some answers in
+        let low = range-start rank range facts.1 in
+        let high = range-end rank range facts.1 in
+        let gathers = gathers-more n (may entry) (may s) (may t) (run start end) next so.gathers some answers
+        (omega (arith, low, touching)) in
+        let end_is : max (rank end) next.last ≡ rank last = omega (arith, most, high) in
+        record {
+          room = call.room;
+          ready = on.0;
+          gathers = subst (Gathers n (may entry) (may t))
+              (λ i. record { first = rank start; last = end_is i }) gathers;
+          nearer = omega (arith, on.2, so.nearer);
+        }
+
+    -- what was gathered, as a range
+    gathered : (start end : T) (answer : RangeInclusive T) → range_inclusive_exhausted answer ≡ false
+        → range_inclusive_start answer ≡ start → range_inclusive_end answer ≡ end
+        → run start end ≡ interval_of rank answer
+    gathered start end answer fresh from to = rw (fresh, from, to) refl
+
+    answer-from : (entry : PutBack T S) (t : Union) (start end : T) (answer : RangeInclusive T)
+        → range_inclusive_exhausted answer ≡ false
+        → range_inclusive_start answer ≡ start → range_inclusive_end answer ≡ end
+        → ((rest : List Interval) → joined n (may t.iter) rest
+        → joined n (may entry) (run start end ∷ rest))
+        → Answered (record { iter = entry }) (Some answer) t
+    answer-from entry t start end answer fresh from to answers = record {
+      answers = subst (λ first. (rest : List Interval) → joined n (may t.iter) rest
+          → joined n (may entry) (first ∷ rest)) (gathered start end answer fresh from to) answers;
+      rests = tt;
+    }
+
+    -- the answer at the end
+    pub answer-last : (entry s : PutBack T S) (t : Union) (start end : T) (answer : RangeInclusive T)
+        → SoFar entry s start end → (put_back_source rank n source).steps s None t.iter
+        → range_inclusive_exhausted answer ≡ false
+        → range_inclusive_start answer ≡ start → range_inclusive_end answer ≡ end
+        → Answered (record { iter = entry }) (Some answer) t
+    answer-last entry s t start end answer so call fresh from to =
+        let nothing = put_back-rests rank n source.can_next source.may_give source.steps
+        s t.iter call in
+        answer-from entry t start end answer fresh from to
+        (gathers-answer n (may entry) (may s) (may t.iter) (run start end) so.gathers (λ late at.
+        let none = nothing.1 late at in (
+          rw none (held_laws.answers s t.iter None call),
+          λ place member. absurd (not_both (members [] place)
+              (subst (λ each. members each place ≡ true) none member) refl),
+        )))
+
+    -- the answer where the next range starts apart, and is put back
+    module _ (entry s u : PutBack T S) (t : Union) (start end : T) (range answer : RangeInclusive T)
+        (so : SoFar entry s start end) (call : (put_back_source rank n source).steps s (Some range) u)
+        (goes : Goes s (Some range) u) (put : IsPutBack range u t.iter)
+        (apart : rank end + 1 < rank (range_inclusive_start range)) where
+      past : (late : List Interval) → may t.iter late
+          → may s late × ((place : ℕ) → members late place ≡ true → rank end + 2 ≤ place)
+      past late at =
+          let first = put_back-may rank n source range u t.iter late call.room put at in
+          let before = held_laws.answers s u (Some range) call first.0 first.1 in
+          let sorted = so.gathers.sorted (interval_of rank range ∷ first.0) before in
+          let low = range-start rank range sorted.1 in (
+            subst (may s) (sym first.2) before,
+            λ place member. next-past n (interval_of rank range) first.0 (rank start)
+                (rank end) place sorted (omega (arith, low, apart))
+                (subst (λ each. members each place ≡ true) first.2 member),
+          )
+
+      pub answer-ahead : range_inclusive_exhausted answer ≡ false
+          → range_inclusive_start answer ≡ start → range_inclusive_end answer ≡ end
+          → Answered (record { iter = entry }) (Some answer) t
+      answer-ahead fresh from to =
+          answer-from entry t start end answer fresh from to
+          (gathers-answer n (may entry) (may s) (may t.iter) (run start end) so.gathers past)
+
+      pub ahead-goes : MakesProgress (union_can_next rank n source.can_next source.may_give)
+          (union_remaining source.remaining) (record { iter = entry }) (Some answer) t
+      ahead-goes =
+          let on = goes.on (ends s so.ready) in
+          let ready = put_back-ready rank n source range u t.iter call.room put on.0 (λ rest at.
+          so.ready.sorted (interval_of rank range ∷ rest)
+          (held_laws.answers s u (Some range) call rest at)) in
+          let one = put_back-size rank n source range u t.iter call.room put in
+          record {
+            on = λ finite. (ready, ends t.iter ready, omega (arith, one, on.2, so.nearer));
+            keeps = ready;
+            rests = λ finite. tt;
+          }

@@ -1,0 +1,81 @@
+-- What a `Vec` becomes by `into_iter`, as a source of a stream.
+use Rattle.std.proofs.Common.{◌≡◌, ℕ, ◌+◌, List, [], ◌∷◌, length, refl, sym, ap, ◌∙◌, subst, arith}
+use Rattle.std.proofs.lemmas.List.{nil_from_length}
+use Rattle.std.specs.Prelude.{Some, None}
+use Rattle.std.specs.Iterator.{Count, at_most}
+use Rattle.std.specs.Vec.Iter.{into_iter_items, into_iter_len, into_iter_steps}
+use Rattle.std.specs.declared.ops.RangeInclusive.{RangeInclusive}
+use Rattle.std.specs.declared.vec.IntoIter.{IntoIter}
+use Rattle.std.specs.VecDeque.Ownership.{in_place}
+use Rattle.rsb_integer.specs.Rank.{intervals_of}
+use Rattle.rsb_integer.specs.Runs.{IsCanonicalIn}
+use Rattle.rsb_streams.specs.Calls.{Call, IsSource, calls_give}
+use Rattle.rsb_streams.specs.Stream.{◌⊆◌, just}
+use Rattle.rsb_streams.proofs.ListedSources.{canonical-front, intervals-append, listed-calls, listed-yields}
+
+abbrev Items : Type 0 → Type 0 → Type 0
+Items T Z = IntoIter (RangeInclusive T) Z
+
+module _ {T Z : Type 0} (rank : T → ℕ) (n : ℕ) where
+  abbrev can : Items T Z → Type 0
+  can s = Unit {0}
+
+  abbrev left : Items T Z → Count
+  left s = at_most (into_iter_len s)
+
+  ended : (s t : Items T Z) → into_iter_steps s None t → into_iter_items s ≡ []
+  ended s t call = nil_from_length (into_iter_items s) (omega (arith, s.rest.ok.0, call.0))
+
+  -- one item is taken, and the others stay
+  abbrev taken : (s : Items T Z) (range : RangeInclusive T) (ranges : List (RangeInclusive T)) → into_iter_items s ≡ range ∷ ranges
+      → Items T Z
+  taken s range ranges is =
+      let size : into_iter_len s ≡ length ranges + 1 = s.rest.ok.0 ∙ ap length is ∙ omega arith in
+      let fits = s.rest.small in
+      record {
+        rest = record {
+          ptr = s.rest.ptr;
+          len = length ranges;
+          cap = s.rest.cap;
+          head = 0;
+          wrapped = 0;
+          alloc = s.rest.alloc;
+          items = ranges;
+          ok = (refl, omega arith);
+          small = (fits.0, omega (arith, size, fits.1));
+          ring_fits = in_place (length ranges) s.rest.cap 0 0
+              (omega arith, (omega (arith, size, fits.1), omega arith));
+        };
+      }
+
+  more : (s : Items T Z) (range : RangeInclusive T) (ranges : List (RangeInclusive T)) → can s
+      → into_iter_items s ≡ range ∷ ranges
+      → (t : Items T Z) × Call rank can (into_iter_steps {X = RangeInclusive T} {Z = Z}) left s (Some range) t
+  more s range ranges ready is =
+      let size : length ranges + 1 ≡ into_iter_len s = sym (s.rest.ok.0 ∙ ap length is ∙ omega arith) in (
+        taken s range ranges is,
+        record {
+          gives = (is, size);
+          nearer = λ finite. (tt, tt, omega (arith, size));
+        },
+      )
+
+  -- its calls give its items
+  pub vec-calls : (s : Items T Z) → calls_give rank can (into_iter_steps {X = RangeInclusive T} {Z = Z}) left s
+      ⊆ just (intervals_of rank (into_iter_items s))
+  vec-calls s =
+      listed-calls rank can (into_iter_steps {X = RangeInclusive T} {Z = Z}) left into_iter_items
+      (λ s t range call. call.0) ended (λ s. tt) more s tt
+
+  -- and it is a source where they are canonical
+  pub vec-source : (s : Items T Z) → IsCanonicalIn n (intervals_of rank (into_iter_items s))
+      → IsSource rank can (into_iter_steps {X = RangeInclusive T} {Z = Z}) left (IsCanonicalIn n) s
+  vec-source s canonical = record {
+    callable = tt;
+    finite = tt;
+    fronts = λ ranges t all.
+        let whole = listed-yields rank can (into_iter_steps {X = RangeInclusive T} {Z = Z}) left into_iter_items
+        (λ s t range call. call.0) ended ranges s t all in
+        canonical-front n (intervals_of rank ranges) (intervals_of rank (into_iter_items t))
+        (subst (IsCanonicalIn n) (ap (intervals_of rank) whole ∙ intervals-append rank ranges (into_iter_items t)) canonical);
+  }

@@ -1,0 +1,43 @@
+use Rattle.std.proofs.Common.{◌+◌, sym}
+use borrow.Author.Tests.{ltb-false, ltb-true}
+use Rattle.rsb_streams.proofs.TryNewLemmas.{bad-here, canonical-take, checked-all, checked-none, checked-one, follows-after}
+use Rattle.rsb_streams.proofs.not_sorted_disjoint.first_bad.Goals as goal
+
+pub loop-range-init : goal.loop-range-init
+loop-range-init g c = checked-none g.T.Integer.rank g.T.Integer.value_count c.args.ranges.now
+
+pub returns-then-not-follows-clause-none : goal.returns-then-not-follows-clause-none
+returns-then-not-follows-clause-none g c = (
+  (λ impossible. absurd (cc)),
+  (λ canonical.
+      let rank = g.T.Integer.rank in
+      let n = g.T.Integer.value_count in
+      let within = ltb-true c.loop-range.position _ (sym c.in-Some.ensures.lookup.0) in
+      let follows = c.if-not-follows.ensures.found.1
+      (follows-after rank n c.args.ranges.now c.loop-range.position c.loop-range.previous
+      c.loop-range.invariant c.in-Some.range.now within c.in-Some.ensures.lookup.1
+      (canonical-take rank n c.args.ranges.now (c.loop-range.position + 1) canonical)) in
+      absurd (cc)),
+)
+
+pub returns-then-not-follows-clause-bad : goal.returns-then-not-follows-clause-bad
+returns-then-not-follows-clause-bad g c =
+    let within = ltb-true c.loop-range.position _ (sym c.in-Some.ensures.lookup.0) in
+    bad-here g.T.Integer.rank g.T.Integer.value_count c.args.ranges.now c.loop-range.position
+    c.loop-range.previous c.loop-range.invariant c.in-Some.range.now within c.in-Some.ensures.lookup.1
+    (λ canonical. let follows = c.if-not-follows.ensures.found.1 canonical in cc)
+
+pub loop-range-preserved : goal.loop-range-preserved
+loop-range-preserved g c =
+    let within = ltb-true c.loop-range.position _ (sym c.in-Some.ensures.lookup.0) in
+    checked-one g.T.Integer.rank g.T.Integer.value_count c.args.ranges.now c.loop-range.position
+    c.loop-range.previous c.loop-range.invariant c.in-Some.range.now within c.in-Some.ensures.lookup.1
+    (c.if-not-follows.ensures.found.0 cc) c.if-not-follows.ensures.value c.end.result.now c.end.ensures
+
+pub returns-clause-none : goal.returns-clause-none
+returns-clause-none g c = (
+  (λ _. checked-all g.T.Integer.rank g.T.Integer.value_count c.args.ranges.now c.loop-range.position
+      c.loop-range.previous c.loop-range.invariant
+      (ltb-false c.loop-range.position _ (sym c.in_default.ensures.lookup.0))),
+  (λ _. cc),
+)

@@ -1,0 +1,12 @@
+pub mod AssumeSortedStarts
+pub mod Calls
+pub mod CheckSortedDisjoint
+pub mod Fused
+pub mod Listed
+pub mod Merge
+pub mod NotIter
+pub mod NotSortedDisjoint
+pub mod Outcomes
+pub mod PutBack
+pub mod Stream
+pub mod UnionIter

@@ -1,0 +1,27 @@
+-- Streams whose state shows the list of the ranges to come.
+use Rattle.std.proofs.Common.{ℕ, List, ◌∷◌, refl, sym, ap, ◌∙◌}
+use Rattle.std.specs.Prelude.{Option, Some, None}
+use Rattle.std.specs.Iterator.{YieldsFirst, item_count}
+use Rattle.std.specs.declared.ops.RangeInclusive.{RangeInclusive}
+use Rattle.rsb_integer.specs.Rank.{interval_of, intervals_of}
+use Rattle.rsb_integer.specs.Runs.{IsCanonicalIn}
+use Rattle.rsb_streams.specs.Stream.{Outcomes, just, Answers, Keeps}
+
+module _ {S T : Type 0} (rank : T → ℕ) (left : S → List (RangeInclusive T)) where
+  -- the list that is left, alone
+  abbrev pub listed_may_give : S → Outcomes
+  listed_may_give s = just (intervals_of rank (left s))
+
+  pub listed-answers : (s t : S) (item : Option (RangeInclusive T)) → YieldsFirst left s item t
+      → Answers rank listed_may_give s item t
+  listed-answers s t None call = ap (intervals_of rank) (sym call.0)
+  listed-answers s t (Some range) call = λ rest at.
+      ap (λ runs. interval_of rank range ∷ runs) at ∙ ap (intervals_of rank) (sym call)
+
+  pub listed-keeps : (n : ℕ) (s : S) → IsCanonicalIn n (intervals_of rank (left s))
+      → Keeps (IsCanonicalIn n) (listed_may_give s) (item_count left s)
+  listed-keeps n s canonical = record {
+    some = λ never. never (intervals_of rank (left s)) refl;
+    all = λ runs at. rw at canonical;
+    ends = tt;
+  }

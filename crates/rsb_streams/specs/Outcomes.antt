@@ -1,0 +1,212 @@
+-- Lemmas on lists of intervals and on what may be given of them.
+use Rattle.std.proofs.Common.{◌≡◌, ℕ, zero, suc, ◌+◌, ◌<◌, ◌≤◌, true, false, List, [], ◌∷◌, sym, ap, ◌∙◌, inl, inr, arith}
+use Rattle.std.proofs.lemmas.Bool.{cases_lt}
+use Rattle.std.proofs.lemmas.List.Elements.{All-head, All-tail, All-cons, All-nil}
+use Rattle.std.specs.Iterator.{Count}
+use Rattle.rsb_integer.specs.Runs.{Interval, members, AllEndBelow, AreRuns, IsCanonicalFrom, IsCanonicalIn}
+use Rattle.rsb_integer.specs.Selection.{Selection}
+use Rattle.rsb_integer.proofs.ListLemmas.{true_or_false}
+use Rattle.rsb_integer.proofs.RunsLemmas.{canonical-lower, members-below, members-head, members-tail, covers-cases, runs-from_canonical}
+use Rattle.rsb_streams.specs.Stream.{Outcomes, HasSortedStartsFrom, HasSortedStarts, Keeps}
+
+-- ---- what is decided holds where it does not fail
+
+pub settled_le : (a b : ℕ) → ¬ (¬ (a ≤ b)) → a ≤ b
+settled_le a b holds = elim (cases_lt b a) [
+  | inl less ↦ absurd (holds (λ most. omega (arith, less, most)))
+  | inr most ↦ most
+]
+
+pub settled_lt : (a b : ℕ) → ¬ (¬ (a < b)) → a < b
+settled_lt a b holds = elim (cases_lt a b) [
+  | inl less ↦ less
+  | inr most ↦ absurd (holds (λ less. omega (arith, less, most)))
+]
+
+pub settled_canonical : (low : ℕ) (runs : List Interval) → ¬ (¬ (IsCanonicalFrom low runs))
+    → IsCanonicalFrom low runs
+settled_canonical low [] holds = tt
+settled_canonical low (run ∷ runs) holds = (
+  settled_le low run.first (λ fails. holds (λ all. fails all.0)),
+  settled_le run.first run.last (λ fails. holds (λ all. fails all.1)),
+  settled_canonical (run.last + 2) runs (λ fails. holds (λ all. fails all.2)),
+)
+
+pub settled_below : (n : ℕ) (runs : List Interval) → ¬ (¬ (AllEndBelow n runs)) → AllEndBelow n runs
+settled_below n [] holds = All-nil (λ (run : Interval). run.last < n)
+settled_below n (run ∷ runs) holds =
+    let P : Interval → Type 0 = λ each. each.last < n in
+    All-cons P run runs (settled_lt run.last n (λ fails. holds (λ all. fails (All-head P run runs all))))
+    (settled_below n runs (λ fails. holds (λ all. fails (All-tail P run runs all))))
+
+pub settled_canonical_in : (n : ℕ) (runs : List Interval) → ¬ (¬ (IsCanonicalIn n runs))
+    → IsCanonicalIn n runs
+settled_canonical_in n runs holds = (
+  settled_canonical 0 runs (λ fails. holds (λ all. fails all.0)),
+  settled_below n runs (λ fails. holds (λ all. fails all.1)),
+)
+
+pub settled_sorted : (n low : ℕ) (runs : List Interval) → ¬ (¬ (HasSortedStartsFrom n low runs))
+    → HasSortedStartsFrom n low runs
+settled_sorted n low [] holds = tt
+settled_sorted n low (run ∷ runs) holds = (
+  settled_le low run.first (λ fails. holds (λ all. fails all.0)),
+  settled_le run.first run.last (λ fails. holds (λ all. fails all.1)),
+  settled_lt run.last n (λ fails. holds (λ all. fails all.2)),
+  settled_sorted n run.first runs (λ fails. holds (λ all. fails all.3)),
+)
+
+-- ---- sorted starts
+
+pub sorted-lower : (n low lower : ℕ) (runs : List Interval) → lower ≤ low
+    → HasSortedStartsFrom n low runs → HasSortedStartsFrom n lower runs
+sorted-lower n low lower [] less sorted = tt
+sorted-lower n low lower (run ∷ runs) less sorted =
+    let starts = sorted.0 in (omega arith, sorted.1, sorted.2, sorted.3)
+
+-- a canonical list has sorted starts
+pub canonical-sorted : (n low : ℕ) (runs : List Interval) → IsCanonicalFrom low runs → AllEndBelow n runs
+    → HasSortedStartsFrom n low runs
+canonical-sorted n low [] canonical below = tt
+canonical-sorted n low (run ∷ runs) canonical below =
+    let P : Interval → Type 0 = λ each. each.last < n in
+    let ordered = canonical.1 in (
+      canonical.0,
+      ordered,
+      All-head P run runs below,
+      sorted-lower n (run.last + 2) run.first runs (omega arith)
+          (canonical-sorted n (run.last + 2) runs canonical.2 (All-tail P run runs below)),
+    )
+
+-- so have the lists that a stream of canonical ones gives
+pub canonical-starts : (n : ℕ) (P : Outcomes) (remaining : Count) → Keeps (IsCanonicalIn n) P remaining
+    → Keeps (HasSortedStarts n) P remaining
+canonical-starts n P remaining kept = record {
+  some = kept.some;
+  all = λ runs may.
+      let canonical = kept.all runs may in
+      canonical-sorted n 0 runs canonical.0 canonical.1;
+  ends = kept.ends;
+}
+
+-- no member lies below the start of a sorted list
+pub sorted-members : (n low : ℕ) (runs : List Interval) (rank : ℕ) → HasSortedStartsFrom n low runs
+    → members runs rank ≡ true → low ≤ rank
+sorted-members n low [] rank sorted member = absurd (cc)
+sorted-members n low (run ∷ runs) rank sorted member =
+    let starts = sorted.0 in
+    elim (covers-cases rank run) [
+      | inl inside ↦ let from = inside.0 in omega arith
+      | inr outside ↦
+          let past = sorted-members n run.first runs rank sorted.3
+          (sym (members-tail run runs rank outside.0) ∙ member) in
+          omega arith
+    ]
+
+-- ---- a set has runs
+
+-- the canonical list with the members of the set from a rank on
+record AreRunsFrom (n : ℕ) (selected : Selection) (low : ℕ) (runs : List Interval) : Type 0 where
+  pub canonical : IsCanonicalFrom low runs
+  pub below : AllEndBelow n runs
+  pub same : (rank : ℕ) → low ≤ rank → rank < n → members runs rank ≡ selected rank
+
+-- a rank that is not selected comes before
+runs-gap : (n : ℕ) (selected : Selection) (low : ℕ) (runs : List Interval) → selected low ≡ false
+    → AreRunsFrom n selected (low + 1) runs → AreRunsFrom n selected low runs
+runs-gap n selected low runs gap all = record {
+  canonical = canonical-lower (low + 1) low runs (omega arith) all.canonical;
+  below = all.below;
+  same = λ rank from below. elim (cases_lt low rank) [
+    | inl past ↦ all.same rank (omega arith) below
+    | inr here ↦
+        let is : low ≡ rank = omega arith in
+        members-below (low + 1) runs rank all.canonical (omega arith) ∙ sym gap ∙ ap selected is
+  ];
+}
+
+-- a rank that is selected comes before, apart from the first run
+runs-new : (n : ℕ) (selected : Selection) (low : ℕ) (runs : List Interval) → selected low ≡ true
+    → low < n → IsCanonicalFrom (low + 2) runs → AreRunsFrom n selected (low + 1) runs
+    → AreRunsFrom n selected low (record { first = low; last = low } ∷ runs)
+runs-new n selected low runs here below apart all =
+    let run : Interval = record { first = low; last = low } in
+    record {
+      canonical = (omega arith, omega arith, apart);
+      below = All-cons (λ (each : Interval). each.last < n) run runs below all.below;
+      same = λ rank from within. elim (cases_lt low rank) [
+        | inl past ↦ members-tail run runs rank (inr past) ∙ all.same rank (omega arith) within
+        | inr first ↦
+            let is : low ≡ rank = omega arith in
+            members-head run runs rank from first ∙ sym here ∙ ap selected is
+      ];
+    }
+
+-- a rank that is selected comes before the first run, which it makes longer
+runs-longer : (n : ℕ) (selected : Selection) (low : ℕ) (run : Interval) (runs : List Interval)
+    → selected low ≡ true → run.first ≡ low + 1 → AreRunsFrom n selected (low + 1) (run ∷ runs)
+    → AreRunsFrom n selected low (record { first = low; last = run.last } ∷ runs)
+runs-longer n selected low run runs here touching all =
+    let P : Interval → Type 0 = λ each. each.last < n in
+    let longer : Interval = record { first = low; last = run.last } in
+    let ordered = all.canonical.1 in
+    record {
+      canonical = (omega arith, omega arith, all.canonical.2);
+      below = All-cons P longer runs (All-head P run runs all.below) (All-tail P run runs all.below);
+      same = λ rank from within. elim (cases_lt low rank) [
+        | inl past ↦ elim (cases_lt run.last rank) [
+          | inl after ↦
+              members-tail longer runs rank (inr after) ∙ sym (members-tail run runs rank (inr after))
+              ∙ all.same rank (omega arith) within
+          | inr inside ↦
+              members-head longer runs rank from inside
+              ∙ sym (members-head run runs rank (omega arith) inside)
+              ∙ all.same rank (omega arith) within
+        ]
+        | inr first ↦
+            let is : low ≡ rank = omega arith in
+            members-head longer runs rank from (omega arith) ∙ sym here ∙ ap selected is
+      ];
+    }
+
+runs-before : (n : ℕ) (selected : Selection) (low : ℕ) (runs : List Interval) → selected low ≡ true
+    → low < n → AreRunsFrom n selected (low + 1) runs → (others : List Interval) × AreRunsFrom n selected low others
+runs-before n selected low [] here below all =
+    (record { first = low; last = low } ∷ [], runs-new n selected low [] here below tt all)
+runs-before n selected low (run ∷ runs) here below all =
+    let starts = all.canonical.0 in
+    elim (cases_lt (low + 1) run.first) [
+      | inl apart ↦ (
+        record { first = low; last = low } ∷ run ∷ runs,
+        runs-new n selected low (run ∷ runs) here below (omega arith, all.canonical.1, all.canonical.2) all,
+      )
+      | inr touching ↦ (
+        record { first = low; last = run.last } ∷ runs,
+        runs-longer n selected low run runs here (omega arith) all,
+      )
+    ]
+
+runs-exist_from : (n : ℕ) (selected : Selection) (more low : ℕ) → low + more ≡ n
+    → (runs : List Interval) × AreRunsFrom n selected low runs
+runs-exist_from n selected zero low is = (
+  [],
+  record {
+    canonical = tt;
+    below = All-nil (λ (run : Interval). run.last < n);
+    same = λ rank from below. absurd (omega arith);
+  },
+)
+runs-exist_from n selected (suc more) low is =
+    let rest = runs-exist_from n selected more (low + 1) (omega arith) in
+    elim (true_or_false (selected low)) [
+      | inl here ↦ runs-before n selected low rest.0 here (omega arith) rest.1
+      | inr gap ↦ (rest.0, runs-gap n selected low rest.0 gap rest.1)
+    ]
+
+pub runs-exist : (n : ℕ) (selected : Selection) → (runs : List Interval) × AreRuns n selected runs
+runs-exist n selected =
+    let found = runs-exist_from n selected n 0 (omega arith) in (
+      found.0,
+      runs-from_canonical n selected found.0 found.1.canonical found.1.below
+          (λ rank below. found.1.same rank (omega arith) below),
+    )

@@ -1,0 +1,139 @@
+-- What a stream of ranges may still give, as lists of intervals of ranks.
+use Rattle.std.specs.Prelude.{◌≡◌, ◌⊎◌, ℕ, Bool, not, ◌&&◌, cond, ◌<◌, ◌≤◌, nat_le, List, [], ◌∷◌, Option, Some, None, MatchOption, MatchBool, IsTrue, IsFalse}
+use Rattle.std.specs.declared.ops.RangeInclusive.{RangeInclusive}
+use Rattle.std.specs.Iterator.{Count, IsFinite}
+use Rattle.rsb_integer.specs.Rank.{interval_of}
+use Rattle.rsb_integer.specs.Runs.{Interval, members, AreRuns}
+use Rattle.rsb_integer.specs.Selection.{Selection}
+
+-- ---- lists of intervals
+
+-- the intervals are non-empty and lie in a type of n values, the first starts at `low` or past it, and no
+-- start falls
+abbrev pub HasSortedStartsFrom : ℕ → ℕ → List Interval → Type 0
+HasSortedStartsFrom n low [] = Unit {0}
+HasSortedStartsFrom n low (run ∷ runs) =
+    (low ≤ run.first) × (run.first ≤ run.last) × (run.last < n) × HasSortedStartsFrom n run.first runs
+
+abbrev pub HasSortedStarts : ℕ → List Interval → Type 0
+HasSortedStarts n runs = HasSortedStartsFrom n 0 runs
+
+-- the last list has the intervals of both others, each as often as it stands there, and in their orders
+abbrev pub IsMergeOf : List Interval → List Interval → List Interval → Type 0
+IsMergeOf left right [] = (left ≡ []) × (right ≡ [])
+IsMergeOf left right (run ∷ runs) =
+    ((rest : List Interval) × (left ≡ run ∷ rest) × IsMergeOf rest right runs)
+    ⊎ ((rest : List Interval) × (right ≡ run ∷ rest) × IsMergeOf left rest runs)
+
+-- ---- outcomes
+
+-- the lists that a stream may still give: several where a closure in it may answer either way
+abbrev pub Outcomes : Type 1
+Outcomes = List Interval → Type 0
+
+-- what the one may give, the other may give
+infix 40 ◌⊆◌
+abbrev pub ◌⊆◌ : Outcomes → Outcomes → Type 0
+P ⊆ Q = (runs : List Interval) → P runs → Q runs
+
+-- this list alone may be given
+abbrev pub just : List Interval → Outcomes
+just runs others = others ≡ runs
+
+-- something may be given. (Nothing shows that a closure answers when it is called, so no list is at hand: it
+-- is not so that there is none.)
+abbrev pub HasOutcome : Outcomes → Type 0
+HasOutcome P = ¬ ((runs : List Interval) → ¬ (P runs))
+
+-- the fact holds of a list that may be given
+abbrev pub SomeOutcome : Outcomes → (List Interval → Type 0) → Type 0
+SomeOutcome P Fact = ¬ ((runs : List Interval) → P runs → ¬ (Fact runs))
+
+-- the fact holds of two lists, one that each may give
+abbrev pub SomeOutcomes : Outcomes → Outcomes → (List Interval → List Interval → Type 0) → Type 0
+SomeOutcomes P Q Fact = ¬ ((left right : List Interval) → P left → Q right → ¬ (Fact left right))
+
+-- ---- outcomes made of others, in a type of n values
+
+-- the runs of what was given
+abbrev pub joined : ℕ → Outcomes → Outcomes
+joined n P runs = SomeOutcome P (λ given. AreRuns n (members given) runs)
+
+-- the runs of a set made of what was given
+abbrev pub runs_by : ℕ → (Selection → Selection) → Outcomes → Outcomes
+runs_by n operation P runs = SomeOutcome P (λ given. AreRuns n (operation (members given)) runs)
+
+-- the runs of a set made of what two gave
+abbrev pub runs_by_two : ℕ → (Selection → Selection → Selection) → Outcomes → Outcomes → Outcomes
+runs_by_two n operation P Q runs =
+    SomeOutcomes P Q (λ left right. AreRuns n (operation (members left) (members right)) runs)
+
+-- what two gave, merged by starts
+abbrev pub merges : ℕ → Outcomes → Outcomes → Outcomes
+merges n P Q runs =
+    SomeOutcomes P Q (λ left right. HasSortedStarts n runs × IsMergeOf left right runs)
+
+-- the interval alone, where it has a rank
+abbrev pub run_if_any : Interval → List Interval
+run_if_any run = cond (nat_le run.first run.last) (run ∷ []) []
+
+-- nothing once it is done
+abbrev pub unless : Bool → Outcomes → Outcomes
+unless done P runs = MatchBool done (runs ≡ []) (P runs)
+
+-- the range that is held, if there is one, and then what else may be given
+abbrev pub after : {T : Type 0} → (T → ℕ) → Option (RangeInclusive T) → Outcomes → Outcomes
+after rank None P runs = P runs
+after rank (Some range) P runs = (rest : List Interval) × P rest × (runs ≡ interval_of rank range ∷ rest)
+
+-- the ranks from `first` on that the set leaves out
+abbrev pub gaps_from : ℕ → Selection → Selection
+gaps_from first selected rank = nat_le first rank && not (selected rank)
+
+-- ---- calls of `next`
+
+-- what the call answered, and then what may come after it, might come before it
+abbrev pub Answers : {S T : Type 0} → (T → ℕ) → (S → Outcomes)
+    → S → Option (RangeInclusive T) → S → Type 0
+Answers rank may_give s item t = MatchOption item (may_give s [])
+    (λ range. (rest : List Interval) → may_give t rest → may_give s (interval_of rank range ∷ rest))
+
+-- after `None` the stream may be called again, and nothing comes
+abbrev pub Rests : {S T : Type 0} → (S → Type 0) → (S → Outcomes)
+    → Option (RangeInclusive T) → S → Type 0
+Rests can_next may_give item t = MatchOption item (can_next t × (may_give t ⊆ just [])) (λ _. Unit {0})
+
+-- both: all that is known of a call of a stream of ours
+pub record AnswersAndRests {S T : Type 0} (rank : T → ℕ) (can_next : S → Type 0) (may_give : S → Outcomes)
+    (s : S) (item : Option (RangeInclusive T)) (t : S) : Type 0 where
+  pub answers : Answers rank may_give s item t
+  pub rests : Rests can_next may_give item t
+
+-- something may be given, all that may be given keeps the law, and the calls end
+pub record Keeps (law : List Interval → Type 0) (P : Outcomes) (remaining : Count) : Type 0 where
+  pub some : HasOutcome P
+  pub all : P ⊆ law
+  pub ends : IsFinite remaining
+
+-- the stream may be called, and gives nothing but what P may give; `stream` is the members of
+-- `SortedStarts` at its type
+pub record IsStreamOf {S T : Type 0}
+    (stream : record {
+      can_next : S → Type 0;
+      next_gives : S → Option (RangeInclusive T) → S → Type 0;
+      remaining : S → Count;
+      may_give : S → Outcomes;
+    })
+    (s : S) (P : Outcomes) : Type 0 where
+  pub ready : stream.can_next s
+  pub runs : stream.may_give s ⊆ P
+
+-- ---- tests
+
+-- no rank is selected
+abbrev pub IsNothing : Selection → Type 0
+IsNothing selected = (rank : ℕ) → IsFalse (selected rank)
+
+-- each of n ranks is selected
+abbrev pub IsEverything : ℕ → Selection → Type 0
+IsEverything n selected = (rank : ℕ) → rank < n → IsTrue (selected rank)

@@ -1,0 +1,69 @@
+//! Streams of ranges whose starts are known not to fall.
+
+ghost use Rattle.rsb_streams.specs.Calls.{calls_give};
+ghost use Rattle.rsb_streams.specs.AssumeSortedStarts.{
+  assume-answers,
+  assume-keeps,
+  assume_can_next,
+  assume_may_give,
+  assume_remaining,
+  assume_steps,
+  IsSortedSource,
+};
+ghost use Rattle.rsb_streams.specs.CheckSortedDisjoint.{gives_as};
+ghost use Rattle.rsb_streams.specs.Stream.{IsStreamOf};
+
+use crate::sorted_disjoint::SortedStarts;
+use rsb_integer::Integer;
+use std::iter::{Fuse, FusedIterator};
+use std::marker::PhantomData;
+use std::ops::RangeInclusive;
+
+/// The items of an iterator whose starts its maker knows not to fall. (`AssumeSortedStarts` of the
+/// Rust crate.)
+#[derive(Clone, Debug, Drop)]
+pub struct AssumeSortedStarts<T, I> {
+    iter: Fuse<I>,
+    of: PhantomData<T>,
+}
+
+impl<T: Integer, I: Iterator> AssumeSortedStarts<T, I> {
+    /// The items of an iterator, which are finite, non-empty, and by their starts. It takes no memory.
+    pub fn new<J: IntoIterator<Item = RangeInclusive<T>, IntoIter = I>>(iter: J) -> Self
+        requires { (source : I) → J.into_iter_gives iter source
+            → IsSortedSource T.rank T.value_count I.can_next I.next_gives I.remaining source }
+        ensures { IsStreamOf ⟦<AssumeSortedStarts<T, I> as SortedStarts<T>>⟧ result
+            (gives_as J.into_iter_gives (calls_give T.rank I.can_next I.next_gives I.remaining) iter) }
+    {
+        AssumeSortedStarts {
+            iter: iter.into_iter().fuse(),
+            of: PhantomData,
+        }
+    }
+}
+
+impl<T: Integer, I: Iterator<Item = RangeInclusive<T>>> Iterator for AssumeSortedStarts<T, I> {
+    type Item = RangeInclusive<T>;
+
+    ghost can_next = { assume_can_next T.rank T.value_count I.can_next I.next_gives I.remaining };
+
+    ghost next_gives = { assume_steps T.rank T.value_count I.can_next I.next_gives I.remaining };
+
+    ghost remaining = { assume_remaining T.rank T.value_count I.can_next I.next_gives I.remaining };
+
+    fn next(&mut self) -> Option<RangeInclusive<T>> {
+        self.iter.next()
+    }
+}
+
+impl<T: Integer, I: Iterator<Item = RangeInclusive<T>>> FusedIterator
+    for AssumeSortedStarts<T, I> {}
+
+impl<T: Integer, I: Iterator<Item = RangeInclusive<T>>> SortedStarts<T>
+    for AssumeSortedStarts<T, I> {
+    ghost may_give = { assume_may_give T.rank T.value_count I.can_next I.next_gives I.remaining };
+
+    ghost answers = { assume-answers T.rank T.value_count I.can_next I.next_gives I.remaining };
+
+    ghost sorted = { assume-keeps T.rank T.value_count I.can_next I.next_gives I.remaining };
+}

@@ -1,0 +1,117 @@
+//! Streams of ranges that are known to be canonical.
+
+ghost use Rattle.std.specs.Prelude.{◌≡◌, ◌↔◌, [], IfErr, IfOk, IsOk};
+ghost use Rattle.rsb_integer.specs.Rank.{intervals_of};
+ghost use Rattle.rsb_integer.specs.Runs.{IsCanonicalIn};
+ghost use Rattle.rsb_streams.specs.Calls.{calls_give};
+ghost use Rattle.rsb_streams.specs.CheckSortedDisjoint.{
+  check-answers,
+  check-keeps,
+  check_can_next,
+  check_may_give,
+  check_remaining,
+  check_steps,
+  gives_as,
+  IsCanonicalSource,
+};
+ghost use Rattle.rsb_streams.specs.NotSortedDisjoint.{IsFirstBad};
+ghost use Rattle.rsb_streams.specs.Outcomes.{canonical-starts};
+ghost use Rattle.rsb_streams.specs.Stream.{just, IsStreamOf};
+
+use crate::not_sorted_disjoint::{NotSortedDisjoint, first_bad};
+use crate::range_once::RangeOnce;
+use crate::sorted_disjoint::{SortedDisjoint, SortedStarts};
+use rsb_integer::Integer;
+use std::alloc::Allocator;
+use std::iter::{Fuse, FusedIterator};
+use std::marker::PhantomData;
+use std::ops::RangeInclusive;
+use std::vec::IntoIter;
+
+/// The items of an iterator that its maker knows to be canonical. (`CheckSortedDisjoint` of the Rust
+/// crate, which tests them as they come.)
+#[derive(Clone, Debug, Drop)]
+pub struct CheckSortedDisjoint<T, I> {
+    iter: Fuse<I>,
+    of: PhantomData<T>,
+}
+
+impl<T: Integer, I: Iterator> CheckSortedDisjoint<T, I> {
+    /// The items of an iterator, which are finite and canonical. It takes no memory.
+    pub fn new<J: IntoIterator<Item = RangeInclusive<T>, IntoIter = I>>(iter: J) -> Self
+        requires { (source : I) → J.into_iter_gives iter source
+            → IsCanonicalSource T.rank T.value_count I.can_next I.next_gives I.remaining source }
+        ensures { IsStreamOf ⟦<CheckSortedDisjoint<T, I> as SortedStarts<T>>⟧ result
+            (gives_as J.into_iter_gives (calls_give T.rank I.can_next I.next_gives I.remaining) iter) }
+    {
+        CheckSortedDisjoint {
+            iter: iter.into_iter().fuse(),
+            of: PhantomData,
+        }
+    }
+}
+
+impl<T: Integer, A: Allocator> CheckSortedDisjoint<T, IntoIter<RangeInclusive<T>, A>> {
+    /// The ranges of a list, or its first bad position where it is not canonical, and the list. It takes
+    /// no memory.
+    pub fn try_new(ranges: Vec<RangeInclusive<T>, A>) -> Result<Self, NotSortedDisjoint<T, A>>
+        ensures ok { IsOk result ↔ IsCanonicalIn T.value_count (intervals_of T.rank ranges.items) }
+        ensures runs { IfOk result (λ stream.
+            IsStreamOf ⟦<CheckSortedDisjoint<T, IntoIter<RangeInclusive<T>, A>> as SortedStarts<T>>⟧
+            stream (just (intervals_of T.rank ranges.items))) }
+        ensures ranges { IfErr result (λ refused. refused.ranges ≡ ranges) }
+        ensures position { IfErr result (λ refused.
+            IsFirstBad T.value_count (intervals_of T.rank ranges.items) refused.position) }
+    {
+        if let Some(position) = first_bad(&ranges) {
+            return Err(NotSortedDisjoint { position, ranges });
+        }
+        Ok(Self::new(ranges))
+    }
+}
+
+impl<T: Integer> Default for CheckSortedDisjoint<T, RangeOnce<T>> {
+    ghost is_default = { λ result.
+        IsStreamOf ⟦<CheckSortedDisjoint<T, RangeOnce<T>> as SortedStarts<T>>⟧ result (just []) };
+
+    /// No items. It takes no memory.
+    fn default() -> Self {
+        CheckSortedDisjoint {
+            iter: RangeOnce::from(T::exhausted_range()).fuse(),
+            of: PhantomData,
+        }
+    }
+}
+
+impl<T: Integer, I: Iterator<Item = RangeInclusive<T>>> Iterator for CheckSortedDisjoint<T, I> {
+    type Item = RangeInclusive<T>;
+
+    ghost can_next = { check_can_next T.rank T.value_count I.can_next I.next_gives I.remaining };
+
+    ghost next_gives = { check_steps T.rank T.value_count I.can_next I.next_gives I.remaining };
+
+    ghost remaining = { check_remaining T.rank T.value_count I.can_next I.next_gives I.remaining };
+
+    fn next(&mut self) -> Option<RangeInclusive<T>> {
+        self.iter.next()
+    }
+}
+
+impl<T: Integer, I: Iterator<Item = RangeInclusive<T>>> FusedIterator
+    for CheckSortedDisjoint<T, I> {}
+
+impl<T: Integer, I: Iterator<Item = RangeInclusive<T>>> SortedStarts<T>
+    for CheckSortedDisjoint<T, I> {
+    ghost may_give = { check_may_give T.rank T.value_count I.can_next I.next_gives I.remaining };
+
+    ghost answers = { check-answers T.rank T.value_count I.can_next I.next_gives I.remaining };
+
+    ghost sorted = { λ s can. canonical-starts T.value_count _ _
+        (check-keeps T.rank T.value_count I.can_next I.next_gives I.remaining s can) };
+}
+
+impl<T: Integer, I: Iterator<Item = RangeInclusive<T>>> SortedDisjoint<T>
+    for CheckSortedDisjoint<T, I> {
+    ghost canonical = { λ s can.
+        (check-keeps T.rank T.value_count I.can_next I.next_gives I.remaining s can).all };
+}

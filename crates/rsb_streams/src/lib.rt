@@ -1,0 +1,28 @@
+//! Lazy streams of ranges, whose law every implementation proves.
+#![tactic(auto)]
+
+pub mod assume_sorted_starts;
+pub mod check_sorted_disjoint;
+pub mod merge;
+#[cfg(test)]
+mod nested;
+pub mod not_iter;
+mod not_sorted_disjoint;
+pub mod operation_results;
+mod operators;
+mod put_back;
+pub mod range_once;
+pub mod sorted_disjoint;
+#[cfg(test)]
+mod tests;
+pub mod union_iter;
+
+pub use assume_sorted_starts::AssumeSortedStarts;
+pub use check_sorted_disjoint::CheckSortedDisjoint;
+pub use merge::Merge;
+pub use not_iter::NotIter;
+pub use not_sorted_disjoint::NotSortedDisjoint;
+pub use operation_results::Union;
+pub use range_once::RangeOnce;
+pub use sorted_disjoint::{AnythingGoes, SortedDisjoint, SortedStarts};
+pub use union_iter::UnionIter;

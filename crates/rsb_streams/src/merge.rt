@@ -1,0 +1,88 @@
+//! The merge of two streams.
+
+ghost use Rattle.rsb_streams.specs.Merge.{
+  merge-keeps,
+  merge_may_give,
+  merge_remaining,
+  MergeReady,
+};
+ghost use Rattle.rsb_streams.specs.PutBack.{IsFresh};
+ghost use Rattle.rsb_streams.specs.Stream.{merges, AnswersAndRests, IsStreamOf};
+
+use crate::put_back::PutBack;
+use crate::sorted_disjoint::{SortedDisjoint, SortedStarts};
+use rsb_integer::Integer;
+use std::iter::FusedIterator;
+use std::ops::RangeInclusive;
+
+/// The ranges of two streams, by their starts. Which comes first of two that start alike is left open.
+/// It draws a range of a stream only where the one that it held was given, and one more is asked for.
+/// (`Merge` of the Rust crate.)
+#[derive(Clone, Debug, Drop)]
+pub struct Merge<T, L, R> {
+    left: PutBack<T, L>,
+    right: PutBack<T, R>,
+}
+
+impl<T, L: Iterator, R: Iterator> Merge<T, L, R> {
+    /// The merge of what two iterators give, of which nothing is drawn yet.
+    pub(crate) fn of(left: L, right: R) -> Self
+        ensures left { IsFresh left result.left }
+        ensures right { IsFresh right result.right }
+    {
+        Merge {
+            left: PutBack::new(left),
+            right: PutBack::new(right),
+        }
+    }
+}
+
+impl<T: Integer, L: SortedDisjoint<T>, R: SortedDisjoint<T>> Merge<T, L, R> {
+    /// The merge of two streams, of which nothing is drawn yet.
+    pub fn new(left: L, right: R) -> Self
+        requires left { L.can_next left }
+        requires right { R.can_next right }
+        ensures { IsStreamOf ⟦<Merge<T, L, R> as SortedStarts<T>>⟧ result
+            (merges T.value_count (L.may_give left) (R.may_give right)) }
+    {
+        Merge::of(left, right)
+    }
+}
+
+impl<T: Integer, L: SortedDisjoint<T>, R: SortedDisjoint<T>> Iterator for Merge<T, L, R> {
+    type Item = RangeInclusive<T>;
+
+    ghost can_next = { MergeReady T.rank T.value_count L.can_next L.may_give R.can_next R.may_give };
+
+    ghost next_gives = { AnswersAndRests T.rank
+        (MergeReady T.rank T.value_count L.can_next L.may_give R.can_next R.may_give)
+        (merge_may_give T.rank T.value_count L.can_next L.may_give R.can_next R.may_give) };
+
+    ghost remaining = { merge_remaining L.remaining R.remaining };
+
+    fn next(&mut self) -> Option<RangeInclusive<T>> {
+        let Some(first) = self.left.next() else {
+            return self.right.next();
+        };
+        let Some(second) = self.right.next() else {
+            return Some(first);
+        };
+        if *second.start() < *first.start() {
+            self.left.put_back(first);
+            return Some(second);
+        }
+        self.right.put_back(second);
+        Some(first)
+    }
+}
+
+impl<T: Integer, L: SortedDisjoint<T>, R: SortedDisjoint<T>> FusedIterator for Merge<T, L, R> {}
+
+impl<T: Integer, L: SortedDisjoint<T>, R: SortedDisjoint<T>> SortedStarts<T> for Merge<T, L, R> {
+    ghost may_give = { merge_may_give T.rank T.value_count L.can_next L.may_give R.can_next R.may_give };
+
+    ghost answers = { λ s t item gives. gives.answers };
+
+    ghost sorted = { merge-keeps T.rank T.value_count L.can_next L.may_give L.remaining L.sorted
+        R.can_next R.may_give R.remaining R.sorted };
+}

@@ -1,0 +1,34 @@
+//! Results of results, from public contracts alone.
+
+ghost use Rattle.rsb_integer.specs.Selection.{complement, union};
+ghost use Rattle.rsb_streams.specs.Stream.{joined, runs_by, runs_by_two, IsStreamOf};
+
+use crate::not_iter::NotIter;
+use crate::operation_results::Union;
+use crate::sorted_disjoint::{SortedDisjoint, SortedStarts};
+use rsb_integer::Integer;
+
+// The complement of the complement has the members of the stream.
+pub(crate) fn complement_twice<T: Integer, I: SortedDisjoint<T>>(
+    stream: I,
+) -> NotIter<T, NotIter<T, I>>
+    requires { I.can_next stream }
+    ensures { IsStreamOf ⟦<NotIter<T, NotIter<T, I>> as SortedStarts<T>>⟧ result
+        (joined T.value_count (I.may_give stream)) }
+{
+    !stream.complement()
+}
+
+// What lies in the first stream, or outside the second.
+pub(crate) fn union_with_complement<T: Integer, L: SortedDisjoint<T>, R: SortedDisjoint<T>>(
+    left: L,
+    right: R,
+) -> Union<T, L, NotIter<T, R>>
+    requires left { L.can_next left }
+    requires right { R.can_next right }
+    ensures { IsStreamOf ⟦<Union<T, L, NotIter<T, R>> as SortedStarts<T>>⟧ result
+        (runs_by_two T.value_count union (L.may_give left)
+        (runs_by T.value_count complement (R.may_give right))) }
+{
+    left.union(right.complement())
+}

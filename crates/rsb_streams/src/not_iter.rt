@@ -1,0 +1,86 @@
+//! The complement of a stream.
+
+ghost use Rattle.rsb_integer.specs.Selection.{complement};
+ghost use Rattle.rsb_streams.specs.NotIter.{not-keeps, not_can_next, not_may_give, not_remaining};
+ghost use Rattle.rsb_streams.specs.Outcomes.{canonical-starts};
+ghost use Rattle.rsb_streams.specs.Stream.{runs_by, AnswersAndRests, IsStreamOf};
+
+use crate::sorted_disjoint::{SortedDisjoint, SortedStarts};
+use rsb_integer::Integer;
+use std::iter::FusedIterator;
+use std::ops::RangeInclusive;
+
+/// The gaps of a stream, to both ends of the type. (`NotIter` of the Rust crate.)
+#[derive(Clone, Debug, Drop)]
+pub struct NotIter<T, I> {
+    iter: I,
+    // Where the next gap would start: `None` once a range or a gap reached the greatest value.
+    start: Option<T>,
+}
+
+impl<T: Integer, I: SortedDisjoint<T>> NotIter<T, I> {
+    /// The complement of a stream, of which nothing is drawn yet.
+    pub fn new(iter: I) -> Self
+        requires { I.can_next iter }
+        ensures { IsStreamOf ⟦<NotIter<T, I> as SortedStarts<T>>⟧ result
+            (runs_by T.value_count complement (I.may_give iter)) }
+    {
+        NotIter::from(iter)
+    }
+}
+
+impl<T: Integer, I: SortedDisjoint<T>> From<I> for NotIter<T, I> {
+    // The complement of a stream that may be called, of which nothing is drawn yet.
+    ghost from_gives = { λ iter result. I.can_next iter
+        → IsStreamOf ⟦<NotIter<T, I> as SortedStarts<T>>⟧ result
+        (runs_by T.value_count complement (I.may_give iter)) };
+
+    fn from(iter: I) -> Self {
+        NotIter {
+            iter,
+            start: Some(T::min_value()),
+        }
+    }
+}
+
+impl<T: Integer, I: SortedDisjoint<T>> Iterator for NotIter<T, I> {
+    type Item = RangeInclusive<T>;
+
+    ghost can_next = { not_can_next T.rank T.value_count I.can_next I.may_give };
+
+    ghost next_gives = { AnswersAndRests T.rank (not_can_next T.rank T.value_count I.can_next I.may_give)
+        (not_may_give T.rank T.value_count I.can_next I.may_give) };
+
+    ghost remaining = { not_remaining I.remaining };
+
+    fn next(&mut self) -> Option<RangeInclusive<T>> {
+        while let Some(start) = self.start {
+            let Some(range) = self.iter.next() else {
+                self.start = None;
+                return Some(start..=T::max_value());
+            };
+            let (past_gap, end) = range.into_inner();
+            self.start = end.checked_add_one();
+            if start < past_gap {
+                return Some(start..=past_gap.sub_one());
+            }
+        }
+        None
+    }
+}
+
+impl<T: Integer, I: SortedDisjoint<T>> FusedIterator for NotIter<T, I> {}
+
+impl<T: Integer, I: SortedDisjoint<T>> SortedStarts<T> for NotIter<T, I> {
+    ghost may_give = { not_may_give T.rank T.value_count I.can_next I.may_give };
+
+    ghost answers = { λ s t item gives. gives.answers };
+
+    ghost sorted = { λ s ready. canonical-starts T.value_count _ _
+        (not-keeps T.rank T.value_count I.can_next I.may_give I.remaining I.sorted s ready) };
+}
+
+impl<T: Integer, I: SortedDisjoint<T>> SortedDisjoint<T> for NotIter<T, I> {
+    ghost canonical = { λ s ready.
+        (not-keeps T.rank T.value_count I.can_next I.may_give I.remaining I.sorted s ready).all };
+}

@@ -1,0 +1,59 @@
+//! The refusal of a list of ranges that is not canonical.
+
+ghost use Rattle.std.specs.Prelude.{◌↔◌, ◌<◌, [], ◌∷◌, IfSome, IsNone, IsTrue};
+ghost use Rattle.rsb_integer.specs.Rank.{interval_of, intervals_of};
+ghost use Rattle.rsb_integer.specs.Runs.{IsCanonicalFrom, IsCanonicalIn};
+ghost use Rattle.rsb_streams.specs.NotSortedDisjoint.{start_after, IsFirstBad};
+
+use rsb_integer::Integer;
+use std::alloc::{Allocator, Global};
+use std::ops::RangeInclusive;
+
+/// A list of ranges that is not canonical, and its first bad position, counted from 0: there stands an
+/// empty range, or one that does not start more than one past the end of the range before.
+#[derive(Debug, Drop, PartialEq, Eq)]
+pub struct NotSortedDisjoint<T, A: Allocator = Global> {
+    /// The first bad position.
+    pub position: usize,
+    /// The list.
+    pub ranges: Vec<RangeInclusive<T>, A>,
+}
+
+// Whether a range is non-empty, and starts more than one past the end of the one before.
+fn follows<T: Integer>(previous: Option<T>, range: &RangeInclusive<T>) -> bool
+    ensures value { (interval_of T.rank range.now).last < T.value_count }
+    ensures found { IsTrue result
+        ↔ IsCanonicalFrom (start_after T.rank previous) (interval_of T.rank range.now ∷ []) }
+{
+    // Its ends are known for values from here on.
+    range.start().checked_add_one();
+    range.end().checked_add_one();
+    if range.is_empty() {
+        return false;
+    }
+    let Some(end) = previous else {
+        return true;
+    };
+    match end.checked_add_one() {
+        Some(next) => next < *range.start(),
+        None => false,
+    }
+}
+
+// The first position where a list of ranges is not canonical.
+pub(crate) fn first_bad<T: Integer>(ranges: &[RangeInclusive<T>]) -> Option<usize>
+    ensures none { IsNone result ↔ IsCanonicalIn T.value_count (intervals_of T.rank ranges.now) }
+    ensures bad { IfSome result (λ position.
+        IsFirstBad T.value_count (intervals_of T.rank ranges.now) position) }
+{
+    let mut previous = None;
+    let mut position = 0;
+    while let Some(range) = ranges.get(position) {
+        if !follows(previous, range) {
+            return Some(position);
+        }
+        previous = Some(*range.end());
+        position += 1;
+    }
+    None
+}

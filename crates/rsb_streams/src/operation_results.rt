@@ -1,0 +1,75 @@
+//! Named results of operations on streams.
+
+ghost use Rattle.rsb_streams.specs.Merge.{merge-keeps, merge_may_give, merge_remaining, MergeReady};
+ghost use Rattle.rsb_streams.specs.Outcomes.{canonical-starts};
+ghost use Rattle.rsb_streams.specs.Stream.{runs_by_two, IsStreamOf};
+ghost use Rattle.rsb_streams.specs.UnionIter.{union-keeps};
+ghost use Rattle.rsb_integer.specs.Selection.{union};
+
+use crate::merge::Merge;
+use crate::sorted_disjoint::{SortedDisjoint, SortedStarts};
+use crate::union_iter::UnionIter;
+use rsb_integer::Integer;
+use std::iter::FusedIterator;
+use std::ops::RangeInclusive;
+
+/// What lies in either of two streams. (`UnionMerge` of the Rust crate.)
+#[derive(Clone, Debug, Drop)]
+pub struct Union<T, L, R> {
+    iter: UnionIter<T, Merge<T, L, R>>,
+}
+
+impl<T: Integer, L: SortedDisjoint<T>, R: SortedDisjoint<T>> From<(L, R)> for Union<T, L, R> {
+    // The union of two streams that may be called, of which nothing is drawn yet.
+    ghost from_gives = { λ streams result. L.can_next streams.0 → R.can_next streams.1
+        → IsStreamOf ⟦<Union<T, L, R> as SortedStarts<T>>⟧ result
+        (runs_by_two T.value_count union (L.may_give streams.0) (R.may_give streams.1)) };
+
+    fn from(streams: (L, R)) -> Self {
+        let (left, right) = streams;
+        let merge: Merge<T, L, R> = Merge::of(left, right);
+        Union {
+            iter: UnionIter::over(merge),
+        }
+    }
+}
+
+impl<T: Integer, L: SortedDisjoint<T>, R: SortedDisjoint<T>> Iterator for Union<T, L, R> {
+    type Item = RangeInclusive<T>;
+
+    ghost can_next = { λ s. ⟦<UnionIter<T, Merge<T, L, R>> as Iterator>⟧.can_next s.iter };
+
+    ghost next_gives = { λ s item t.
+        ⟦<UnionIter<T, Merge<T, L, R>> as Iterator>⟧.next_gives s.iter item t.iter };
+
+    ghost remaining = { λ s. ⟦<UnionIter<T, Merge<T, L, R>> as Iterator>⟧.remaining s.iter };
+
+    fn next(&mut self) -> Option<RangeInclusive<T>> {
+        self.iter.next()
+    }
+}
+
+impl<T: Integer, L: SortedDisjoint<T>, R: SortedDisjoint<T>> FusedIterator for Union<T, L, R> {}
+
+impl<T: Integer, L: SortedDisjoint<T>, R: SortedDisjoint<T>> SortedStarts<T> for Union<T, L, R> {
+    ghost may_give = { λ s.
+        ⟦<UnionIter<T, Merge<T, L, R>> as SortedStarts<T>>⟧.may_give s.iter };
+
+    ghost answers = { λ s t item gives. gives.answers };
+
+    ghost sorted = { λ s ready. canonical-starts T.value_count _ _ (union-keeps T.rank T.value_count
+        (MergeReady T.rank T.value_count L.can_next L.may_give R.can_next R.may_give)
+        (merge_may_give T.rank T.value_count L.can_next L.may_give R.can_next R.may_give)
+        (merge_remaining L.remaining R.remaining)
+        (merge-keeps T.rank T.value_count L.can_next L.may_give L.remaining L.sorted
+        R.can_next R.may_give R.remaining R.sorted) s.iter ready) };
+}
+
+impl<T: Integer, L: SortedDisjoint<T>, R: SortedDisjoint<T>> SortedDisjoint<T> for Union<T, L, R> {
+    ghost canonical = { λ s ready. (union-keeps T.rank T.value_count
+        (MergeReady T.rank T.value_count L.can_next L.may_give R.can_next R.may_give)
+        (merge_may_give T.rank T.value_count L.can_next L.may_give R.can_next R.may_give)
+        (merge_remaining L.remaining R.remaining)
+        (merge-keeps T.rank T.value_count L.can_next L.may_give L.remaining L.sorted
+        R.can_next R.may_give R.remaining R.sorted) s.iter ready).all };
+}

@@ -1,0 +1,103 @@
+//! One range as a stream.
+
+ghost use Rattle.std.specs.Iterator.{YieldsFirst, YieldsLast, item_count};
+ghost use Rattle.rsb_integer.specs.Rank.{interval_of, intervals_of};
+ghost use Rattle.rsb_integer.specs.Runs.{IsCanonicalIn};
+ghost use Rattle.rsb_streams.specs.Listed.{listed-answers, listed-keeps, listed_may_give};
+ghost use Rattle.rsb_streams.specs.Outcomes.{canonical-starts};
+ghost use Rattle.rsb_streams.specs.Stream.{just, run_if_any, IsStreamOf};
+
+use crate::sorted_disjoint::{SortedDisjoint, SortedStarts};
+use rsb_integer::Integer;
+use std::iter::FusedIterator;
+use std::marker::Model;
+use std::ops::RangeInclusive;
+
+/// One range as a stream, from both ends. Contracts see it as the list of the ranges still to come.
+/// (`RangeOnce` of the Rust crate.)
+#[derive(Drop)]
+pub struct RangeOnce<T> {
+    range: Option<RangeInclusive<T>>,
+}
+
+impl<T> Model for RangeOnce<T> {
+    ghost use Rattle.std.specs.Prelude.{List, option_to_list};
+    ghost use Rattle.std.specs.declared.ops.RangeInclusive.{RangeInclusive};
+
+    ghost Value = { List (RangeInclusive T) };
+
+    ghost view = { λ s. option_to_list s.range };
+}
+
+impl<T: Integer> RangeOnce<T> {
+    /// The range if it is non-empty, else nothing. It takes no memory. (`RangeOnce::new`.)
+    pub fn new(range: RangeInclusive<T>) -> Self
+        ensures { IsStreamOf ⟦<RangeOnce<T> as SortedStarts<T>>⟧ result
+            (just (run_if_any (interval_of T.rank range))) }
+    {
+        RangeOnce::from(range)
+    }
+}
+
+impl<T: Integer> From<RangeInclusive<T>> for RangeOnce<T> {
+    ghost from_gives = { λ range result.
+        IsStreamOf ⟦<RangeOnce<T> as SortedStarts<T>>⟧ result
+        (just (run_if_any (interval_of T.rank range))) };
+
+    fn from(range: RangeInclusive<T>) -> Self {
+        // Its ends are known for values from here on.
+        range.start().checked_add_one();
+        range.end().checked_add_one();
+        if range.is_empty() {
+            return RangeOnce { range: None };
+        }
+        RangeOnce { range: Some(range) }
+    }
+}
+
+impl<T: Integer> Iterator for RangeOnce<T> {
+    type Item = RangeInclusive<T>;
+
+    ghost can_next = { λ s. IsCanonicalIn T.value_count (intervals_of T.rank s) };
+
+    ghost next_gives = { YieldsFirst (λ s. s) };
+
+    ghost remaining = { item_count (λ s. s) };
+
+    fn next(&mut self) -> Option<RangeInclusive<T>> {
+        self.range.take()
+    }
+}
+
+impl<T: Integer> DoubleEndedIterator for RangeOnce<T> {
+    ghost next_back_gives = { YieldsLast (λ s. s) };
+
+    fn next_back(&mut self) -> Option<RangeInclusive<T>> {
+        self.range.take()
+    }
+}
+
+impl<T: Integer> ExactSizeIterator for RangeOnce<T> {
+    fn len(&self) -> usize {
+        match &self.range {
+            Some(_) => 1,
+            None => 0,
+        }
+    }
+}
+
+impl<T: Integer> FusedIterator for RangeOnce<T> {}
+
+impl<T: Integer> SortedStarts<T> for RangeOnce<T> {
+    ghost may_give = { listed_may_give T.rank (λ s. s) };
+
+    ghost answers = { listed-answers T.rank (λ s. s) };
+
+    ghost sorted = { λ s canonical. canonical-starts T.value_count _ _
+        (listed-keeps T.rank (λ s. s) T.value_count s canonical) };
+}
+
+impl<T: Integer> SortedDisjoint<T> for RangeOnce<T> {
+    ghost canonical = { λ s canonical.
+        (listed-keeps T.rank (λ s. s) T.value_count s canonical).all };
+}

@@ -1,0 +1,110 @@
+//! What streams give on ranges worked out by hand.
+
+use crate::assume_sorted_starts::AssumeSortedStarts;
+use crate::check_sorted_disjoint::CheckSortedDisjoint;
+use crate::merge::Merge;
+use crate::nested::{complement_twice, union_with_complement};
+use crate::range_once::RangeOnce;
+use crate::sorted_disjoint::{SortedDisjoint, SortedStarts};
+use crate::union_iter::UnionIter;
+use rsb_integer::Integer;
+use std::iter::FusedIterator;
+use std::ops::RangeInclusive;
+use std::test::Fail;
+
+// Whether a stream gives the ranges with these ends, and then nothing.
+fn gives<T: Integer, I: SortedStarts<T>>(stream: I, wanted: &[(T, T)]) -> bool
+    requires { I.can_next stream }
+{
+    let mut stream = stream;
+    for pair in wanted {
+        let Some(range) = stream.next() else {
+            return false;
+        };
+        if range != (pair.0..=pair.1) {
+            return false;
+        }
+    }
+    stream.next().is_none()
+}
+
+#[test]
+fn single_range_comes_once_and_only_where_it_has_members(rt: HostRuntime) {
+    assert!(rt; gives(RangeOnce::new(3u8..=5), &[(3, 5)]));
+    assert!(rt; gives(RangeOnce::new(3u8..=2), &[]));
+    let mut emptied = 4u8..=4;
+    emptied.next();
+    assert!(rt; gives(RangeOnce::new(emptied), &[]));
+}
+
+#[test]
+fn union_joins_what_overlaps_or_touches(rt: HostRuntime) {
+    let left = RangeOnce::new(0u8..=4).union(RangeOnce::new(250..=255));
+    assert!(rt; gives(left.union(RangeOnce::new(5..=249)), &[(0, 255)]));
+    let left = RangeOnce::new(100..=499).union(RangeOnce::new(501..=999));
+    let right = RangeOnce::new(-20..=-20).union(RangeOnce::new(400..=599));
+    assert!(rt; gives(left | right, &[(-20, -20), (100, 999)]));
+}
+
+#[test]
+fn complement_reaches_both_ends_of_the_type(rt: HostRuntime) {
+    let low_and_high = RangeOnce::new(0u8..=9).union(RangeOnce::new(20..=255));
+    assert!(rt; gives(low_and_high.complement(), &[(10, 19)]));
+    assert!(rt; gives(!RangeOnce::new(1u8..=0), &[(0, 255)]));
+    assert!(rt; gives(!RangeOnce::new(0u8..=255), &[]));
+    assert!(rt; gives(!RangeOnce::new(7u8..=8), &[(0, 6), (9, 255)]));
+}
+
+#[test]
+fn tests_look_at_all_members(rt: HostRuntime) {
+    assert!(rt; RangeOnce::new(1u8..=0).is_empty());
+    assert!(rt; !RangeOnce::new(0u8..=0).is_empty());
+    assert!(rt; RangeOnce::new(0u8..=255).is_universal());
+    assert!(rt; !RangeOnce::new(0u8..=254).is_universal());
+    assert!(rt; !RangeOnce::new(1u8..=255).is_universal());
+    assert!(rt; !RangeOnce::new(1u8..=0).is_universal());
+}
+
+#[test]
+fn nested_results_stay_canonical(rt: HostRuntime) {
+    assert!(rt; gives(complement_twice(RangeOnce::new(3u8..=5)), &[(3, 5)]));
+    let either = union_with_complement(RangeOnce::new(3u8..=5), RangeOnce::new(5..=9));
+    assert!(rt; gives(either, &[(0, 5), (10, 255)]));
+}
+
+#[test]
+fn merge_gives_each_range_as_it_stands(rt: HostRuntime) {
+    let left = RangeOnce::new(1u8..=2).union(RangeOnce::new(10..=11));
+    let merged = Merge::new(left, RangeOnce::new(2u8..=12));
+    assert!(rt; gives(merged, &[(1, 2), (2, 12), (10, 11)]));
+}
+
+#[test]
+fn lists_are_accepted_where_they_are_canonical(rt: HostRuntime) -> Result<(), Fail> {
+    let bad = vec![in rt.alloc(); 1u8..=2, 3..=4, 9..=8]?;
+    let Err(refused) = CheckSortedDisjoint::try_new(bad) else {
+        assert!(rt; false, "touching ranges were accepted");
+        return Ok(());
+    };
+    assert_eq!(rt; refused.position, 1);
+    assert!(rt; refused.ranges == vec![in rt.alloc(); 1u8..=2, 3..=4, 9..=8]?);
+    let none: Vec<RangeInclusive<u8>> = Vec::new(rt.alloc());
+    let Ok(nothing) = CheckSortedDisjoint::try_new(none) else {
+        assert!(rt; false, "the empty list was refused");
+        return Ok(());
+    };
+    assert!(rt; gives(nothing, &[]));
+    let good = vec![in rt.alloc(); 1u8..=2, 4..=4, 9..=255]?;
+    let Ok(three) = CheckSortedDisjoint::try_new(good) else {
+        assert!(rt; false, "a canonical list was refused");
+        return Ok(());
+    };
+    assert!(rt; gives(!three, &[(0, 0), (3, 3), (5, 8)]));
+    Ok(())
+}
+
+#[test]
+fn no_items_by_default(rt: HostRuntime) {
+    let nothing: CheckSortedDisjoint<u8, RangeOnce<u8>> = CheckSortedDisjoint::default();
+    assert!(rt; gives(nothing, &[]));
+}

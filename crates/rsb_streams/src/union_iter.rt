@@ -1,0 +1,87 @@
+//! The union of ranges that come by their starts.
+
+ghost use Rattle.rsb_streams.specs.Outcomes.{canonical-starts};
+ghost use Rattle.rsb_streams.specs.PutBack.{IsFresh};
+ghost use Rattle.rsb_streams.specs.Stream.{joined, AnswersAndRests, IsStreamOf};
+ghost use Rattle.rsb_streams.specs.UnionIter.{
+  union-keeps,
+  union_can_next,
+  union_may_give,
+  union_remaining,
+};
+
+use crate::put_back::PutBack;
+use crate::sorted_disjoint::{SortedDisjoint, SortedStarts};
+use rsb_integer::Integer;
+use std::iter::FusedIterator;
+use std::ops::RangeInclusive;
+
+/// The ranges of a stream whose starts do not fall, joined where they overlap or touch. It holds one
+/// range at most: the one after its last answer. (`UnionIter` of the Rust crate.)
+#[derive(Clone, Debug, Drop)]
+pub struct UnionIter<T, SS> {
+    iter: PutBack<T, SS>,
+}
+
+impl<T, SS: Iterator> UnionIter<T, SS> {
+    /// The union of what an iterator gives, of which nothing is drawn yet.
+    pub(crate) fn over(iter: SS) -> Self
+        ensures { IsFresh iter result.iter }
+    {
+        UnionIter {
+            iter: PutBack::new(iter),
+        }
+    }
+}
+
+impl<T: Integer, SS: SortedStarts<T>> UnionIter<T, SS> {
+    /// The union of the ranges of a stream, of which nothing is drawn yet.
+    pub fn new(iter: SS) -> Self
+        requires { SS.can_next iter }
+        ensures { IsStreamOf ⟦<UnionIter<T, SS> as SortedStarts<T>>⟧ result
+            (joined T.value_count (SS.may_give iter)) }
+    {
+        UnionIter::over(iter)
+    }
+}
+
+impl<T: Integer, SS: SortedStarts<T>> Iterator for UnionIter<T, SS> {
+    type Item = RangeInclusive<T>;
+
+    ghost can_next = { union_can_next T.rank T.value_count SS.can_next SS.may_give };
+
+    ghost next_gives = { AnswersAndRests T.rank (union_can_next T.rank T.value_count SS.can_next SS.may_give)
+        (union_may_give T.rank T.value_count SS.can_next SS.may_give) };
+
+    ghost remaining = { union_remaining SS.remaining };
+
+    fn next(&mut self) -> Option<RangeInclusive<T>> {
+        let (start, mut end) = self.iter.next()?.into_inner();
+        while let Some(range) = self.iter.next() {
+            if let Some(after) = end.checked_add_one() {
+                if after < *range.start() {
+                    self.iter.put_back(range);
+                    return Some(start..=end);
+                }
+            }
+            end = end.max(*range.end());
+        }
+        Some(start..=end)
+    }
+}
+
+impl<T: Integer, SS: SortedStarts<T>> FusedIterator for UnionIter<T, SS> {}
+
+impl<T: Integer, SS: SortedStarts<T>> SortedStarts<T> for UnionIter<T, SS> {
+    ghost may_give = { union_may_give T.rank T.value_count SS.can_next SS.may_give };
+
+    ghost answers = { λ s t item gives. gives.answers };
+
+    ghost sorted = { λ s ready. canonical-starts T.value_count _ _
+        (union-keeps T.rank T.value_count SS.can_next SS.may_give SS.remaining SS.sorted s ready) };
+}
+
+impl<T: Integer, SS: SortedStarts<T>> SortedDisjoint<T> for UnionIter<T, SS> {
+    ghost canonical = { λ s ready.
+        (union-keeps T.rank T.value_count SS.can_next SS.may_give SS.remaining SS.sorted s ready).all };
+}
