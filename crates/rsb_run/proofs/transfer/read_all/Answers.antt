@@ -12,7 +12,7 @@ loop-preserved g c =
       | in-Ok+in_ok-extend_from_slice-in-Ok w ↦
           let new = take w.in-Ok.count c.read.new.buf in
           let grown : c.match-read.bytes.items ≡ c.loop.bytes.items ++ new =
-              ap (λ v. v.items) w.bytes-is ∙ w.in_ok-extend_from_slice-in-Ok.ensures.items in
+          ap (λ v. v.items) w.bytes-is ∙ w.in_ok-extend_from_slice-in-Ok.ensures.items in
           Consumes-then _ before after c.loop.bytes.items new c.match-read.bytes.items grown
           c.loop.invariant w.in-Ok.ensures.bytes.0
       | in-Err+else-ne w ↦
