@@ -4,12 +4,12 @@ use Rattle.std.proofs.lemmas.Bool.{cases_lt}
 use Rattle.std.proofs.lemmas.Bool.Decides.{nat_tests}
 use Rattle.std.proofs.lemmas.List.Elements.{All-head, All-nil, All-tail}
 use Rattle.rsb_integer.specs.Runs.{Interval, covers, members, AllEndBelow, IsCanonical, IsCanonicalFrom, IsCanonicalIn}
-use Rattle.rsb_integer.specs.Selection.{count}
+use Rattle.rsb_integer.specs.Selection.{count, IsNothing}
 use Rattle.rsb_integer.proofs.CountLemmas.{count-none}
 use Rattle.rsb_integer.proofs.ListLemmas.{not_both, or-true}
 use Rattle.rsb_integer.proofs.RunsLemmas.{members-below, members-cons, members-head, members-tail}
 use Rattle.range_set_blaze.specs.Kept.{run_of, runs_of, IsKept}
-use Rattle.range_set_blaze.specs.Set.{IsGreatest, IsLeast, IsNothing}
+use Rattle.range_set_blaze.specs.Set.{IsGreatest, IsLeast}
 use Rattle.range_set_blaze.specs.declared.set.run.Run.{Run}
 
 module _ {T : Type 0} (rank : T → ℕ) (n : ℕ) where

@@ -30,14 +30,6 @@ abbrev pub between : {T : Type 0} → (T → ℕ) → ℕ → Bound T → Bound 
 between rank n start end other = nat_le (first_rank rank start) other && nat_lt other
     (past_rank rank n end)
 
--- no rank is selected
-abbrev pub IsNothing : Selection → Type 0
-IsNothing selected = (rank : ℕ) → IsFalse (selected rank)
-
--- each of n ranks is selected
-abbrev pub IsEverything : ℕ → Selection → Type 0
-IsEverything n selected = (rank : ℕ) → rank < n → IsTrue (selected rank)
-
 -- ---- sets before and after a call
 
 -- the new set has the members of the old one and the added ranks, and no others

@@ -3,8 +3,8 @@
 ghost use Rattle.std.specs.Prelude.{◌≡◌, ◌↔◌, ◌<◌, [], length, IfSome, IsNone, IsTrue};
 ghost use Rattle.rsb_integer.specs.Rank.{intervals_of};
 ghost use Rattle.rsb_integer.specs.Runs.{members, AreRuns, IsCanonicalIn};
-ghost use Rattle.rsb_integer.specs.Selection.{count};
-ghost use Rattle.range_set_blaze.specs.Set.{IsGreatest, IsLeast, IsNothing};
+ghost use Rattle.rsb_integer.specs.Selection.{count, IsNothing};
+ghost use Rattle.range_set_blaze.specs.Set.{IsGreatest, IsLeast};
 
 mod bulk;
 mod insert;

@@ -1,5 +1,5 @@
 -- Sets of ranks and their algebra. A rank is the place of a value in its type, from 0 on.
-use Rattle.std.specs.Prelude.{◌≡◌, ℕ, zero, suc, Bool, true, false, not, ◌&&◌, ◌||◌, cond, ◌+◌, ◌<◌, List, [], ◌∷◌}
+use Rattle.std.specs.Prelude.{◌≡◌, ℕ, zero, suc, Bool, true, false, not, ◌&&◌, ◌||◌, cond, ◌+◌, ◌<◌, List, [], ◌∷◌, IsTrue, IsFalse}
 
 -- a set of ranks: it selects those that it is true of
 abbrev pub Selection : Type 0
@@ -49,6 +49,14 @@ odd_of (set ∷ sets) rank = exclusive_or (set rank) (odd_of sets rank)
 -- no rank below n tells the two sets apart
 abbrev pub Agree : ℕ → Selection → Selection → Type 0
 Agree n left right = (rank : ℕ) → rank < n → left rank ≡ right rank
+
+-- no rank is selected
+abbrev pub IsNothing : Selection → Type 0
+IsNothing selected = (rank : ℕ) → IsFalse (selected rank)
+
+-- each of n ranks is selected
+abbrev pub IsEverything : ℕ → Selection → Type 0
+IsEverything n selected = (rank : ℕ) → rank < n → IsTrue (selected rank)
 
 -- how many ranks below n the set selects. Not an abbreviation, since n may be 2 ^ 128.
 unfoldable pub count : ℕ → Selection → ℕ

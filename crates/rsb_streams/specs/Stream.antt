@@ -1,5 +1,5 @@
 -- What a stream of ranges may still give, as lists of intervals of ranks.
-use Rattle.std.specs.Prelude.{◌≡◌, ◌⊎◌, ℕ, Bool, not, ◌&&◌, cond, ◌<◌, ◌≤◌, nat_le, List, [], ◌∷◌, Option, Some, None, MatchOption, MatchBool, IsTrue, IsFalse}
+use Rattle.std.specs.Prelude.{◌≡◌, ◌⊎◌, ℕ, Bool, not, ◌&&◌, cond, ◌<◌, ◌≤◌, nat_le, List, [], ◌∷◌, Option, Some, None, MatchOption, MatchBool}
 use Rattle.std.specs.declared.ops.RangeInclusive.{RangeInclusive}
 use Rattle.std.specs.Iterator.{Count, IsFinite}
 use Rattle.rsb_integer.specs.Rank.{interval_of}
@@ -127,13 +127,3 @@ pub record IsStreamOf {S T : Type 0}
     (s : S) (P : Outcomes) : Type 0 where
   pub ready : stream.can_next s
   pub runs : stream.may_give s ⊆ P
-
--- ---- tests
-
--- no rank is selected
-abbrev pub IsNothing : Selection → Type 0
-IsNothing selected = (rank : ℕ) → IsFalse (selected rank)
-
--- each of n ranks is selected
-abbrev pub IsEverything : ℕ → Selection → Type 0
-IsEverything n selected = (rank : ℕ) → rank < n → IsTrue (selected rank)

@@ -3,15 +3,13 @@
 ghost use Rattle.std.specs.Prelude.{◌↔◌, Option, IsTrue};
 ghost use Rattle.std.specs.declared.ops.RangeInclusive.{RangeInclusive};
 ghost use Rattle.rsb_integer.specs.Runs.{members, IsCanonicalIn};
-ghost use Rattle.rsb_integer.specs.Selection.{complement, union};
+ghost use Rattle.rsb_integer.specs.Selection.{complement, union, IsEverything, IsNothing};
 ghost use Rattle.rsb_streams.specs.Stream.{
   ◌⊆◌,
   runs_by,
   runs_by_two,
   Answers,
   HasSortedStarts,
-  IsEverything,
-  IsNothing,
   IsStreamOf,
   Keeps,
   Outcomes,

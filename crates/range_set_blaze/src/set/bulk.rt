@@ -3,8 +3,9 @@
 ghost use Rattle.std.specs.Prelude.{◌≡◌, [], IfOk};
 ghost use Rattle.rsb_integer.specs.Rank.{intervals_of, interval_of};
 ghost use Rattle.rsb_integer.specs.Runs.{covers, members, IsCanonicalIn};
+ghost use Rattle.rsb_integer.specs.Selection.{IsEverything};
 ghost use Rattle.rsb_streams.specs.Stream.{SomeOutcome};
-ghost use Rattle.range_set_blaze.specs.Set.{Adds, IsEverything};
+ghost use Rattle.range_set_blaze.specs.Set.{Adds};
 
 use crate::into_ranges_iter::IntoRangesIter;
 use crate::set::RangeSetBlaze;

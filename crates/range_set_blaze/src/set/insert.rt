@@ -3,8 +3,9 @@
 ghost use Rattle.std.specs.Prelude.{◌≡◌, ◌↔◌, ◌+◌, ◌-◌, ◌<◌, ◌≤◌, ◌++◌, ◌∷◌, ◌||◌, ℕ, All, drop, length, take, vec_len, IfOk, IfSome, IsFalse, IsNone, IsOk, IsSome, IsTrue, OnErr, OnOk};
 ghost use Rattle.std.specs.List.{sum_by};
 ghost use Rattle.rsb_integer.specs.Runs.{covers, length_of, members, IsCanonicalFrom, IsCanonicalIn, IsNonEmpty};
+ghost use Rattle.rsb_integer.specs.Selection.{IsNothing};
 ghost use Rattle.range_set_blaze.specs.Kept.{run_of, runs_of};
-ghost use Rattle.range_set_blaze.specs.Set.{between, first_rank, only, past_rank, Adds, IsNothing, IsReached, LacksSomeOf};
+ghost use Rattle.range_set_blaze.specs.Set.{between, first_rank, only, past_rank, Adds, IsReached, LacksSomeOf};
 
 use crate::set::RangeSetBlaze;
 use crate::set::run::{Run, greater, is_below, known, lesser, reaches};

@@ -3,9 +3,9 @@
 ghost use Rattle.std.specs.Prelude.{◌≡◌, ◌↔◌, ◌<◌, IfSome, IsFalse, IsNone, IsSome, IsTrue};
 ghost use Rattle.rsb_integer.specs.Rank.{interval_of};
 ghost use Rattle.rsb_integer.specs.Runs.{members, IsCanonicalIn};
-ghost use Rattle.rsb_integer.specs.Selection.{complement};
+ghost use Rattle.rsb_integer.specs.Selection.{complement, IsEverything};
 ghost use Rattle.range_set_blaze.specs.Kept.{run_of, runs_of};
-ghost use Rattle.range_set_blaze.specs.Set.{IsEverything, IsRunAround};
+ghost use Rattle.range_set_blaze.specs.Set.{IsRunAround};
 
 use crate::set::RangeSetBlaze;
 use crate::set::run::{Run, is_below, known};

@@ -2,7 +2,7 @@ use Rattle.std.proofs.Common.{◌≡◌, ◌↔◌, ◌+◌, ◌<◌, false, nat
 use Rattle.std.specs.Prelude.{IsTrue}
 use Rattle.rsb_integer.specs.Rank.{interval_of}
 use Rattle.rsb_integer.specs.Runs.{members}
-use Rattle.rsb_streams.specs.Stream.{IsEverything}
+use Rattle.rsb_integer.specs.Selection.{IsEverything}
 use Rattle.rsb_streams.proofs.Compare.{IsRanked, at_most-by, less-rank, not_less-rank}
 use Rattle.rsb_streams.proofs.FirstItems.{first-range, first-tells, first-whole, late-lacks, same-test}
 use Rattle.rsb_streams.proofs.Sources.{Source, IsLawful, range-start, range-end}
