@@ -1,6 +1,7 @@
 pub mod CheckLemmas
 pub mod Compare
 pub mod FirstItems
+pub mod LawfulSources
 pub mod ListedSources
 pub mod MergeTurns
 pub mod NotLemmas

@@ -7,7 +7,7 @@ use Rattle.std.specs.declared.ops.RangeInclusive.{RangeInclusive}
 use Rattle.rsb_integer.specs.Rank.{interval_of, intervals_of}
 use Rattle.rsb_integer.specs.Runs.{Interval, AllEndBelow, IsCanonicalIn}
 use Rattle.rsb_integer.proofs.RunsLemmas.{canonical-parts}
-use Rattle.rsb_streams.specs.Calls.{Call, IsSource, calls_give}
+use Rattle.rsb_streams.specs.Calls.{Call, IsSource, calls_give, calls-steps}
 use Rattle.rsb_streams.specs.Stream.{◌⊆◌, just}
 use Rattle.rsb_streams.proofs.SourceLemmas.{canonical-tail}
 
@@ -116,7 +116,7 @@ module _ {T : Type 0} (rank : T → ℕ) (n : ℕ) where
     finite = tt;
     fronts = λ ranges t all.
         let whole = listed-yields rank can first size_of (λ each. each) (λ s t range call. call)
-        (λ s t call. call.0) ranges s t all in
+        (λ s t call. call.0) ranges s t (calls-steps rank can first size_of ranges s t all) in
         canonical-front n (intervals_of rank ranges) (intervals_of rank t)
         (subst (IsCanonicalIn n) (ap (intervals_of rank) whole ∙ intervals-append rank ranges t) canonical);
   }

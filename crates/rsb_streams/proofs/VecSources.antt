@@ -9,7 +9,7 @@ use Rattle.std.specs.declared.vec.IntoIter.{IntoIter}
 use Rattle.std.specs.VecDeque.Ownership.{in_place}
 use Rattle.rsb_integer.specs.Rank.{intervals_of}
 use Rattle.rsb_integer.specs.Runs.{IsCanonicalIn}
-use Rattle.rsb_streams.specs.Calls.{Call, IsSource, calls_give}
+use Rattle.rsb_streams.specs.Calls.{Call, IsSource, calls_give, calls-steps}
 use Rattle.rsb_streams.specs.Stream.{◌⊆◌, just}
 use Rattle.rsb_streams.proofs.ListedSources.{canonical-front, intervals-append, listed-calls, listed-yields}
 
@@ -75,7 +75,8 @@ module _ {T Z : Type 0} (rank : T → ℕ) (n : ℕ) where
     finite = tt;
     fronts = λ ranges t all.
         let whole = listed-yields rank can (into_iter_steps {X = RangeInclusive T} {Z = Z}) left into_iter_items
-        (λ s t range call. call.0) ended ranges s t all in
+        (λ s t range call. call.0) ended ranges s t
+        (calls-steps rank can (into_iter_steps {X = RangeInclusive T} {Z = Z}) left ranges s t all) in
         canonical-front n (intervals_of rank ranges) (intervals_of rank (into_iter_items t))
         (subst (IsCanonicalIn n) (ap (intervals_of rank) whole ∙ intervals-append rank ranges (into_iter_items t)) canonical);
   }

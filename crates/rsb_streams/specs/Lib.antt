@@ -1,3 +1,4 @@
+pub mod Ascending
 pub mod AssumeSortedStarts
 pub mod Calls
 pub mod CheckSortedDisjoint

@@ -3,9 +3,12 @@
 ghost use Rattle.rsb_integer.specs.Selection.{complement, union};
 ghost use Rattle.rsb_streams.specs.Stream.{joined, runs_by, runs_by_two, IsStreamOf};
 
+use crate::assume_sorted_starts::AssumeSortedStarts;
+use crate::check_sorted_disjoint::CheckSortedDisjoint;
 use crate::not_iter::NotIter;
 use crate::operation_results::Union;
 use crate::sorted_disjoint::{SortedDisjoint, SortedStarts};
+use crate::union_iter::UnionIter;
 use rsb_integer::Integer;
 
 // The complement of the complement has the members of the stream.
@@ -31,4 +34,22 @@ pub(crate) fn union_with_complement<T: Integer, L: SortedDisjoint<T>, R: SortedD
         (runs_by T.value_count complement (R.may_give right))) }
 {
     left.union(right.complement())
+}
+
+// The ranges of a stream once more, since their starts are known not to fall, and joined.
+pub(crate) fn joined_again<T: Integer, I: SortedStarts<T>>(
+    stream: I,
+) -> UnionIter<T, AssumeSortedStarts<T, I>>
+    requires { I.can_next stream }
+    ensures { ⟦<UnionIter<T, AssumeSortedStarts<T, I>> as Iterator>⟧.can_next result }
+{
+    UnionIter::new(AssumeSortedStarts::new(stream))
+}
+
+// The ranges of a stream once more, since they are known to be canonical.
+pub(crate) fn known<T: Integer, I: SortedDisjoint<T>>(stream: I) -> CheckSortedDisjoint<T, I>
+    requires { I.can_next stream }
+    ensures { ⟦<CheckSortedDisjoint<T, I> as Iterator>⟧.can_next result }
+{
+    CheckSortedDisjoint::new(stream)
 }

@@ -1,12 +1,13 @@
 //! What streams give on ranges worked out by hand.
 
-use crate::assume_sorted_starts::AssumeSortedStarts;
+mod own_stream;
+
 use crate::check_sorted_disjoint::CheckSortedDisjoint;
 use crate::merge::Merge;
-use crate::nested::{complement_twice, union_with_complement};
+use crate::nested::{complement_twice, joined_again, known, union_with_complement};
 use crate::range_once::RangeOnce;
 use crate::sorted_disjoint::{SortedDisjoint, SortedStarts};
-use crate::union_iter::UnionIter;
+use crate::tests::own_stream::Tens;
 use rsb_integer::Integer;
 use std::iter::FusedIterator;
 use std::ops::RangeInclusive;
@@ -80,6 +81,14 @@ fn merge_gives_each_range_as_it_stands(rt: HostRuntime) {
 }
 
 #[test]
+fn streams_that_are_known_are_taken_as_they_are(rt: HostRuntime) {
+    let merged = Merge::new(RangeOnce::new(3u8..=9), RangeOnce::new(1..=2));
+    assert!(rt; gives(joined_again(merged), &[(1, 9)]));
+    let tens = Tens { value: 0, left: 2 };
+    assert!(rt; gives(!known(tens), &[(1, 9), (11, 255)]));
+}
+
+#[test]
 fn lists_are_accepted_where_they_are_canonical(rt: HostRuntime) -> Result<(), Fail> {
     let bad = vec![in rt.alloc(); 1u8..=2, 3..=4, 9..=8]?;
     let Err(refused) = CheckSortedDisjoint::try_new(bad) else {
@@ -107,4 +116,14 @@ fn lists_are_accepted_where_they_are_canonical(rt: HostRuntime) -> Result<(), Fa
 fn no_items_by_default(rt: HostRuntime) {
     let nothing: CheckSortedDisjoint<u8, RangeOnce<u8>> = CheckSortedDisjoint::default();
     assert!(rt; gives(nothing, &[]));
+}
+
+#[test]
+fn own_stream_is_a_stream_like_any_other(rt: HostRuntime) {
+    assert!(rt; gives(Tens { value: 5, left: 3 }, &[(5, 5), (15, 15), (25, 25)]));
+    let gaps = Tens { value: 0, left: 2 }.complement();
+    assert!(rt; gives(gaps, &[(1, 9), (11, 255)]));
+    let filled = Tens { value: 0, left: 3 }.union(RangeOnce::new(1..=9));
+    assert!(rt; gives(filled, &[(0, 10), (20, 20)]));
+    assert!(rt; Tens { value: 7, left: 0 }.is_empty());
 }
