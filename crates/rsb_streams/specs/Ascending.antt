@@ -41,7 +41,7 @@ module _ {S T : Type 0} (rank : T → ℕ) (n : ℕ) (can_next : S → Type 0)
     ascending-keeps s can finite = record {
       some = gives_by-some rank steps can_next (λ each. size (remaining each))
           (λ old new range ready call.
-              let near = (ascends old new range ready call).nearer in (near.0, near.2))
+          let near = (ascends old new range ready call).nearer in (near.0, near.2))
           (size (remaining s)) s can (omega arith);
       all = λ runs at.
           let fronts = ascending-from at.0 s at.1 0 can (omega arith) at.3 in

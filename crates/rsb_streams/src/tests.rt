@@ -6,10 +6,12 @@ use crate::check_sorted_disjoint::CheckSortedDisjoint;
 use crate::merge::Merge;
 use crate::nested::{complement_twice, joined_again, known, union_with_complement};
 use crate::range_once::RangeOnce;
-use crate::sorted_disjoint::{SortedDisjoint, SortedStarts};
+use crate::sorted_disjoint::{AnythingGoes, SortedDisjoint, SortedStarts};
 use crate::tests::own_stream::Tens;
+use crate::union_iter::UnionIter;
 use rsb_integer::Integer;
-use std::iter::FusedIterator;
+use std::alloc::Global;
+use std::fmt::Debug;
 use std::ops::RangeInclusive;
 use std::test::Fail;
 
@@ -39,6 +41,16 @@ fn single_range_comes_once_and_only_where_it_has_members(rt: HostRuntime) {
 }
 
 #[test]
+fn single_range_comes_from_both_ends(rt: HostRuntime) {
+    let mut once = RangeOnce::from(3u8..=5);
+    assert_eq!(rt; once.len(), 1);
+    assert!(rt; once.next_back() == Some(3..=5));
+    assert_eq!(rt; once.len(), 0);
+    assert!(rt; once.next() == None);
+    assert!(rt; once.next_back() == None);
+}
+
+#[test]
 fn union_joins_what_overlaps_or_touches(rt: HostRuntime) {
     let left = RangeOnce::new(0u8..=4).union(RangeOnce::new(250..=255));
     assert!(rt; gives(left.union(RangeOnce::new(5..=249)), &[(0, 255)]));
@@ -48,12 +60,51 @@ fn union_joins_what_overlaps_or_touches(rt: HostRuntime) {
 }
 
 #[test]
+fn union_first_answers_what_both_begin_with(rt: HostRuntime) -> Result<(), Fail> {
+    let left = CheckSortedDisjoint::try_new(vec![in rt.alloc(); 1..=2, 10..=11, 20..=21]?);
+    let right = CheckSortedDisjoint::try_new(vec![in rt.alloc(); 1..=3, 30..=31]?);
+    let (Ok(left), Ok(right)) = (left, right) else {
+        assert!(rt; false, "a canonical list was refused");
+        return Ok(());
+    };
+    let mut union = left.union(right);
+    assert!(rt; union.next() == Some(1..=3));
+    assert!(rt; gives(union, &[(10, 11), (20, 21), (30, 31)]));
+    Ok(())
+}
+
+#[test]
 fn complement_reaches_both_ends_of_the_type(rt: HostRuntime) {
     let low_and_high = RangeOnce::new(0u8..=9).union(RangeOnce::new(20..=255));
     assert!(rt; gives(low_and_high.complement(), &[(10, 19)]));
     assert!(rt; gives(!RangeOnce::new(1u8..=0), &[(0, 255)]));
     assert!(rt; gives(!RangeOnce::new(0u8..=255), &[]));
     assert!(rt; gives(!RangeOnce::new(7u8..=8), &[(0, 6), (9, 255)]));
+}
+
+#[test]
+fn operators_are_union_and_complement(rt: HostRuntime) {
+    let low = || RangeOnce::new(0u8..=9);
+    let high = || RangeOnce::new(200u8..=255);
+    assert!(rt; gives(low() | high(), &[(0, 9), (200, 255)]));
+    assert!(rt; gives(!low() | high(), &[(10, 255)]));
+    assert!(rt; gives(!(!low()), &[(0, 9)]));
+    assert!(rt;
+        gives(
+            (low() | high()) | RangeOnce::new(10..=20),
+            &[(0, 20), (200, 255)]
+        )
+    );
+    assert!(rt; gives(!(low() | high()), &[(10, 199)]));
+    assert!(rt;
+        gives(
+            UnionIter::new(Merge::new(low(), high())) | low(),
+            &[(0, 9), (200, 255)]
+        )
+    );
+    assert!(rt; gives(!UnionIter::new(Merge::new(low(), high())), &[(10, 199)]));
+    assert!(rt; gives(known(low()) | high(), &[(0, 9), (200, 255)]));
+    assert!(rt; gives(!known(low()), &[(10, 255)]));
 }
 
 #[test]
@@ -126,4 +177,35 @@ fn own_stream_is_a_stream_like_any_other(rt: HostRuntime) {
     let filled = Tens { value: 0, left: 3 }.union(RangeOnce::new(1..=9));
     assert!(rt; gives(filled, &[(0, 10), (20, 20)]));
     assert!(rt; Tens { value: 7, left: 0 }.is_empty());
+}
+
+// Whether a stream has a text for those who debug.
+fn is_shown<I: Debug>(alloc: Global, stream: &I) -> Result<bool, Fail> {
+    let text = format!(in alloc; "{stream:?}")?;
+    Ok(!text.is_empty())
+}
+
+#[test]
+fn streams_show_for_debugging(rt: HostRuntime) -> Result<(), Fail> {
+    let tens = || Tens { value: 0, left: 2 };
+    assert!(rt; is_shown(rt.alloc(), &tens().complement())?);
+    assert!(rt; is_shown(rt.alloc(), &tens().union(tens()))?);
+    assert!(rt; is_shown(rt.alloc(), &known(tens()))?);
+    assert!(rt; is_shown(rt.alloc(), &joined_again(tens()))?);
+    assert!(rt; is_shown(rt.alloc(), &Merge::new(tens(), tens()))?);
+    Ok(())
+}
+
+// The first range of any stream of ranges.
+fn first<T: Integer, I: AnythingGoes<T>>(stream: I) -> Option<RangeInclusive<T>>
+    requires { I.can_next stream }
+{
+    let mut stream = stream;
+    stream.next()
+}
+
+#[test]
+fn every_stream_of_ranges_goes(rt: HostRuntime) {
+    assert!(rt; first(Tens { value: 5, left: 3 }) == Some(5..=5));
+    assert!(rt; first(Merge::new(RangeOnce::new(3u8..=9), RangeOnce::new(1..=2))) == Some(1..=2));
 }

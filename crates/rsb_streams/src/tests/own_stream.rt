@@ -14,7 +14,7 @@ use std::iter::FusedIterator;
 use std::ops::RangeInclusive;
 
 /// Single values, ten apart.
-#[derive(Drop)]
+#[derive(Clone, Debug, Drop)]
 pub(crate) struct Tens {
     /// The next value.
     pub(crate) value: u8,
