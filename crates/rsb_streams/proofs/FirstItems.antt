@@ -36,7 +36,8 @@ module _ {S T : Type 0} (rank : T → ℕ) (n : ℕ) (source : Source S T) (laws
       ))
 
   -- what holds of each canonical list that begins with the first range holds of what comes
-  pub first-tells : (range : RangeInclusive T) (Fact : List Interval → Type 0) → source.steps s (Some range) t
+  pub first-tells : (range : RangeInclusive T) (Fact : List Interval → Type 0)
+      → source.steps s (Some range) t
       → MakesProgress source.can_next source.remaining s (Some range) t
       → source.may_give s ⊆ IsCanonicalIn n
       → ((rest : List Interval) → IsCanonicalIn n (interval_of rank range ∷ rest)
@@ -51,9 +52,11 @@ module _ {S T : Type 0} (rank : T → ℕ) (n : ℕ) (source : Source S T) (laws
   -- the first range is in order, and lies in the type
   pub first-range : (range : RangeInclusive T) → source.steps s (Some range) t
       → MakesProgress source.can_next source.remaining s (Some range) t
-      → ((interval_of rank range).first ≤ (interval_of rank range).last) × ((interval_of rank range).last < n)
+      → ((interval_of rank range).first ≤ (interval_of rank range).last)
+      × ((interval_of rank range).last < n)
   first-range range call goes =
-      let facts = head-sorted n 0 (interval_of rank range) (source.may_give t) (laws.sorted t goes.keeps).some
+      let facts = head-sorted n 0 (interval_of rank range) (source.may_give t)
+      (laws.sorted t goes.keeps).some
       (λ rest at. (laws.sorted s ready).all (interval_of rank range ∷ rest)
       (laws.answers s t (Some range) call rest at)) in
       (facts.1, facts.2)
@@ -69,7 +72,8 @@ late-lacks n run rest canonical late = (
       let ordered = canonical.0.1 in
       let below = (canonical-sorted n 0 (run ∷ rest) canonical.0 canonical.1).2 in
       absurd (not_both (members (run ∷ rest) 0) (all 0 (omega arith))
-      (members-tail run rest 0 (inl late) ∙ members-below (run.last + 2) rest 0 canonical.0.2 (omega arith)))),
+      (members-tail run rest 0 (inl late)
+      ∙ members-below (run.last + 2) rest 0 canonical.0.2 (omega arith)))),
 )
 
 -- a first range from the least rank on has every rank exactly where it ends at the greatest

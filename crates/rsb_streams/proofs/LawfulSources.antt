@@ -12,13 +12,15 @@ use Rattle.rsb_streams.proofs.ListedSources.{canonical-front}
 use Rattle.rsb_streams.proofs.Sources.{Source, IsLawful}
 
 -- a front of a list by starts is such a list
-pub sorted-front : (n low : ℕ) (runs others : List Interval) → HasSortedStartsFrom n low (runs ++ others)
+pub sorted-front : (n low : ℕ) (runs others : List Interval)
+    → HasSortedStartsFrom n low (runs ++ others)
     → HasSortedStartsFrom n low runs
 sorted-front n low [] others sorted = tt
 sorted-front n low (run ∷ runs) others sorted =
     (sorted.0, sorted.1, sorted.2, sorted-front n run.first runs others sorted.3)
 
-module _ {S T : Type 0} (rank : T → ℕ) (n : ℕ) (source : Source S T) (laws : IsLawful rank n source) where
+module _ {S T : Type 0} (rank : T → ℕ) (n : ℕ) (source : Source S T)
+    (laws : IsLawful rank n source) where
   abbrev CallOf : S → Option (RangeInclusive T) → S → Type 0
   CallOf = Call rank source.can_next source.steps source.remaining
 
@@ -32,7 +34,8 @@ module _ {S T : Type 0} (rank : T → ℕ) (n : ℕ) (source : Source S T) (laws
       (given-before ranges all.0 t rest all.2 may)
 
   -- after calls that gave ranges the stream may be called
-  callable-after : (ranges : List (RangeInclusive T)) (s t : S) → source.can_next s → IsFinite (source.remaining s)
+  callable-after : (ranges : List (RangeInclusive T)) (s t : S) → source.can_next s
+      → IsFinite (source.remaining s)
       → Yields CallOf s ranges t → source.can_next t
   callable-after [] s t can finite all = subst source.can_next all can
   callable-after (range ∷ ranges) s t can finite all =
@@ -53,14 +56,16 @@ module _ {S T : Type 0} (rank : T → ℕ) (n : ℕ) (source : Source S T) (laws
               (laws.sorted t (callable-after ranges s t can finite all)).some (λ rest may.
               fails (front (intervals_of rank ranges) rest (keeps (intervals_of rank ranges ++ rest)
               (given-before ranges s t rest
-              (calls-steps rank source.can_next source.steps source.remaining ranges s t all) may)))));
+              (calls-steps rank source.can_next source.steps source.remaining ranges s t all)
+              may)))));
         }
 
   -- every stream of ranges by their starts is a source of one
   pub sorted-source : (s : S) → source.can_next s
       → IsSource rank source.can_next source.steps source.remaining (HasSortedStarts n) s
   sorted-source s can =
-      lawful-source (HasSortedStarts n) (sorted-front n 0) (settled_sorted n 0) s can (laws.sorted s can).all
+      lawful-source (HasSortedStarts n) (sorted-front n 0) (settled_sorted n 0) s can
+      (laws.sorted s can).all
 
   -- and every canonical stream of a canonical one
   pub canonical-source : (s : S) → source.can_next s → source.may_give s ⊆ IsCanonicalIn n

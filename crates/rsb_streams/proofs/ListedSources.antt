@@ -17,7 +17,8 @@ intervals-append rank [] others = refl
 intervals-append rank (range ∷ ranges) others =
     ap (λ runs. interval_of rank range ∷ runs) (intervals-append rank ranges others)
 
-below-front : (n : ℕ) (runs others : List Interval) → AllEndBelow n (runs ++ others) → AllEndBelow n runs
+below-front : (n : ℕ) (runs others : List Interval) → AllEndBelow n (runs ++ others)
+    → AllEndBelow n runs
 below-front n [] others below = All-nil (λ (run : Interval). run.last < n)
 below-front n (run ∷ runs) others below =
     let P : Interval → Type 0 = λ each. each.last < n in
@@ -25,7 +26,8 @@ below-front n (run ∷ runs) others below =
     (below-front n runs others (All-tail P run (runs ++ others) below))
 
 -- a front of a canonical list is canonical
-pub canonical-front : (n : ℕ) (runs others : List Interval) → IsCanonicalIn n (runs ++ others) → IsCanonicalIn n runs
+pub canonical-front : (n : ℕ) (runs others : List Interval) → IsCanonicalIn n (runs ++ others)
+    → IsCanonicalIn n runs
 canonical-front n runs others canonical =
     ((canonical-parts 0 runs others canonical.0).0, below-front n runs others canonical.1)
 
@@ -43,16 +45,19 @@ module _ {S T : Type 0} (rank : T → ℕ) (can_next : S → Type 0)
 
   module _ (finite : (s : S) → IsFinite (remaining s))
       (more : (s : S) (range : RangeInclusive T) (ranges : List (RangeInclusive T)) → can_next s
-      → left s ≡ range ∷ ranges → (t : S) × Call rank can_next steps remaining s (Some range) t) where
+      → left s ≡ range ∷ ranges → (t : S)
+      × Call rank can_next steps remaining s (Some range) t) where
     called : (ranges : List (RangeInclusive T)) (s t : S) → can_next s
-        → Yields (Call rank can_next steps remaining) s ranges t → (left s ≡ ranges ++ left t) × can_next t
+        → Yields (Call rank can_next steps remaining) s ranges t → (left s ≡ ranges ++ left t)
+        × can_next t
     called [] s t can all = (ap left all, subst can_next all can)
     called (range ∷ ranges) s t can all =
         let rest = called ranges all.0 t (all.1.nearer (finite s)).0 all.2 in
         (some s all.0 range all.1.gives ∙ ap (λ rest. range ∷ rest) rest.0, rest.1)
 
     stuck : (t : S) → can_next t
-        → ((range : RangeInclusive T) (u : S) → ¬ (Call rank can_next steps remaining t (Some range) u))
+        → ((range : RangeInclusive T) (u : S)
+        → ¬ (Call rank can_next steps remaining t (Some range) u))
         → (ranges : List (RangeInclusive T)) → left t ≡ ranges → ranges ≡ []
     stuck t can never [] is = refl
     stuck t can never (range ∷ ranges) is =
@@ -96,7 +101,8 @@ module _ {T : Type 0} (rank : T → ℕ) (n : ℕ) where
     record {
       gives = is;
       nearer = λ finite. (
-        canonical-tail n (interval_of rank range) (intervals_of rank ranges) (subst can is canonical),
+        canonical-tail n (interval_of rank range) (intervals_of rank ranges)
+            (subst can is canonical),
         tt,
         rw is (omega arith),
       );
@@ -104,9 +110,11 @@ module _ {T : Type 0} (rank : T → ℕ) (n : ℕ) where
   )
 
   -- its calls give it
-  pub list-calls : (s : Ranges) → can s → calls_give rank can first size_of s ⊆ just (intervals_of rank s)
+  pub list-calls : (s : Ranges) → can s
+      → calls_give rank can first size_of s ⊆ just (intervals_of rank s)
   list-calls =
-      listed-calls rank can first size_of (λ ranges. ranges) (λ s t range call. call) (λ s t call. call.0)
+      listed-calls rank can first size_of (λ ranges. ranges) (λ s t range call. call)
+      (λ s t call. call.0)
       (λ s. tt) more-left
 
   -- and it is a source
@@ -118,5 +126,6 @@ module _ {T : Type 0} (rank : T → ℕ) (n : ℕ) where
         let whole = listed-yields rank can first size_of (λ each. each) (λ s t range call. call)
         (λ s t call. call.0) ranges s t (calls-steps rank can first size_of ranges s t all) in
         canonical-front n (intervals_of rank ranges) (intervals_of rank t)
-        (subst (IsCanonicalIn n) (ap (intervals_of rank) whole ∙ intervals-append rank ranges t) canonical);
+        (subst (IsCanonicalIn n) (ap (intervals_of rank) whole ∙ intervals-append rank ranges t)
+        canonical);
   }

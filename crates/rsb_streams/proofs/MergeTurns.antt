@@ -18,7 +18,8 @@ use Rattle.rsb_streams.proofs.UnionLemmas.{head-sorted}
 
 module _ (n : ℕ) (P Q After Later : Outcomes) (run : Interval) where
   -- a range of the left list comes first
-  pub head-left : P ⊆ HasSortedStarts n → ((rest : List Interval) → After rest → P (run ∷ rest)) → Later ⊆ Q
+  pub head-left : P ⊆ HasSortedStarts n → ((rest : List Interval) → After rest → P (run ∷ rest))
+      → Later ⊆ Q
       → Later ⊆ HasSortedStartsFrom n run.first
       → (rest : List Interval) → merges n After Later rest → merges n P Q (run ∷ rest)
   head-left sorted answers within past rest may = λ nothing. may (λ left right at also all.
@@ -28,7 +29,8 @@ module _ (n : ℕ) (P Q After Later : Outcomes) (run : Interval) where
       ((first.0, first.1, first.2, runs), inl (left, refl, all.1)))
 
   -- a range of the right list comes first
-  pub head-right : Q ⊆ HasSortedStarts n → ((rest : List Interval) → Later rest → Q (run ∷ rest)) → After ⊆ P
+  pub head-right : Q ⊆ HasSortedStarts n → ((rest : List Interval) → Later rest → Q (run ∷ rest))
+      → After ⊆ P
       → After ⊆ HasSortedStartsFrom n run.first
       → (rest : List Interval) → merges n After Later rest → merges n P Q (run ∷ rest)
   head-right sorted answers within past rest may = λ nothing. may (λ left right at also all.
@@ -49,7 +51,8 @@ pub no-merges : (n : ℕ) (P Q : Outcomes) → P ⊆ just [] → Q ⊆ just [] �
 no-merges n P Q first second [] may = refl
 no-merges n P Q first second (run ∷ runs) may = absurd (may (λ left right at also all.
     let merged = subst (λ each. IsMergeOf left each (run ∷ runs)) (second right also) all.1 in
-    let no = no-merge (run ∷ runs) (subst (λ each. IsMergeOf each [] (run ∷ runs)) (first left at) merged) in
+    let no = no-merge (run ∷ runs)
+    (subst (λ each. IsMergeOf each [] (run ∷ runs)) (first left at) merged) in
     absurd (cc)))
 
 module _ {L R T : Type 0} (rank : T → ℕ) (n : ℕ) (left : Source L T) (right : Source R T)
@@ -80,7 +83,8 @@ module _ {L R T : Type 0} (rank : T → ℕ) (n : ℕ) (left : Source L T) (righ
       → lefts.steps s.left None t.left → rights.steps s.right item t.right → Answered s item t
   only-right s t None ready none call =
       let first = put_back-rests rank n left.can_next left.may_give left.steps s.left t.left none in
-      let second = put_back-rests rank n right.can_next right.may_give right.steps s.right t.right call in
+      let second = put_back-rests rank n right.can_next right.may_give right.steps s.right t.right
+      call in
       record {
         answers = λ nothing. nothing [] [] (left_held.answers s.left t.left None none)
             (right_held.answers s.right t.right None call) (tt, (refl, refl));
@@ -92,7 +96,8 @@ module _ {L R T : Type 0} (rank : T → ℕ) (n : ℕ) (left : Source L T) (righ
   only-right s t (Some range) ready none call =
       let first = put_back-rests rank n left.can_next left.may_give left.steps s.left t.left none in
       record {
-        answers = head-right n (lefts.may_give s.left) (rights.may_give s.right) (lefts.may_give t.left)
+        answers = head-right n (lefts.may_give s.left) (rights.may_give s.right)
+            (lefts.may_give t.left)
             (rights.may_give t.right) (interval_of rank range) ready.right.sorted
             (right_held.answers s.right t.right (Some range) call)
             (λ rest at. rw (first.1 rest at) (left_held.answers s.left t.left None none))
@@ -102,11 +107,14 @@ module _ {L R T : Type 0} (rank : T → ℕ) (n : ℕ) (left : Source L T) (righ
 
   -- nothing more comes of the right stream
   pub only-left : (s t : Merge T L R) (range : RangeInclusive T) → Ready s
-      → lefts.steps s.left (Some range) t.left → rights.steps s.right None t.right → Answered s (Some range) t
+      → lefts.steps s.left (Some range) t.left → rights.steps s.right None t.right
+      → Answered s (Some range) t
   only-left s t range ready call none =
-      let second = put_back-rests rank n right.can_next right.may_give right.steps s.right t.right none in
+      let second = put_back-rests rank n right.can_next right.may_give right.steps s.right t.right
+      none in
       record {
-        answers = head-left n (lefts.may_give s.left) (rights.may_give s.right) (lefts.may_give t.left)
+        answers = head-left n (lefts.may_give s.left) (rights.may_give s.right)
+            (lefts.may_give t.left)
             (rights.may_give t.right) (interval_of rank range) ready.left.sorted
             (left_held.answers s.left t.left (Some range) call)
             (λ rest at. rw (second.1 rest at) (right_held.answers s.right t.right None none))
@@ -115,22 +123,31 @@ module _ {L R T : Type 0} (rank : T → ℕ) (n : ℕ) (left : Source L T) (righ
       }
 
   -- both streams give a range
-  module _ (s : Merge T L R) (u : PutBack T L) (v : PutBack T R) (first second : RangeInclusive T) (ready : Ready s)
-      (left_call : lefts.steps s.left (Some first) u) (right_call : rights.steps s.right (Some second) v)
+  module _ (s : Merge T L R) (u : PutBack T L) (v : PutBack T R) (first second : RangeInclusive T)
+      (ready : Ready s)
+      (left_call : lefts.steps s.left (Some first) u)
+      (right_call : rights.steps s.right (Some second) v)
       (left_goes : MakesProgress lefts.can_next lefts.remaining s.left (Some first) u)
       (right_goes : MakesProgress rights.can_next rights.remaining s.right (Some second) v) where
-    left_first : (0 ≤ (interval_of rank first).first) × ((interval_of rank first).first ≤ (interval_of rank first).last)
+    left_first : (0 ≤ (interval_of rank first).first)
+        × ((interval_of rank first).first ≤ (interval_of rank first).last)
         × ((interval_of rank first).last < n)
-    left_first = head-sorted n 0 (interval_of rank first) (lefts.may_give u) (left_held.sorted u left_goes.keeps).some
-        (λ rest at. ready.left.sorted (interval_of rank first ∷ rest) (left_held.answers s.left u (Some first) left_call rest at))
+    left_first = head-sorted n 0 (interval_of rank first) (lefts.may_give u)
+        (left_held.sorted u left_goes.keeps).some
+        (λ rest at. ready.left.sorted (interval_of rank first ∷ rest)
+        (left_held.answers s.left u (Some first) left_call rest at))
 
-    right_first : (0 ≤ (interval_of rank second).first) × ((interval_of rank second).first ≤ (interval_of rank second).last)
+    right_first : (0 ≤ (interval_of rank second).first)
+        × ((interval_of rank second).first ≤ (interval_of rank second).last)
         × ((interval_of rank second).last < n)
-    right_first = head-sorted n 0 (interval_of rank second) (rights.may_give v) (right_held.sorted v right_goes.keeps).some
-        (λ rest at. ready.right.sorted (interval_of rank second ∷ rest) (right_held.answers s.right v (Some second) right_call rest at))
+    right_first = head-sorted n 0 (interval_of rank second) (rights.may_give v)
+        (right_held.sorted v right_goes.keeps).some
+        (λ rest at. ready.right.sorted (interval_of rank second ∷ rest)
+        (right_held.answers s.right v (Some second) right_call rest at))
 
     -- where they start
-    pub start-values : (rank (range_inclusive_start first) < n) × (rank (range_inclusive_start second) < n)
+    pub start-values : (rank (range_inclusive_start first) < n)
+        × (rank (range_inclusive_start second) < n)
     start-values =
         let one = left_first in
         let two = right_first in
@@ -149,7 +166,8 @@ module _ {L R T : Type 0} (rank : T → ℕ) (n : ℕ) (left : Source L T) (righ
           let sorted = ready.left.sorted (interval_of rank first ∷ found.0) before in
           let low = range-start rank first left_first.1 in
           let high = range-start rank second right_first.1 in
-          let all : HasSortedStartsFrom n (interval_of rank second).first (interval_of rank first ∷ found.0) =
+          let all : HasSortedStartsFrom n (interval_of rank second).first
+          (interval_of rank first ∷ found.0) =
           (omega (arith, low, high, less), sorted.1, sorted.2, sorted.3) in (
             subst (lefts.may_give s.left) (sym found.2) before,
             subst (HasSortedStartsFrom n (interval_of rank second).first) (sym found.2) all,
@@ -157,13 +175,16 @@ module _ {L R T : Type 0} (rank : T → ℕ) (n : ℕ) (left : Source L T) (righ
 
       pub right-answers : Answered s (Some second) (record { left = w; right = v })
       right-answers = record {
-        answers = head-right n (lefts.may_give s.left) (rights.may_give s.right) (lefts.may_give w) (rights.may_give v)
-            (interval_of rank second) ready.right.sorted (right_held.answers s.right v (Some second) right_call)
+        answers = head-right n (lefts.may_give s.left) (rights.may_give s.right) (lefts.may_give w)
+            (rights.may_give v)
+            (interval_of rank second) ready.right.sorted
+            (right_held.answers s.right v (Some second) right_call)
             (λ runs at. (held-left runs at).0) (λ runs at. (held-left runs at).1);
         rests = tt;
       }
 
-      pub right-goes : MakesProgress Ready (merge_remaining left.remaining right.remaining) s (Some second)
+      pub right-goes : MakesProgress Ready (merge_remaining left.remaining right.remaining) s
+          (Some second)
           (record { left = w; right = v })
       right-goes =
           let one = left_goes.on (left_held.sorted s.left ready.left).ends in
@@ -172,11 +193,13 @@ module _ {L R T : Type 0} (rank : T → ℕ) (n : ℕ) (left : Source L T) (righ
           (λ rest at. ready.left.sorted (interval_of rank first ∷ rest)
           (left_held.answers s.left u (Some first) left_call rest at)) in
           let more = put_back-size rank n left first u w left_call.room put in
-          let after : Ready (record { left = w; right = v }) = record { left = back; right = two.0 } in
+          let after : Ready (record { left = w; right = v }) = record
+          { left = back; right = two.0 } in
           record {
             on = λ finite. (
               after,
-              both-finite (lefts.remaining w) (rights.remaining v) (left_held.sorted w back).ends two.1,
+              both-finite (lefts.remaining w) (rights.remaining v) (left_held.sorted w back).ends
+                  two.1,
               omega (arith, more, one.2, two.2),
             );
             keeps = after;
@@ -194,7 +217,8 @@ module _ {L R T : Type 0} (rank : T → ℕ) (n : ℕ) (left : Source L T) (righ
           let sorted = ready.right.sorted (interval_of rank second ∷ found.0) before in
           let low = range-start rank first left_first.1 in
           let high = range-start rank second right_first.1 in
-          let all : HasSortedStartsFrom n (interval_of rank first).first (interval_of rank second ∷ found.0) =
+          let all : HasSortedStartsFrom n (interval_of rank first).first
+          (interval_of rank second ∷ found.0) =
           (omega (arith, low, high, most), sorted.1, sorted.2, sorted.3) in (
             subst (rights.may_give s.right) (sym found.2) before,
             subst (HasSortedStartsFrom n (interval_of rank first).first) (sym found.2) all,
@@ -202,13 +226,16 @@ module _ {L R T : Type 0} (rank : T → ℕ) (n : ℕ) (left : Source L T) (righ
 
       pub left-answers : Answered s (Some first) (record { left = u; right = w })
       left-answers = record {
-        answers = head-left n (lefts.may_give s.left) (rights.may_give s.right) (lefts.may_give u) (rights.may_give w)
-            (interval_of rank first) ready.left.sorted (left_held.answers s.left u (Some first) left_call)
+        answers = head-left n (lefts.may_give s.left) (rights.may_give s.right) (lefts.may_give u)
+            (rights.may_give w)
+            (interval_of rank first) ready.left.sorted
+            (left_held.answers s.left u (Some first) left_call)
             (λ runs at. (held-right runs at).0) (λ runs at. (held-right runs at).1);
         rests = tt;
       }
 
-      pub left-goes : MakesProgress Ready (merge_remaining left.remaining right.remaining) s (Some first)
+      pub left-goes : MakesProgress Ready (merge_remaining left.remaining right.remaining) s
+          (Some first)
           (record { left = u; right = w })
       left-goes =
           let one = left_goes.on (left_held.sorted s.left ready.left).ends in
@@ -217,11 +244,13 @@ module _ {L R T : Type 0} (rank : T → ℕ) (n : ℕ) (left : Source L T) (righ
           (λ rest at. ready.right.sorted (interval_of rank second ∷ rest)
           (right_held.answers s.right v (Some second) right_call rest at)) in
           let more = put_back-size rank n right second v w right_call.room put in
-          let after : Ready (record { left = u; right = w }) = record { left = one.0; right = back } in
+          let after : Ready (record { left = u; right = w }) = record
+          { left = one.0; right = back } in
           record {
             on = λ finite. (
               after,
-              both-finite (lefts.remaining u) (rights.remaining w) one.1 (right_held.sorted w back).ends,
+              both-finite (lefts.remaining u) (rights.remaining w) one.1
+                  (right_held.sorted w back).ends,
               omega (arith, more, one.2, two.2),
             );
             keeps = after;

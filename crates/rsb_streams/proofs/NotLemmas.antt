@@ -12,7 +12,8 @@ use Rattle.rsb_streams.proofs.UnionLemmas.{runs-start}
 
 -- ---- single ranks
 
-gaps-below : (first rank : ℕ) (selected : Selection) → rank < first → gaps_from first selected rank ≡ false
+gaps-below : (first rank : ℕ) (selected : Selection) → rank < first → gaps_from first selected rank
+    ≡ false
 gaps-below first rank selected below =
     let test : nat_le first rank ≡ false = grind (arith, nat_tests) in
     ap (λ each. each && not (selected rank)) test
@@ -37,7 +38,8 @@ gaps-outside : (first rank : ℕ) (selected : Selection) → first ≤ rank → 
 gaps-outside first rank selected above gap = gaps-above first rank selected above ∙ ap not gap
 
 -- a gap lies where it may start or past that
-pub gaps-start : (first rank : ℕ) (selected : Selection) → gaps_from first selected rank ≡ true → first ≤ rank
+pub gaps-start : (first rank : ℕ) (selected : Selection) → gaps_from first selected rank ≡ true
+    → first ≤ rank
 gaps-start first rank selected gap = elim (cases_lt rank first) [
   | inl below ↦ let no = sym (gaps-below first rank selected below) ∙ gap in absurd (cc)
   | inr above ↦ above
@@ -55,14 +57,17 @@ gaps-past low run given rank starts ordered past =
     ∙ sym (gaps-above low rank (members (run ∷ given)) (omega arith))
 
 -- the gaps past a run that starts where a gap might
-pub gaps-along : (n low : ℕ) (run : Interval) (given : List Interval) → low ≡ run.first → run.first ≤ run.last
+pub gaps-along : (n low : ℕ) (run : Interval) (given : List Interval) → low ≡ run.first
+    → run.first ≤ run.last
     → Agree n (gaps_from (run.last + 1) (members given)) (gaps_from low (members (run ∷ given)))
 gaps-along n low run given is ordered rank within = elim (cases_lt run.last rank) [
   | inl past ↦ gaps-past low run given rank (omega arith) ordered past
-  | inr before ↦ gaps-below (run.last + 1) rank (members given) (omega arith) ∙ (elim (cases_lt rank low) [
-    | inl below ↦ sym (gaps-below low rank (members (run ∷ given)) below)
-    | inr from ↦ sym (gaps-inside low rank (members (run ∷ given)) (members-head run given rank (omega arith) before))
-  ])
+  | inr before ↦ gaps-below (run.last + 1) rank (members given) (omega arith)
+      ∙ (elim (cases_lt rank low) [
+        | inl below ↦ sym (gaps-below low rank (members (run ∷ given)) below)
+        | inr from ↦ sym (gaps-inside low rank (members (run ∷ given))
+            (members-head run given rank (omega arith) before))
+      ])
 ]
 
 -- the gap before a run, and the gaps past it
@@ -75,9 +80,14 @@ gap-then n low gap run given runs less ordered below from to canonical all =
     let later = gaps_from (run.last + 1) (members given) in
     let starts = runs-start n later (run.last + 1) runs all
     (λ rank within here. gaps-start (run.last + 1) rank (members given) here) in
-    runs-from_canonical n (gaps_from low (members (run ∷ given))) (gap ∷ runs)
-    (omega arith, omega arith, canonical-lower (run.last + 1) (gap.last + 2) runs (omega arith) starts)
-    (All-cons (λ (each : Interval). each.last < n) gap runs (omega arith) (runs-canonical n later runs all).1)
+    runs-from_canonical n (gaps_from low (members (run ∷ given))) (gap ∷ runs) (
+      omega arith,
+      omega arith,
+      canonical-lower (run.last + 1) (gap.last + 2) runs (omega arith)
+          starts,
+    )
+    (All-cons (λ (each : Interval). each.last < n) gap runs (omega arith)
+    (runs-canonical n later runs all).1)
     (λ rank within. elim (cases_lt run.last rank) [
       | inl past ↦
           members-tail gap runs rank (inr (omega arith)) ∙ runs-members n later runs all rank within
@@ -86,7 +96,8 @@ gap-then n low gap run given runs less ordered below from to canonical all =
         | inr inside ↦
             members-tail gap runs rank (inr (omega arith))
             ∙ members-below (run.last + 1) runs rank starts (omega arith)
-            ∙ sym (gaps-inside low rank (members (run ∷ given)) (members-head run given rank inside before))
+            ∙ sym (gaps-inside low rank (members (run ∷ given))
+            (members-head run given rank inside before))
         | inl outside ↦ elim (cases_lt rank low) [
           | inl under ↦
               members-tail gap runs rank (inl (omega arith))
@@ -112,10 +123,12 @@ pub gap-last : (n low : ℕ) (gap : Interval) → gap.first ≡ low → low ≤ 
     → AreRuns n (gaps_from low (members [])) (gap ∷ [])
 gap-last n low gap from order to =
     runs-from_canonical n (gaps_from low (members [])) (gap ∷ []) (omega arith, omega arith, tt)
-    (All-cons (λ (each : Interval). each.last < n) gap [] (omega arith) (All-nil (λ (run : Interval). run.last < n)))
+    (All-cons (λ (each : Interval). each.last < n) gap [] (omega arith)
+    (All-nil (λ (run : Interval). run.last < n)))
     (λ rank within. elim (cases_lt rank low) [
       | inl under ↦
-          members-tail gap [] rank (inl (omega arith)) ∙ sym (gaps-below low rank (members []) under)
+          members-tail gap [] rank (inl (omega arith))
+          ∙ sym (gaps-below low rank (members []) under)
       | inr here ↦
           members-head gap [] rank (omega arith) (omega arith)
           ∙ sym (gaps-outside low rank (members []) here refl)
@@ -134,7 +147,8 @@ module _ {T I : Type 0} (rank : T → ℕ) (n : ℕ) (can_next : I → Type 0) (
   }
 
   -- the gaps from the least value on are the complement
-  pub fresh-gaps : runs_by n (gaps_from (rank least)) (may_give iter) ⊆ runs_by n complement (may_give iter)
+  pub fresh-gaps : runs_by n (gaps_from (rank least)) (may_give iter) ⊆ runs_by n complement
+      (may_give iter)
   fresh-gaps runs at = λ nothing. at (λ given might all. nothing given might
       (runs-along n (gaps_from (rank least) (members given)) (complement (members given)) runs
       (λ place within. gaps-above (rank least) place (members given) (omega arith)) all))

@@ -41,7 +41,8 @@ module _ {I T : Type 0} (rank : T → ℕ) (n : ℕ) (source : Source I T) where
   begun entry ready = record { ready = ready; same = λ runs at. at; nearer = omega arith }
 
   -- the range of ranks from a value to another
-  pub answered : (start end : T) (answer : RangeInclusive T) → range_inclusive_exhausted answer ≡ false
+  pub answered : (start end : T) (answer : RangeInclusive T) → range_inclusive_exhausted answer
+      ≡ false
       → range_inclusive_start answer ≡ start → range_inclusive_end answer ≡ end
       → interval_of rank answer ≡ record { first = rank start; last = rank end }
   answered start end answer fresh from to = rw (fresh, from, to) refl
@@ -50,18 +51,22 @@ module _ {I T : Type 0} (rank : T → ℕ) (n : ℕ) (source : Source I T) where
   Answered = AnswersAndRests rank can may
 
   -- nothing comes after the last gap
-  pub rests : (entry now : NotIter T I) → SoFar entry now → now.start ≡ None → Answered entry None now
+  pub rests : (entry now : NotIter T I) → SoFar entry now → now.start ≡ None
+      → Answered entry None now
   rests entry now so none =
       let nothing : may now ⊆ just [] = λ runs at.
       subst (λ start. gaps_after rank n start (source.may_give now.iter) runs) none at in
       record {
-        answers = so.same [] (subst (λ start. gaps_after rank n start (source.may_give now.iter) []) (sym none) refl);
+        answers = so.same [] (subst (λ start. gaps_after rank n start (source.may_give now.iter) [])
+            (sym none) refl);
         rests = (so.ready, nothing);
       }
 
-  module _ (laws : IsLawful rank n source) (canonical : (s : I) → source.can_next s → source.may_give s ⊆ IsCanonicalIn n) where
+  module _ (laws : IsLawful rank n source)
+      (canonical : (s : I) → source.can_next s → source.may_give s ⊆ IsCanonicalIn n) where
     -- the gap to the greatest value
-    pub last-gap : (entry : NotIter T I) (i j : I) (now : Option T) (start greatest : T) (answer : RangeInclusive T)
+    pub last-gap : (entry : NotIter T I) (i j : I) (now : Option T) (start greatest : T)
+        (answer : RangeInclusive T)
         → SoFar entry (record { iter = i; start = now }) → now ≡ Some start → source.steps i None j
         → rank greatest + 1 ≡ n → range_inclusive_exhausted answer ≡ false
         → range_inclusive_start answer ≡ start → range_inclusive_end answer ≡ greatest
@@ -70,21 +75,26 @@ module _ {I T : Type 0} (rank : T → ℕ) (n : ℕ) (source : Source I T) where
         let so = subst (λ each. SoFar entry (record { iter = i; start = each })) is so_now in
         let gap = answered start greatest answer fresh from to in
         let low = so.ready.value in
-        let all = gap-last n (rank start) (record { first = rank start; last = rank greatest }) refl (omega (arith, low, top)) top in
+        let all = gap-last n (rank start) (record { first = rank start; last = rank greatest }) refl
+        (omega (arith, low, top)) top in
         record {
           answers = λ rest none. rw none (so.same (interval_of rank answer ∷ []) (λ nothing.
               nothing [] (laws.answers i j None call)
-              (subst (λ first. AreRuns n (gaps_from (rank start) (members [])) (first ∷ [])) (sym gap) all)));
+              (subst (λ first. AreRuns n (gaps_from (rank start) (members [])) (first ∷ []))
+              (sym gap) all)));
           rests = tt;
         }
 
     -- one range of the input, and where the next gap may start
-    module _ (entry : NotIter T I) (i j : I) (now : Option T) (start past_gap end : T) (next : Option T)
-        (range : RangeInclusive T) (so_now : SoFar entry (record { iter = i; start = now })) (is : now ≡ Some start)
+    module _ (entry : NotIter T I) (i j : I) (now : Option T) (start past_gap end : T)
+        (next : Option T)
+        (range : RangeInclusive T) (so_now : SoFar entry (record { iter = i; start = now }))
+        (is : now ≡ Some start)
         (call : source.steps i (Some range) j)
         (goes : MakesProgress source.can_next source.remaining i (Some range) j)
         (from : past_gap ≡ range_inclusive_start range) (to : end ≡ range_inclusive_end range)
-        (none : IsNone next ↔ (rank end + 1 ≡ n)) (some : IfSome next (λ each. rank each ≡ rank end + 1)) where
+        (none : IsNone next ↔ (rank end + 1 ≡ n))
+        (some : IfSome next (λ each. rank each ≡ rank end + 1)) where
       abbrev run : Interval
       run = interval_of rank range
 
@@ -95,8 +105,11 @@ module _ {I T : Type 0} (rank : T → ℕ) (n : ℕ) (source : Source I T) where
           → IsCanonicalIn n (run ∷ rest) × HasSortedStartsFrom n (rank start) (run ∷ rest)
       comes rest at =
           let before = laws.answers i j (Some range) call rest at in
-          let all = canonical i so.ready.callable (run ∷ rest) before in
-          (all, canonical-sorted n (rank start) (run ∷ rest) (so.ready.ahead (run ∷ rest) before) all.1)
+          let all = canonical i so.ready.callable (run ∷ rest) before in (
+            all,
+            canonical-sorted n (rank start) (run ∷ rest) (so.ready.ahead (run ∷ rest) before)
+                all.1,
+          )
 
       facts : (rank start ≤ run.first) × (run.first ≤ run.last) × (run.last < n)
       facts = head-sorted n (rank start) run (source.may_give j) (laws.sorted j goes.keeps).some
@@ -126,7 +139,8 @@ module _ {I T : Type 0} (rank : T → ℕ) (n : ℕ) (source : Source I T) where
       pub ready-next : can (record { iter = j; start = next })
       ready-next = ready-by next none some
         where
-          ready-by : (next : Option T) → (IsNone next ↔ (rank end + 1 ≡ n)) → IfSome next (λ each. rank each ≡ rank end + 1)
+          ready-by : (next : Option T) → (IsNone next ↔ (rank end + 1 ≡ n))
+              → IfSome next (λ each. rank each ≡ rank end + 1)
               → can (record { iter = j; start = next })
           ready-by None none some = tt
           ready-by (Some each) none some =
@@ -136,18 +150,22 @@ module _ {I T : Type 0} (rank : T → ℕ) (n : ℕ) (source : Source I T) where
                 callable = goes.keeps;
                 value = next-value n (rank end) (rank each) (omega (arith, below, is))
                     (λ top. let no = none.1 top in absurd (cc)) some;
-                ahead = λ rest at. canonical-lower (run.last + 2) (rank each) rest (omega (arith, some, is))
+                ahead = λ rest at. canonical-lower (run.last + 2) (rank each) rest
+                    (omega (arith, some, is))
                     (comes rest at).0.0.2;
               }
 
       -- what comes after it, as gaps past it
       after-next : (rest : List Interval) → may (record { iter = j; start = next }) rest
-          → SomeOutcome (source.may_give j) (λ given. AreRuns n (gaps_from (run.last + 1) (members given)) rest)
+          → SomeOutcome (source.may_give j)
+          (λ given. AreRuns n (gaps_from (run.last + 1) (members given)) rest)
       after-next rest at = after-by next none some at
         where
-          after-by : (next : Option T) → (IsNone next ↔ (rank end + 1 ≡ n)) → IfSome next (λ each. rank each ≡ rank end + 1)
+          after-by : (next : Option T) → (IsNone next ↔ (rank end + 1 ≡ n))
+              → IfSome next (λ each. rank each ≡ rank end + 1)
               → may (record { iter = j; start = next }) rest
-              → SomeOutcome (source.may_give j) (λ given. AreRuns n (gaps_from (run.last + 1) (members given)) rest)
+              → SomeOutcome (source.may_give j)
+              (λ given. AreRuns n (gaps_from (run.last + 1) (members given)) rest)
           after-by None none some at =
               let top : run.last + 1 ≡ n = omega (arith, last-is, none.0 refl) in
               λ nothing. (laws.sorted j goes.keeps).some (λ given might. nothing given might
@@ -170,7 +188,8 @@ module _ {I T : Type 0} (rank : T → ℕ) (n : ℕ) (source : Source I T) where
             answers = λ rest at. so.same (interval_of rank answer ∷ rest) (λ nothing.
                 after-next rest at (λ given might runs. nothing (run ∷ given)
                 (laws.answers i j (Some range) call given might)
-                (gap-then n (rank start) (interval_of rank answer) run given rest (omega (arith, less, low)) all.1 all.2
+                (gap-then n (rank start) (interval_of rank answer) run given rest
+                (omega (arith, less, low)) all.1 all.2
                 (ap (λ each. each.first) gap) (ap (λ each. each.last + 1) gap ∙ one ∙ sym low)
                 (comes given might).0.0.2 runs)));
             rests = tt;
@@ -183,12 +202,14 @@ module _ {I T : Type 0} (rank : T → ℕ) (n : ℕ) (source : Source I T) where
           let low = starts-at in
           after-next rest at (λ given might runs. nothing (run ∷ given)
           (laws.answers i j (Some range) call given might)
-          (runs-along n (gaps_from (run.last + 1) (members given)) (gaps_from (rank start) (members (run ∷ given))) rest
+          (runs-along n (gaps_from (run.last + 1) (members given))
+          (gaps_from (rank start) (members (run ∷ given))) rest
           (gaps-along n (rank start) run given (omega (arith, all.0, low, most)) all.1) runs)))
 
       -- fewer gaps are left
       fewer : (finite : IsFinite (source.remaining i))
-          → IsFinite (left (record { iter = j; start = next })) × (size (left (record { iter = j; start = next })) < size (left entry))
+          → IsFinite (left (record { iter = j; start = next }))
+          × (size (left (record { iter = j; start = next })) < size (left entry))
       fewer finite = fewer-by next
         where
           fewer-by : (next : Option T) → IsFinite (left (record { iter = j; start = next }))

@@ -38,7 +38,8 @@ pub union-of_merge : (n : ℕ) (P Q Merged : Outcomes) → Merged ⊆ merges n P
     → joined n Merged ⊆ runs_by_two n union P Q
 union-of_merge n P Q Merged merge runs may = λ nothing. may (λ given at all.
     merge given at (λ left right might also merged.
-    nothing left right might also (runs-along n (members given) (union (members left) (members right)) runs
+    nothing left right might also
+    (runs-along n (members given) (union (members left) (members right)) runs
     (λ rank within. members-merge left right given rank merged.1) all)))
 
 not_not : (test : Bool) → not (not test) ≡ test
@@ -51,7 +52,8 @@ pub complement-twice : (n : ℕ) (P Gaps : Outcomes) → Gaps ⊆ runs_by n comp
 complement-twice n P Gaps gaps runs may = λ nothing. may (λ given at all.
     gaps given at (λ first might complement_runs.
     nothing first might (runs-along n (complement (members given)) (members first) runs
-    (λ rank within. ap not (runs-members n (complement (members first)) given complement_runs rank within)
+    (λ rank within. ap not (runs-members n (complement (members first)) given complement_runs rank
+    within)
     ∙ not_not (members first rank)) all)))
 
 -- a union of less gives less

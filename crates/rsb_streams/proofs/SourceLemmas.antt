@@ -38,24 +38,28 @@ module _ {I T : Type 0} (rank : T → ℕ) (can_next : I → Type 0)
 
   after-by : (done after : Bool) (s t : I) (range : RangeInclusive T) → (done ≡ false → Source s)
       → MatchBool done (Some range ≡ None) (steps s (Some range) t) → after ≡ false
-      → Goes (record { iter = s; done = done }) (Some range) (record { iter = t; done = after }) → Source t
+      → Goes (record { iter = s; done = done }) (Some range) (record { iter = t; done = after })
+      → Source t
   after-by true after s t range source call more goes = absurd (cc)
   after-by false true s t range source call more goes = absurd (cc)
   after-by false false s t range source call more goes =
       let on = goes.on (source refl).finite in
-      source-after rank can_next steps remaining law tail s t range (source refl) call (on.0 refl, on.1, on.2)
+      source-after rank can_next steps remaining law tail s t range (source refl) call
+      (on.0 refl, on.1, on.2)
 
   -- the law is kept from one call to the next
   pub source-next : (s t : Fuse I) (range : RangeInclusive T) → fuse_can_next Source s
       → fuse_steps steps s (Some range) t → Goes s (Some range) t → fuse_can_next Source t
   source-next s t range source call goes = λ undone.
-      after-by (fuse_done s) (fuse_done t) (fuse_source s) (fuse_source t) range source call.0 call.1 goes
+      after-by (fuse_done s) (fuse_done t) (fuse_source s) (fuse_source t) range source call.0
+      call.1 goes
 
   pub source-goes : (s t : Fuse I) (item : Option (RangeInclusive T)) → fuse_can_next Source s
       → IsFinite (fuse_remaining remaining s)
       → fuse_steps steps s item t → Goes s item t
       → MakesProgress (fuse_can_next Source) (fuse_remaining remaining) s item t
-  source-goes s t None source finite call goes = record { on = λ _. tt; keeps = tt; rests = goes.rests }
+  source-goes s t None source finite call goes = record
+      { on = λ _. tt; keeps = tt; rests = goes.rests }
   source-goes s t (Some range) source finite call goes =
       let next = source-next s t range source call goes in
       let on = goes.on finite in

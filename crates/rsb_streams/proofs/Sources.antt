@@ -37,7 +37,8 @@ put_back_source rank n source = record {
   may_give = put_back_may_give rank n source.can_next source.may_give;
 }
 
-pub put_back-lawful : {S T : Type 0} (rank : T → ℕ) (n : ℕ) (source : Source S T) → IsLawful rank n source
+pub put_back-lawful : {S T : Type 0} (rank : T → ℕ) (n : ℕ) (source : Source S T)
+    → IsLawful rank n source
     → IsLawful rank n (put_back_source rank n source)
 put_back-lawful rank n source laws = record {
   answers = put_back-answers rank n source.can_next source.may_give source.steps laws.answers;
@@ -60,7 +61,8 @@ module _ {S T : Type 0} (rank : T → ℕ) (n : ℕ) (source : Source S T) where
   abbrev held_source : Source (PutBack T S) T
   held_source = put_back_source rank n source
 
-  may-by : (range : RangeInclusive T) (before held : Option (RangeInclusive T)) (s t : Fuse S) (runs : List Interval)
+  may-by : (range : RangeInclusive T) (before held : Option (RangeInclusive T)) (s t : Fuse S)
+      (runs : List Interval)
       → before ≡ None → held ≡ Some range → t ≡ s
       → after rank held (fuse_may_give source.may_give t) runs
       → (rest : List Interval) × after rank before (fuse_may_give source.may_give s) rest
@@ -69,19 +71,23 @@ module _ {S T : Type 0} (rank : T → ℕ) (n : ℕ) (source : Source S T) where
       let first = subst (λ each. after rank each (fuse_may_give source.may_give s) runs) is
       (subst (λ each. after rank held (fuse_may_give source.may_give each) runs) same may) in (
         first.0,
-        subst (λ each. after rank each (fuse_may_give source.may_give s) first.0) (sym room) first.1,
+        subst (λ each. after rank each (fuse_may_give source.may_give s) first.0) (sym room)
+            first.1,
         first.2,
       )
 
   -- it comes first, and then what was still to come
-  pub put_back-may : (range : RangeInclusive T) (s t : PutBack T S) (runs : List Interval) → HasRoom s
+  pub put_back-may : (range : RangeInclusive T) (s t : PutBack T S) (runs : List Interval)
+      → HasRoom s
       → IsPutBack range s t → held_source.may_give t runs
-      → (rest : List Interval) × held_source.may_give s rest × (runs ≡ interval_of rank range ∷ rest)
+      → (rest : List Interval) × held_source.may_give s rest
+      × (runs ≡ interval_of rank range ∷ rest)
   put_back-may range s t runs room put may =
       may-by range s.held t.held s.iter t.iter runs room put.held put.iter may
 
   -- the stream may be called where no start falls of the range and what was still to come
-  pub put_back-ready : (range : RangeInclusive T) (s t : PutBack T S) → HasRoom s → IsPutBack range s t
+  pub put_back-ready : (range : RangeInclusive T) (s t : PutBack T S) → HasRoom s
+      → IsPutBack range s t
       → held_source.can_next s
       → ((rest : List Interval) → held_source.may_give s rest
       → HasSortedStarts n (interval_of rank range ∷ rest))
@@ -94,12 +100,14 @@ module _ {S T : Type 0} (rank : T → ℕ) (n : ℕ) (source : Source S T) where
   }
 
   -- and gives one range more
-  pub put_back-size : (range : RangeInclusive T) (s t : PutBack T S) → HasRoom s → IsPutBack range s t
+  pub put_back-size : (range : RangeInclusive T) (s t : PutBack T S) → HasRoom s
+      → IsPutBack range s t
       → size (held_source.remaining t) ≡ size (held_source.remaining s) + 1
   put_back-size range s t room put = rw (put.iter, put.held, room) (omega arith)
 
   -- ---- a stream of which nothing is drawn yet
-  fresh-by : (held : Option (RangeInclusive T)) (done : Bool) (iter s : S) → held ≡ None → done ≡ false → iter ≡ s
+  fresh-by : (held : Option (RangeInclusive T)) (done : Bool) (iter s : S) → held ≡ None → done
+      ≡ false → iter ≡ s
       → after rank held (unless done (source.may_give iter)) ⊆ source.may_give s
   fresh-by held done iter s room undone same runs at =
       subst (λ each. source.may_give each runs) same
@@ -107,8 +115,10 @@ module _ {S T : Type 0} (rank : T → ℕ) (n : ℕ) (source : Source S T) where
       (subst (λ each. after rank each (unless done (source.may_give iter)) runs) room at))
 
   -- it gives what the stream gives
-  pub fresh-may : (iter : S) (s : PutBack T S) → IsFresh iter s → held_source.may_give s ⊆ source.may_give iter
-  fresh-may iter s fresh = fresh-by s.held (fuse_done s.iter) (fuse_source s.iter) iter fresh.room fresh.undone fresh.source
+  pub fresh-may : (iter : S) (s : PutBack T S) → IsFresh iter s
+      → held_source.may_give s ⊆ source.may_give iter
+  fresh-may iter s fresh = fresh-by s.held (fuse_done s.iter) (fuse_source s.iter) iter fresh.room
+      fresh.undone fresh.source
 
   -- and may be called where the stream may
   pub fresh-ready : (iter : S) (s : PutBack T S) → IsFresh iter s → source.can_next iter

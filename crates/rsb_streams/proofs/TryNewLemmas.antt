@@ -32,26 +32,31 @@ module _ {T : Type 0} (rank : T → ℕ) (n : ℕ) (ranges : List (RangeInclusiv
   }
 
   -- ---- the range at the position
-  module _ (position : ℕ) (previous : Option T) (checked : IsChecked position previous) (range : RangeInclusive T)
+  module _ (position : ℕ) (previous : Option T) (checked : IsChecked position previous)
+      (range : RangeInclusive T)
       (within : position < length ranges) (item : range ≡ get_or ranges position range) where
     abbrev run : Interval
     run = interval_of rank range
 
     one-more : take (position + 1) runs ≡ take position runs ++ run ∷ []
     one-more =
-        let size : position < length runs = omega (arith, within, length-map ranges (interval_of rank)) in
+        let size : position < length runs = omega
+        (arith, within, length-map ranges (interval_of rank)) in
         let step : position + 1 ≡ suc position = omega arith in
         rw step (take-suc runs position run size
         ∙ ap (λ each. take position runs ++ each ∷ [])
         (get_or-map (interval_of rank) ranges position range ∙ sym (ap (interval_of rank) item)))
 
-    pub follows-after : IsCanonicalIn n (take (position + 1) runs) → IsCanonicalFrom (start_after rank previous) (run ∷ [])
+    pub follows-after : IsCanonicalIn n (take (position + 1) runs)
+        → IsCanonicalFrom (start_after rank previous) (run ∷ [])
     follows-after canonical =
         subst (λ low. IsCanonicalFrom low (run ∷ [])) checked.next
-        (canonical-parts 0 (take position runs) (run ∷ []) (subst (IsCanonicalFrom 0) one-more canonical.0)).1
+        (canonical-parts 0 (take position runs) (run ∷ [])
+        (subst (IsCanonicalFrom 0) one-more canonical.0)).1
 
     -- the range does not follow the ones before
-    pub bad-here : ¬ (IsCanonicalFrom (start_after rank previous) (run ∷ [])) → IsFirstBad n runs position
+    pub bad-here : ¬ (IsCanonicalFrom (start_after rank previous) (run ∷ []))
+        → IsFirstBad n runs position
     bad-here broken = record {
       within = omega (arith, within, length-map ranges (interval_of rank));
       before = checked.before;
@@ -67,7 +72,8 @@ module _ {T : Type 0} (rank : T → ℕ) (n : ℕ) (ranges : List (RangeInclusiv
           within = omega (arith, within);
           before = rw one-more (
             canonical-append 0 (take position runs) (run ∷ []) checked.before.0 low,
-            All-push (λ (each : Interval). each.last < n) (take position runs) run checked.before.1 below,
+            All-push (λ (each : Interval). each.last < n) (take position runs) run checked.before.1
+                below,
           );
           next = rw one-more (next_start-push 0 (take position runs) run
               ∙ ap (λ last. last + 2) (range-end rank range canonical.1 ∙ sym (ap rank is)));
@@ -80,8 +86,10 @@ module _ {T : Type 0} (rank : T → ℕ) (n : ℕ) (ranges : List (RangeInclusiv
       (subst (IsCanonicalIn n) (sym (take-append-drop position runs)) canonical)
 
   -- where the position is past the last range, the whole list is canonical
-  pub checked-all : (position : ℕ) (previous : Option T) → IsChecked position previous → length ranges ≤ position
+  pub checked-all : (position : ℕ) (previous : Option T) → IsChecked position previous
+      → length ranges ≤ position
       → IsCanonicalIn n runs
   checked-all position previous checked past =
-      subst (IsCanonicalIn n) (take_all position runs (omega (arith, past, length-map ranges (interval_of rank))))
+      subst (IsCanonicalIn n) (take_all position runs
+      (omega (arith, past, length-map ranges (interval_of rank))))
       checked.before

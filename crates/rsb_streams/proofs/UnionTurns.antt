@@ -60,17 +60,21 @@ module _ {S T : Type 0} (rank : T → ℕ) (n : ℕ) (source : Source S T) where
         let nothing = put_back-rests rank n source.can_next source.may_give source.steps
         s.iter t.iter call in
         rw is (record {
-          answers = λ never. never [] (held_laws.answers s.iter t.iter None call) (runs-of_nothing n);
+          answers = λ never. never [] (held_laws.answers s.iter t.iter None call)
+              (runs-of_nothing n);
           rests = (
             nothing.0,
-            λ runs may. no-runs n runs (λ fails. may (λ given at. fails given (nothing.1 given at))),
+            λ runs may. no-runs n runs
+                (λ fails. may (λ given at. fails given (nothing.1 given at))),
           );
         })
 
     -- the first range
     pub begun : (s t : PutBack T S) (range : RangeInclusive T) (start end : T)
-        → (put_back_source rank n source).can_next s → (put_back_source rank n source).steps s (Some range) t
-        → Goes s (Some range) t → start ≡ range_inclusive_start range → end ≡ range_inclusive_end range
+        → (put_back_source rank n source).can_next s
+        → (put_back_source rank n source).steps s (Some range) t
+        → Goes s (Some range) t → start ≡ range_inclusive_start range → end
+        ≡ range_inclusive_end range
         → SoFar s t start end
     begun s t range start end ready call goes from to =
         let on = goes.on (ends s ready) in
@@ -82,24 +86,28 @@ module _ {S T : Type 0} (rank : T → ℕ) (n : ℕ) (source : Source S T) where
         record {
           room = call.room;
           ready = on.0;
-          gathers = subst (Gathers n (may s) (may t)) (λ i. record { first = low i; last = high i }) gathers;
+          gathers = subst (Gathers n (may s) (may t)) (λ i. record { first = low i; last = high i })
+              gathers;
           nearer = on.2;
         }
 
     -- where the next range starts and ends
-    pub next-values : (entry s t : PutBack T S) (start end : T) (range : RangeInclusive T) → SoFar entry s start end
+    pub next-values : (entry s t : PutBack T S) (start end : T) (range : RangeInclusive T)
+        → SoFar entry s start end
         → (put_back_source rank n source).steps s (Some range) t → Goes s (Some range) t
         → (rank (range_inclusive_start range) < n)
         × (rank (range_inclusive_end range) < n)
     next-values entry s t start end range so call goes =
-        let facts = next-sorted n (may entry) (may s) (may t) (run start end) (interval_of rank range)
+        let facts = next-sorted n (may entry) (may s) (may t) (run start end)
+        (interval_of rank range)
         so.gathers (held_laws.sorted t goes.keeps).some (held_laws.answers s t (Some range) call) in
         let low = range-start rank range facts.1 in
         let high = range-end rank range facts.1 in
         (omega (arith, facts.1, facts.2, low), omega (arith, facts.2, high))
 
     -- one more range, which overlaps or touches
-    pub more : (entry s t : PutBack T S) (start end last : T) (range : RangeInclusive T) → SoFar entry s start end
+    pub more : (entry s t : PutBack T S) (start end last : T) (range : RangeInclusive T)
+        → SoFar entry s start end
         → (put_back_source rank n source).steps s (Some range) t → Goes s (Some range) t
         → rank (range_inclusive_start range) ≤ rank end + 1
         → rank last ≡ max (rank end) (rank (range_inclusive_end range))
@@ -109,10 +117,12 @@ module _ {S T : Type 0} (rank : T → ℕ) (n : ℕ) (source : Source S T) where
         let next = interval_of rank range in
         let some = (held_laws.sorted t on.0).some in
         let answers = held_laws.answers s t (Some range) call in
-        let facts = next-sorted n (may entry) (may s) (may t) (run start end) next so.gathers some answers in
+        let facts = next-sorted n (may entry) (may s) (may t) (run start end) next so.gathers some
+        answers in
         let low = range-start rank range facts.1 in
         let high = range-end rank range facts.1 in
-        let gathers = gathers-more n (may entry) (may s) (may t) (run start end) next so.gathers some answers
+        let gathers = gathers-more n (may entry) (may s) (may t) (run start end) next so.gathers
+        some answers
         (omega (arith, low, touching)) in
         let end_is : max (rank end) next.last ≡ rank last = omega (arith, most, high) in
         record {
@@ -124,7 +134,8 @@ module _ {S T : Type 0} (rank : T → ℕ) (n : ℕ) (source : Source S T) where
         }
 
     -- what was gathered, as a range
-    gathered : (start end : T) (answer : RangeInclusive T) → range_inclusive_exhausted answer ≡ false
+    gathered : (start end : T) (answer : RangeInclusive T) → range_inclusive_exhausted answer
+        ≡ false
         → range_inclusive_start answer ≡ start → range_inclusive_end answer ≡ end
         → run start end ≡ interval_of rank answer
     gathered start end answer fresh from to = rw (fresh, from, to) refl
@@ -142,7 +153,8 @@ module _ {S T : Type 0} (rank : T → ℕ) (n : ℕ) (source : Source S T) where
     }
 
     -- the answer at the end
-    pub answer-last : (entry s : PutBack T S) (t : Union) (start end : T) (answer : RangeInclusive T)
+    pub answer-last : (entry s : PutBack T S) (t : Union) (start end : T)
+        (answer : RangeInclusive T)
         → SoFar entry s start end → (put_back_source rank n source).steps s None t.iter
         → range_inclusive_exhausted answer ≡ false
         → range_inclusive_start answer ≡ start → range_inclusive_end answer ≡ end
@@ -160,7 +172,8 @@ module _ {S T : Type 0} (rank : T → ℕ) (n : ℕ) (source : Source S T) where
 
     -- the answer where the next range starts apart, and is put back
     module _ (entry s u : PutBack T S) (t : Union) (start end : T) (range answer : RangeInclusive T)
-        (so : SoFar entry s start end) (call : (put_back_source rank n source).steps s (Some range) u)
+        (so : SoFar entry s start end)
+        (call : (put_back_source rank n source).steps s (Some range) u)
         (goes : Goes s (Some range) u) (put : IsPutBack range u t.iter)
         (apart : rank end + 1 < rank (range_inclusive_start range)) where
       past : (late : List Interval) → may t.iter late

@@ -27,7 +27,8 @@ module _ {T Z : Type 0} (rank : T → ℕ) (n : ℕ) where
   ended s t call = nil_from_length (into_iter_items s) (omega (arith, s.rest.ok.0, call.0))
 
   -- one item is taken, and the others stay
-  abbrev taken : (s : Items T Z) (range : RangeInclusive T) (ranges : List (RangeInclusive T)) → into_iter_items s ≡ range ∷ ranges
+  abbrev taken : (s : Items T Z) (range : RangeInclusive T) (ranges : List (RangeInclusive T))
+      → into_iter_items s ≡ range ∷ ranges
       → Items T Z
   taken s range ranges is =
       let size : into_iter_len s ≡ length ranges + 1 = s.rest.ok.0 ∙ ap length is ∙ omega arith in
@@ -50,9 +51,11 @@ module _ {T Z : Type 0} (rank : T → ℕ) (n : ℕ) where
 
   more : (s : Items T Z) (range : RangeInclusive T) (ranges : List (RangeInclusive T)) → can s
       → into_iter_items s ≡ range ∷ ranges
-      → (t : Items T Z) × Call rank can (into_iter_steps {X = RangeInclusive T} {Z = Z}) left s (Some range) t
+      → (t : Items T Z) × Call rank can (into_iter_steps {X = RangeInclusive T} {Z = Z}) left s
+      (Some range) t
   more s range ranges ready is =
-      let size : length ranges + 1 ≡ into_iter_len s = sym (s.rest.ok.0 ∙ ap length is ∙ omega arith) in (
+      let size : length ranges + 1
+      ≡ into_iter_len s = sym (s.rest.ok.0 ∙ ap length is ∙ omega arith) in (
         taken s range ranges is,
         record {
           gives = (is, size);
@@ -61,7 +64,8 @@ module _ {T Z : Type 0} (rank : T → ℕ) (n : ℕ) where
       )
 
   -- its calls give its items
-  pub vec-calls : (s : Items T Z) → calls_give rank can (into_iter_steps {X = RangeInclusive T} {Z = Z}) left s
+  pub vec-calls : (s : Items T Z)
+      → calls_give rank can (into_iter_steps {X = RangeInclusive T} {Z = Z}) left s
       ⊆ just (intervals_of rank (into_iter_items s))
   vec-calls s =
       listed-calls rank can (into_iter_steps {X = RangeInclusive T} {Z = Z}) left into_iter_items
@@ -74,9 +78,12 @@ module _ {T Z : Type 0} (rank : T → ℕ) (n : ℕ) where
     callable = tt;
     finite = tt;
     fronts = λ ranges t all.
-        let whole = listed-yields rank can (into_iter_steps {X = RangeInclusive T} {Z = Z}) left into_iter_items
+        let whole = listed-yields rank can (into_iter_steps {X = RangeInclusive T} {Z = Z}) left
+        into_iter_items
         (λ s t range call. call.0) ended ranges s t
-        (calls-steps rank can (into_iter_steps {X = RangeInclusive T} {Z = Z}) left ranges s t all) in
+        (calls-steps rank can (into_iter_steps {X = RangeInclusive T} {Z = Z}) left ranges s t
+        all) in
         canonical-front n (intervals_of rank ranges) (intervals_of rank (into_iter_items t))
-        (subst (IsCanonicalIn n) (ap (intervals_of rank) whole ∙ intervals-append rank ranges (into_iter_items t)) canonical);
+        (subst (IsCanonicalIn n) (ap (intervals_of rank) whole
+        ∙ intervals-append rank ranges (into_iter_items t)) canonical);
   }

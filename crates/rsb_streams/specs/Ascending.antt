@@ -11,8 +11,8 @@ use Rattle.rsb_streams.specs.Stream.{Keeps}
 
 module _ {S T : Type 0} (rank : T → ℕ) (n : ℕ) (can_next : S → Type 0)
     (steps : S → Option (RangeInclusive T) → S → Type 0) (remaining : S → Count) (low : S → ℕ) where
-  -- the range of a call from s is non-empty, lies in the type, and from `low s` on; what comes after it starts more
-  -- than one rank past its end; and fewer are left
+  -- the range of a call from s is non-empty, lies in the type, and from `low s` on; what comes
+  -- after it starts more than one rank past its end; and fewer are left
   pub record Ascends (s : S) (range : RangeInclusive T) (t : S) : Type 0 where
     pub from_low : low s ≤ (interval_of rank range).first
     pub in_order : (interval_of rank range).first ≤ (interval_of rank range).last
@@ -23,7 +23,8 @@ module _ {S T : Type 0} (rank : T → ℕ) (n : ℕ) (can_next : S → Type 0)
   module _ (ascends : (s t : S) (range : RangeInclusive T) → can_next s → steps s (Some range) t
       → Ascends s range t) where
     -- what calls give is canonical from each rank on that is at most `low`
-    ascending-from : (ranges : List (RangeInclusive T)) (s t : S) (from : ℕ) → can_next s → from ≤ low s
+    ascending-from : (ranges : List (RangeInclusive T)) (s t : S) (from : ℕ) → can_next s
+        → from ≤ low s
         → Yields steps s ranges t
         → IsCanonicalFrom from (intervals_of rank ranges) × AllEndBelow n (intervals_of rank ranges)
     ascending-from [] s t from can least all = (tt, All-nil (λ (run : Interval). run.last < n))
@@ -32,7 +33,8 @@ module _ {S T : Type 0} (rank : T → ℕ) (n : ℕ) (can_next : S → Type 0)
         let call = ascends s all.0 range can all.1 in
         let rest = ascending-from ranges all.0 t (run.last + 2) call.nearer.0 call.apart all.2 in (
           (omega (arith, least, call.from_low), call.in_order, rest.0),
-          All-cons (λ (each : Interval). each.last < n) run (intervals_of rank ranges) call.in_type rest.1,
+          All-cons (λ (each : Interval). each.last < n) run (intervals_of rank ranges) call.in_type
+              rest.1,
         )
 
     -- all that its calls may give is canonical, there is some of it, and it ends

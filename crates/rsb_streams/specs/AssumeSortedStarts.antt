@@ -18,7 +18,8 @@ module _ {T I : Type 0} (rank : T → ℕ) (n : ℕ) (can_next : I → Type 0)
   abbrev pub assume_can_next : AssumeSortedStarts T I → Type 0
   assume_can_next s = fuse_can_next IsSortedSource s.iter
 
-  abbrev pub assume_steps : AssumeSortedStarts T I → Option (RangeInclusive T) → AssumeSortedStarts T I → Type 0
+  abbrev pub assume_steps : AssumeSortedStarts T I → Option (RangeInclusive T)
+      → AssumeSortedStarts T I → Type 0
   assume_steps s item t = fuse_steps (Call rank can_next steps remaining) s.iter item t.iter
 
   abbrev pub assume_remaining : AssumeSortedStarts T I → Count
@@ -30,14 +31,17 @@ module _ {T I : Type 0} (rank : T → ℕ) (n : ℕ) (can_next : I → Type 0)
   pub assume-answers : (s t : AssumeSortedStarts T I) (item : Option (RangeInclusive T))
       → assume_steps s item t → Answers rank assume_may_give s item t
   assume-answers s t None call =
-      fuse-answers rank (calls_give rank can_next steps remaining) (Call rank can_next steps remaining)
+      fuse-answers rank (calls_give rank can_next steps remaining)
+      (Call rank can_next steps remaining)
       (calls-answers rank can_next steps remaining) s.iter t.iter None call
   assume-answers s t (Some range) call =
-      fuse-answers rank (calls_give rank can_next steps remaining) (Call rank can_next steps remaining)
+      fuse-answers rank (calls_give rank can_next steps remaining)
+      (Call rank can_next steps remaining)
       (calls-answers rank can_next steps remaining) s.iter t.iter (Some range) call
 
   pub assume-keeps : (s : AssumeSortedStarts T I) → assume_can_next s
       → Keeps (HasSortedStarts n) (assume_may_give s) (assume_remaining s)
   assume-keeps s can =
-      fuse-keeps (calls_give rank can_next steps remaining) IsSortedSource remaining (HasSortedStarts n)
+      fuse-keeps (calls_give rank can_next steps remaining) IsSortedSource remaining
+      (HasSortedStarts n)
       tt (calls-keeps rank can_next steps remaining (HasSortedStarts n)) s.iter can

@@ -12,7 +12,8 @@ module _ {S T : Type 0} (rank : T → ℕ) (call : S → Option (RangeInclusive 
   abbrev pub gives_by : S → Outcomes
   gives_by s runs = (ranges : List (RangeInclusive T)) × (t : S) × (runs ≡ intervals_of rank ranges)
       × Yields call s ranges t
-      × (((u : S) × call t None u) ⊎ ((range : RangeInclusive T) (u : S) → ¬ (call t (Some range) u)))
+      × (((u : S) × call t None u)
+      ⊎ ((range : RangeInclusive T) (u : S) → ¬ (call t (Some range) u)))
 
   -- what a call answered comes first, and then what the calls after it give
   pub gives_by-answers : (s t : S) (item : Option (RangeInclusive T)) → call s item t
@@ -26,7 +27,8 @@ module _ {S T : Type 0} (rank : T → ℕ) (call : S → Option (RangeInclusive 
     at.4,
   )
 
-  -- where each range leaves fewer to come, calls give something: `more` is at least as many as are left
+  -- where each range leaves fewer to come, calls give something: `more` is at least as many as are
+  -- left
   pub gives_by-some : (can_next : S → Type 0) (left : S → ℕ)
       → ((s t : S) (range : RangeInclusive T) → can_next s → call s (Some range) t
       → can_next t × (left t < left s))
@@ -81,7 +83,8 @@ module _ {S T : Type 0} (rank : T → ℕ) (can_next : S → Type 0)
   pub calls-keeps : (law : List Interval → Type 0) (s : S) → IsSource law s
       → Keeps law (calls_give s) (remaining s)
   calls-keeps law s source = record {
-    some = gives_by-some rank Call (λ each. IsFinite (remaining each)) (λ each. size (remaining each)) fewer
+    some = gives_by-some rank Call (λ each. IsFinite (remaining each))
+        (λ each. size (remaining each)) fewer
         (size (remaining s)) s source.finite (omega arith);
     all = λ runs at. subst law (sym at.2) (source.fronts at.0 at.1 at.3);
     ends = source.finite;
@@ -96,10 +99,12 @@ module _ {S T : Type 0} (rank : T → ℕ) (can_next : S → Type 0)
     callable = near.0;
     finite = near.1;
     fronts = λ ranges u all. tail (interval_of rank range) (intervals_of rank ranges)
-        (source.fronts (range ∷ ranges) u (t, record { gives = call; nearer = λ finite. near }, all));
+        (source.fronts (range ∷ ranges) u
+        (t, record { gives = call; nearer = λ finite. near }, all));
   }
 
   -- what the contract of `next` says of calls, less how many are left
-  pub calls-steps : (ranges : List (RangeInclusive T)) (s t : S) → Yields Call s ranges t → Yields steps s ranges t
+  pub calls-steps : (ranges : List (RangeInclusive T)) (s t : S) → Yields Call s ranges t
+      → Yields steps s ranges t
   calls-steps [] s t all = all
   calls-steps (range ∷ ranges) s t all = (all.0, all.1.gives, calls-steps ranges all.0 t all.2)

@@ -24,7 +24,8 @@ module _ {T I : Type 0} (rank : T → ℕ) (n : ℕ) (can_next : I → Type 0)
   abbrev pub check_can_next : CheckSortedDisjoint T I → Type 0
   check_can_next s = fuse_can_next IsCanonicalSource s.iter
 
-  abbrev pub check_steps : CheckSortedDisjoint T I → Option (RangeInclusive T) → CheckSortedDisjoint T I → Type 0
+  abbrev pub check_steps : CheckSortedDisjoint T I → Option (RangeInclusive T)
+      → CheckSortedDisjoint T I → Type 0
   check_steps s item t = fuse_steps (Call rank can_next steps remaining) s.iter item t.iter
 
   abbrev pub check_remaining : CheckSortedDisjoint T I → Count
@@ -36,14 +37,18 @@ module _ {T I : Type 0} (rank : T → ℕ) (n : ℕ) (can_next : I → Type 0)
   pub check-answers : (s t : CheckSortedDisjoint T I) (item : Option (RangeInclusive T))
       → check_steps s item t → Answers rank check_may_give s item t
   check-answers s t None call =
-      fuse-answers rank (calls_give rank can_next steps remaining) (Call rank can_next steps remaining)
+      fuse-answers rank (calls_give rank can_next steps remaining)
+      (Call rank can_next steps remaining)
       (calls-answers rank can_next steps remaining) s.iter t.iter None call
   check-answers s t (Some range) call =
-      fuse-answers rank (calls_give rank can_next steps remaining) (Call rank can_next steps remaining)
+      fuse-answers rank (calls_give rank can_next steps remaining)
+      (Call rank can_next steps remaining)
       (calls-answers rank can_next steps remaining) s.iter t.iter (Some range) call
 
   pub check-keeps : (s : CheckSortedDisjoint T I) → check_can_next s
       → Keeps (IsCanonicalIn n) (check_may_give s) (check_remaining s)
   check-keeps s can =
-      fuse-keeps (calls_give rank can_next steps remaining) IsCanonicalSource remaining (IsCanonicalIn n)
-      (tt, All-nil (λ (run : Interval). run.last < n)) (calls-keeps rank can_next steps remaining (IsCanonicalIn n)) s.iter can
+      fuse-keeps (calls_give rank can_next steps remaining) IsCanonicalSource remaining
+      (IsCanonicalIn n)
+      (tt, All-nil (λ (run : Interval). run.last < n))
+      (calls-keeps rank can_next steps remaining (IsCanonicalIn n)) s.iter can

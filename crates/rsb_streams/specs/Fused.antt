@@ -21,7 +21,8 @@ fuse_remaining remaining s = count_unless (fuse_done s) (remaining (fuse_source 
 
 module _ {S T : Type 0} (rank : T → ℕ) (may_give : S → Outcomes)
     (steps : S → Option (RangeInclusive T) → S → Type 0)
-    (answers : (s t : S) (item : Option (RangeInclusive T)) → steps s item t → Answers rank may_give s item t) where
+    (answers : (s t : S) (item : Option (RangeInclusive T)) → steps s item t
+    → Answers rank may_give s item t) where
   answers-by : (done after : Bool) (s t : S) (item : Option (RangeInclusive T))
       → MatchBool done (item ≡ None) (steps s item t)
       → MatchOption item (after ≡ true) (λ _. after ≡ false)

@@ -10,10 +10,12 @@ use Rattle.rsb_streams.specs.Stream.{Outcomes, merges, HasSortedStarts, HasSorte
 use Rattle.rsb_streams.specs.declared.merge.Merge.{Merge}
 
 abbrev pub merge_remaining : {T L R : Type 0} → (L → Count) → (R → Count) → Merge T L R → Count
-merge_remaining lefts rights s = count_add (put_back_remaining lefts s.left) (put_back_remaining rights s.right)
+merge_remaining lefts rights s = count_add (put_back_remaining lefts s.left)
+    (put_back_remaining rights s.right)
 
 module _ {T L R : Type 0} (rank : T → ℕ) (n : ℕ)
-    (left_can : L → Type 0) (left_may : L → Outcomes) (right_can : R → Type 0) (right_may : R → Outcomes) where
+    (left_can : L → Type 0) (left_may : L → Outcomes) (right_can : R → Type 0)
+    (right_may : R → Outcomes) where
   -- both streams may be called
   pub record MergeReady (s : Merge T L R) : Type 0 where
     pub left : PutBackReady rank n left_can left_may s.left
@@ -51,31 +53,36 @@ merge-from n (suc size) low (run ∷ left) [] within first second =
 merge-from n (suc size) low [] (run ∷ right) within first second =
     let rest = merge-from n size run.first [] right (omega arith) tt second.3 in
     (run ∷ rest.0, (second.0, second.1, second.2, rest.1), inr (right, refl, rest.2))
-merge-from n (suc size) low (run ∷ left) (other ∷ right) within first second = elim (cases_lt run.first other.first) [
-  | inl less ↦
-      let later : HasSortedStartsFrom n run.first (other ∷ right) =
-      (omega arith, second.1, second.2, second.3) in
-      let rest = merge-from n size run.first left (other ∷ right) (omega arith) first.3 later in
-      (run ∷ rest.0, (first.0, first.1, first.2, rest.1), inl (left, refl, rest.2))
-  | inr most ↦
-      let later : HasSortedStartsFrom n other.first (run ∷ left) = (most, first.1, first.2, first.3) in
-      let rest = merge-from n size other.first (run ∷ left) right (omega arith) later second.3 in
-      (other ∷ rest.0, (second.0, second.1, second.2, rest.1), inr (right, refl, rest.2))
-]
+merge-from n (suc size) low (run ∷ left) (other ∷ right) within first second = elim
+    (cases_lt run.first other.first) [
+      | inl less ↦
+          let later : HasSortedStartsFrom n run.first (other ∷ right) =
+          (omega arith, second.1, second.2, second.3) in
+          let rest = merge-from n size run.first left (other ∷ right) (omega arith) first.3 later in
+          (run ∷ rest.0, (first.0, first.1, first.2, rest.1), inl (left, refl, rest.2))
+      | inr most ↦
+          let later : HasSortedStartsFrom n other.first (run ∷ left)
+          = (most, first.1, first.2, first.3) in
+          let rest = merge-from n size other.first (run ∷ left) right (omega arith) later second.3 in
+          (other ∷ rest.0, (second.0, second.1, second.2, rest.1), inr (right, refl, rest.2))
+    ]
 
-pub merge-exists : (n : ℕ) (left right : List Interval) → HasSortedStarts n left → HasSortedStarts n right
+pub merge-exists : (n : ℕ) (left right : List Interval) → HasSortedStarts n left
+    → HasSortedStarts n right
     → (runs : List Interval) × HasSortedStarts n runs × IsMergeOf left right runs
 merge-exists n left right first second =
     merge-from n (length left + length right) 0 left right (omega arith) first second
 
-pub both-finite : (left right : Count) → IsFinite left → IsFinite right → IsFinite (count_add left right)
+pub both-finite : (left right : Count) → IsFinite left → IsFinite right
+    → IsFinite (count_add left right)
 both-finite left right first second = elim (true_or_false left.bounded) [
   | inl bounded ↦ rw bounded second
   | inr endless ↦ absurd (rw endless at first)
 ]
 
 pub merges-keeps : (n : ℕ) (P Q : Outcomes) (left right : Count) → Keeps (HasSortedStarts n) P left
-    → Keeps (HasSortedStarts n) Q right → Keeps (HasSortedStarts n) (merges n P Q) (count_add left right)
+    → Keeps (HasSortedStarts n) Q right
+    → Keeps (HasSortedStarts n) (merges n P Q) (count_add left right)
 merges-keeps n P Q left right first second = record {
   some = λ never. first.some (λ xs may. second.some (λ ys might.
       let runs = merge-exists n xs ys (first.all xs may) (second.all ys might) in

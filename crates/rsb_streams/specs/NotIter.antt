@@ -14,7 +14,8 @@ abbrev pub gaps_after : {T : Type 0} → (T → ℕ) → ℕ → Option T → Ou
 gaps_after rank n None P runs = runs ≡ []
 gaps_after rank n (Some start) P runs = runs_by n (gaps_from (rank start)) P runs
 
-module _ {T I : Type 0} (rank : T → ℕ) (n : ℕ) (can_next : I → Type 0) (may_give : I → Outcomes) where
+module _ {T I : Type 0} (rank : T → ℕ) (n : ℕ) (can_next : I → Type 0)
+    (may_give : I → Outcomes) where
   -- the input may be called, a gap may start at a value, and no range to come starts before that
   pub record NotReady (iter : I) (start : T) : Type 0 where
     pub callable : can_next iter
@@ -58,5 +59,6 @@ module _ {T I : Type 0} (rank : T → ℕ) (n : ℕ) (can_next : I → Type 0) (
 
   -- the gaps are canonical, there are some lists of them, and they end
   pub not-keeps : (s : NotIter T I) → not_can_next rank n can_next may_give s
-      → Keeps (IsCanonicalIn n) (not_may_give rank n can_next may_give s) (not_remaining remaining s)
+      → Keeps (IsCanonicalIn n) (not_may_give rank n can_next may_give s)
+      (not_remaining remaining s)
   not-keeps s ready = keeps-by s.start s.iter ready

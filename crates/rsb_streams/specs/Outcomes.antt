@@ -36,7 +36,8 @@ pub settled_below : (n : ℕ) (runs : List Interval) → ¬ (¬ (AllEndBelow n r
 settled_below n [] holds = All-nil (λ (run : Interval). run.last < n)
 settled_below n (run ∷ runs) holds =
     let P : Interval → Type 0 = λ each. each.last < n in
-    All-cons P run runs (settled_lt run.last n (λ fails. holds (λ all. fails (All-head P run runs all))))
+    All-cons P run runs (settled_lt run.last n
+    (λ fails. holds (λ all. fails (All-head P run runs all))))
     (settled_below n runs (λ fails. holds (λ all. fails (All-tail P run runs all))))
 
 pub settled_canonical_in : (n : ℕ) (runs : List Interval) → ¬ (¬ (IsCanonicalIn n runs))
@@ -65,7 +66,8 @@ sorted-lower n low lower (run ∷ runs) less sorted =
     let starts = sorted.0 in (omega arith, sorted.1, sorted.2, sorted.3)
 
 -- a canonical list has sorted starts
-pub canonical-sorted : (n low : ℕ) (runs : List Interval) → IsCanonicalFrom low runs → AllEndBelow n runs
+pub canonical-sorted : (n low : ℕ) (runs : List Interval) → IsCanonicalFrom low runs
+    → AllEndBelow n runs
     → HasSortedStartsFrom n low runs
 canonical-sorted n low [] canonical below = tt
 canonical-sorted n low (run ∷ runs) canonical below =
@@ -79,7 +81,8 @@ canonical-sorted n low (run ∷ runs) canonical below =
     )
 
 -- so have the lists that a stream of canonical ones gives
-pub canonical-starts : (n : ℕ) (P : Outcomes) (remaining : Count) → Keeps (IsCanonicalIn n) P remaining
+pub canonical-starts : (n : ℕ) (P : Outcomes) (remaining : Count)
+    → Keeps (IsCanonicalIn n) P remaining
     → Keeps (HasSortedStarts n) P remaining
 canonical-starts n P remaining kept = record {
   some = kept.some;
@@ -152,11 +155,13 @@ runs-longer n selected low run runs here touching all =
     let ordered = all.canonical.1 in
     record {
       canonical = (omega arith, omega arith, all.canonical.2);
-      below = All-cons P longer runs (All-head P run runs all.below) (All-tail P run runs all.below);
+      below = All-cons P longer runs (All-head P run runs all.below)
+          (All-tail P run runs all.below);
       same = λ rank from within. elim (cases_lt low rank) [
         | inl past ↦ elim (cases_lt run.last rank) [
           | inl after ↦
-              members-tail longer runs rank (inr after) ∙ sym (members-tail run runs rank (inr after))
+              members-tail longer runs rank (inr after)
+              ∙ sym (members-tail run runs rank (inr after))
               ∙ all.same rank (omega arith) within
           | inr inside ↦
               members-head longer runs rank from inside
@@ -170,7 +175,8 @@ runs-longer n selected low run runs here touching all =
     }
 
 runs-before : (n : ℕ) (selected : Selection) (low : ℕ) (runs : List Interval) → selected low ≡ true
-    → low < n → AreRunsFrom n selected (low + 1) runs → (others : List Interval) × AreRunsFrom n selected low others
+    → low < n → AreRunsFrom n selected (low + 1) runs → (others : List Interval)
+    × AreRunsFrom n selected low others
 runs-before n selected low [] here below all =
     (record { first = low; last = low } ∷ [], runs-new n selected low [] here below tt all)
 runs-before n selected low (run ∷ runs) here below all =
@@ -178,7 +184,8 @@ runs-before n selected low (run ∷ runs) here below all =
     elim (cases_lt (low + 1) run.first) [
       | inl apart ↦ (
         record { first = low; last = low } ∷ run ∷ runs,
-        runs-new n selected low (run ∷ runs) here below (omega arith, all.canonical.1, all.canonical.2) all,
+        runs-new n selected low (run ∷ runs) here below
+            (omega arith, all.canonical.1, all.canonical.2) all,
       )
       | inr touching ↦ (
         record { first = low; last = run.last } ∷ runs,

@@ -23,7 +23,8 @@ pub record IsFresh {T I : Type 0} (iter : I) (s : PutBack T I) : Type 0 where
   pub undone : fuse_done s.iter ≡ false
 
 -- the range was put before what the old state gives
-pub record IsPutBack {T I : Type 0} (range : RangeInclusive T) (old new : PutBack T I) : Type 0 where
+pub record IsPutBack {T I : Type 0} (range : RangeInclusive T) (old new : PutBack T I) : Type
+    0 where
   pub held : new.held ≡ Some range
   pub iter : new.iter ≡ old.iter
 
@@ -38,7 +39,8 @@ abbrev pub put_back_remaining : {T I : Type 0} → (I → Count) → PutBack T I
 put_back_remaining remaining s =
     count_map (λ left. left + option_len s.held) (fuse_remaining remaining s.iter)
 
-module _ {T I : Type 0} (rank : T → ℕ) (n : ℕ) (can_next : I → Type 0) (may_give : I → Outcomes) where
+module _ {T I : Type 0} (rank : T → ℕ) (n : ℕ) (can_next : I → Type 0)
+    (may_give : I → Outcomes) where
   abbrev pub put_back_may_give : PutBack T I → Outcomes
   put_back_may_give s = after rank s.held (fuse_may_give may_give s.iter)
 
@@ -49,14 +51,17 @@ module _ {T I : Type 0} (rank : T → ℕ) (n : ℕ) (can_next : I → Type 0) (
 
   -- ---- its laws
   module _ (steps : I → Option (RangeInclusive T) → I → Type 0)
-      (answers : (s t : I) (item : Option (RangeInclusive T)) → steps s item t → Answers rank may_give s item t) where
-    answers-by : (held : Option (RangeInclusive T)) (s t : Fuse I) (item : Option (RangeInclusive T))
+      (answers : (s t : I) (item : Option (RangeInclusive T)) → steps s item t
+      → Answers rank may_give s item t) where
+    answers-by : (held : Option (RangeInclusive T)) (s t : Fuse I)
+        (item : Option (RangeInclusive T))
         → MatchOption held (fuse_steps steps s item t) (λ range. (item ≡ Some range) × (t ≡ s))
         → MatchOption item (after rank held (fuse_may_give may_give s) [])
         (λ range. (rest : List Interval) → fuse_may_give may_give t rest
         → after rank held (fuse_may_give may_give s) (interval_of rank range ∷ rest))
     answers-by None s t None call = fuse-answers rank may_give steps answers s t None call
-    answers-by None s t (Some range) call = fuse-answers rank may_give steps answers s t (Some range) call
+    answers-by None s t (Some range) call = fuse-answers rank may_give steps answers s t
+        (Some range) call
     answers-by (Some held) s t None call = let no = call.0 in absurd (cc)
     answers-by (Some held) s t (Some range) call = λ rest may.
         let is = call.0 in
@@ -75,7 +80,8 @@ module _ {T I : Type 0} (rank : T → ℕ) (n : ℕ) (can_next : I → Type 0) (
 
   module _ (remaining : I → Count)
       (sorted : (s : I) → can_next s → Keeps (HasSortedStarts n) (may_give s) (remaining s)) where
-    some-by : (held : Option (RangeInclusive T)) (s : Fuse I) → HasOutcome (fuse_may_give may_give s)
+    some-by : (held : Option (RangeInclusive T)) (s : Fuse I)
+        → HasOutcome (fuse_may_give may_give s)
         → HasOutcome (after rank held (fuse_may_give may_give s))
     some-by None s some = some
     some-by (Some range) s some =
@@ -84,7 +90,8 @@ module _ {T I : Type 0} (rank : T → ℕ) (n : ℕ) (can_next : I → Type 0) (
     pub put_back-keeps : (s : PutBack T I) → PutBackReady s
         → Keeps (HasSortedStarts n) (put_back_may_give s) (put_back_remaining remaining s)
     put_back-keeps s ready =
-        let kept = fuse-keeps may_give can_next remaining (HasSortedStarts n) tt sorted s.iter ready.callable in
+        let kept = fuse-keeps may_give can_next remaining (HasSortedStarts n) tt sorted s.iter
+        ready.callable in
         record {
           some = some-by s.held s.iter kept.some;
           all = ready.sorted;
@@ -92,7 +99,8 @@ module _ {T I : Type 0} (rank : T → ℕ) (n : ℕ) (can_next : I → Type 0) (
         }
 
   -- after `None` it may be called again, and nothing comes
-  rests-by : (steps : I → Option (RangeInclusive T) → I → Type 0) (held : Option (RangeInclusive T)) (s t : Fuse I)
+  rests-by : (steps : I → Option (RangeInclusive T) → I → Type 0) (held : Option (RangeInclusive T))
+      (s t : Fuse I)
       → MatchOption held (fuse_steps steps s None t) (λ range. (None ≡ Some range) × (t ≡ s))
       → fuse_can_next can_next t × (fuse_may_give may_give t ⊆ just [])
   rests-by steps None s t call = fuse-rests may_give can_next steps s t None call
@@ -103,7 +111,8 @@ module _ {T I : Type 0} (rank : T → ℕ) (n : ℕ) (can_next : I → Type 0) (
   put_back-rests steps s t call =
       let rest = rests-by steps s.held s.iter t.iter call.call in
       let nothing : put_back_may_give t ⊆ just [] = λ runs may.
-      rest.1 runs (subst (λ held. after rank held (fuse_may_give may_give t.iter) runs) call.room may) in (
+      rest.1 runs (subst (λ held. after rank held (fuse_may_give may_give t.iter) runs) call.room
+      may) in (
         record {
           callable = rest.0;
           sorted = λ runs may. rw (nothing runs may) tt;

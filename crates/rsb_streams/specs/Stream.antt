@@ -8,17 +8,19 @@ use Rattle.rsb_integer.specs.Selection.{Selection}
 
 -- ---- lists of intervals
 
--- the intervals are non-empty and lie in a type of n values, the first starts at `low` or past it, and no
--- start falls
+-- the intervals are non-empty and lie in a type of n values, the first starts at `low` or past it,
+-- and no start falls
 abbrev pub HasSortedStartsFrom : ℕ → ℕ → List Interval → Type 0
 HasSortedStartsFrom n low [] = Unit {0}
 HasSortedStartsFrom n low (run ∷ runs) =
-    (low ≤ run.first) × (run.first ≤ run.last) × (run.last < n) × HasSortedStartsFrom n run.first runs
+    (low ≤ run.first) × (run.first ≤ run.last) × (run.last < n)
+    × HasSortedStartsFrom n run.first runs
 
 abbrev pub HasSortedStarts : ℕ → List Interval → Type 0
 HasSortedStarts n runs = HasSortedStartsFrom n 0 runs
 
--- the last list has the intervals of both others, each as often as it stands there, and in their orders
+-- the last list has the intervals of both others, each as often as it stands there, and in their
+-- orders
 abbrev pub IsMergeOf : List Interval → List Interval → List Interval → Type 0
 IsMergeOf left right [] = (left ≡ []) × (right ≡ [])
 IsMergeOf left right (run ∷ runs) =
@@ -40,8 +42,8 @@ P ⊆ Q = (runs : List Interval) → P runs → Q runs
 abbrev pub just : List Interval → Outcomes
 just runs others = others ≡ runs
 
--- something may be given. (Nothing shows that a closure answers when it is called, so no list is at hand: it
--- is not so that there is none.)
+-- something may be given. (Nothing shows that a closure answers when it is called, so no list is at
+-- hand: it is not so that there is none.)
 abbrev pub HasOutcome : Outcomes → Type 0
 HasOutcome P = ¬ ((runs : List Interval) → ¬ (P runs))
 
@@ -84,7 +86,8 @@ unless done P runs = MatchBool done (runs ≡ []) (P runs)
 -- the range that is held, if there is one, and then what else may be given
 abbrev pub after : {T : Type 0} → (T → ℕ) → Option (RangeInclusive T) → Outcomes → Outcomes
 after rank None P runs = P runs
-after rank (Some range) P runs = (rest : List Interval) × P rest × (runs ≡ interval_of rank range ∷ rest)
+after rank (Some range) P runs = (rest : List Interval) × P rest
+    × (runs ≡ interval_of rank range ∷ rest)
 
 -- the ranks from `first` on that the set leaves out
 abbrev pub gaps_from : ℕ → Selection → Selection
@@ -101,10 +104,12 @@ Answers rank may_give s item t = MatchOption item (may_give s [])
 -- after `None` the stream may be called again, and nothing comes
 abbrev pub Rests : {S T : Type 0} → (S → Type 0) → (S → Outcomes)
     → Option (RangeInclusive T) → S → Type 0
-Rests can_next may_give item t = MatchOption item (can_next t × (may_give t ⊆ just [])) (λ _. Unit {0})
+Rests can_next may_give item t = MatchOption item (can_next t × (may_give t ⊆ just []))
+    (λ _. Unit {0})
 
 -- both: all that is known of a call of a stream of ours
-pub record AnswersAndRests {S T : Type 0} (rank : T → ℕ) (can_next : S → Type 0) (may_give : S → Outcomes)
+pub record AnswersAndRests {S T : Type 0} (rank : T → ℕ) (can_next : S → Type 0)
+    (may_give : S → Outcomes)
     (s : S) (item : Option (RangeInclusive T)) (t : S) : Type 0 where
   pub answers : Answers rank may_give s item t
   pub rests : Rests can_next may_give item t

@@ -12,7 +12,8 @@ abbrev pub union_remaining : {T S : Type 0} → (S → Count) → UnionIter T S 
 union_remaining remaining s = put_back_remaining remaining s.iter
 
 -- the runs of what may be given are canonical, and there are some where something may be given
-pub joined-keeps : (n : ℕ) (law : List Interval → Type 0) (P : Outcomes) (remaining : Count) → Keeps law P remaining
+pub joined-keeps : (n : ℕ) (law : List Interval → Type 0) (P : Outcomes) (remaining : Count)
+    → Keeps law P remaining
     → Keeps (IsCanonicalIn n) (joined n P) remaining
 joined-keeps n law P remaining kept = record {
   some = λ never. kept.some (λ given may.
@@ -23,7 +24,8 @@ joined-keeps n law P remaining kept = record {
   ends = kept.ends;
 }
 
-module _ {T S : Type 0} (rank : T → ℕ) (n : ℕ) (can_next : S → Type 0) (may_give : S → Outcomes) where
+module _ {T S : Type 0} (rank : T → ℕ) (n : ℕ) (can_next : S → Type 0)
+    (may_give : S → Outcomes) where
   abbrev pub union_can_next : UnionIter T S → Type 0
   union_can_next s = PutBackReady rank n can_next may_give s.iter
 

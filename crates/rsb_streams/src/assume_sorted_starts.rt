@@ -28,12 +28,14 @@ pub struct AssumeSortedStarts<T, I> {
 }
 
 impl<T: Integer, I: Iterator> AssumeSortedStarts<T, I> {
-    /// The items of an iterator, which are finite, non-empty, and by their starts. It takes no memory.
+    /// The items of an iterator, which are finite, non-empty, and by their starts. It takes no
+    /// memory.
     pub fn new<J: IntoIterator<Item = RangeInclusive<T>, IntoIter = I>>(iter: J) -> Self
         requires { (source : I) → J.into_iter_gives iter source
             → IsSortedSource T.rank T.value_count I.can_next I.next_gives I.remaining source }
         ensures { IsStreamOf ⟦<AssumeSortedStarts<T, I> as SortedStarts<T>>⟧ result
-            (gives_as J.into_iter_gives (calls_give T.rank I.can_next I.next_gives I.remaining) iter) }
+            (gives_as J.into_iter_gives
+            (calls_give T.rank I.can_next I.next_gives I.remaining) iter) }
     {
         AssumeSortedStarts {
             iter: iter.into_iter().fuse(),

@@ -28,8 +28,8 @@ use std::marker::PhantomData;
 use std::ops::RangeInclusive;
 use std::vec::IntoIter;
 
-/// The items of an iterator that its maker knows to be canonical. (`CheckSortedDisjoint` of the Rust
-/// crate, which tests them as they come.)
+/// The items of an iterator that its maker knows to be canonical. (`CheckSortedDisjoint` of the
+/// Rust crate, which tests them as they come.)
 #[derive(Clone, Debug, Drop)]
 pub struct CheckSortedDisjoint<T, I> {
     iter: Fuse<I>,
@@ -42,7 +42,8 @@ impl<T: Integer, I: Iterator> CheckSortedDisjoint<T, I> {
         requires { (source : I) → J.into_iter_gives iter source
             → IsCanonicalSource T.rank T.value_count I.can_next I.next_gives I.remaining source }
         ensures { IsStreamOf ⟦<CheckSortedDisjoint<T, I> as SortedStarts<T>>⟧ result
-            (gives_as J.into_iter_gives (calls_give T.rank I.can_next I.next_gives I.remaining) iter) }
+            (gives_as J.into_iter_gives
+            (calls_give T.rank I.can_next I.next_gives I.remaining) iter) }
     {
         CheckSortedDisjoint {
             iter: iter.into_iter().fuse(),
@@ -52,8 +53,8 @@ impl<T: Integer, I: Iterator> CheckSortedDisjoint<T, I> {
 }
 
 impl<T: Integer, A: Allocator> CheckSortedDisjoint<T, IntoIter<RangeInclusive<T>, A>> {
-    /// The ranges of a list, or its first bad position where it is not canonical, and the list. It takes
-    /// no memory.
+    /// The ranges of a list, or its first bad position where it is not canonical, and the list. It
+    /// takes no memory.
     pub fn try_new(ranges: Vec<RangeInclusive<T>, A>) -> Result<Self, NotSortedDisjoint<T, A>>
         ensures ok { IsOk result ↔ IsCanonicalIn T.value_count (intervals_of T.rank ranges.items) }
         ensures runs { IfOk result (λ stream.

@@ -15,9 +15,9 @@ use rsb_integer::Integer;
 use std::iter::FusedIterator;
 use std::ops::RangeInclusive;
 
-/// The ranges of two streams, by their starts. Which comes first of two that start alike is left open.
-/// It draws a range of a stream only where the one that it held was given, and one more is asked for.
-/// (`Merge` of the Rust crate.)
+/// The ranges of two streams, by their starts. Which comes first of two that start alike is left
+/// open. It draws a range of a stream only where the one that it held was given, and one more is
+/// asked for. (`Merge` of the Rust crate.)
 #[derive(Clone, Debug, Drop)]
 pub struct Merge<T, L, R> {
     left: PutBack<T, L>,
@@ -79,7 +79,8 @@ impl<T: Integer, L: SortedDisjoint<T>, R: SortedDisjoint<T>> Iterator for Merge<
 impl<T: Integer, L: SortedDisjoint<T>, R: SortedDisjoint<T>> FusedIterator for Merge<T, L, R> {}
 
 impl<T: Integer, L: SortedDisjoint<T>, R: SortedDisjoint<T>> SortedStarts<T> for Merge<T, L, R> {
-    ghost may_give = { merge_may_give T.rank T.value_count L.can_next L.may_give R.can_next R.may_give };
+    ghost may_give = { merge_may_give T.rank T.value_count L.can_next L.may_give R.can_next
+        R.may_give };
 
     ghost answers = { λ s t item gives. gives.answers };
 

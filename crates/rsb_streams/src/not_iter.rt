@@ -48,7 +48,8 @@ impl<T: Integer, I: SortedDisjoint<T>> Iterator for NotIter<T, I> {
 
     ghost can_next = { not_can_next T.rank T.value_count I.can_next I.may_give };
 
-    ghost next_gives = { AnswersAndRests T.rank (not_can_next T.rank T.value_count I.can_next I.may_give)
+    ghost next_gives = { AnswersAndRests T.rank
+        (not_can_next T.rank T.value_count I.can_next I.may_give)
         (not_may_give T.rank T.value_count I.can_next I.may_give) };
 
     ghost remaining = { not_remaining I.remaining };

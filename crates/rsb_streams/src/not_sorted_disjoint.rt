@@ -9,8 +9,8 @@ use rsb_integer::Integer;
 use std::alloc::{Allocator, Global};
 use std::ops::RangeInclusive;
 
-/// A list of ranges that is not canonical, and its first bad position, counted from 0: there stands an
-/// empty range, or one that does not start more than one past the end of the range before.
+/// A list of ranges that is not canonical, and its first bad position, counted from 0: there stands
+/// an empty range, or one that does not start more than one past the end of the range before.
 #[derive(Debug, Drop, PartialEq, Eq)]
 pub struct NotSortedDisjoint<T, A: Allocator = Global> {
     /// The first bad position.

@@ -112,7 +112,8 @@ impl<T: Integer, I: Iterator<Item = RangeInclusive<T>>, R: SortedDisjoint<T>> Bi
 
     ghost bitor_gives = { λ left right result.
         IsStreamOf ⟦<Union<T, CheckSortedDisjoint<T, I>, R> as SortedStarts<T>>⟧ result
-        (runs_by_two T.value_count union (⟦<CheckSortedDisjoint<T, I> as SortedStarts<T>>⟧.may_give left)
+        (runs_by_two T.value_count union
+        (⟦<CheckSortedDisjoint<T, I> as SortedStarts<T>>⟧.may_give left)
         (R.may_give right)) };
 
     fn bitor(self, other: R) -> Self::Output {
@@ -127,7 +128,8 @@ impl<T: Integer, I: Iterator<Item = RangeInclusive<T>>> Not for CheckSortedDisjo
 
     ghost not_gives = { λ stream result.
         IsStreamOf ⟦<NotIter<T, CheckSortedDisjoint<T, I>> as SortedStarts<T>>⟧ result
-        (runs_by T.value_count complement (⟦<CheckSortedDisjoint<T, I> as SortedStarts<T>>⟧.may_give stream)) };
+        (runs_by T.value_count complement
+        (⟦<CheckSortedDisjoint<T, I> as SortedStarts<T>>⟧.may_give stream)) };
 
     fn not(self) -> Self::Output {
         NotIter::from(self)

@@ -66,7 +66,8 @@ pub trait SortedDisjoint<T: Integer>: SortedStarts<T> {
     where
         Self: Sized,
         requires { Self.can_next self }
-        ensures { SomeOutcome (Self.may_give self) (λ runs. IsTrue result ↔ IsNothing (members runs)) }
+        ensures { SomeOutcome (Self.may_give self)
+            (λ runs. IsTrue result ↔ IsNothing (members runs)) }
     {
         let mut stream = self;
         stream.next().is_none()

@@ -16,8 +16,8 @@ use rsb_integer::Integer;
 use std::iter::FusedIterator;
 use std::ops::RangeInclusive;
 
-/// The ranges of a stream whose starts do not fall, joined where they overlap or touch. It holds one
-/// range at most: the one after its last answer. (`UnionIter` of the Rust crate.)
+/// The ranges of a stream whose starts do not fall, joined where they overlap or touch. It holds
+/// one range at most: the one after its last answer. (`UnionIter` of the Rust crate.)
 #[derive(Clone, Debug, Drop)]
 pub struct UnionIter<T, SS> {
     iter: PutBack<T, SS>,
@@ -50,7 +50,8 @@ impl<T: Integer, SS: SortedStarts<T>> Iterator for UnionIter<T, SS> {
 
     ghost can_next = { union_can_next T.rank T.value_count SS.can_next SS.may_give };
 
-    ghost next_gives = { AnswersAndRests T.rank (union_can_next T.rank T.value_count SS.can_next SS.may_give)
+    ghost next_gives = { AnswersAndRests T.rank
+        (union_can_next T.rank T.value_count SS.can_next SS.may_give)
         (union_may_give T.rank T.value_count SS.can_next SS.may_give) };
 
     ghost remaining = { union_remaining SS.remaining };
@@ -83,5 +84,6 @@ impl<T: Integer, SS: SortedStarts<T>> SortedStarts<T> for UnionIter<T, SS> {
 
 impl<T: Integer, SS: SortedStarts<T>> SortedDisjoint<T> for UnionIter<T, SS> {
     ghost canonical = { λ s ready.
-        (union-keeps T.rank T.value_count SS.can_next SS.may_give SS.remaining SS.sorted s ready).all };
+        (union-keeps T.rank T.value_count SS.can_next SS.may_give SS.remaining SS.sorted
+        s ready).all };
 }

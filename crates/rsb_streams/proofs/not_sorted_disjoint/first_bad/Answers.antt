@@ -24,15 +24,18 @@ pub returns-then-not-follows-clause-bad : goal.returns-then-not-follows-clause-b
 returns-then-not-follows-clause-bad g c =
     let within = ltb-true c.loop-range.position _ (sym c.in-Some.ensures.lookup.0) in
     bad-here g.T.Integer.rank g.T.Integer.value_count c.args.ranges.now c.loop-range.position
-    c.loop-range.previous c.loop-range.invariant c.in-Some.range.now within c.in-Some.ensures.lookup.1
+    c.loop-range.previous c.loop-range.invariant c.in-Some.range.now within
+    c.in-Some.ensures.lookup.1
     (λ canonical. let follows = c.if-not-follows.ensures.found.1 canonical in cc)
 
 pub loop-range-preserved : goal.loop-range-preserved
 loop-range-preserved g c =
     let within = ltb-true c.loop-range.position _ (sym c.in-Some.ensures.lookup.0) in
     checked-one g.T.Integer.rank g.T.Integer.value_count c.args.ranges.now c.loop-range.position
-    c.loop-range.previous c.loop-range.invariant c.in-Some.range.now within c.in-Some.ensures.lookup.1
-    (c.if-not-follows.ensures.found.0 cc) c.if-not-follows.ensures.value c.end.result.now c.end.ensures
+    c.loop-range.previous c.loop-range.invariant c.in-Some.range.now within
+    c.in-Some.ensures.lookup.1
+    (c.if-not-follows.ensures.found.0 cc) c.if-not-follows.ensures.value c.end.result.now
+    c.end.ensures
 
 pub returns-clause-none : goal.returns-clause-none
 returns-clause-none g c = (

@@ -8,7 +8,8 @@ returns-clause-goes g c =
     let rank = g.T.Integer.rank in
     let n = g.T.Integer.value_count in
     let goes = source-goes rank g.I.Iterator.can_next g.I.Iterator.next_gives g.I.Iterator.remaining
-    (IsCanonicalIn n) (canonical-tail n) c.args.self.now.iter c.next.new.self c.next.result c.requires
+    (IsCanonicalIn n) (canonical-tail n) c.args.self.now.iter c.next.new.self c.next.result
+    c.requires
     (check-keeps rank n g.I.Iterator.can_next g.I.Iterator.next_gives g.I.Iterator.remaining
     c.args.self.now c.requires).ends c.next.ensures.steps c.next.ensures.goes in
     record { on = goes.on; keeps = goes.keeps; rests = goes.rests }

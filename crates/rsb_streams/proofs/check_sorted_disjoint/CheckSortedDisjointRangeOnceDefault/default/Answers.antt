@@ -16,11 +16,13 @@ returns g c =
     ∙ none-if_empty (interval_of rank c.exhausted_range.result) c.exhausted_range.ensures.empty in
     record {
       ready = fused-can once c.fuse.result c.fuse.ensures.source c.fuse.ensures.done
-          (IsSource rank (λ s. IsCanonicalIn n (intervals_of rank s)) (YieldsFirst (λ s. s)) (item_count (λ s. s))
+          (IsSource rank (λ s. IsCanonicalIn n (intervals_of rank s)) (YieldsFirst (λ s. s))
+          (item_count (λ s. s))
           (IsCanonicalIn n)) (list-source rank n once c.from.ensures.ready);
       runs = λ runs at.
           list-calls rank n once c.from.ensures.ready runs
           (fused-may once c.fuse.result c.fuse.ensures.source c.fuse.ensures.done
-          (calls_give rank (λ s. IsCanonicalIn n (intervals_of rank s)) (YieldsFirst (λ s. s)) (item_count (λ s. s)))
+          (calls_give rank (λ s. IsCanonicalIn n (intervals_of rank s)) (YieldsFirst (λ s. s))
+          (item_count (λ s. s)))
           runs at) ∙ nothing;
     }

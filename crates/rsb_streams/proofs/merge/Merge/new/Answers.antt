@@ -24,13 +24,16 @@ returns g c =
     let n = g.T.Integer.value_count in
     record {
       ready = record {
-        left = fresh-ready rank n (left g) c.args.left c.of.result.left c.of.ensures.left c.requires.left
+        left = fresh-ready rank n (left g) c.args.left c.of.result.left c.of.ensures.left
+            c.requires.left
             (g.met.L.SortedStarts.sorted c.args.left c.requires.left).all;
-        right = fresh-ready rank n (right g) c.args.right c.of.result.right c.of.ensures.right c.requires.right
+        right = fresh-ready rank n (right g) c.args.right c.of.result.right c.of.ensures.right
+            c.requires.right
             (g.met.R.SortedStarts.sorted c.args.right c.requires.right).all;
       };
       runs = λ runs may nothing. may (λ first second at also all.
           nothing first second
           (fresh-may rank n (left g) c.args.left c.of.result.left c.of.ensures.left first at)
-          (fresh-may rank n (right g) c.args.right c.of.result.right c.of.ensures.right second also) all);
+          (fresh-may rank n (right g) c.args.right c.of.result.right c.of.ensures.right second also)
+          all);
     }

@@ -34,7 +34,8 @@ right_laws g = record {
   sorted = g.met.R.SortedStarts.sorted;
 }
 
-ranked : (g : Over) → IsRanked g.T.Integer.rank g.T.Integer.value_count g.T.PartialOrd.partial_cmp g.T.Ord.cmp
+ranked : (g : Over) → IsRanked g.T.Integer.rank g.T.Integer.value_count g.T.PartialOrd.partial_cmp
+    g.T.Ord.cmp
 ranked g = record {
   matches = g.met.T.Ord.matches_partial_cmp;
   in_order = g.met.T.Integer.in_order;
@@ -42,17 +43,21 @@ ranked g = record {
 
 pub returns-in_default-clause-steps : goal.returns-in_default-clause-steps
 returns-in_default-clause-steps g c =
-    only-right g.T.Integer.rank g.T.Integer.value_count (left g) (right g) (left_laws g) (right_laws g)
+    only-right g.T.Integer.rank g.T.Integer.value_count (left g) (right g) (left_laws g)
+    (right_laws g)
     c.args.self.now _ c.next-in_default.result c.requires c.in_default.ensures.steps
     c.next-in_default.ensures.steps
 
 pub returns-in_default-next-clause-steps : goal.returns-in_default-next-clause-steps
 returns-in_default-next-clause-steps g c =
-    only-left g.T.Integer.rank g.T.Integer.value_count (left g) (right g) (left_laws g) (right_laws g)
-    c.args.self.now _ c.in-Some.first c.requires c.in-Some.ensures.steps c.in_default-next.ensures.steps
+    only-left g.T.Integer.rank g.T.Integer.value_count (left g) (right g) (left_laws g)
+    (right_laws g)
+    c.args.self.now _ c.in-Some.first c.requires c.in-Some.ensures.steps
+    c.in_default-next.ensures.steps
 
 -- the right range starts first
-less : (g : Over) (c : goal.After-put_back g) → g.T.Integer.rank (range_inclusive_start c.in-Some-next.second)
+less : (g : Over) (c : goal.After-put_back g)
+    → g.T.Integer.rank (range_inclusive_start c.in-Some-next.second)
     < g.T.Integer.rank (range_inclusive_start c.in-Some.first)
 less g c =
     let rank = g.T.Integer.rank in
@@ -69,20 +74,25 @@ less g c =
 
 pub returns-then-lt-clause-steps : goal.returns-then-lt-clause-steps
 returns-then-lt-clause-steps g c =
-    right-answers g.T.Integer.rank g.T.Integer.value_count (left g) (right g) (left_laws g) (right_laws g)
-    c.args.self.now c.next.new.self c.next-2.new.self c.in-Some.first c.in-Some-next.second c.requires
+    right-answers g.T.Integer.rank g.T.Integer.value_count (left g) (right g) (left_laws g)
+    (right_laws g)
+    c.args.self.now c.next.new.self c.next-2.new.self c.in-Some.first c.in-Some-next.second
+    c.requires
     c.in-Some.ensures.steps c.in-Some-next.ensures.steps c.in-Some.ensures.goes
     c.in-Some-next.ensures.goes c.put_back.new.self c.put_back.ensures (less g c)
 
 pub returns-then-lt-clause-goes : goal.returns-then-lt-clause-goes
 returns-then-lt-clause-goes g c =
-    right-goes g.T.Integer.rank g.T.Integer.value_count (left g) (right g) (left_laws g) (right_laws g)
-    c.args.self.now c.next.new.self c.next-2.new.self c.in-Some.first c.in-Some-next.second c.requires
+    right-goes g.T.Integer.rank g.T.Integer.value_count (left g) (right g) (left_laws g)
+    (right_laws g)
+    c.args.self.now c.next.new.self c.next-2.new.self c.in-Some.first c.in-Some-next.second
+    c.requires
     c.in-Some.ensures.steps c.in-Some-next.ensures.steps c.in-Some.ensures.goes
     c.in-Some-next.ensures.goes c.put_back.new.self c.put_back.ensures (less g c)
 
 -- the left range starts no later
-most : (g : Over) (c : goal.After-put_back-2 g) → g.T.Integer.rank (range_inclusive_start c.in-Some.first)
+most : (g : Over) (c : goal.After-put_back-2 g)
+    → g.T.Integer.rank (range_inclusive_start c.in-Some.first)
     ≤ g.T.Integer.rank (range_inclusive_start c.in-Some-next.second)
 most g c =
     let rank = g.T.Integer.rank in
@@ -93,20 +103,25 @@ most g c =
     c.in-Some-next.ensures.goes in
     let low : rank c.start.result.now < n = omega (arith, values.1, ap rank c.start.ensures) in
     let high : rank c.start-2.result.now < n = omega (arith, values.0, ap rank c.start-2.ensures) in
-    let most = not_less-rank rank n g.T.PartialOrd.partial_cmp g.T.Ord.cmp (ranked g) c.start.result.now
+    let most = not_less-rank rank n g.T.PartialOrd.partial_cmp g.T.Ord.cmp (ranked g)
+    c.start.result.now
     c.start-2.result.now low high c.if-lt.ensures in
     omega (arith, most, ap rank c.start.ensures, ap rank c.start-2.ensures)
 
 pub returns-clause-steps : goal.returns-clause-steps
 returns-clause-steps g c =
-    left-answers g.T.Integer.rank g.T.Integer.value_count (left g) (right g) (left_laws g) (right_laws g)
-    c.args.self.now c.next.new.self c.next-2.new.self c.in-Some.first c.in-Some-next.second c.requires
+    left-answers g.T.Integer.rank g.T.Integer.value_count (left g) (right g) (left_laws g)
+    (right_laws g)
+    c.args.self.now c.next.new.self c.next-2.new.self c.in-Some.first c.in-Some-next.second
+    c.requires
     c.in-Some.ensures.steps c.in-Some-next.ensures.steps c.in-Some.ensures.goes
     c.in-Some-next.ensures.goes c.put_back-2.new.self c.put_back-2.ensures (most g c)
 
 pub returns-clause-goes : goal.returns-clause-goes
 returns-clause-goes g c =
-    left-goes g.T.Integer.rank g.T.Integer.value_count (left g) (right g) (left_laws g) (right_laws g)
-    c.args.self.now c.next.new.self c.next-2.new.self c.in-Some.first c.in-Some-next.second c.requires
+    left-goes g.T.Integer.rank g.T.Integer.value_count (left g) (right g) (left_laws g)
+    (right_laws g)
+    c.args.self.now c.next.new.self c.next-2.new.self c.in-Some.first c.in-Some-next.second
+    c.requires
     c.in-Some.ensures.steps c.in-Some-next.ensures.steps c.in-Some.ensures.goes
     c.in-Some-next.ensures.goes c.put_back-2.new.self c.put_back-2.ensures (most g c)

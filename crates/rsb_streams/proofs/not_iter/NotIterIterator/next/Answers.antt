@@ -11,7 +11,8 @@ laws g = record {
   sorted = g.met.I.SortedStarts.sorted;
 }
 
-ranked : (g : Over) → IsRanked g.T.Integer.rank g.T.Integer.value_count g.T.PartialOrd.partial_cmp g.T.Ord.cmp
+ranked : (g : Over) → IsRanked g.T.Integer.rank g.T.Integer.value_count g.T.PartialOrd.partial_cmp
+    g.T.Ord.cmp
 ranked g = record {
   matches = g.met.T.Ord.matches_partial_cmp;
   in_order = g.met.T.Integer.in_order;
@@ -20,26 +21,32 @@ ranked g = record {
 -- the gap to the greatest value
 pub returns-in_default-next-clause-steps : goal.returns-in_default-next-clause-steps
 returns-in_default-next-clause-steps g c =
-    last-gap g.T.Integer.rank g.T.Integer.value_count (source g) (laws g) g.met.I.SortedDisjoint.canonical
+    last-gap g.T.Integer.rank g.T.Integer.value_count (source g) (laws g)
+    g.met.I.SortedDisjoint.canonical
     c.args.self.now c.loop-self.self.iter c.next.new.self c.loop-self.self.start c.in-Some.start
-    c.max_value.result c.new.result c.loop-self.invariant c.in-Some.is c.in_default-next.ensures.steps
+    c.max_value.result c.new.result c.loop-self.invariant c.in-Some.is
+    c.in_default-next.ensures.steps
     c.max_value.ensures c.new.ensures.exhausted c.new.ensures.start c.new.ensures.end
 
 -- the gap before a range
 pub returns-then-lt-clause-steps : goal.returns-then-lt-clause-steps
 returns-then-lt-clause-steps g c =
-    gap-answers g.T.Integer.rank g.T.Integer.value_count (source g) (laws g) g.met.I.SortedDisjoint.canonical
+    gap-answers g.T.Integer.rank g.T.Integer.value_count (source g) (laws g)
+    g.met.I.SortedDisjoint.canonical
     c.args.self.now c.loop-self.self.iter c.next.new.self c.loop-self.self.start c.in-Some.start
     c.into_inner-past_gap.result.0 c.into_inner-past_gap.result.1 c.checked_add_one-self.result
     c.in-Some-next.range c.loop-self.invariant c.in-Some.is c.in-Some-next.ensures.steps
-    c.in-Some-next.ensures.goes c.into_inner-past_gap.ensures.start c.into_inner-past_gap.ensures.end
+    c.in-Some-next.ensures.goes c.into_inner-past_gap.ensures.start
+    c.into_inner-past_gap.ensures.end
     c.checked_add_one-self.ensures.none c.checked_add_one-self.ensures.next
     c.sub_one.result c.new-then-lt.result
-    (gap-less g.T.Integer.rank g.T.Integer.value_count (source g) (laws g) g.met.I.SortedDisjoint.canonical
+    (gap-less g.T.Integer.rank g.T.Integer.value_count (source g) (laws g)
+    g.met.I.SortedDisjoint.canonical
     c.args.self.now c.loop-self.self.iter c.next.new.self c.loop-self.self.start c.in-Some.start
     c.into_inner-past_gap.result.0 c.into_inner-past_gap.result.1 c.checked_add_one-self.result
     c.in-Some-next.range c.loop-self.invariant c.in-Some.is c.in-Some-next.ensures.steps
-    c.in-Some-next.ensures.goes c.into_inner-past_gap.ensures.start c.into_inner-past_gap.ensures.end
+    c.in-Some-next.ensures.goes c.into_inner-past_gap.ensures.start
+    c.into_inner-past_gap.ensures.end
     c.checked_add_one-self.ensures.none c.checked_add_one-self.ensures.next
     g.T.PartialOrd.partial_cmp g.T.Ord.cmp (ranked g) c.if-lt.ensures)
     c.sub_one.ensures c.new-then-lt.ensures.exhausted c.new-then-lt.ensures.start
@@ -47,27 +54,33 @@ returns-then-lt-clause-steps g c =
 
 pub returns-then-lt-clause-goes : goal.returns-then-lt-clause-goes
 returns-then-lt-clause-goes g c =
-    gap-goes g.T.Integer.rank g.T.Integer.value_count (source g) (laws g) g.met.I.SortedDisjoint.canonical
+    gap-goes g.T.Integer.rank g.T.Integer.value_count (source g) (laws g)
+    g.met.I.SortedDisjoint.canonical
     c.args.self.now c.loop-self.self.iter c.next.new.self c.loop-self.self.start c.in-Some.start
     c.into_inner-past_gap.result.0 c.into_inner-past_gap.result.1 c.checked_add_one-self.result
     c.in-Some-next.range c.loop-self.invariant c.in-Some.is c.in-Some-next.ensures.steps
-    c.in-Some-next.ensures.goes c.into_inner-past_gap.ensures.start c.into_inner-past_gap.ensures.end
+    c.in-Some-next.ensures.goes c.into_inner-past_gap.ensures.start
+    c.into_inner-past_gap.ensures.end
     c.checked_add_one-self.ensures.none c.checked_add_one-self.ensures.next
     c.new-then-lt.result
 
 -- no gap before the range
 pub loop-self-preserved : goal.loop-self-preserved
 loop-self-preserved g c =
-    so-next g.T.Integer.rank g.T.Integer.value_count (source g) (laws g) g.met.I.SortedDisjoint.canonical
+    so-next g.T.Integer.rank g.T.Integer.value_count (source g) (laws g)
+    g.met.I.SortedDisjoint.canonical
     c.args.self.now c.loop-self.self.iter c.next.new.self c.loop-self.self.start c.in-Some.start
     c.into_inner-past_gap.result.0 c.into_inner-past_gap.result.1 c.checked_add_one-self.result
     c.in-Some-next.range c.loop-self.invariant c.in-Some.is c.in-Some-next.ensures.steps
-    c.in-Some-next.ensures.goes c.into_inner-past_gap.ensures.start c.into_inner-past_gap.ensures.end
+    c.in-Some-next.ensures.goes c.into_inner-past_gap.ensures.start
+    c.into_inner-past_gap.ensures.end
     c.checked_add_one-self.ensures.none c.checked_add_one-self.ensures.next
-    (gap-none g.T.Integer.rank g.T.Integer.value_count (source g) (laws g) g.met.I.SortedDisjoint.canonical
+    (gap-none g.T.Integer.rank g.T.Integer.value_count (source g) (laws g)
+    g.met.I.SortedDisjoint.canonical
     c.args.self.now c.loop-self.self.iter c.next.new.self c.loop-self.self.start c.in-Some.start
     c.into_inner-past_gap.result.0 c.into_inner-past_gap.result.1 c.checked_add_one-self.result
     c.in-Some-next.range c.loop-self.invariant c.in-Some.is c.in-Some-next.ensures.steps
-    c.in-Some-next.ensures.goes c.into_inner-past_gap.ensures.start c.into_inner-past_gap.ensures.end
+    c.in-Some-next.ensures.goes c.into_inner-past_gap.ensures.start
+    c.into_inner-past_gap.ensures.end
     c.checked_add_one-self.ensures.none c.checked_add_one-self.ensures.next
     g.T.PartialOrd.partial_cmp g.T.Ord.cmp (ranked g) c.if-lt.ensures)

@@ -26,8 +26,10 @@ abbrev merged : (g : Over) → Source (Merge g.row.T.Denot g.row.L.Denot g.row.R
 merged g =
     let rank = g.T.Integer.rank in
     let n = g.T.Integer.value_count in
-    let ready = MergeReady rank n (left g).can_next (left g).may_give (right g).can_next (right g).may_give in
-    let may = merge_may_give rank n (left g).can_next (left g).may_give (right g).can_next (right g).may_give in
+    let ready = MergeReady rank n (left g).can_next (left g).may_give (right g).can_next
+    (right g).may_give in
+    let may = merge_may_give rank n (left g).can_next (left g).may_give (right g).can_next
+    (right g).may_give in
     record {
       can_next = ready;
       steps = AnswersAndRests rank ready may;
@@ -55,9 +57,11 @@ returns g c = λ left_can right_can.
     record {
       ready = fresh-ready rank n (merged g) merge c.over.result.iter c.over.ensures ready kept.all;
       runs = λ runs may. union-of_merge n ((left g).may_give first) ((right g).may_give second)
-          ((merged g).may_give merge) (λ given at nothing. at (λ one two also too all. nothing one two
+          ((merged g).may_give merge)
+          (λ given at nothing. at (λ one two also too all. nothing one two
           (fresh-may rank n (left g) first merge.left c.of-merge.ensures.left one also)
-          (fresh-may rank n (right g) second merge.right c.of-merge.ensures.right two too) all)) runs
+          (fresh-may rank n (right g) second merge.right c.of-merge.ensures.right two too) all))
+          runs
           (λ nothing. may (λ given at all. nothing given
           (fresh-may rank n (merged g) merge c.over.result.iter c.over.ensures given at) all));
     }

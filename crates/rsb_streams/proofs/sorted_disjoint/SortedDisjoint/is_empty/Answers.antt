@@ -19,5 +19,7 @@ laws g = record {
 
 pub returns : goal.returns
 returns g c =
-    tells-nothing g.T.Integer.rank g.T.Integer.value_count (source g) (laws g) c.args.self c.next.new.self
-    c.requires c.next.result c.is_none.result c.next.ensures.steps c.next.ensures.goes c.is_none.ensures
+    tells-nothing g.T.Integer.rank g.T.Integer.value_count (source g) (laws g) c.args.self
+    c.next.new.self
+    c.requires c.next.result c.is_none.result c.next.ensures.steps c.next.ensures.goes
+    c.is_none.ensures

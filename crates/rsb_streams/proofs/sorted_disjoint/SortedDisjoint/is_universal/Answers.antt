@@ -23,10 +23,13 @@ laws g = record {
   sorted = g.met.Self.SortedStarts.sorted;
 }
 
-ranked : (g : Over) → IsRanked g.T.Integer.rank g.T.Integer.value_count g.T.PartialOrd.partial_cmp g.T.Ord.cmp
+ranked : (g : Over) → IsRanked g.T.Integer.rank g.T.Integer.value_count g.T.PartialOrd.partial_cmp
+    g.T.Ord.cmp
 ranked g =
-    let order = g.met.T.Ord g.world.𝓛 g.world.𝓜 g.world.𝓡 ((λ s x. x), (λ x. x), (λ x. x), λ x. x) in
-    let integer = g.met.T.Integer g.world.𝓛 g.world.𝓜 g.world.𝓡 ((λ s x. x), (λ x. x), (λ x. x), λ x. x) in
+    let order = g.met.T.Ord g.world.𝓛 g.world.𝓜 g.world.𝓡
+    ((λ s x. x), (λ x. x), (λ x. x), λ x. x) in
+    let integer = g.met.T.Integer g.world.𝓛 g.world.𝓜 g.world.𝓡
+    ((λ s x. x), (λ x. x), (λ x. x), λ x. x) in
     record { matches = order.matches_partial_cmp; in_order = integer.in_order }
 
 -- the first range starts past the least value
@@ -37,15 +40,19 @@ returns-then-lt g c =
     let run = interval_of rank c.in-Some.range in
     let facts = first-range rank n (source g) (laws g) c.args.self c.next.new.self c.requires
     c.in-Some.range c.in-Some.ensures.steps c.in-Some.ensures.goes in
-    let start = range-start rank c.in-Some.range facts.0 ∙ sym (ap rank c.into_inner-start.ensures.start) in
-    let least : rank c.min_value.result < n = omega (arith, facts.0, facts.1, c.min_value.ensures) in
+    let start = range-start rank c.in-Some.range facts.0
+    ∙ sym (ap rank c.into_inner-start.ensures.start) in
+    let least : rank c.min_value.result < n = omega
+    (arith, facts.0, facts.1, c.min_value.ensures) in
     let low : rank c.into_inner-start.result.0 < n = omega (arith, facts.0, facts.1, start) in
     let less = less-rank rank n g.T.PartialOrd.partial_cmp g.T.Ord.cmp (ranked g) c.min_value.result
     c.into_inner-start.result.0 least low c.if-lt.ensures in
     first-tells rank n (source g) (laws g) c.args.self c.next.new.self c.requires c.in-Some.range
-    (λ runs. IsTrue false ↔ IsEverything n (members runs)) c.in-Some.ensures.steps c.in-Some.ensures.goes
+    (λ runs. IsTrue false ↔ IsEverything n (members runs)) c.in-Some.ensures.steps
+    c.in-Some.ensures.goes
     (g.met.Self.SortedDisjoint.canonical c.args.self c.requires)
-    (λ rest canonical. late-lacks n run rest canonical (omega (arith, less, start, c.min_value.ensures)))
+    (λ rest canonical. late-lacks n run rest canonical
+    (omega (arith, less, start, c.min_value.ensures)))
 
 -- the first range starts at the least value
 pub returns : goal.returns
@@ -55,15 +62,20 @@ returns g c =
     let run = interval_of rank c.in-Some.range in
     let facts = first-range rank n (source g) (laws g) c.args.self c.next.new.self c.requires
     c.in-Some.range c.in-Some.ensures.steps c.in-Some.ensures.goes in
-    let start = range-start rank c.in-Some.range facts.0 ∙ sym (ap rank c.into_inner-start.ensures.start) in
-    let end = range-end rank c.in-Some.range facts.0 ∙ sym (ap rank c.into_inner-start.ensures.end) in
-    let least : rank c.min_value.result < n = omega (arith, facts.0, facts.1, c.min_value.ensures) in
+    let start = range-start rank c.in-Some.range facts.0
+    ∙ sym (ap rank c.into_inner-start.ensures.start) in
+    let end = range-end rank c.in-Some.range facts.0
+    ∙ sym (ap rank c.into_inner-start.ensures.end) in
+    let least : rank c.min_value.result < n = omega
+    (arith, facts.0, facts.1, c.min_value.ensures) in
     let low : rank c.into_inner-start.result.0 < n = omega (arith, facts.0, facts.1, start) in
     let high : rank c.into_inner-start.result.1 < n = omega (arith, facts.1, end) in
     let greatest : rank c.max_value.result < n = omega (arith, c.max_value.ensures) in
-    let most = not_less-rank rank n g.T.PartialOrd.partial_cmp g.T.Ord.cmp (ranked g) c.min_value.result
+    let most = not_less-rank rank n g.T.PartialOrd.partial_cmp g.T.Ord.cmp (ranked g)
+    c.min_value.result
     c.into_inner-start.result.0 least low c.if-lt.ensures in
-    let test = at_most-by rank n g.T.PartialOrd.partial_cmp g.T.Ord.cmp (ranked g) c.max_value.result
+    let test = at_most-by rank n g.T.PartialOrd.partial_cmp g.T.Ord.cmp (ranked g)
+    c.max_value.result
     c.into_inner-start.result.1 greatest high in
     let whole : nat_le n (run.last + 1) ≡ c.le.result =
     (same-test (rank c.max_value.result) (rank c.into_inner-start.result.1) n (run.last + 1)

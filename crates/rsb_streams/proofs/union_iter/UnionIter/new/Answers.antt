@@ -19,5 +19,6 @@ returns g c =
       ready = fresh-ready rank n (source g) c.args.iter stream c.over.ensures c.requires
           (g.met.SS.SortedStarts.sorted c.args.iter c.requires).all;
       runs = λ runs may nothing. may (λ given at all.
-          nothing given (fresh-may rank n (source g) c.args.iter stream c.over.ensures given at) all);
+          nothing given (fresh-may rank n (source g) c.args.iter stream c.over.ensures given at)
+          all);
     }

@@ -14,7 +14,8 @@ laws g = record {
   sorted = g.met.SS.SortedStarts.sorted;
 }
 
-ranked : (g : Over) → IsRanked g.T.Integer.rank g.T.Integer.value_count g.T.PartialOrd.partial_cmp g.T.Ord.cmp
+ranked : (g : Over) → IsRanked g.T.Integer.rank g.T.Integer.value_count g.T.PartialOrd.partial_cmp
+    g.T.Ord.cmp
 ranked g = record {
   matches = g.met.T.Ord.matches_partial_cmp;
   in_order = g.met.T.Integer.in_order;
@@ -22,10 +23,12 @@ ranked g = record {
 
 -- the next range starts past the run, with a gap between
 apart : (g : Over) (c : goal.After-new g)
-    → g.T.Integer.rank c.loop-range.end + 1 < g.T.Integer.rank (range_inclusive_start c.in-Some.range)
+    → g.T.Integer.rank c.loop-range.end + 1 < g.T.Integer.rank
+    (range_inclusive_start c.in-Some.range)
 apart g c =
     let rank = g.T.Integer.rank in
-    let values = next-values g.T.Integer.rank g.T.Integer.value_count (source g) (laws g) c.args.self.now.iter c.loop-range.self.iter
+    let values = next-values g.T.Integer.rank g.T.Integer.value_count (source g) (laws g)
+    c.args.self.now.iter c.loop-range.self.iter
     c.next-in-loop-range.new.self c.into_inner-start.result.0 c.loop-range.end c.in-Some.range
     c.loop-range.invariant c.in-Some.ensures.steps c.in-Some.ensures.goes in
     let step = c.in-Some-checked_add_one in
@@ -34,31 +37,39 @@ apart g c =
     step.ensures.next in
     let start : rank c.start.result.now < g.T.Integer.value_count =
     omega (arith, values.0, ap rank c.start.ensures) in
-    let less = less-rank rank g.T.Integer.value_count g.T.PartialOrd.partial_cmp g.T.Ord.cmp (ranked g)
+    let less = less-rank rank g.T.Integer.value_count g.T.PartialOrd.partial_cmp g.T.Ord.cmp
+    (ranked g)
     step.after c.start.result.now next start c.if-lt.ensures in
     omega (arith, less, step.ensures.next, ap rank c.start.ensures)
 
 pub returns-in_err-next-clause-steps : goal.returns-in_err-next-clause-steps
 returns-in_err-next-clause-steps g c =
-    rests g.T.Integer.rank g.T.Integer.value_count (source g) (laws g) c.args.self.now _ c.from_residual.result c.from_residual.ensures c.in_err-next.ensures.steps
+    rests g.T.Integer.rank g.T.Integer.value_count (source g) (laws g) c.args.self.now _
+    c.from_residual.result c.from_residual.ensures c.in_err-next.ensures.steps
 
 pub loop-range-init : goal.loop-range-init
 loop-range-init g c =
-    begun g.T.Integer.rank g.T.Integer.value_count (source g) (laws g) c.args.self.now.iter c.next.new.self c.in_ok-next.field-0 _ _ c.requires
-    c.in_ok-next.ensures.steps c.in_ok-next.ensures.goes c.into_inner-start.ensures.start c.into_inner-start.ensures.end
+    begun g.T.Integer.rank g.T.Integer.value_count (source g) (laws g) c.args.self.now.iter
+    c.next.new.self c.in_ok-next.field-0 _ _ c.requires
+    c.in_ok-next.ensures.steps c.in_ok-next.ensures.goes c.into_inner-start.ensures.start
+    c.into_inner-start.ensures.end
 
 pub returns-then-lt-clause-steps : goal.returns-then-lt-clause-steps
 returns-then-lt-clause-steps g c =
-    answer-ahead g.T.Integer.rank g.T.Integer.value_count (source g) (laws g) c.args.self.now.iter c.loop-range.self.iter
-    c.next-in-loop-range.new.self (record { iter = c.put_back.new.self }) c.into_inner-start.result.0
+    answer-ahead g.T.Integer.rank g.T.Integer.value_count (source g) (laws g) c.args.self.now.iter
+    c.loop-range.self.iter
+    c.next-in-loop-range.new.self (record { iter = c.put_back.new.self })
+    c.into_inner-start.result.0
     c.loop-range.end c.in-Some.range c.new.result c.loop-range.invariant c.in-Some.ensures.steps
     c.in-Some.ensures.goes c.put_back.ensures (apart g c) c.new.ensures.exhausted
     c.new.ensures.start c.new.ensures.end
 
 pub returns-then-lt-clause-goes : goal.returns-then-lt-clause-goes
 returns-then-lt-clause-goes g c =
-    ahead-goes g.T.Integer.rank g.T.Integer.value_count (source g) (laws g) c.args.self.now.iter c.loop-range.self.iter
-    c.next-in-loop-range.new.self (record { iter = c.put_back.new.self }) c.into_inner-start.result.0
+    ahead-goes g.T.Integer.rank g.T.Integer.value_count (source g) (laws g) c.args.self.now.iter
+    c.loop-range.self.iter
+    c.next-in-loop-range.new.self (record { iter = c.put_back.new.self })
+    c.into_inner-start.result.0
     c.loop-range.end c.in-Some.range c.new.result c.loop-range.invariant c.in-Some.ensures.steps
     c.in-Some.ensures.goes c.put_back.ensures (apart g c)
 
@@ -66,11 +77,14 @@ returns-then-lt-clause-goes g c =
 pub loop-range-preserved : goal.loop-range-preserved
 loop-range-preserved g c =
     let rank = g.T.Integer.rank in
-    let values = next-values g.T.Integer.rank g.T.Integer.value_count (source g) (laws g) c.args.self.now.iter c.loop-range.self.iter
+    let values = next-values g.T.Integer.rank g.T.Integer.value_count (source g) (laws g)
+    c.args.self.now.iter c.loop-range.self.iter
     c.next-in-loop-range.new.self c.into_inner-start.result.0 c.loop-range.end c.in-Some.range
     c.loop-range.invariant c.in-Some.ensures.steps c.in-Some.ensures.goes in
-    more g.T.Integer.rank g.T.Integer.value_count (source g) (laws g) c.args.self.now.iter c.loop-range.self.iter c.next-in-loop-range.new.self
-    c.into_inner-start.result.0 c.loop-range.end c.max-end.result c.in-Some.range c.loop-range.invariant
+    more g.T.Integer.rank g.T.Integer.value_count (source g) (laws g) c.args.self.now.iter
+    c.loop-range.self.iter c.next-in-loop-range.new.self
+    c.into_inner-start.result.0 c.loop-range.end c.max-end.result c.in-Some.range
+    c.loop-range.invariant
     c.in-Some.ensures.steps c.in-Some.ensures.goes
     (elim c.match-checked_add_one.branch [
       | in-Some-checked_add_one+else-lt w ↦
@@ -80,7 +94,8 @@ loop-range-preserved g c =
           step.ensures.next in
           let start : rank w.start.result.now < g.T.Integer.value_count =
           omega (arith, values.0, ap rank w.start.ensures) in
-          let most = not_less-rank rank g.T.Integer.value_count g.T.PartialOrd.partial_cmp g.T.Ord.cmp
+          let most = not_less-rank rank g.T.Integer.value_count g.T.PartialOrd.partial_cmp
+          g.T.Ord.cmp
           (ranked g) step.after w.start.result.now next start w.if-lt.ensures in
           omega (arith, most, step.ensures.next, ap rank w.start.ensures)
       | in_default-checked_add_one w ↦
@@ -89,12 +104,14 @@ loop-range-preserved g c =
     ])
     (ap rank c.max-end.ensures
     ∙ max-rank rank g.T.Integer.value_count g.T.PartialOrd.partial_cmp g.T.Ord.cmp (ranked g)
-    c.loop-range.end c.end.result.now c.checked_add_one.ensures.value (omega (arith, values.1, ap rank c.end.ensures))
+    c.loop-range.end c.end.result.now c.checked_add_one.ensures.value
+    (omega (arith, values.1, ap rank c.end.ensures))
     ∙ ap (λ value. max (rank c.loop-range.end) (rank value))
     {y = range_inclusive_end c.in-Some.range} c.end.ensures)
 
 pub returns-clause-steps : goal.returns-clause-steps
 returns-clause-steps g c =
-    answer-last g.T.Integer.rank g.T.Integer.value_count (source g) (laws g) c.args.self.now.iter c.loop-range.self.iter _
+    answer-last g.T.Integer.rank g.T.Integer.value_count (source g) (laws g) c.args.self.now.iter
+    c.loop-range.self.iter _
     c.into_inner-start.result.0 c.loop-range.end _ c.loop-range.invariant c.in_default.ensures.steps
     c.new-2.ensures.exhausted c.new-2.ensures.start c.new-2.ensures.end

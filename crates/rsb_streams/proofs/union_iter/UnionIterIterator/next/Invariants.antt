@@ -13,7 +13,8 @@ source g = record {
 }
 
 abbrev pub invariant-loop-range : goal.invariant-loop-range
-invariant-loop-range g l = SoFar g.T.Integer.rank g.T.Integer.value_count (source g) l.fn.self.iter l.self.iter l.start l.end
+invariant-loop-range g l = SoFar g.T.Integer.rank g.T.Integer.value_count (source g) l.fn.self.iter
+    l.self.iter l.start l.end
 
 abbrev pub decreases-loop-range : goal.decreases-loop-range
 decreases-loop-range g l = size (put_back_remaining g.SS.Iterator.remaining l.self.iter)
