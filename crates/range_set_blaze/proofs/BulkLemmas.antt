@@ -9,7 +9,8 @@ use Rattle.std.specs.declared.ops.RangeInclusive.{RangeInclusive}
 use Rattle.rsb_integer.specs.Rank.{interval_of}
 use Rattle.rsb_integer.specs.Runs.{Interval, covers, length_of, members, AllEndBelow, IsCanonicalIn}
 use Rattle.rsb_integer.proofs.RangeLemmas.{interval_of-some}
-use Rattle.rsb_integer.proofs.RunsLemmas.{canonical-parts, members-cons}
+use Rattle.rsb_integer.proofs.CanonicalLemmas.{canonical-parts}
+use Rattle.rsb_integer.proofs.MembersLemmas.{members-cons}
 use Rattle.rsb_streams.specs.Outcomes.{settled_canonical_in}
 use Rattle.rsb_streams.specs.Stream.{Outcomes, ◌⊆◌, just, run_if_any, HasOutcome, SomeOutcome}
 use Rattle.range_set_blaze.specs.Kept.{run_of, runs_of}

@@ -7,7 +7,7 @@ use Rattle.rsb_integer.specs.Runs.{Interval, covers, members, AllEndBelow, IsCan
 use Rattle.rsb_integer.specs.Selection.{count, IsNothing}
 use Rattle.rsb_integer.proofs.CountLemmas.{count-none}
 use Rattle.rsb_integer.proofs.ListLemmas.{not_both, or-true}
-use Rattle.rsb_integer.proofs.RunsLemmas.{members-below, members-cons, members-head, members-tail}
+use Rattle.rsb_integer.proofs.MembersLemmas.{members-below, members-cons, members-head, members-tail}
 use Rattle.range_set_blaze.specs.Kept.{run_of, runs_of, IsKept}
 use Rattle.range_set_blaze.specs.Set.{IsGreatest, IsLeast}
 use Rattle.range_set_blaze.specs.declared.set.run.Run.{Run}

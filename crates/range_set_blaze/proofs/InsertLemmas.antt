@@ -11,7 +11,8 @@ use Rattle.rsb_integer.specs.Runs.{Interval, covers, length_of, members, AllEndB
 use Rattle.rsb_integer.specs.Selection.{count}
 use Rattle.rsb_integer.proofs.CountLemmas.{count-within}
 use Rattle.rsb_integer.proofs.ListLemmas.{not_both, true_or_false}
-use Rattle.rsb_integer.proofs.RunsLemmas.{next_start, canonical-append, canonical-parts, covers-bounds, covers-inside, members-append, members-below, members-cons, members-tail}
+use Rattle.rsb_integer.proofs.CanonicalLemmas.{next_start, canonical-append, canonical-parts}
+use Rattle.rsb_integer.proofs.MembersLemmas.{covers-bounds, covers-inside, members-append, members-below, members-cons, members-tail}
 use Rattle.range_set_blaze.specs.Kept.{run_of, runs_of}
 use Rattle.range_set_blaze.specs.Set.{Adds, IsReached}
 use Rattle.range_set_blaze.specs.declared.set.run.Run.{Run}

@@ -6,7 +6,7 @@ use Rattle.std.proofs.lemmas.List.Sums.{sum_by-cons}
 use Rattle.std.specs.List.{sum_by}
 use Rattle.rsb_integer.specs.Runs.{Interval, covers, members, length_of, IsCanonicalFrom, AllEndBelow}
 use Rattle.rsb_integer.specs.Selection.{Selection, Agree, count}
-use Rattle.rsb_integer.proofs.RunsLemmas.{covers-bounds, covers-cases, members-cons, members-below}
+use Rattle.rsb_integer.proofs.MembersLemmas.{covers-bounds, covers-cases, members-cons, members-below}
 
 -- what one rank adds to a count
 abbrev once : Bool → ℕ

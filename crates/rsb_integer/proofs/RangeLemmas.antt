@@ -6,7 +6,7 @@ use Rattle.std.specs.declared.ops.RangeInclusive.{RangeInclusive}
 use Rattle.rsb_integer.specs.Rank.{interval_of, intervals_of}
 use Rattle.rsb_integer.specs.Runs.{Interval, members, AllEndBelow, IsCanonicalFrom, IsCanonical}
 use Rattle.rsb_integer.specs.Selection.{Agree}
-use Rattle.rsb_integer.proofs.RunsLemmas.{canonical-same}
+use Rattle.rsb_integer.proofs.CanonicalLemmas.{canonical-same}
 
 -- the interval of a range by its three parts
 abbrev interval_by : Bool → ℕ → ℕ → Interval

@@ -6,7 +6,7 @@ use Rattle.std.specs.Iterator.{Count, IsFinite, Yields, YieldsFirst, item_count}
 use Rattle.std.specs.declared.ops.RangeInclusive.{RangeInclusive}
 use Rattle.rsb_integer.specs.Rank.{interval_of, intervals_of}
 use Rattle.rsb_integer.specs.Runs.{Interval, AllEndBelow, IsCanonicalIn}
-use Rattle.rsb_integer.proofs.RunsLemmas.{canonical-parts}
+use Rattle.rsb_integer.proofs.CanonicalLemmas.{canonical-parts}
 use Rattle.rsb_streams.specs.Calls.{Call, IsSource, calls_give, calls-steps}
 use Rattle.rsb_streams.specs.Stream.{◌⊆◌, just}
 use Rattle.rsb_streams.proofs.SourceLemmas.{canonical-tail}

@@ -5,7 +5,9 @@ use Rattle.std.proofs.lemmas.Bool.Decides.{nat_tests}
 use Rattle.std.proofs.lemmas.List.Elements.{All-cons, All-nil}
 use Rattle.rsb_integer.specs.Runs.{Interval, members, IsCanonicalFrom, IsCanonicalIn, AreRuns}
 use Rattle.rsb_integer.specs.Selection.{Selection, Agree, complement}
-use Rattle.rsb_integer.proofs.RunsLemmas.{canonical-lower, members-below, members-head, members-tail, runs-along, runs-canonical, runs-from_canonical, runs-members}
+use Rattle.rsb_integer.proofs.CanonicalLemmas.{canonical-lower}
+use Rattle.rsb_integer.proofs.MembersLemmas.{members-below, members-head, members-tail}
+use Rattle.rsb_integer.proofs.RunsLemmas.{runs-along, runs-canonical, runs-from_canonical, runs-members}
 use Rattle.rsb_streams.specs.NotIter.{NotReady}
 use Rattle.rsb_streams.specs.Stream.{Outcomes, ◌⊆◌, gaps_from, runs_by}
 use Rattle.rsb_streams.proofs.UnionLemmas.{runs-start}

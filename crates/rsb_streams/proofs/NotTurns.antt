@@ -6,7 +6,8 @@ use Rattle.std.specs.Range.{range_inclusive_start, range_inclusive_end, range_in
 use Rattle.std.specs.declared.ops.RangeInclusive.{RangeInclusive}
 use Rattle.rsb_integer.specs.Rank.{interval_of}
 use Rattle.rsb_integer.specs.Runs.{Interval, members, IsCanonicalIn, AreRuns}
-use Rattle.rsb_integer.proofs.RunsLemmas.{canonical-lower, runs-along}
+use Rattle.rsb_integer.proofs.CanonicalLemmas.{canonical-lower}
+use Rattle.rsb_integer.proofs.RunsLemmas.{runs-along}
 use Rattle.rsb_streams.specs.NotIter.{NotReady, gaps_after, not_can_next, not_may_give, not_remaining}
 use Rattle.rsb_streams.specs.Outcomes.{canonical-sorted}
 use Rattle.rsb_streams.specs.Stream.{Outcomes, ◌⊆◌, just, gaps_from, runs_by, AnswersAndRests, HasSortedStartsFrom, SomeOutcome}

@@ -2,7 +2,8 @@
 use Rattle.std.proofs.Common.{◌≡◌, ℕ, Bool, true, false, ◌||◌, not, List, [], ◌∷◌, refl, sym, ap, ◌∙◌, inl, inr}
 use Rattle.rsb_integer.specs.Runs.{Interval, covers, members}
 use Rattle.rsb_integer.specs.Selection.{complement, union}
-use Rattle.rsb_integer.proofs.RunsLemmas.{members-cons, runs-along, runs-members}
+use Rattle.rsb_integer.proofs.MembersLemmas.{members-cons}
+use Rattle.rsb_integer.proofs.RunsLemmas.{runs-along, runs-members}
 use Rattle.rsb_streams.specs.Stream.{Outcomes, ◌⊆◌, IsMergeOf, joined, merges, runs_by, runs_by_two}
 
 or-head : (head left right : Bool) → (head || (left || right)) ≡ ((head || left) || right)

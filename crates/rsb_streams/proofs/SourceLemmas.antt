@@ -7,7 +7,7 @@ use Rattle.std.specs.declared.ops.RangeInclusive.{RangeInclusive}
 use Rattle.std.specs.Iterator.{Count, IsFinite, MakesProgress}
 use Rattle.std.specs.Iterator.Adapters.{fuse_done, fuse_source, fuse_steps}
 use Rattle.rsb_integer.specs.Runs.{Interval, IsCanonicalIn}
-use Rattle.rsb_integer.proofs.RunsLemmas.{canonical-lower}
+use Rattle.rsb_integer.proofs.CanonicalLemmas.{canonical-lower}
 use Rattle.rsb_streams.specs.Calls.{IsSource, source-after}
 use Rattle.rsb_streams.specs.Outcomes.{sorted-lower}
 use Rattle.rsb_streams.specs.Stream.{HasSortedStarts}

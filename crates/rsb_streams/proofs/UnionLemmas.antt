@@ -5,7 +5,8 @@ use Rattle.std.proofs.lemmas.List.Elements.{All-head, All-cons}
 use Rattle.rsb_integer.specs.Runs.{Interval, covers, members, IsCanonicalFrom, IsMaximalRun, AreRuns}
 use Rattle.rsb_integer.specs.Selection.{Selection}
 use Rattle.rsb_integer.proofs.ListLemmas.{not_both}
-use Rattle.rsb_integer.proofs.RunsLemmas.{covers-inside, members-cons, runs-canonical, runs-from_canonical, runs-members}
+use Rattle.rsb_integer.proofs.MembersLemmas.{covers-inside, members-cons}
+use Rattle.rsb_integer.proofs.RunsLemmas.{runs-canonical, runs-from_canonical, runs-members}
 use Rattle.rsb_streams.specs.Outcomes.{settled_le, settled_lt, sorted-lower, sorted-members}
 use Rattle.rsb_streams.specs.Stream.{Outcomes, ◌⊆◌, just, joined, HasOutcome, SomeOutcome, HasSortedStartsFrom, HasSortedStarts}
 

@@ -6,7 +6,9 @@ use Rattle.std.specs.Iterator.{Count}
 use Rattle.rsb_integer.specs.Runs.{Interval, members, AllEndBelow, AreRuns, IsCanonicalFrom, IsCanonicalIn}
 use Rattle.rsb_integer.specs.Selection.{Selection}
 use Rattle.rsb_integer.proofs.ListLemmas.{true_or_false}
-use Rattle.rsb_integer.proofs.RunsLemmas.{canonical-lower, members-below, members-head, members-tail, covers-cases, runs-from_canonical}
+use Rattle.rsb_integer.proofs.CanonicalLemmas.{canonical-lower}
+use Rattle.rsb_integer.proofs.MembersLemmas.{members-below, members-head, members-tail, covers-cases}
+use Rattle.rsb_integer.proofs.RunsLemmas.{runs-from_canonical}
 use Rattle.rsb_streams.specs.Stream.{Outcomes, HasSortedStartsFrom, HasSortedStarts, Keeps}
 
 -- ---- what is decided holds where it does not fail

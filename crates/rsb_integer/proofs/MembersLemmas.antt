@@ -1,0 +1,130 @@
+-- What intervals cover, and the members of lists of them.
+use Rattle.std.proofs.Common.{◌≡◌, ◌⊎◌, ℕ, Bool, true, false, ◌||◌, cond, ◌+◌, ◌<◌, ◌≤◌, nat_lt, List, [], ◌∷◌, ◌++◌, refl, sym, ap, ◌∙◌, inl, inr, arith}
+use Rattle.std.proofs.lemmas.Bool.Decides.{nat_tests}
+use Rattle.std.proofs.lemmas.List.Elements.{All-contains}
+use Rattle.std.specs.List.{Contains}
+use Rattle.rsb_integer.specs.Runs.{Interval, covers, cover, members, IsCanonicalFrom, AllEndBelow}
+use Rattle.rsb_integer.proofs.ListLemmas.{true_or_false, or-true, Contains-head, Contains-tail, Contains-cases}
+
+-- ---- what an interval covers
+
+pub covers-inside : (rank : ℕ) (run : Interval) → run.first ≤ rank → rank ≤ run.last
+    → covers rank run ≡ true
+covers-inside rank run low high = grind (arith, nat_tests)
+
+pub covers-outside : (rank : ℕ) (run : Interval) → (rank < run.first) ⊎ (run.last < rank)
+    → covers rank run ≡ false
+covers-outside rank run outside = elim outside [
+  | inl below ↦ grind (arith, nat_tests)
+  | inr past ↦ grind (arith, nat_tests)
+]
+
+pub covers-bounds : (rank : ℕ) (run : Interval) → covers rank run ≡ true → (run.first ≤ rank)
+    × (rank ≤ run.last)
+covers-bounds rank run is = (grind (arith, nat_tests), grind (arith, nat_tests))
+
+-- a rank is one of the interval's, or lies on one side of it
+pub covers-cases : (rank : ℕ) (run : Interval)
+    → ((run.first ≤ rank) × (rank ≤ run.last) × (covers rank run ≡ true))
+    ⊎ (((rank < run.first) ⊎ (run.last < rank)) × (covers rank run ≡ false))
+covers-cases rank run = grind (arith, nat_tests)
+
+-- intervals with the same ends are one
+pub same_interval : (run other : Interval) → run.first ≡ other.first → run.last ≡ other.last → run
+    ≡ other
+same_interval run other first last = λ i. record { first = first i; last = last i }
+
+-- ---- members
+
+lt-cover : (test : Bool) (n : ℕ) → nat_lt 0 (cond test 1 0 + n) ≡ (test || nat_lt 0 n)
+lt-cover true n = grind (arith, nat_tests)
+lt-cover false n = grind (arith, nat_tests)
+
+-- a member of a list is one of the first interval or of the others
+pub members-cons : (run : Interval) (runs : List Interval) (rank : ℕ)
+    → members (run ∷ runs) rank ≡ (covers rank run || members runs rank)
+members-cons run runs rank = lt-cover (covers rank run) (cover runs rank)
+
+pub members-covered : (run : Interval) (runs : List Interval) (rank : ℕ)
+    → covers rank run ≡ true → members (run ∷ runs) rank ≡ true
+members-covered run runs rank here =
+    members-cons run runs rank ∙ ap (λ test. test || members runs rank) here
+
+pub members-head : (run : Interval) (runs : List Interval) (rank : ℕ)
+    → run.first ≤ rank → rank ≤ run.last → members (run ∷ runs) rank ≡ true
+members-head run runs rank low high =
+    members-covered run runs rank (covers-inside rank run low high)
+
+-- outside the first interval the others decide
+pub members-tail : (run : Interval) (runs : List Interval) (rank : ℕ)
+    → (rank < run.first) ⊎ (run.last < rank) → members (run ∷ runs) rank ≡ members runs rank
+members-tail run runs rank outside =
+    members-cons run runs rank
+    ∙ ap (λ test. test || members runs rank) (covers-outside rank run outside)
+
+-- no member lies below the start of a canonical list
+pub members-below : (low : ℕ) (runs : List Interval) (rank : ℕ)
+    → IsCanonicalFrom low runs → rank < low → members runs rank ≡ false
+members-below low [] rank canonical below = refl
+members-below low (run ∷ runs) rank canonical below =
+    let starts = canonical.0 in
+    let ordered = canonical.1 in
+    members-tail run runs rank (inl (omega arith))
+    ∙ members-below (run.last + 2) runs rank canonical.2 (omega arith)
+
+members-cases : (run : Interval) (runs : List Interval) (rank : ℕ) → members (run ∷ runs) rank
+    ≡ true
+    → (covers rank run ≡ true) ⊎ (members runs rank ≡ true)
+members-cases run runs rank member = elim (covers-cases rank run) [
+  | inl inside ↦ inl inside.2
+  | inr outside ↦ inr (sym (members-tail run runs rank outside.0) ∙ member)
+]
+
+-- a member lies in an interval of the list
+pub members-in : (runs : List Interval) (rank : ℕ) → members runs rank ≡ true
+    → (run : Interval) × Contains runs run × (covers rank run ≡ true)
+members-in [] rank member = absurd (cc)
+members-in (run ∷ runs) rank member = elim (members-cases run runs rank member) [
+  | inl here ↦ (run, Contains-head run runs, here)
+  | inr later ↦
+      let found = members-in runs rank later in
+      (found.0, Contains-tail run runs found.0 found.1, found.2)
+]
+
+-- what an interval of the list has is a member
+pub members-from : (runs : List Interval) (run : Interval) (rank : ℕ)
+    → Contains runs run → covers rank run ≡ true → members runs rank ≡ true
+members-from [] run rank found here = let below = found.1 in absurd (omega arith)
+members-from (other ∷ runs) run rank found here = elim (Contains-cases other runs run found) [
+  | inl same ↦ members-covered other runs rank (ap (covers rank) same ∙ here)
+  | inr later ↦
+      members-cons other runs rank
+      ∙ ap (λ test. covers rank other || test) (members-from runs run rank later here)
+      ∙ or-true (covers rank other)
+]
+
+-- no member lies past the type's end
+pub members-end : (n : ℕ) (runs : List Interval) (rank : ℕ)
+    → AllEndBelow n runs → n ≤ rank → members runs rank ≡ false
+members-end n runs rank below past = elim (true_or_false (members runs rank)) [
+  | inl member ↦
+      let found = members-in runs rank member in
+      let ends = All-contains (λ (run : Interval). run.last < n) runs found.0 below found.1 in
+      let bounds = covers-bounds rank found.0 found.2 in
+      absurd (omega (arith, bounds.1))
+  | inr none ↦ none
+]
+
+-- the cover of two lists is that of both
+pub cover-append : (runs others : List Interval) (rank : ℕ)
+    → cover (runs ++ others) rank ≡ cover runs rank + cover others rank
+cover-append [] others rank = omega arith
+cover-append (run ∷ runs) others rank = let rest = cover-append runs others rank in omega arith
+
+lt-sum : (m n : ℕ) → nat_lt 0 (m + n) ≡ (nat_lt 0 m || nat_lt 0 n)
+lt-sum m n = grind (arith, nat_tests)
+
+pub members-append : (runs others : List Interval) (rank : ℕ)
+    → members (runs ++ others) rank ≡ (members runs rank || members others rank)
+members-append runs others rank =
+    ap (nat_lt 0) (cover-append runs others rank) ∙ lt-sum (cover runs rank) (cover others rank)
