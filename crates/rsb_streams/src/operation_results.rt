@@ -13,7 +13,7 @@ use rsb_integer::Integer;
 use std::iter::FusedIterator;
 use std::ops::RangeInclusive;
 
-/// What lies in either of two streams. (`UnionMerge` of the Rust crate.)
+/// What lies in either of two streams. (`Union` of the Rust crate.)
 #[derive(Clone, Debug, Drop)]
 pub struct Union<T, L, R> {
     iter: UnionIter<T, Merge<T, L, R>>,
