@@ -27,7 +27,7 @@ pub All-both : {X : Type 0} (P Q R : X → Type 0) → ((x : X) → P x → Q x 
 All-both P Q R combine xs ps qs k default within =
     combine (get_or xs k default) (ps k default within) (qs k default within)
 
--- a relation of all pairs: of the head with each item of the tail, and of the tail's pairs
+-- all pairs are related where the head is to each item of the tail, and the tail's pairs are
 pub AllPairs-cons : {X : Type 0} (R : X → X → Type 0) (x : X) (xs : List X)
     → All (R x) xs → AllPairs R xs → AllPairs R (x ∷ xs)
 AllPairs-cons R x xs first rest zero zero d i j = absurd (omega arith)

@@ -27,7 +27,7 @@ head-maximal n run runs ordered below rest = record {
       ∙ members-below (run.last + 2) runs (run.last + 1) rest (omega arith);
 }
 
--- a maximal run of the others, apart from the first interval, is one of the whole list
+-- a maximal run of the other intervals, past the first and apart from it, is one of the whole list
 tail-maximal : (n : ℕ) (run : Interval) (runs : List Interval) (other : Interval)
     → run.last + 2 ≤ other.first → IsMaximalRun n (members runs) other
     → IsMaximalRun n (members (run ∷ runs)) other

@@ -91,7 +91,7 @@ module _ {T : Type 0} (rank : T → ℕ) (n : ℕ) where
   abbrev Ranges : Type 0
   Ranges = List (RangeInclusive T)
 
-  -- they are canonical
+  -- it may be called where they are canonical
   abbrev can : Ranges → Type 0
   can ranges = IsCanonicalIn n (intervals_of rank ranges)
 
@@ -99,7 +99,7 @@ module _ {T : Type 0} (rank : T → ℕ) (n : ℕ) where
   abbrev first : Ranges → Option (RangeInclusive T) → Ranges → Type 0
   first = YieldsFirst (λ ranges. ranges)
 
-  -- how many there are
+  -- how many are left
   abbrev size_of : Ranges → Count
   size_of = item_count (λ ranges. ranges)
 

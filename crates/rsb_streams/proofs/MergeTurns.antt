@@ -47,7 +47,7 @@ no-merge (run ∷ runs) merged = elim merged [
   | inr from_right ↦ let no = from_right.1 in absurd (cc)
 ]
 
--- where nothing may come of both, nothing may come of the merge
+-- where nothing may come of either stream, nothing may come of the merge
 pub no-merges : (n : ℕ) (P Q : Outcomes) → P ⊆ just [] → Q ⊆ just [] → merges n P Q ⊆ just []
 no-merges n P Q first second [] may = refl
 no-merges n P Q first second (run ∷ runs) may = absurd (may (λ left right at also all.
