@@ -22,7 +22,7 @@ not_found : (passes : Bool) (n : ℕ) → cond passes (Some n) None ≡ None →
 not_found true n is = absurd cc
 not_found false n is = refl
 
--- a list is split at the first element that passes: what stands before it is the first part
+-- a list is split at the first element that passes, and what comes after that is split again
 slice_split-Some : (test : ℕ → Bool) (xs : List ℕ) (i : ℕ) → position test xs ≡ Some i
     → slice_split test xs ≡ take i xs ∷ slice_split test (drop (i + 1) xs)
 slice_split-Some test xs i is =
@@ -56,7 +56,7 @@ more_lines : (part : List ℕ) (parts : List (List ℕ)) → 0 < length parts
 more_lines part [] some = absurd (omega (arith, some))
 more_lines part (next ∷ parts) some = refl
 
--- bytes without a line feed are one line
+-- bytes without a line feed are one line, where there are some
 pub lines-None : (bytes : List ℕ) → 0 < length bytes → position is_line_feed bytes ≡ None
     → lines bytes ≡ bytes ∷ []
 lines-None bytes some is =
@@ -99,7 +99,7 @@ words-after_word line i is some within =
     let kept = lt-ltb 0 (length word) (omega (arith, length-take i line)) in
     words-Some line i is ∙ ap (λ keeps. cond keeps (word ∷ []) [] ++ words (drop (i + 1) line)) kept
 
--- a line without blanks is one word
+-- a line without blanks is one word, where it is not empty
 words-None : (line : List ℕ) → position is_blank line ≡ None → 0 < length line
     → words line ≡ line ∷ []
 words-None line is some =

@@ -31,13 +31,13 @@ spoken-append xs ys =
     ap (filter has_words) (map-append words xs ys)
     ∙ filter-append has_words (map words xs) (map words ys)
 
--- a line without words gives none
+-- a line without words is left out
 spoken-silent : (line : List ℕ) → length (words line) ≡ 0 → spoken (line ∷ []) ≡ []
 spoken-silent line none =
     ap (λ kept. cond kept (words line ∷ []) [])
     (le-ltb 0 (length (words line)) (omega (arith, none)))
 
--- a line with words gives them
+-- a line with words is kept, as its words
 spoken-one : (line : List ℕ) → 0 < length (words line) → spoken (line ∷ []) ≡ words line ∷ []
 spoken-one line some =
     ap (λ kept. cond kept (words line ∷ []) []) (lt-ltb 0 (length (words line)) some)

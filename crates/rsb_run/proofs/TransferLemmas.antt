@@ -46,7 +46,7 @@ pub record HasWritten (old new : Option (List ℕ)) (text rest : List ℕ) : Typ
   pub parts : text ≡ front ++ rest
   pub written : Appends old new front
 
--- some more of the rest was written
+-- the first n bytes of the rest were written too
 pub has_written_more : (old mid new : Option (List ℕ)) (text rest : List ℕ) (n : ℕ)
     → HasWritten old mid text rest → Appends mid new (take n rest)
     → HasWritten old new text (drop n rest)

@@ -168,7 +168,8 @@ module _ {L R T : Type 0} (rank : T → ℕ) (n : ℕ) (left : Source L T) (righ
     -- the right one starts first, and the left one is put back
     module _ (w : PutBack T L) (put : IsPutBack first u w)
         (less : rank (range_inclusive_start second) < rank (range_inclusive_start first)) where
-      -- what the left stream may give might come before, and starts no earlier than the right range
+      -- the left stream with its range put back may give what it might give before, and no start
+      -- of it lies before the right range
       held-left : (runs : List Interval) → lefts.may_give w runs
           → lefts.may_give s.left runs × HasSortedStartsFrom n (interval_of rank second).first runs
       held-left runs at =
@@ -222,7 +223,8 @@ module _ {L R T : Type 0} (rank : T → ℕ) (n : ℕ) (left : Source L T) (righ
     -- the left one starts no later, and the right one is put back
     module _ (w : PutBack T R) (put : IsPutBack second v w)
         (most : rank (range_inclusive_start first) ≤ rank (range_inclusive_start second)) where
-      -- what the right stream may give might come before, and starts no earlier than the left range
+      -- the right stream with its range put back may give what it might give before, and no start
+      -- of it lies before the left range
       held-right : (runs : List Interval) → rights.may_give w runs
           → rights.may_give s.right runs × HasSortedStartsFrom n (interval_of rank first).first runs
       held-right runs at =

@@ -106,7 +106,7 @@ module _ {I T : Type 0} (rank : T → ℕ) (n : ℕ) (source : Source I T) where
       abbrev run : Interval
       run = interval_of rank range
 
-      -- so far, with the value where the next gap may start
+      -- so it was before the range, with the value where the next gap may start
       so : SoFar entry (record { iter = i; start = Some start })
       so = subst (λ each. SoFar entry (record { iter = i; start = each })) is so_now
 
@@ -141,7 +141,7 @@ module _ {I T : Type 0} (rank : T → ℕ) (n : ℕ) (source : Source I T) where
         high : rank past_gap < n
         high = let all = facts in omega (arith, all.1, all.2, starts-at)
 
-        -- where that value is less than the range's start, so is its rank
+        -- where the gap's start is less than the range's, so is its rank
         pub gap-less : true ≡ partial_lt partial_cmp start past_gap → rank start < rank past_gap
         gap-less test = less-rank rank n partial_cmp cmp ranked start past_gap low high test
 
@@ -253,7 +253,7 @@ module _ {I T : Type 0} (rank : T → ℕ) (n : ℕ) (source : Source I T) where
           let less = fewer input-ends in
           record { on = λ finite. (ready, less.0, less.1); keeps = ready; rests = λ finite. tt }
 
-      -- where no gap is before the range, it is so at the next start
+      -- where no gap lies before the range, the loop goes on at the next start
       pub so-next : rank past_gap ≤ rank start → SoFar entry (record { iter = j; start = next })
       so-next most =
           let less = fewer input-ends in

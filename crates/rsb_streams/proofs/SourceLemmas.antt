@@ -38,7 +38,7 @@ module _ {I T : Type 0} (rank : T → ℕ) (can_next : I → Type 0)
   abbrev Goes : Fuse I → Option (RangeInclusive T) → Fuse I → Type 0
   Goes = MakesProgress (fuse_can_next can_next) (fuse_remaining remaining)
 
-  -- after a call that gave a range the stream is still such, by whether it has ended
+  -- after a call that gave a range the stream is still such, by whether it had ended
   after-by : (done after : Bool) (s t : I) (range : RangeInclusive T) → (done ≡ false → Source s)
       → MatchBool done (Some range ≡ None) (steps s (Some range) t) → after ≡ false
       → Goes (record { iter = s; done = done }) (Some range) (record { iter = t; done = after })
@@ -57,7 +57,7 @@ module _ {I T : Type 0} (rank : T → ℕ) (can_next : I → Type 0)
       after-by (fuse_done s) (fuse_done t) (fuse_source s) (fuse_source t) range source call.0
       call.1 goes
 
-  -- a call that makes progress leaves a stream that is still such
+  -- a call that makes progress makes it from one such stream to another
   pub source-goes : (s t : Fuse I) (item : Option (RangeInclusive T)) → fuse_can_next Source s
       → IsFinite (fuse_remaining remaining s)
       → fuse_steps steps s item t → Goes s item t

@@ -56,7 +56,7 @@ no-runs n (run ∷ runs) may = absurd (may (λ given is all.
     (subst (λ each. members each run.first ≡ true) is
     (maximal.whole run.first (covers-inside run.first run (omega arith) ordered))) refl))
 
--- the empty list has no members, and is their runs
+-- the empty list is the runs of its members, of which there are none
 pub runs-of_nothing : (n : ℕ) → AreRuns n (members []) []
 runs-of_nothing n = runs-from_canonical n (members []) [] tt
     (λ k default within. absurd (omega arith)) (λ rank below. refl)

@@ -39,7 +39,7 @@ module _ {S T : Type 0} (rank : T → ℕ) (n : ℕ) (source : Source S T) where
     held_laws : IsLawful rank n (put_back_source rank n source)
     held_laws = put_back-lawful rank n source laws
 
-    -- it ends
+    -- where it may be called, it ends
     ends : (s : PutBack T S) → (put_back_source rank n source).can_next s → IsFinite (left s)
     ends s ready = (held_laws.sorted s ready).ends
 
