@@ -62,6 +62,7 @@ runs_of-taken {T} rank runs new run range is starts ends ordered =
     ap (runs_of rank) is ∙ map-append (run_of rank) runs (run ∷ [])
     ∙ ap (λ (last : Interval). runs_of rank runs ++ last ∷ []) same
 
+-- two tests that do not differ are the same
 settled-same : (left right : Bool) → ¬ (¬ (left ≡ right)) → left ≡ right
 settled-same true true holds = refl
 settled-same true false holds = absurd (holds (λ same. absurd (cc)))
@@ -75,6 +76,7 @@ members-just P set runs only some rank = settled-same (members set rank) (member
     (λ fails. some (λ given may same.
     fails (ap (λ list. members list rank) (same ∙ only given may))))
 
+-- anything or false is itself
 or-false : (test : Bool) → (test || false) ≡ test
 or-false true = refl
 or-false false = refl
@@ -83,6 +85,7 @@ or-false false = refl
 pub members-run_if_any : (run : Interval) (rank : ℕ) → members (run_if_any run) rank ≡ covers rank run
 members-run_if_any run rank = by (nat_le run.first run.last) refl
   where
+    -- the same, by whether the interval has a rank
     by : (some : Bool) → nat_le run.first run.last ≡ some
         → members (cond some (run ∷ []) []) rank ≡ covers rank run
     by true is = members-cons run [] rank ∙ or-false (covers rank run)

@@ -90,6 +90,7 @@ module _ {T : Type 0} (rank : T → ℕ) (n : ℕ) where
         omega (arith, past),
       )
 
+  -- the last run ends with the greatest member
   pub last-greatest : (runs : List (Run T)) (run : Run T) → IsCanonicalIn n (runs_of rank runs)
       → 0 < length runs
       → run ≡ get_or runs (length runs - 1) run

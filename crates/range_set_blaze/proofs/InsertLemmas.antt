@@ -18,6 +18,7 @@ use Rattle.range_set_blaze.specs.Set.{Adds, IsReached}
 use Rattle.range_set_blaze.specs.declared.set.run.Run.{Run}
 use Rattle.range_set_blaze.proofs.KeptLemmas.{runs_of-parts, sum_by-canonical, sum_by-parts}
 
+-- `or` of three may be taken from either end
 or-assoc : (left middle right : Bool) → ((left || middle) || right) ≡ (left || (middle || right))
 or-assoc true middle right = refl
 or-assoc false middle right = refl
@@ -40,6 +41,7 @@ members-joined point run next rest ordered order near far =
     ∙ or-assoc (covers point run) (covers point next) (members rest point)
     ∙ ap (λ test. covers point run || test) (sym (members-cons next rest point))
 
+-- the two tests of an `or` may change places
 or-comm : (left right : Bool) → (left || right) ≡ (right || left)
 or-comm true true = refl
 or-comm true false = refl
@@ -67,6 +69,7 @@ module _ {T : Type 0} (rank : T → ℕ) (n : ℕ) where
         + length_of (run_of rank joined)
     pub fits : count n (members (runs_of rank (take at runs ++ joined ∷ drop past runs))) ≤ n
 
+-- the last two of three tests in an `or` may change places
 or-shift : (left middle right : Bool) → (left || (right || middle)) ≡ ((left || middle) || right)
 or-shift true middle right = refl
 or-shift false middle right = or-comm right middle
@@ -108,10 +111,12 @@ module _ {T : Type 0} (rank : T → ℕ) (n : ℕ) (runs : List (Run T)) (at pas
             (sym (ap (λ test. test || members (runs_of rank (drop at runs)) point) outside) ∙ here)
       ]
 
+  -- the new list is the runs before the position, the joined one and those past it
   parts : runs_of rank (take at runs ++ joined ∷ drop past runs)
       ≡ runs_of rank (take at runs) ++ run_of rank joined ∷ runs_of rank (drop past runs)
   parts = map-append (run_of rank) (take at runs) (joined ∷ drop past runs)
 
+  -- the new list is canonical
   replaced-canonical : IsCanonical (runs_of rank (take at runs ++ joined ∷ drop past runs))
   replaced-canonical =
       let front = runs_of rank (take at runs) in
@@ -131,6 +136,7 @@ module _ {T : Type 0} (rank : T → ℕ) (n : ℕ) (runs : List (Run T)) (at pas
       (canonical-append 0 front (run_of rank joined ∷ runs_of rank (drop past runs)) both.0
       (starts, order, apart))
 
+  -- the new list lies in the type
   replaced-below : AllEndBelow n (runs_of rank (take at runs ++ joined ∷ drop past runs))
   replaced-below =
       let front = subst (AllEndBelow n) (take-map (run_of rank) at runs)

@@ -12,11 +12,12 @@ use Rattle.rsb_integer.proofs.ListLemmas.{not_both}
 use Rattle.range_set_blaze.specs.Kept.{run_of, runs_of}
 use Rattle.range_set_blaze.specs.declared.set.run.Run.{Run}
 
--- the lengths of canonical runs in a type add up to the number of their members, which is n at most
+-- the lengths of canonical runs in a type add up to the number of their members
 pub sum_by-canonical : (n : ℕ) (runs : List Interval) → IsCanonicalIn n runs
     → sum_by length_of runs ≡ count n (members runs)
 sum_by-canonical n runs canonical = sym (count-members n 0 runs canonical.0 canonical.1)
 
+-- and to n at most
 pub sum_by-within : (n : ℕ) (runs : List Interval) → IsCanonicalIn n runs
     → sum_by length_of runs ≤ n
 sum_by-within n runs canonical =

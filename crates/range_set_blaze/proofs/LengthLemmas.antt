@@ -8,22 +8,27 @@ use Rattle.rsb_integer.proofs.CountLemmas.{count-at_most, count-finds, count-les
 use Rattle.rsb_integer.proofs.ListLemmas.{not_both}
 use Rattle.range_set_blaze.specs.Set.{only, Adds, LacksSomeOf}
 
+-- an `or` holds where its first test holds
 or-left : (left right : Bool) → left ≡ true → (left || right) ≡ true
 or-left true right holds = refl
 or-left false right holds = absurd (cc)
 
+-- an `or` holds where its second test holds
 or-right : (left right : Bool) → right ≡ true → (left || right) ≡ true
 or-right true right holds = refl
 or-right false right holds = holds
 
+-- where an `or` holds and its first test fails, its second holds
 or-second : (left right : Bool) → (left || right) ≡ true → left ≡ false → right ≡ true
 or-second true right holds fails = absurd (cc)
 or-second false right holds fails = holds
 
+-- a test that does not hold fails
 not-true : (test : Bool) → (IsTrue test → ⊥) → IsTrue (not test)
 not-true true fails = absurd (fails refl)
 not-true false fails = refl
 
+-- a test that fails does not hold
 not-holds : (test : Bool) → IsTrue (not test) → IsTrue test → ⊥
 not-holds true holds test = absurd (cc)
 not-holds false holds test = absurd (cc)

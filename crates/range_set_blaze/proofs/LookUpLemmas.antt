@@ -48,7 +48,7 @@ ahead-next all rest run start ahead =
           canonical-lower (run.last + 2) (run.last + 1 + 1) rest (omega arith) ahead.canonical.2;
     }
 
--- before the next run, and past all, nothing is a member
+-- from the start on and before the next run, nothing is a member
 pub free-before : (rank start : ℕ) (all rest : List Interval) (run : Interval)
     → IsAhead all (run ∷ rest) start
     → start ≤ rank → rank < run.first → members all rank ≡ false
@@ -57,6 +57,7 @@ free-before rank start all rest run ahead from before =
     ahead.same rank from
     ∙ members-below run.first (run ∷ rest) rank (omega arith, ordered, ahead.canonical.2) before
 
+-- where no run is ahead, nothing from the start on is a member
 pub free-after : (rank start : ℕ) (all : List Interval) → IsAhead all [] start → start ≤ rank
     → members all rank ≡ false
 free-after rank start all ahead from = ahead.same rank from
@@ -101,7 +102,7 @@ gap-after n rank last start all ahead from below end = record {
   around = covers-inside rank (record { first = start; last = last }) from (omega arith);
 }
 
--- the rank lies in the next run
+-- a rank in the next run is a member
 pub present-here : (rank start : ℕ) (all rest : List Interval) (run : Interval)
     → IsAhead all (run ∷ rest) start
     → run.first ≤ rank → rank ≤ run.last → members all rank ≡ true
@@ -109,6 +110,7 @@ present-here rank start all rest run ahead low high =
     let from = ahead.canonical.0 in
     ahead.same rank (omega arith) ∙ members-head run rest rank low high
 
+-- and that run is the maximal run that has it
 pub run-here : (n rank start : ℕ) (all rest : List Interval) (run : Interval)
     → IsAhead all (run ∷ rest) start
     → run.first ≤ rank → rank ≤ run.last → run.last < n → IsRunAround n (members all) rank run

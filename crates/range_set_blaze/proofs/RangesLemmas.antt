@@ -35,6 +35,7 @@ module _ {T : Type 0} (rank : T → ℕ) where
         All-tail (λ (each : Interval). each.last < n) run (intervals_of rank ranges) canonical.1,
       )
 
+  -- so a call that takes the first of them makes progress
   pub canonical-goes : (n : ℕ) (before after : List (RangeInclusive T))
       (first item : RangeInclusive T)
       → before ≡ first ∷ after → IsCanonicalIn n (intervals_of rank before)
@@ -62,6 +63,7 @@ module _ {T : Type 0} (rank : T → ℕ) where
         All-front (λ (each : Interval). each.last < n) front last both.1,
       )
 
+  -- so a call that takes the last of them makes progress
   pub canonical-goes_back : (n : ℕ) (before after : List (RangeInclusive T))
       (last item : RangeInclusive T)
       → before ≡ after ++ last ∷ [] → IsCanonicalIn n (intervals_of rank before)

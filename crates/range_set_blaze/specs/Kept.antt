@@ -5,10 +5,11 @@ use Rattle.rsb_integer.specs.Runs.{Interval, members, IsCanonicalIn}
 use Rattle.rsb_integer.specs.Selection.{count}
 use Rattle.range_set_blaze.specs.declared.set.run.Run.{Run}
 
--- the ranks of a run, and those of each of a list of runs
+-- the ranks of a run
 abbrev pub run_of : {T : Type 0} → (T → ℕ) → Run T → Interval
 run_of rank run = record { first = rank run.start; last = rank run.end }
 
+-- the ranks of each run of a list
 abbrev pub runs_of : {T : Type 0} → (T → ℕ) → List (Run T) → List Interval
 runs_of rank runs = map (run_of rank) runs
 
@@ -16,6 +17,7 @@ runs_of rank runs = map (run_of rank) runs
 abbrev pub range_of : {T : Type 0} → Run T → RangeInclusive T
 range_of run = record { start = run.start; end = run.end; exhausted = false }
 
+-- the values of each run of a list, as ranges
 abbrev pub ranges_of : {T : Type 0} → List (Run T) → List (RangeInclusive T)
 ranges_of runs = map range_of runs
 

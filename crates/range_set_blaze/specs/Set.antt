@@ -14,12 +14,13 @@ use Rattle.rsb_integer.specs.Selection.{Selection, union}
 abbrev pub only : ℕ → Selection
 only rank other = other == rank
 
--- the least rank that a start lets in, and the least past all that an end lets in
+-- the least rank that a start lets in
 abbrev pub first_rank : {T : Type 0} → (T → ℕ) → Bound T → ℕ
 first_rank rank (Included value) = rank value
 first_rank rank (Excluded value) = rank value + 1
 first_rank rank Unbounded = 0
 
+-- the least rank past all that an end lets in, in a type of n values
 abbrev pub past_rank : {T : Type 0} → (T → ℕ) → ℕ → Bound T → ℕ
 past_rank rank n (Included value) = rank value + 1
 past_rank rank n (Excluded value) = rank value

@@ -29,6 +29,7 @@ canonical-lower low lower [] less canonical = tt
 canonical-lower low lower (run ∷ runs) less canonical =
     let starts = canonical.0 in (omega arith, canonical.1, canonical.2)
 
+-- the intervals of a canonical list ascend by their first ranks
 pub canonical-ascending : (low : ℕ) (runs : List Interval) → IsCanonicalFrom low runs
     → AllPairs (λ (before after : Interval). before.first < after.first) runs
 canonical-ascending low [] canonical = λ m n d i j. absurd (omega arith)
@@ -45,11 +46,13 @@ abbrev pub next_start : ℕ → List Interval → ℕ
 next_start low [] = low
 next_start low (run ∷ runs) = next_start (run.last + 2) runs
 
+-- a list with this interval last may go on two ranks past its end
 pub next_start-push : (low : ℕ) (runs : List Interval) (run : Interval)
     → next_start low (runs ++ run ∷ []) ≡ run.last + 2
 next_start-push low [] run = refl
 next_start-push low (other ∷ runs) run = next_start-push (other.last + 2) runs run
 
+-- both parts of a canonical list are canonical, the second from where the first lets it go on
 pub canonical-parts : (low : ℕ) (runs others : List Interval) → IsCanonicalFrom low (runs ++ others)
     → IsCanonicalFrom low runs × IsCanonicalFrom (next_start low runs) others
 canonical-parts low [] others canonical = (tt, canonical)
@@ -57,6 +60,7 @@ canonical-parts low (run ∷ runs) others canonical =
     let parts = canonical-parts (run.last + 2) runs others canonical.2 in
     ((canonical.0, canonical.1, parts.0), parts.1)
 
+-- and two lists that are so make one canonical list
 pub canonical-append : (low : ℕ) (runs others : List Interval) → IsCanonicalFrom low runs
     → IsCanonicalFrom (next_start low runs) others → IsCanonicalFrom low (runs ++ others)
 canonical-append low [] others front rest = rest
@@ -65,6 +69,7 @@ canonical-append low (run ∷ runs) others front rest =
 
 -- ---- two canonical lists with the same members are one list
 
+-- where the members are the same, the other list's first interval starts no later
 unique-first : (run other : Interval) (runs others : List Interval) → run.first ≤ run.last
     → IsCanonicalFrom (other.last + 2) others
     → ((rank : ℕ) → members (run ∷ runs) rank ≡ members (other ∷ others) rank)
@@ -78,6 +83,7 @@ unique-first run other runs others ordered rest same order = elim (cases_lt run.
   | inr most ↦ most
 ]
 
+-- and ends no later, where both start at one rank
 unique-last : (run other : Interval) (runs others : List Interval) → run.first ≡ other.first
     → run.first ≤ run.last → IsCanonicalFrom (run.last + 2) runs
     → ((rank : ℕ) → members (run ∷ runs) rank ≡ members (other ∷ others) rank)
@@ -91,6 +97,7 @@ unique-last run other runs others first ordered rest same = elim (cases_lt run.l
   | inr most ↦ most
 ]
 
+-- canonical lists that agree at every rank are the same list, wherever each may start
 pub canonical-unique : (low lower : ℕ) (runs others : List Interval) → IsCanonicalFrom low runs
     → IsCanonicalFrom lower others → ((rank : ℕ) → members runs rank ≡ members others rank) → runs
     ≡ others
@@ -129,6 +136,7 @@ canonical-unique low lower (run ∷ runs) (other ∷ others) left right same =
     let tails = canonical-unique (run.last + 2) (other.last + 2) runs others left.2 right.2 rest in
     λ i. head i ∷ tails i
 
+-- lists that end within the type and agree there agree at every rank
 agree-everywhere : (n : ℕ) (runs others : List Interval) → AllEndBelow n runs → AllEndBelow n others
     → Agree n (members runs) (members others) → (rank : ℕ) → members runs rank ≡ members others rank
 agree-everywhere n runs others left right same rank = elim (cases_lt rank n) [

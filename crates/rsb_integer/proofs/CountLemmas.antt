@@ -12,17 +12,20 @@ use Rattle.rsb_integer.proofs.MembersLemmas.{covers-bounds, covers-cases, member
 abbrev once : Bool → ℕ
 once test = cond test 1 0
 
+-- a test that passes only where another does adds no more than that one
 once-at_most : (small large : Bool) → (small ≡ true → large ≡ true) → once small ≤ once large
 once-at_most true large within = let same : once large ≡ 1 = ap once (within refl) in omega arith
 once-at_most false true within = omega arith
 once-at_most false false within = omega arith
 
+-- where a test adds less than another, the other passes and it fails
 once-less : (small large : Bool) → once small < once large → (large ≡ true) × (small ≡ false)
 once-less true true less = absurd (omega arith)
 once-less true false less = absurd (omega arith)
 once-less false true less = (refl, refl)
 once-less false false less = absurd (omega arith)
 
+-- of two tests that do not both pass, either one adds what the two add together
 once-or : (left right : Bool) → (left ≡ true → right ≡ false) → once (left || right)
     ≡ once left + once right
 once-or true right apart = let none : once right ≡ 0 = ap once (apart refl) in omega arith
@@ -39,7 +42,7 @@ count-agree (suc n) left right same =
     let here : once (left n) ≡ once (right n) = ap once (same n (omega arith)) in
     omega arith
 
--- a set of no rank below n counts 0, and one of every rank counts n
+-- a set of no rank below n counts 0
 pub count-none : (n : ℕ) (selected : Selection) → ((rank : ℕ) → rank < n → selected rank ≡ false)
     → count n selected ≡ 0
 unfolding count
@@ -49,6 +52,7 @@ count-none (suc n) selected none =
     let here : once (selected n) ≡ 0 = ap once (none n (omega arith)) in
     omega arith
 
+-- a set of every rank below n counts n
 pub count-all : (n : ℕ) (selected : Selection) → ((rank : ℕ) → rank < n → selected rank ≡ true)
     → count n selected ≡ n
 unfolding count

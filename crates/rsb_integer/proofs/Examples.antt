@@ -10,11 +10,13 @@ use Rattle.rsb_integer.proofs.RunsLemmas.{runs-from_canonical}
 abbrev pub from_to : ℕ → ℕ → Interval
 from_to first last = record { first = first; last = last }
 
+-- a list that ends below 256 still does with an interval in front that does
 abbrev below-cons : (first last : ℕ) (runs : List Interval) → last < 256 → AllEndBelow 256 runs
     → AllEndBelow 256 (from_to first last ∷ runs)
 below-cons first last runs ends rest =
     All-cons (λ (run : Interval). run.last < 256) (from_to first last) runs ends rest
 
+-- the empty list ends below 256
 abbrev below-nil : AllEndBelow 256 []
 below-nil = All-nil (λ (run : Interval). run.last < 256)
 

@@ -5,24 +5,29 @@ use Rattle.std.specs.List.{All, AllPairs, Contains}
 
 -- ---- tests
 
+-- a test passes or fails
 pub true_or_false : (test : Bool) → (test ≡ true) ⊎ (test ≡ false)
 true_or_false true = inl refl
 true_or_false false = inr refl
 
+-- no test both passes and fails
 pub not_both : (test : Bool) → test ≡ true → test ≡ false → ⊥
 not_both test holds fails = absurd (cc)
 
+-- anything or true is true
 pub or-true : (test : Bool) → (test || true) ≡ true
 or-true true = refl
 or-true false = refl
 
 -- ---- elements
 
+-- where two facts of an item give a third, they give it of each item of a list
 pub All-both : {X : Type 0} (P Q R : X → Type 0) → ((x : X) → P x → Q x → R x) → (xs : List X)
     → All P xs → All Q xs → All R xs
 All-both P Q R combine xs ps qs k default within =
     combine (get_or xs k default) (ps k default within) (qs k default within)
 
+-- all pairs are related where the head is to each item of the tail, and the tail's pairs are
 pub AllPairs-cons : {X : Type 0} (R : X → X → Type 0) (x : X) (xs : List X)
     → All (R x) xs → AllPairs R xs → AllPairs R (x ∷ xs)
 AllPairs-cons R x xs first rest zero zero d i j = absurd (omega arith)
@@ -30,16 +35,20 @@ AllPairs-cons R x xs first rest zero (suc n) d i j = first n d (omega arith)
 AllPairs-cons R x xs first rest (suc m) zero d i j = absurd (omega arith)
 AllPairs-cons R x xs first rest (suc m) (suc n) d i j = rest m n d (omega arith) (omega arith)
 
+-- what holds of all pairs of a list holds of those of its tail
 pub AllPairs-tail : {X : Type 0} (R : X → X → Type 0) (x : X) (xs : List X)
     → AllPairs R (x ∷ xs) → AllPairs R xs
 AllPairs-tail R x xs pairs m n d i j = pairs (suc m) (suc n) d (omega arith) (omega arith)
 
+-- a list contains its head
 pub Contains-head : {X : Type 0} (x : X) (xs : List X) → Contains (x ∷ xs) x
 Contains-head x xs = Contains-append_left (x ∷ []) xs x (Contains-push [] x)
 
+-- a list contains what its tail contains
 pub Contains-tail : {X : Type 0} (x : X) (xs : List X) (y : X) → Contains xs y → Contains (x ∷ xs) y
 Contains-tail x xs y found = Contains-append_right (x ∷ []) xs y found
 
+-- what a list contains is its head or stands in its tail
 pub Contains-cases : {X : Type 0} (x : X) (xs : List X) (y : X)
     → Contains (x ∷ xs) y → (x ≡ y) ⊎ Contains xs y
 Contains-cases x xs y found = elim (Contains-append_cases (x ∷ []) xs y found) [

@@ -71,6 +71,7 @@ run-last selected n rank (suc more) end here = elim (true_or_false (selected (ra
   )
 ]
 
+-- a rank of the type that is selected lies in a maximal run
 pub maximal-around : (n : ℕ) (selected : Selection) (rank : ℕ) → rank < n → selected rank ≡ true
     → (run : Interval) × IsMaximalRun n selected run × (covers rank run ≡ true)
 maximal-around n selected rank below here =

@@ -8,10 +8,12 @@ use Rattle.rsb_integer.proofs.ListLemmas.{true_or_false, or-true, Contains-head,
 
 -- ---- what an interval covers
 
+-- a rank inside the interval is covered
 pub covers-inside : (rank : ℕ) (run : Interval) → run.first ≤ rank → rank ≤ run.last
     → covers rank run ≡ true
 covers-inside rank run low high = grind (arith, nat_tests)
 
+-- a rank outside the interval is not covered
 pub covers-outside : (rank : ℕ) (run : Interval) → (rank < run.first) ⊎ (run.last < rank)
     → covers rank run ≡ false
 covers-outside rank run outside = elim outside [
@@ -19,6 +21,7 @@ covers-outside rank run outside = elim outside [
   | inr past ↦ grind (arith, nat_tests)
 ]
 
+-- a covered rank lies inside the interval
 pub covers-bounds : (rank : ℕ) (run : Interval) → covers rank run ≡ true → (run.first ≤ rank)
     × (rank ≤ run.last)
 covers-bounds rank run is = (grind (arith, nat_tests), grind (arith, nat_tests))
@@ -36,6 +39,7 @@ same_interval run other first last = λ i. record { first = first i; last = last
 
 -- ---- members
 
+-- a count with one more test in front is positive where the test passes or the count is
 lt-cover : (test : Bool) (n : ℕ) → nat_lt 0 (cond test 1 0 + n) ≡ (test || nat_lt 0 n)
 lt-cover true n = grind (arith, nat_tests)
 lt-cover false n = grind (arith, nat_tests)
@@ -45,11 +49,13 @@ pub members-cons : (run : Interval) (runs : List Interval) (rank : ℕ)
     → members (run ∷ runs) rank ≡ (covers rank run || members runs rank)
 members-cons run runs rank = lt-cover (covers rank run) (cover runs rank)
 
+-- what the first interval covers is a member
 pub members-covered : (run : Interval) (runs : List Interval) (rank : ℕ)
     → covers rank run ≡ true → members (run ∷ runs) rank ≡ true
 members-covered run runs rank here =
     members-cons run runs rank ∙ ap (λ test. test || members runs rank) here
 
+-- a rank inside the first interval is a member
 pub members-head : (run : Interval) (runs : List Interval) (rank : ℕ)
     → run.first ≤ rank → rank ≤ run.last → members (run ∷ runs) rank ≡ true
 members-head run runs rank low high =
@@ -72,6 +78,7 @@ members-below low (run ∷ runs) rank canonical below =
     members-tail run runs rank (inl (omega arith))
     ∙ members-below (run.last + 2) runs rank canonical.2 (omega arith)
 
+-- a member is covered by the first interval or is a member of the others
 members-cases : (run : Interval) (runs : List Interval) (rank : ℕ) → members (run ∷ runs) rank
     ≡ true
     → (covers rank run ≡ true) ⊎ (members runs rank ≡ true)
@@ -121,9 +128,11 @@ pub cover-append : (runs others : List Interval) (rank : ℕ)
 cover-append [] others rank = omega arith
 cover-append (run ∷ runs) others rank = let rest = cover-append runs others rank in omega arith
 
+-- a sum is positive where one of its parts is
 lt-sum : (m n : ℕ) → nat_lt 0 (m + n) ≡ (nat_lt 0 m || nat_lt 0 n)
 lt-sum m n = grind (arith, nat_tests)
 
+-- the members of two lists, one after the other, are those of the one or of the other
 pub members-append : (runs others : List Interval) (rank : ℕ)
     → members (runs ++ others) rank ≡ (members runs rank || members others rank)
 members-append runs others rank =

@@ -13,6 +13,7 @@ abbrev interval_by : Bool → ℕ → ℕ → Interval
 interval_by exhausted first last =
     cond exhausted (record { first = 1; last = 0 }) (record { first = first; last = last })
 
+-- where the interval has a rank, the range was not iterated to its end
 interval_by-some : (exhausted : Bool) (first last : ℕ)
     → (interval_by exhausted first last).first ≤ (interval_by exhausted first last).last → exhausted
     ≡ false
@@ -42,6 +43,7 @@ module _ {T : Type 0} (rank : T → ℕ) where
 -- in a type of n values, each of which has a place of its own
 module _ {T : Type 0} (rank : T → ℕ) (n : ℕ)
     (one_place : (x y : T) → rank x < n → rank x ≡ rank y → x ≡ y) where
+  -- a range that has members, all in the type, is told by its interval
   pub same_range : (range other : RangeInclusive T)
       → (interval_of rank range).first ≤ (interval_of rank range).last
       → (interval_of rank range).last < n
@@ -65,6 +67,7 @@ module _ {T : Type 0} (rank : T → ℕ) (n : ℕ)
       let exhausted = exhausted-some rank range ordered ∙ sym (exhausted-some rank other order) in
       λ i. record { start = start i; end = end i; exhausted = exhausted i }
 
+  -- a canonical list of ranges is told by its intervals
   pub same_ranges : (low : ℕ) (ranges others : List (RangeInclusive T))
       → IsCanonicalFrom low (intervals_of rank ranges) → AllEndBelow n (intervals_of rank ranges)
       → intervals_of rank ranges ≡ intervals_of rank others → ranges ≡ others

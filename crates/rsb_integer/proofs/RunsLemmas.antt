@@ -12,6 +12,7 @@ use Rattle.rsb_integer.proofs.MaximalLemmas.{maximal-around}
 
 -- ---- a canonical list is the list of the maximal runs of its members
 
+-- the first interval of a canonical list is a maximal run of its members
 head-maximal : (n : ℕ) (run : Interval) (runs : List Interval) → run.first ≤ run.last → run.last < n
     → IsCanonicalFrom (run.last + 2) runs → IsMaximalRun n (members (run ∷ runs)) run
 head-maximal n run runs ordered below rest = record {
@@ -26,6 +27,7 @@ head-maximal n run runs ordered below rest = record {
       ∙ members-below (run.last + 2) runs (run.last + 1) rest (omega arith);
 }
 
+-- a maximal run of the other intervals, past the first and apart from it, is one of the whole list
 tail-maximal : (n : ℕ) (run : Interval) (runs : List Interval) (other : Interval)
     → run.last + 2 ≤ other.first → IsMaximalRun n (members runs) other
     → IsMaximalRun n (members (run ∷ runs)) other
@@ -43,6 +45,7 @@ tail-maximal n run runs other later maximal =
           members-tail run runs (other.last + 1) (inr (omega arith)) ∙ maximal.ends_here more;
     }
 
+-- each interval of a canonical list is a maximal run of its members
 pub canonical-maximal : (n low : ℕ) (runs : List Interval) → IsCanonicalFrom low runs
     → AllEndBelow n runs
     → All (IsMaximalRun n (members runs)) runs
@@ -111,6 +114,7 @@ maximal-tail n run runs other past maximal =
           sym (members-tail run runs (other.last + 1) (inr (omega arith))) ∙ maximal.ends_here more;
     }
 
+-- each maximal run of the members of a canonical list is in the list
 pub canonical-complete : (n low : ℕ) (runs : List Interval) (other : Interval)
     → IsCanonicalFrom low runs
     → AllEndBelow n runs → IsMaximalRun n (members runs) other → Contains runs other
@@ -148,6 +152,7 @@ canonical-complete n low (run ∷ runs) other canonical below maximal =
       ]
     ]
 
+-- a canonical list is the runs of its members
 pub canonical-runs : (n : ℕ) (runs : List Interval) → IsCanonical runs → AllEndBelow n runs
     → AreRuns n (members runs) runs
 canonical-runs n runs canonical below = record {
@@ -158,6 +163,7 @@ canonical-runs n runs canonical below = record {
 
 -- ---- the runs of a set are a canonical list with its members
 
+-- the members of the runs of a set are the set's
 pub runs-members : (n : ℕ) (selected : Selection) (runs : List Interval) → AreRuns n selected runs
     → Agree n (members runs) selected
 runs-members n selected runs all rank below = elim (true_or_false (selected rank)) [
@@ -196,6 +202,7 @@ maximal-apart n selected run other maximal next less =
       ]
     ]
 
+-- maximal runs that ascend, from a rank on, are a canonical list from there on
 ascending-canonical : (n : ℕ) (selected : Selection) (low : ℕ) (runs : List Interval)
     → AllPairs (λ (before after : Interval). before.first < after.first) runs
     → All (IsMaximalRun n selected) runs → All (λ (run : Interval). low ≤ run.first) runs
@@ -214,6 +221,7 @@ ascending-canonical n selected low (run ∷ runs) ascending maximal starts =
           (ascending 0 (suc k) default (omega arith) (omega arith))),
     )
 
+-- the runs of a set are a canonical list in its type
 pub runs-canonical : (n : ℕ) (selected : Selection) (runs : List Interval) → AreRuns n selected runs
     → IsCanonicalIn n runs
 runs-canonical n selected runs all = (
@@ -246,6 +254,7 @@ runs-same n selected other runs others left right same =
     (λ rank below. runs-members n selected runs left rank below ∙ same rank below
     ∙ sym (runs-members n other others right rank below))
 
+-- a maximal run of a set is one of each set that agrees with it
 maximal-along : (n : ℕ) (selected other : Selection) → Agree n selected other → (run : Interval)
     → IsMaximalRun n selected run → IsMaximalRun n other run
 maximal-along n selected other same run maximal =

@@ -12,6 +12,7 @@ interval_of rank range = cond (range_inclusive_exhausted range)
     (record { first = 1; last = 0 })
     (record { first = rank (range_inclusive_start range); last = rank (range_inclusive_end range) })
 
+-- the ranks of each range of a list
 abbrev pub intervals_of : {T : Type 0} → (T → ℕ) → List (RangeInclusive T) → List Interval
 intervals_of rank ranges = map (interval_of rank) ranges
 

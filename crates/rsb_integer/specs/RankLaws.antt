@@ -59,6 +59,7 @@ signed-in_order width x y left right =
     nat_cmp_is (signed_rank width x) (signed_rank width y) (int_cmp x y)
     (ranks (int_cmp x y) (int_ranked x y (int_cmp x y) refl))
   where
+    -- what a comparison of two values says, it says of their ranks
     ranks : (order : Ordering) → MatchOrdering order (x <ℤ y) (x ≡ y) (y <ℤ x)
         → MatchOrdering order (signed_rank width x < signed_rank width y)
         (signed_rank width x ≡ signed_rank width y) (signed_rank width y < signed_rank width x)
@@ -84,6 +85,7 @@ scalar-in_order c d left right =
     nat_cmp_is (scalar_rank c) (scalar_rank d) (nat_cmp c d)
     (ranks (nat_cmp c d) (ranked c d (nat_cmp c d) refl))
   where
+    -- what a comparison of two characters says, it says of their ranks
     ranks : (order : Ordering) → MatchOrdering order (c < d) (c ≡ d) (d < c)
         → MatchOrdering order (scalar_rank c < scalar_rank d) (scalar_rank c ≡ scalar_rank d)
         (scalar_rank d < scalar_rank c)

@@ -15,18 +15,20 @@ covers rank run = nat_le run.first rank && nat_le rank run.last
 abbrev pub length_of : Interval → ℕ
 length_of run = run.last + 1 - run.first
 
+-- the interval has a rank
 abbrev pub IsNonEmpty : Interval → Type 0
 IsNonEmpty run = run.first ≤ run.last
 
+-- the interval has no rank
 abbrev pub IsEmpty : Interval → Type 0
 IsEmpty run = run.last < run.first
 
--- the rest of an interval when its first rank is taken out, or its last: empty where it had one or
--- none
+-- the rest of an interval when its first rank is taken out: empty where it had one or none
 pub record IsAfterFirst (run rest : Interval) : Type 0 where
   pub more : run.first < run.last → (rest.first ≡ run.first + 1) × (rest.last ≡ run.last)
   pub none : run.last ≤ run.first → IsEmpty rest
 
+-- the rest of an interval when its last rank is taken out: empty where it had one or none
 pub record IsBeforeLast (run rest : Interval) : Type 0 where
   pub more : run.first < run.last → (rest.first ≡ run.first) × (rest.last + 1 ≡ run.last)
   pub none : run.last ≤ run.first → IsEmpty rest
@@ -49,6 +51,7 @@ IsCanonicalFrom low [] = Unit {0}
 IsCanonicalFrom low (run ∷ runs) =
     (low ≤ run.first) × (run.first ≤ run.last) × IsCanonicalFrom (run.last + 2) runs
 
+-- the intervals are non-empty and ascend, and no two of them touch or overlap
 abbrev pub IsCanonical : List Interval → Type 0
 IsCanonical runs = IsCanonicalFrom 0 runs
 

@@ -12,18 +12,23 @@ exclusive_or false b = b
 
 -- ---- of one set or two, rank by rank
 
+-- what the set leaves out
 abbrev pub complement : Selection → Selection
 complement selected rank = not (selected rank)
 
+-- what one of the two sets has, or both have
 abbrev pub union : Selection → Selection → Selection
 union left right rank = left rank || right rank
 
+-- what both sets have
 abbrev pub intersection : Selection → Selection → Selection
 intersection left right rank = left rank && right rank
 
+-- what the left set has and the right one does not
 abbrev pub difference : Selection → Selection → Selection
 difference left right rank = left rank && not (right rank)
 
+-- what one of the two sets has, and not both
 abbrev pub symmetric_difference : Selection → Selection → Selection
 symmetric_difference left right rank = exclusive_or (left rank) (right rank)
 

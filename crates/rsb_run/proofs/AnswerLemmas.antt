@@ -20,6 +20,7 @@ if_known (Some input) (Some none) bytes Fact taken end fact =
     let same : input ≡ bytes = taken ∙ ap (λ v. bytes ++ v) end ∙ append-nil bytes in
     subst Fact (sym same) fact
 
+-- the first items of a list are a front of it
 take-front : {X : Type 0} (at : ℕ) (whole : List X) → IsFrontOf (take at whole) whole
 take-front at whole = record { rest = drop at whole; parts = sym (take-append-drop at whole) }
 
@@ -27,6 +28,7 @@ module _ (known left : Option (List ℕ)) (bytes : List ℕ) (taken : Consumes k
     (end : IsAtEnd left) (commands : List (Command ℤ)) (at : ℕ) (replies : List (Content ℤ))
     (old new : Option (List ℕ)) (spelled : AreCommands bytes commands)
     (replied : AreNumberReplies (take at commands) replies) where
+  -- where the text of these replies was written, a front of the commands is answered
   pub answers_front : Appends old new (text replies)
       → IfSome known (λ input. AnswersFront input old new)
   answers_front written = if_known known left bytes (λ input. AnswersFront input old new) taken end
@@ -40,6 +42,7 @@ module _ (known left : Option (List ℕ)) (bytes : List ℕ) (taken : Consumes k
         written = written;
       })
 
+  -- and where less than that text was, a front is answered short
   pub answers_short : AppendsShortOf old new (text replies)
       → IfSome known (λ input. AnswersShort input old new)
   answers_short written = if_known known left bytes (λ input. AnswersShort input old new) taken end

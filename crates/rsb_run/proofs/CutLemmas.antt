@@ -12,14 +12,17 @@ use Rattle.rsb_run.specs.Spelling.{is_blank, has_bytes, texts, words}
 
 -- ---- at the first element that passes a test
 
+-- where an index is found, the test passes, and it is that index
 found : (passes : Bool) (n i : ℕ) → cond passes (Some n) None ≡ Some i → (passes ≡ true) × (n ≡ i)
 found true n i is = (refl, cc)
 found false n i is = absurd cc
 
+-- where none is found, the test fails
 not_found : (passes : Bool) (n : ℕ) → cond passes (Some n) None ≡ None → passes ≡ false
 not_found true n is = absurd cc
 not_found false n is = refl
 
+-- a list is split at the first element that passes, and what comes after that is split again
 slice_split-Some : (test : ℕ → Bool) (xs : List ℕ) (i : ℕ) → position test xs ≡ Some i
     → slice_split test xs ≡ take i xs ∷ slice_split test (drop (i + 1) xs)
 slice_split-Some test xs i is =
@@ -27,6 +30,7 @@ slice_split-Some test xs i is =
     subst (λ (n : ℕ). slice_split test xs ≡ take n xs ∷ slice_split test (drop (n + 1) xs)) at.1
     (slice_split_first test xs 0 (ltb-true _ _ at.0))
 
+-- a list of which no element passes is one part
 slice_split-None : (test : ℕ → Bool) (xs : List ℕ) → position test xs ≡ None
     → slice_split test xs ≡ xs ∷ []
 slice_split-None test xs is =
@@ -37,23 +41,28 @@ slice_split-None test xs is =
 
 -- ---- lines
 
+-- a line feed
 abbrev is_line_feed : ℕ → Bool
 is_line_feed byte = eqb byte 10
 
+-- what stands after the last line feed is a line, where it is not empty
 last_line : (bytes : List ℕ) → 0 < length bytes → lines_of_parts (bytes ∷ []) ≡ bytes ∷ []
 last_line bytes some =
     rw (ne_eqb (length bytes) 0 (λ none. absurd (omega (arith, none, some)))) refl
 
+-- what stands before a line feed is a line, less a carriage return at its end
 more_lines : (part : List ℕ) (parts : List (List ℕ)) → 0 < length parts
     → lines_of_parts (part ∷ parts) ≡ strip_carriage_return part ∷ lines_of_parts parts
 more_lines part [] some = absurd (omega (arith, some))
 more_lines part (next ∷ parts) some = refl
 
+-- bytes without a line feed are one line, where there are some
 pub lines-None : (bytes : List ℕ) → 0 < length bytes → position is_line_feed bytes ≡ None
     → lines bytes ≡ bytes ∷ []
 lines-None bytes some is =
     ap lines_of_parts (slice_split-None is_line_feed bytes is) ∙ last_line bytes some
 
+-- the first line ends at the first line feed, and the others come after that
 pub lines-Some : (bytes : List ℕ) (i : ℕ) → position is_line_feed bytes ≡ Some i
     → lines bytes ≡ strip_carriage_return (take i bytes) ∷ lines (drop (i + 1) bytes)
 lines-Some bytes i is =
@@ -64,21 +73,25 @@ lines-Some bytes i is =
 
 -- ---- words
 
+-- a first part is kept or left out, and the others follow
 kept_first : (keeps : Bool) (part : List ℕ) (parts : List (List ℕ))
     → cond keeps (part ∷ parts) parts ≡ cond keeps (part ∷ []) [] ++ parts
 kept_first true part parts = refl
 kept_first false part parts = refl
 
+-- what stands before the first blank is a word if it is not empty, and the others come after that
 words-Some : (line : List ℕ) (i : ℕ) → position is_blank line ≡ Some i
     → words line ≡ filter has_bytes (take i line ∷ []) ++ words (drop (i + 1) line)
 words-Some line i is =
     ap (filter has_bytes) (slice_split-Some is_blank line i is)
     ∙ kept_first (has_bytes (take i line)) (take i line) (words (drop (i + 1) line))
 
+-- a blank at the start is passed
 words-after_blank : (line : List ℕ) → position is_blank line ≡ Some 0
     → words line ≡ words (drop (0 + 1) line)
 words-after_blank line is = words-Some line 0 is
 
+-- what stands before the first blank is the first word, where it is not empty
 words-after_word : (line : List ℕ) (i : ℕ) → position is_blank line ≡ Some i
     → 0 < i → i < length line → words line ≡ take i line ∷ words (drop (i + 1) line)
 words-after_word line i is some within =
@@ -86,21 +99,25 @@ words-after_word line i is some within =
     let kept = lt-ltb 0 (length word) (omega (arith, length-take i line)) in
     words-Some line i is ∙ ap (λ keeps. cond keeps (word ∷ []) [] ++ words (drop (i + 1) line)) kept
 
+-- a line without blanks is one word, where it is not empty
 words-None : (line : List ℕ) → position is_blank line ≡ None → 0 < length line
     → words line ≡ line ∷ []
 words-None line is some =
     ap (filter has_bytes) (slice_split-None is_blank line is)
     ∙ ap (λ keeps. cond keeps (line ∷ []) []) (lt-ltb 0 (length line) some)
 
+-- an empty line has no words
 words-empty : (line : List ℕ) → length line ≡ 0 → words line ≡ []
 words-empty line none = rw (nil_from_length line none) refl
 
 -- ---- one step over the parts of a line: the words found so far, then those of the rest
 
+-- with one more slice, its bytes come last
 texts-push : (found more : List (Bor (List ℕ))) (word : Bor (List ℕ)) → more ≡ found ++ word ∷ []
     → texts more ≡ texts found ++ word.now ∷ []
 texts-push found more word is = ap texts is ∙ map-append (λ w. w.now) found (word ∷ [])
 
+-- the rest starts with a word, and a blank ends it
 pub found_word : (found more : List (Bor (List ℕ))) (word : Bor (List ℕ)) (rest line : List ℕ)
     (i : ℕ) → position is_blank rest ≡ Some i → 0 < i → i < length rest
     → more ≡ found ++ word ∷ [] → word.now ≡ take i rest
@@ -113,6 +130,7 @@ found_word found more word rest line i is some within grown taken so_far =
     ∙ ap (λ v. texts found ++ v) (sym (words-after_word rest i is some within))
     ∙ so_far
 
+-- the rest starts with a blank
 pub found_blank : (found : List (Bor (List ℕ))) (rest line : List ℕ) (i : ℕ)
     → position is_blank rest ≡ Some i → i ≤ 0
     → texts found ++ words rest ≡ words line → texts found ++ words (drop (i + 1) rest) ≡ words line
@@ -122,6 +140,7 @@ found_blank found rest line i is none so_far =
     ∙ ap (λ v. texts found ++ v) (sym (words-after_blank rest (is ∙ ap (λ n. Some n) first)))
     ∙ so_far
 
+-- the rest is one word
 pub found_last : (found more : List (Bor (List ℕ))) (word : Bor (List ℕ)) (rest line : List ℕ)
     → position is_blank rest ≡ None → 0 < length rest
     → more ≡ found ++ word ∷ [] → word.now ≡ rest
@@ -132,6 +151,7 @@ found_last found more word rest line is some grown taken so_far =
     ∙ ap (λ v. texts found ++ v) (sym (words-None rest is some))
     ∙ so_far
 
+-- nothing is left
 pub found_all : (found : List (Bor (List ℕ))) (rest line : List ℕ) → length rest ≡ 0
     → texts found ++ words rest ≡ words line → texts found ≡ words line
 found_all found rest line none so_far =

@@ -13,6 +13,7 @@ use Rattle.rsb_run.specs.Spelling.{AreCommands, IsBadLine, IsFirstBadLine, Spell
 abbrev spoken : List (List ℕ) → List (List (List ℕ))
 spoken ls = filter has_words (map words ls)
 
+-- the line is no bad one
 abbrev IsGood : List ℕ → Type 0
 IsGood line = IsBadLine line → ⊥
 
@@ -24,20 +25,24 @@ pub record HasRead (input rest : List ℕ) (number : ℕ) (commands : List (Comm
   pub spelled : AllZip Spells (spoken front) commands
   pub good : All IsGood front
 
+-- the lines with words of two lists are those of the one and then of the other
 spoken-append : (xs ys : List (List ℕ)) → spoken (xs ++ ys) ≡ spoken xs ++ spoken ys
 spoken-append xs ys =
     ap (filter has_words) (map-append words xs ys)
     ∙ filter-append has_words (map words xs) (map words ys)
 
+-- a line without words is left out
 spoken-silent : (line : List ℕ) → length (words line) ≡ 0 → spoken (line ∷ []) ≡ []
 spoken-silent line none =
     ap (λ kept. cond kept (words line ∷ []) [])
     (le-ltb 0 (length (words line)) (omega (arith, none)))
 
+-- a line with words is kept, as its words
 spoken-one : (line : List ℕ) → 0 < length (words line) → spoken (line ∷ []) ≡ words line ∷ []
 spoken-one line some =
     ap (λ kept. cond kept (words line ∷ []) []) (lt-ltb 0 (length (words line)) some)
 
+-- with one line more that spells a command, the lines spell one command more
 spells-push : (lines : List (List (List ℕ))) (commands : List (Command ℤ)) (line : List (List ℕ))
     (command : Command ℤ) → AllZip Spells lines commands → Spells line command
     → AllZip Spells (lines ++ line ∷ []) (commands ++ command ∷ [])
@@ -49,6 +54,7 @@ spells-push (l ∷ ls) (c ∷ cs) line command all one =
 
 module _ (input rest line later : List ℕ) (number : ℕ) (commands : List (Command ℤ))
     (next : lines rest ≡ line ∷ lines later) (before : HasRead input rest number commands) where
+  -- the line is the next one of the input
   one_more : lines input ≡ (before.front ++ line ∷ []) ++ lines later
   one_more = before.parts ∙ ap (λ ls. before.front ++ ls) next
       ∙ sym (append_assoc before.front (line ∷ []) (lines later))

@@ -30,6 +30,7 @@ module _ {T : Type 0} (rank : T → ℕ) (value_count : ℕ)
       are also (λ at below. refl) in
       same_ranges rank value_count one_place 0 left right canonical.0 canonical.1 same
 
+  -- a command has one reply
   one_reply : (sets : Sets) (command : Command T) (left right : Content T)
       → IsReply rank value_count sets command left → IsReply rank value_count sets command right
       → left ≡ right
@@ -45,6 +46,7 @@ module _ {T : Type 0} (rank : T → ℕ) (value_count : ℕ)
   one_reply sets (Show slot) (ranges l) _ is also = absurd also
   one_reply sets _ _ _ is also = absurd is
 
+  -- commands have one list of replies
   pub replies_unique : (sets : Sets) (commands : List (Command T)) (left right : List (Content T))
       → AreRepliesFrom rank value_count sets commands left
       → AreRepliesFrom rank value_count sets commands right → left ≡ right

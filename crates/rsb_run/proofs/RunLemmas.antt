@@ -5,6 +5,7 @@ use Rattle.rsb_integer.specs.Runs.{Interval}
 use Rattle.rsb_run.specs.declared.command.Command.{Command}
 use Rattle.rsb_run.specs.Commands.{Content, Sets, AreReplies, AreRepliesFrom, IsReply, after, no_members, sets_of}
 
+-- the place after a place is one more
 next_place : (at : ℕ) → at + 1 ≡ suc at
 next_place at = omega arith
 
@@ -14,12 +15,14 @@ module _ {T : Type 0} (rank : T → ℕ) (value_count : ℕ) where
   after_all sets [] = sets
   after_all sets (command ∷ commands) = after_all (after rank value_count sets command) commands
 
+  -- the sets after commands and one more are what that one makes of the sets after the others
   after_all-push : (sets : Sets) (commands : List (Command T)) (command : Command T)
       → after_all sets (commands ++ command ∷ [])
       ≡ after rank value_count (after_all sets commands) command
   after_all-push sets [] command = refl
   after_all-push sets (c ∷ cs) command = after_all-push (after rank value_count sets c) cs command
 
+  -- with one command more, which is given the sets after the others, there is one reply more
   replies-push : (sets : Sets) (commands : List (Command T)) (replies : List (Content T))
       (command : Command T) (reply : Content T)
       → AreRepliesFrom rank value_count sets commands replies

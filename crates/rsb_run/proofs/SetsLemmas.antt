@@ -14,24 +14,29 @@ use Rattle.rsb_run.specs.Commands.{IsReply, after, between, flag, no_members, pu
 
 -- ---- sets that have no run
 
+-- the list of no runs
 abbrev no_runs : List Interval
 no_runs = []
 
+-- each slot of sets without runs has none
 empty_at : (n slot : ℕ) → get_or (replicate n no_runs) slot no_runs ≡ no_runs
 empty_at zero slot = refl
 empty_at (suc n) zero = refl
 empty_at (suc n) (suc slot) = empty_at n slot
 
+-- sets without runs have no members
 pub sets_of-empty : (n : ℕ) → sets_of (replicate n []) ≡ no_members
 sets_of-empty n = λ i slot rank. members (empty_at n slot i) rank
 
 -- ---- one set put in the place of another
 
+-- in the slot the sets have the put members, and in each other slot what they had
 set_at : (kept : List (List Interval)) (slot at rank : ℕ) (runs : List Interval)
     (selected : Selection) → slot < length kept → ((at : ℕ) → members runs at ≡ selected at)
     → sets_of (set kept slot runs) at rank ≡ cond (at == slot) selected (sets_of kept at) rank
 set_at kept slot at rank runs selected within same = go (at == slot) refl
   where
+    -- the same, by whether it is that slot
     go : (here : Bool) → (at == slot) ≡ here
         → members (get_or (set kept slot runs) at []) rank
         ≡ cond here selected (sets_of kept at) rank
@@ -43,6 +48,7 @@ set_at kept slot at rank runs selected within same = go (at == slot) refl
         ap (λ found. members found rank)
         (get_or-set_other kept slot at runs [] (λ this. absurd (eqb-false at slot is this)))
 
+-- runs that are put in a slot are a set that is put there
 pub sets_of-put : (kept : List (List Interval)) (slot : ℕ) (runs : List Interval)
     (selected : Selection) → slot < length kept → ((at : ℕ) → members runs at ≡ selected at)
     → sets_of (set kept slot runs) ≡ put (sets_of kept) slot selected
@@ -57,12 +63,15 @@ module _ {T : Type 0} (rank : T → ℕ) (value_count : ℕ) (first last : T) wh
   abbrev pub within_bounds : Selection
   within_bounds = set_specs.between rank value_count (Included first) (Included last)
 
+  -- they are the ranks from the one value to the other
   same_between : (at : ℕ) → within_bounds at ≡ between rank value_count first last at
   same_between at = ap (λ below. leb (rank first) at && below) (below_next at (rank last))
     where
+      -- less than one more is at most
       below_next : (a b : ℕ) → ltb a (b + 1) ≡ leb a b
       below_next a b = grind (arith, nat_tests)
 
+  -- where those ranks were added to one of the sets, the sets are those after the command
   pub after-added : (kept : List (List Interval)) (slot : ℕ) (old new : List Interval)
       → slot < length kept → old ≡ get_or kept slot [] → Adds old new within_bounds
       → sets_of (set kept slot new) ≡ after rank value_count (sets_of kept) (Add slot first last)
@@ -72,6 +81,7 @@ module _ {T : Type 0} (rank : T → ℕ) (value_count : ℕ) (first last : T) wh
       (λ at. added at ∙ ap (λ runs. members runs at || within_bounds at) is
       ∙ ap (λ more. members (get_or kept slot []) at || more) (same_between at))
 
+  -- where the answer tells whether a rank was lacking, it is the reply to the command
   pub reply-added : (kept : List (List Interval)) (slot : ℕ) (old : List Interval) (added : Bool)
       → old ≡ get_or kept slot [] → IsTrue added ↔ LacksSomeOf old within_bounds
       → IsReply rank value_count (sets_of kept) (Add slot first last) (flag added)

@@ -10,20 +10,25 @@ use Rattle.rsb_run.specs.Spelling.{Argument, slot, number, IsArgument, IsNumber,
 
 -- ---- what a word stands for, by its kind
 
+-- a word is the number of one set at most
 same_slot : (word : List ℕ) (m n : ℕ) → IsSlot word m → IsSlot word n → m ≡ n
 same_slot word m n left right =
     let same : 48 + m ≡ 48 + n = cc (left.digit, right.digit) in omega (arith, same)
 
+-- a word spells one number at most
 same_number : (word : List ℕ) (y z : ℤ) → IsNumber word y → IsNumber word z → y ≡ z
 same_number word y z left right = left.value ∙ sym right.value
 
+-- the argument is the number of a set
 abbrev pub is_slot : Argument → Bool
 is_slot (slot n) = true
 is_slot (number z) = false
 
+-- which arguments are numbers of sets
 abbrev pub kinds : List Argument → List Bool
 kinds arguments = map is_slot arguments
 
+-- words stand for one list of arguments at most, where the kinds are known
 same_arguments : (words : List (List ℕ)) (xs ys : List Argument) → kinds xs ≡ kinds ys
     → AllZip IsArgument words xs → AllZip IsArgument words ys → xs ≡ ys
 same_arguments words [] [] same left right = refl
@@ -42,6 +47,7 @@ same_arguments (word ∷ words) (number y ∷ xs) (number z ∷ ys) same left ri
     let rest : kinds xs ≡ kinds ys = cc in
     cc (same_number word y z left.0 right.0, same_arguments words xs ys rest left.1 right.1)
 
+-- words stand for no more arguments than there are words, and for no fewer
 pub wrong_count : (arguments : List (Bor (List ℕ))) (xs : List Argument)
     → (length arguments ≡ length xs → ⊥) → AllZip IsArgument (texts arguments) xs → ⊥
 wrong_count arguments xs other are =
@@ -59,6 +65,7 @@ record AreAlike (left right : Command ℤ) : Type 0 where
   same_kinds : kinds (line_of left).arguments ≡ kinds (line_of right).arguments
   told_apart : (line_of left).arguments ≡ (line_of right).arguments → left ≡ right
 
+-- commands of one keyword are alike
 alike : (left right : Command ℤ) → (line_of left).keyword ≡ (line_of right).keyword
     → AreAlike left right
 alike (Add m v w) (Add n x y) is = record { same_kinds = refl; told_apart = λ same. cc }
@@ -75,6 +82,7 @@ record Spelled (keyword : List ℕ) (arguments : List (List ℕ)) (command : Com
   same_keyword : (line_of command).keyword ≡ keyword
   stand_for : AllZip IsArgument arguments (line_of command).arguments
 
+-- words that spell a command are its keyword and its arguments
 spelled : (words arguments : List (List ℕ)) (keyword : List ℕ) (command : Command ℤ)
     → words ≡ keyword ∷ arguments → Spells words command → Spelled keyword arguments command
 spelled words arguments keyword command parts is =
@@ -94,6 +102,7 @@ one_command words left right is_left is_right =
     both.told_apart (same_arguments is_right.arguments (line_of left).arguments
     (line_of right).arguments both.same_kinds l.stand_for is_right.stand_for)
 
+-- lines spell one list of commands at most
 pub one_list : (lines : List (List (List ℕ))) (left right : List (Command ℤ))
     → AllZip Spells lines left → AllZip Spells lines right → left ≡ right
 one_list [] [] [] is_left is_right = refl
@@ -106,6 +115,7 @@ one_list (line ∷ lines) (c ∷ cs) (d ∷ ds) is_left is_right =
 
 -- ---- no command: the arguments are not of the kinds that the keyword asks for
 
+-- words spell no command where the ones after the keyword stand for no arguments of its kinds
 pub no_arguments : (words arguments : List (List ℕ)) (keyword : List ℕ) (asked : Command ℤ)
     → words ≡ keyword ∷ arguments → keyword ≡ (line_of asked).keyword
     → ((xs : List Argument) → kinds xs ≡ kinds (line_of asked).arguments
@@ -116,6 +126,7 @@ no_arguments words arguments keyword asked parts same none command is =
     let both = alike command asked (c.same_keyword ∙ same) in
     none (line_of command).arguments both.same_kinds c.stand_for
 
+-- words that are no slot and two numbers stand for no arguments of those kinds
 pub slot_range_none : (words : List (List ℕ))
     → ((read : ℕ × ℤ × ℤ)
     → AllZip IsArgument words (slot read.0 ∷ number read.1 ∷ number read.2 ∷ []) → ⊥)
@@ -123,6 +134,7 @@ pub slot_range_none : (words : List (List ℕ))
 slot_range_none words none (slot n ∷ number x ∷ number y ∷ []) same are = none (n, x, y) are
 slot_range_none words none _ same are = absurd cc
 
+-- words that are no slot and one number stand for no arguments of those kinds
 pub slot_value_none : (words : List (List ℕ))
     → ((read : ℕ × ℤ) → AllZip IsArgument words (slot read.0 ∷ number read.1 ∷ []) → ⊥)
     → (xs : List Argument) → kinds xs ≡ true ∷ false ∷ [] → AllZip IsArgument words xs → ⊥

@@ -5,6 +5,7 @@ use Rattle.std.specs.Io.KnownBytes.{Appends, Consumes, Keeps}
 
 -- ---- reading
 
+-- what was read in two parts was read
 pub Consumes-then : (old mid new : Option (List ℕ)) (xs ys both : List ℕ) → both ≡ xs ++ ys
     → Consumes old mid xs → Consumes mid new ys → Consumes old new both
 Consumes-then None mid new xs ys both parts first second = tt
@@ -14,6 +15,7 @@ Consumes-then (Some before) (Some between) (Some after) xs ys both parts first s
     first ∙ ap (λ v. xs ++ v) second ∙ sym (append_assoc xs ys after)
     ∙ ap (λ v. v ++ after) (sym parts)
 
+-- what was read stays so while the bytes that are left stay as they were
 pub Consumes-keeps : (old mid new : Option (List ℕ)) (xs : List ℕ)
     → Consumes old mid xs → Keeps mid new → Consumes old new xs
 Consumes-keeps None mid new xs first same = tt
@@ -24,10 +26,12 @@ Consumes-keeps (Some before) (Some between) (Some after) xs first same =
 
 -- ---- writing
 
+-- where nothing changes, nothing was written
 pub Appends-nothing : (known : Option (List ℕ)) → Appends known known []
 Appends-nothing None = tt
 Appends-nothing (Some xs) = sym (append-nil xs)
 
+-- what was written in two parts was written
 pub Appends-then : (old mid new : Option (List ℕ)) (xs ys : List ℕ)
     → Appends old mid xs → Appends mid new ys → Appends old new (xs ++ ys)
 Appends-then None mid new xs ys first second = tt
@@ -42,6 +46,7 @@ pub record HasWritten (old new : Option (List ℕ)) (text rest : List ℕ) : Typ
   pub parts : text ≡ front ++ rest
   pub written : Appends old new front
 
+-- the first n bytes of the rest were written too
 pub has_written_more : (old mid new : Option (List ℕ)) (text rest : List ℕ) (n : ℕ)
     → HasWritten old mid text rest → Appends mid new (take n rest)
     → HasWritten old new text (drop n rest)

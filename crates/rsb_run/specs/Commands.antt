@@ -17,11 +17,13 @@ pub data Content (T : Type 0) : Type 0 where
   number : ℕ → Content T
   ranges : List (RangeInclusive T) → Content T
 
+-- what a reply of the program says, its length as a number
 abbrev pub content_of : {T A L : Type 0} → (L → ℕ) → Reply T A L → Content T
 content_of number_of (replies.Flag is) = flag is
 content_of number_of (replies.Count length) = number (number_of length)
 content_of number_of (replies.Ranges runs) = ranges runs.items
 
+-- what each reply of a list says
 abbrev pub contents_of : {T A L : Type 0} → (L → ℕ) → List (Reply T A L) → List (Content T)
 contents_of number_of all = map (content_of number_of) all
 
@@ -31,6 +33,7 @@ contents_of number_of all = map (content_of number_of) all
 abbrev pub Sets : Type 0
 Sets = ℕ → Selection
 
+-- sets that are all empty
 abbrev pub no_members : Sets
 no_members slot rank = false
 

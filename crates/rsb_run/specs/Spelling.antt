@@ -15,6 +15,7 @@ use Rattle.rsb_run.specs.declared.command.Command.TheVariants.{Add, Has, Count, 
 abbrev pub is_blank : ℕ → Bool
 is_blank byte = (byte == 32) || (byte == 9)
 
+-- the part is not empty
 abbrev pub has_bytes : List ℕ → Bool
 has_bytes part = nat_lt 0 (length part)
 
@@ -40,6 +41,7 @@ pub data Argument : Type 0 where
   slot : ℕ → Argument
   number : ℤ → Argument
 
+-- the word stands for the argument
 abbrev pub IsArgument : List ℕ → Argument → Type 0
 IsArgument word (slot n) = IsSlot word n
 IsArgument word (number z) = IsNumber word z
@@ -67,6 +69,7 @@ pub record Spells (line_words : List (List ℕ)) (command : Command ℤ) : Type 
 
 -- ---- inputs
 
+-- the line has a word
 abbrev pub has_words : List (List ℕ) → Bool
 has_words line_words = nat_lt 0 (length line_words)
 

@@ -16,9 +16,11 @@ none-if_empty run empty =
 -- a stream that was just put into a `Fuse`
 module _ {S : Type 0} (source : S) (s : Fuse S) (is : fuse_source s ≡ source)
     (undone : fuse_done s ≡ false) where
+  -- it may be called where the stream may
   pub fused-can : (can_next : S → Type 0) → can_next source → fuse_can_next can_next s
   fused-can can_next can = λ _. subst can_next (sym is) can
 
+  -- it gives nothing but what the stream may give
   pub fused-may : (may_give : S → Outcomes) → fuse_may_give may_give s ⊆ may_give source
   fused-may may_give runs at =
       subst (λ each. may_give each runs) is

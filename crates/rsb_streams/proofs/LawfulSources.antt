@@ -21,6 +21,7 @@ sorted-front n low (run ∷ runs) others sorted =
 
 module _ {S T : Type 0} (rank : T → ℕ) (n : ℕ) (source : Source S T)
     (laws : IsLawful rank n source) where
+  -- what the contract of `next` says of a call of the stream
   abbrev CallOf : S → Option (RangeInclusive T) → S → Type 0
   CallOf = Call rank source.can_next source.steps source.remaining
 
@@ -45,6 +46,7 @@ module _ {S T : Type 0} (rank : T → ℕ) (n : ℕ) (source : Source S T)
   module _ (law : List Interval → Type 0)
       (front : (runs others : List Interval) → law (runs ++ others) → law runs)
       (settled : (runs : List Interval) → ¬ (¬ (law runs)) → law runs) where
+    -- a stream that gives nothing but what keeps the law is a source of one that keeps it
     pub lawful-source : (s : S) → source.can_next s → source.may_give s ⊆ law
         → IsSource rank source.can_next source.steps source.remaining law s
     lawful-source s can keeps =

@@ -11,12 +11,14 @@ use Rattle.rsb_streams.specs.Calls.{Call, IsSource, calls_give, calls-steps}
 use Rattle.rsb_streams.specs.Stream.{◌⊆◌, just}
 use Rattle.rsb_streams.proofs.SourceLemmas.{canonical-tail}
 
+-- the intervals of one list of ranges after another are the intervals of both
 pub intervals-append : {T : Type 0} (rank : T → ℕ) (ranges others : List (RangeInclusive T))
     → intervals_of rank (ranges ++ others) ≡ intervals_of rank ranges ++ intervals_of rank others
 intervals-append rank [] others = refl
 intervals-append rank (range ∷ ranges) others =
     ap (λ runs. interval_of rank range ∷ runs) (intervals-append rank ranges others)
 
+-- a front of a list that ends below n ends there too
 below-front : (n : ℕ) (runs others : List Interval) → AllEndBelow n (runs ++ others)
     → AllEndBelow n runs
 below-front n [] others below = All-nil (λ (run : Interval). run.last < n)
@@ -47,6 +49,7 @@ module _ {S T : Type 0} (rank : T → ℕ) (can_next : S → Type 0)
       (more : (s : S) (range : RangeInclusive T) (ranges : List (RangeInclusive T)) → can_next s
       → left s ≡ range ∷ ranges → (t : S)
       × Call rank can_next steps remaining s (Some range) t) where
+    -- calls give a front of the list, leave the rest, and another call may be made
     called : (ranges : List (RangeInclusive T)) (s t : S) → can_next s
         → Yields (Call rank can_next steps remaining) s ranges t → (left s ≡ ranges ++ left t)
         × can_next t
@@ -55,6 +58,7 @@ module _ {S T : Type 0} (rank : T → ℕ) (can_next : S → Type 0)
         let rest = called ranges all.0 t (all.1.nearer (finite s)).0 all.2 in
         (some s all.0 range all.1.gives ∙ ap (λ rest. range ∷ rest) rest.0, rest.1)
 
+    -- where no call gives a range, none is left
     stuck : (t : S) → can_next t
         → ((range : RangeInclusive T) (u : S)
         → ¬ (Call rank can_next steps remaining t (Some range) u))
@@ -63,6 +67,7 @@ module _ {S T : Type 0} (rank : T → ℕ) (can_next : S → Type 0)
     stuck t can never (range ∷ ranges) is =
         let next = more t range ranges can is in absurd (never range next.0 next.1)
 
+    -- a list with nothing after it is the list
     append-nil : (ranges : List (RangeInclusive T)) → ranges ++ [] ≡ ranges
     append-nil [] = refl
     append-nil (range ∷ ranges) = ap (λ rest. range ∷ rest) (append-nil ranges)
@@ -82,18 +87,23 @@ module _ {S T : Type 0} (rank : T → ℕ) (can_next : S → Type 0)
 
 -- ---- the list itself as the state, where it is canonical in a type of n values
 module _ {T : Type 0} (rank : T → ℕ) (n : ℕ) where
+  -- the ranges that are left
   abbrev Ranges : Type 0
   Ranges = List (RangeInclusive T)
 
+  -- it may be called where they are canonical
   abbrev can : Ranges → Type 0
   can ranges = IsCanonicalIn n (intervals_of rank ranges)
 
+  -- a call gives the first of them
   abbrev first : Ranges → Option (RangeInclusive T) → Ranges → Type 0
   first = YieldsFirst (λ ranges. ranges)
 
+  -- how many are left
   abbrev size_of : Ranges → Count
   size_of = item_count (λ ranges. ranges)
 
+  -- where a range is left, a call gives it
   more-left : (s : Ranges) (range : RangeInclusive T) (ranges : Ranges) → can s → s ≡ range ∷ ranges
       → (t : Ranges) × Call rank can first size_of s (Some range) t
   more-left s range ranges canonical is = (

@@ -39,7 +39,7 @@ module _ (n : ℕ) (P Q After Later : Outcomes) (run : Interval) where
       nothing left (run ∷ right) (within left at) (answers right also)
       ((first.0, first.1, first.2, runs), inr (right, refl, all.1)))
 
--- where nothing comes of both, nothing comes
+-- a merge of nothing and nothing is nothing
 no-merge : (runs : List Interval) → IsMergeOf [] [] runs → runs ≡ []
 no-merge [] merged = refl
 no-merge (run ∷ runs) merged = elim merged [
@@ -47,6 +47,7 @@ no-merge (run ∷ runs) merged = elim merged [
   | inr from_right ↦ let no = from_right.1 in absurd (cc)
 ]
 
+-- where nothing may come of either stream, nothing may come of the merge
 pub no-merges : (n : ℕ) (P Q : Outcomes) → P ⊆ just [] → Q ⊆ just [] → merges n P Q ⊆ just []
 no-merges n P Q first second [] may = refl
 no-merges n P Q first second (run ∷ runs) may = absurd (may (λ left right at also all.
@@ -57,24 +58,31 @@ no-merges n P Q first second (run ∷ runs) may = absurd (may (λ left right at 
 
 module _ {L R T : Type 0} (rank : T → ℕ) (n : ℕ) (left : Source L T) (right : Source R T)
     (left_laws : IsLawful rank n left) (right_laws : IsLawful rank n right) where
+  -- the left stream, with what is put back
   abbrev lefts : Source (PutBack T L) T
   lefts = put_back_source rank n left
 
+  -- the right stream, with what is put back
   abbrev rights : Source (PutBack T R) T
   rights = put_back_source rank n right
 
+  -- the left one keeps the laws
   left_held : IsLawful rank n lefts
   left_held = put_back-lawful rank n left left_laws
 
+  -- the right one keeps the laws
   right_held : IsLawful rank n rights
   right_held = put_back-lawful rank n right right_laws
 
+  -- the merge may be called
   abbrev Ready : Merge T L R → Type 0
   Ready = MergeReady rank n left.can_next left.may_give right.can_next right.may_give
 
+  -- what the merge may give
   abbrev may : Merge T L R → Outcomes
   may = merge_may_give rank n left.can_next left.may_give right.can_next right.may_give
 
+  -- what is known of a call of the merge
   abbrev Answered : Merge T L R → Option (RangeInclusive T) → Merge T L R → Type 0
   Answered = AnswersAndRests rank Ready may
 
@@ -129,6 +137,7 @@ module _ {L R T : Type 0} (rank : T → ℕ) (n : ℕ) (left : Source L T) (righ
       (right_call : rights.steps s.right (Some second) v)
       (left_goes : MakesProgress lefts.can_next lefts.remaining s.left (Some first) u)
       (right_goes : MakesProgress rights.can_next rights.remaining s.right (Some second) v) where
+    -- the left range is non-empty and lies in the type
     left_first : (0 ≤ (interval_of rank first).first)
         × ((interval_of rank first).first ≤ (interval_of rank first).last)
         × ((interval_of rank first).last < n)
@@ -137,6 +146,7 @@ module _ {L R T : Type 0} (rank : T → ℕ) (n : ℕ) (left : Source L T) (righ
         (λ rest at. ready.left.sorted (interval_of rank first ∷ rest)
         (left_held.answers s.left u (Some first) left_call rest at))
 
+    -- the right range is non-empty and lies in the type
     right_first : (0 ≤ (interval_of rank second).first)
         × ((interval_of rank second).first ≤ (interval_of rank second).last)
         × ((interval_of rank second).last < n)
@@ -158,6 +168,8 @@ module _ {L R T : Type 0} (rank : T → ℕ) (n : ℕ) (left : Source L T) (righ
     -- the right one starts first, and the left one is put back
     module _ (w : PutBack T L) (put : IsPutBack first u w)
         (less : rank (range_inclusive_start second) < rank (range_inclusive_start first)) where
+      -- the left stream with its range put back may give what it might give before, and no start
+      -- of it lies before the right range
       held-left : (runs : List Interval) → lefts.may_give w runs
           → lefts.may_give s.left runs × HasSortedStartsFrom n (interval_of rank second).first runs
       held-left runs at =
@@ -173,6 +185,7 @@ module _ {L R T : Type 0} (rank : T → ℕ) (n : ℕ) (left : Source L T) (righ
             subst (HasSortedStartsFrom n (interval_of rank second).first) (sym found.2) all,
           )
 
+      -- the right range comes before what may still come
       pub right-answers : Answered s (Some second) (record { left = w; right = v })
       right-answers = record {
         answers = head-right n (lefts.may_give s.left) (rights.may_give s.right) (lefts.may_give w)
@@ -183,6 +196,7 @@ module _ {L R T : Type 0} (rank : T → ℕ) (n : ℕ) (left : Source L T) (righ
         rests = tt;
       }
 
+      -- the merge may be called again, and is nearer its end
       pub right-goes : MakesProgress Ready (merge_remaining left.remaining right.remaining) s
           (Some second)
           (record { left = w; right = v })
@@ -209,6 +223,8 @@ module _ {L R T : Type 0} (rank : T → ℕ) (n : ℕ) (left : Source L T) (righ
     -- the left one starts no later, and the right one is put back
     module _ (w : PutBack T R) (put : IsPutBack second v w)
         (most : rank (range_inclusive_start first) ≤ rank (range_inclusive_start second)) where
+      -- the right stream with its range put back may give what it might give before, and no start
+      -- of it lies before the left range
       held-right : (runs : List Interval) → rights.may_give w runs
           → rights.may_give s.right runs × HasSortedStartsFrom n (interval_of rank first).first runs
       held-right runs at =
@@ -224,6 +240,7 @@ module _ {L R T : Type 0} (rank : T → ℕ) (n : ℕ) (left : Source L T) (righ
             subst (HasSortedStartsFrom n (interval_of rank first).first) (sym found.2) all,
           )
 
+      -- the left range comes before what may still come
       pub left-answers : Answered s (Some first) (record { left = u; right = w })
       left-answers = record {
         answers = head-left n (lefts.may_give s.left) (rights.may_give s.right) (lefts.may_give u)
@@ -234,6 +251,7 @@ module _ {L R T : Type 0} (rank : T → ℕ) (n : ℕ) (left : Source L T) (righ
         rests = tt;
       }
 
+      -- the merge may be called again, and is nearer its end
       pub left-goes : MakesProgress Ready (merge_remaining left.remaining right.remaining) s
           (Some first)
           (record { left = u; right = w })

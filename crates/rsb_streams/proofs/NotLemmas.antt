@@ -14,27 +14,32 @@ use Rattle.rsb_streams.proofs.UnionLemmas.{runs-start}
 
 -- ---- single ranks
 
+-- no rank before the first is in a gap
 gaps-below : (first rank : ℕ) (selected : Selection) → rank < first → gaps_from first selected rank
     ≡ false
 gaps-below first rank selected below =
     let test : nat_le first rank ≡ false = grind (arith, nat_tests) in
     ap (λ each. each && not (selected rank)) test
 
+-- from the first on a rank is in a gap where it is not selected
 gaps-above : (first rank : ℕ) (selected : Selection) → first ≤ rank
     → gaps_from first selected rank ≡ not (selected rank)
 gaps-above first rank selected above =
     let test : nat_le first rank ≡ true = grind (arith, nat_tests) in
     ap (λ each. each && not (selected rank)) test
 
+-- anything and false is false
 and-false : (test : Bool) → (test && false) ≡ false
 and-false true = refl
 and-false false = refl
 
+-- a selected rank is in no gap
 gaps-inside : (first rank : ℕ) (selected : Selection) → selected rank ≡ true
     → gaps_from first selected rank ≡ false
 gaps-inside first rank selected here =
     ap (λ each. nat_le first rank && not each) here ∙ and-false (nat_le first rank)
 
+-- a rank from the first on that is not selected is in a gap
 gaps-outside : (first rank : ℕ) (selected : Selection) → first ≤ rank → selected rank ≡ false
     → gaps_from first selected rank ≡ true
 gaps-outside first rank selected above gap = gaps-above first rank selected above ∙ ap not gap
@@ -140,6 +145,7 @@ gap-last n low gap from order to =
 
 module _ {T I : Type 0} (rank : T → ℕ) (n : ℕ) (can_next : I → Type 0) (may_give : I → Outcomes)
     (iter : I) (least : T) (is : rank least ≡ 0) where
+  -- the input may be called, and the first gap may start at the least value
   pub fresh-ready : can_next iter → 2 ≤ n → may_give iter ⊆ IsCanonicalIn n
       → NotReady rank n can_next may_give iter least
   fresh-ready ready some canonical = record {

@@ -20,15 +20,19 @@ use Rattle.rsb_streams.proofs.Sources.{Source, IsLawful, range-start, range-end}
 use Rattle.rsb_streams.proofs.UnionLemmas.{head-sorted}
 
 module _ {I T : Type 0} (rank : T → ℕ) (n : ℕ) (source : Source I T) where
+  -- the input is ready for a gap from a value on
   abbrev Ready : I → T → Type 0
   Ready = NotReady rank n source.can_next source.may_give
 
+  -- the complement may be called
   abbrev can : NotIter T I → Type 0
   can = not_can_next rank n source.can_next source.may_give
 
+  -- what the complement may give
   abbrev may : NotIter T I → Outcomes
   may = not_may_give rank n source.can_next source.may_give
 
+  -- how many gaps are left at most
   abbrev left : NotIter T I → Count
   left = not_remaining source.remaining
 
@@ -38,6 +42,7 @@ module _ {I T : Type 0} (rank : T → ℕ) (n : ℕ) (source : Source I T) where
     pub same : may now ⊆ may entry
     pub nearer : size (left now) ≤ size (left entry)
 
+  -- at the entry it is so
   pub begun : (entry : NotIter T I) → can entry → SoFar entry entry
   begun entry ready = record { ready = ready; same = λ runs at. at; nearer = omega arith }
 
@@ -48,6 +53,7 @@ module _ {I T : Type 0} (rank : T → ℕ) (n : ℕ) (source : Source I T) where
       → interval_of rank answer ≡ record { first = rank start; last = rank end }
   answered start end answer fresh from to = rw (fresh, from, to) refl
 
+  -- what is known of a call of the complement
   abbrev Answered : NotIter T I → Option (RangeInclusive T) → NotIter T I → Type 0
   Answered = AnswersAndRests rank can may
 
@@ -96,12 +102,15 @@ module _ {I T : Type 0} (rank : T → ℕ) (n : ℕ) (source : Source I T) where
         (from : past_gap ≡ range_inclusive_start range) (to : end ≡ range_inclusive_end range)
         (none : IsNone next ↔ (rank end + 1 ≡ n))
         (some : IfSome next (λ each. rank each ≡ rank end + 1)) where
+      -- the ranks of the range
       abbrev run : Interval
       run = interval_of rank range
 
+      -- so it was before the range, with the value where the next gap may start
       so : SoFar entry (record { iter = i; start = Some start })
       so = subst (λ each. SoFar entry (record { iter = i; start = each })) is so_now
 
+      -- the range and what comes after it are canonical, and start no earlier than the gap may
       comes : (rest : List Interval) → source.may_give j rest
           → IsCanonicalIn n (run ∷ rest) × HasSortedStartsFrom n (rank start) (run ∷ rest)
       comes rest at =
@@ -112,34 +121,43 @@ module _ {I T : Type 0} (rank : T → ℕ) (n : ℕ) (source : Source I T) where
                 all.1,
           )
 
+      -- the range starts no earlier than the gap may, is non-empty, and lies in the type
       facts : (rank start ≤ run.first) × (run.first ≤ run.last) × (run.last < n)
       facts = head-sorted n (rank start) run (source.may_give j) (laws.sorted j goes.keeps).some
           (λ rest at. (comes rest at).1)
 
+      -- the range starts at the value past the gap
       starts-at : run.first ≡ rank past_gap
       starts-at = range-start rank range facts.1 ∙ sym (ap rank from)
 
       -- the two values are told apart by their ranks
       module _ (partial_cmp : T → T → Option Ordering) (cmp : T → T → Ordering)
           (ranked : IsRanked rank n partial_cmp cmp) where
+        -- the gap may start at a value of the type
         low : rank start < n
         low = so.ready.value
 
+        -- the range starts at a value of the type
         high : rank past_gap < n
         high = let all = facts in omega (arith, all.1, all.2, starts-at)
 
+        -- where the gap's start is less than the range's, so is its rank
         pub gap-less : true ≡ partial_lt partial_cmp start past_gap → rank start < rank past_gap
         gap-less test = less-rank rank n partial_cmp cmp ranked start past_gap low high test
 
+        -- where it is not, the range's start has no greater rank
         pub gap-none : false ≡ partial_lt partial_cmp start past_gap → rank past_gap ≤ rank start
         gap-none test = not_less-rank rank n partial_cmp cmp ranked start past_gap low high test
 
+      -- the range ends at the rank of its end
       last-is : run.last ≡ rank end
       last-is = range-end rank range facts.1 ∙ sym (ap rank to)
 
+      -- the complement may be called with the next start
       pub ready-next : can (record { iter = j; start = next })
       ready-next = ready-by next none some
         where
+          -- the same, by whether there is a next start
           ready-by : (next : Option T) → (IsNone next ↔ (rank end + 1 ≡ n))
               → IfSome next (λ each. rank each ≡ rank end + 1)
               → can (record { iter = j; start = next })
@@ -162,6 +180,7 @@ module _ {I T : Type 0} (rank : T → ℕ) (n : ℕ) (source : Source I T) where
           (λ given. AreRuns n (gaps_from (run.last + 1) (members given)) rest)
       after-next rest at = after-by next none some at
         where
+          -- the same, by whether there is a next start
           after-by : (next : Option T) → (IsNone next ↔ (rank end + 1 ≡ n))
               → IfSome next (λ each. rank each ≡ rank end + 1)
               → may (record { iter = j; start = next }) rest
@@ -213,6 +232,7 @@ module _ {I T : Type 0} (rank : T → ℕ) (n : ℕ) (source : Source I T) where
           × (size (left (record { iter = j; start = next })) < size (left entry))
       fewer finite = fewer-by next
         where
+          -- the same, by whether there is a next start
           fewer-by : (next : Option T) → IsFinite (left (record { iter = j; start = next }))
               × (size (left (record { iter = j; start = next })) < size (left entry))
           fewer-by None = let more = so.nearer in (tt, omega arith)
@@ -221,9 +241,11 @@ module _ {I T : Type 0} (rank : T → ℕ) (n : ℕ) (source : Source I T) where
               let less = goes.on finite in
               (less.1, omega (arith, less.2))
 
+      -- the input ends
       input-ends : IsFinite (source.remaining i)
       input-ends = (laws.sorted i so.ready.callable).ends
 
+      -- a call that answers a gap makes progress
       pub gap-goes : (answer : RangeInclusive T)
           → MakesProgress can left entry (Some answer) (record { iter = j; start = next })
       gap-goes answer =
@@ -231,6 +253,7 @@ module _ {I T : Type 0} (rank : T → ℕ) (n : ℕ) (source : Source I T) where
           let less = fewer input-ends in
           record { on = λ finite. (ready, less.0, less.1); keeps = ready; rests = λ finite. tt }
 
+      -- where no gap lies before the range, the loop goes on at the next start
       pub so-next : rank past_gap ≤ rank start → SoFar entry (record { iter = j; start = next })
       so-next most =
           let less = fewer input-ends in

@@ -6,10 +6,12 @@ use Rattle.rsb_integer.proofs.MembersLemmas.{members-cons}
 use Rattle.rsb_integer.proofs.RunsLemmas.{runs-along, runs-members}
 use Rattle.rsb_streams.specs.Stream.{Outcomes, ◌⊆◌, IsMergeOf, joined, merges, runs_by, runs_by_two}
 
+-- `or` of three may be taken from either end
 or-head : (head left right : Bool) → (head || (left || right)) ≡ ((head || left) || right)
 or-head true left right = refl
 or-head false left right = refl
 
+-- the first two of three in an `or` may change places
 or-swap : (head left right : Bool) → (head || (left || right)) ≡ (left || (head || right))
 or-swap true true right = refl
 or-swap true false right = refl
@@ -43,6 +45,7 @@ union-of_merge n P Q Merged merge runs may = λ nothing. may (λ given at all.
     (runs-along n (members given) (union (members left) (members right)) runs
     (λ rank within. members-merge left right given rank merged.1) all)))
 
+-- a test twice negated is the test
 not_not : (test : Bool) → not (not test) ≡ test
 not_not true = refl
 not_not false = refl

@@ -30,12 +30,15 @@ module _ {I T : Type 0} (rank : T → ℕ) (can_next : I → Type 0)
     (steps : I → Option (RangeInclusive T) → I → Type 0) (remaining : I → Count)
     (law : List Interval → Type 0)
     (tail : (run : Interval) (runs : List Interval) → law (run ∷ runs) → law runs) where
+  -- the stream may be called, ends, and its calls give what keeps the law
   abbrev Source : I → Type 0
   Source = IsSource rank can_next steps remaining law
 
+  -- a call in the `Fuse` makes progress
   abbrev Goes : Fuse I → Option (RangeInclusive T) → Fuse I → Type 0
   Goes = MakesProgress (fuse_can_next can_next) (fuse_remaining remaining)
 
+  -- after a call that gave a range the stream is still such, by whether it had ended
   after-by : (done after : Bool) (s t : I) (range : RangeInclusive T) → (done ≡ false → Source s)
       → MatchBool done (Some range ≡ None) (steps s (Some range) t) → after ≡ false
       → Goes (record { iter = s; done = done }) (Some range) (record { iter = t; done = after })
@@ -54,6 +57,7 @@ module _ {I T : Type 0} (rank : T → ℕ) (can_next : I → Type 0)
       after-by (fuse_done s) (fuse_done t) (fuse_source s) (fuse_source t) range source call.0
       call.1 goes
 
+  -- a call that makes progress makes it from one such stream to another
   pub source-goes : (s t : Fuse I) (item : Option (RangeInclusive T)) → fuse_can_next Source s
       → IsFinite (fuse_remaining remaining s)
       → fuse_steps steps s item t → Goes s item t

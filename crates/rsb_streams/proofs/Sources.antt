@@ -37,6 +37,7 @@ put_back_source rank n source = record {
   may_give = put_back_may_give rank n source.can_next source.may_give;
 }
 
+-- it keeps the laws that the stream keeps
 pub put_back-lawful : {S T : Type 0} (rank : T → ℕ) (n : ℕ) (source : Source S T)
     → IsLawful rank n source
     → IsLawful rank n (put_back_source rank n source)
@@ -45,12 +46,13 @@ put_back-lawful rank n source laws = record {
   sorted = put_back-keeps rank n source.can_next source.may_give source.remaining laws.sorted;
 }
 
--- the interval of a range that has members goes from its start to its end
+-- the interval of a range that has members begins at the rank of its start
 pub range-start : {T : Type 0} (rank : T → ℕ) (range : RangeInclusive T)
     → (interval_of rank range).first ≤ (interval_of rank range).last
     → (interval_of rank range).first ≡ rank (range_inclusive_start range)
 range-start rank range ordered = ap (λ run. run.first) (interval_of-some rank range ordered)
 
+-- and ends at the rank of its end
 pub range-end : {T : Type 0} (rank : T → ℕ) (range : RangeInclusive T)
     → (interval_of rank range).first ≤ (interval_of rank range).last
     → (interval_of rank range).last ≡ rank (range_inclusive_end range)
@@ -58,9 +60,11 @@ range-end rank range ordered = ap (λ run. run.last) (interval_of-some rank rang
 
 -- ---- a range that was put back
 module _ {S T : Type 0} (rank : T → ℕ) (n : ℕ) (source : Source S T) where
+  -- the stream, with what is put back
   abbrev held_source : Source (PutBack T S) T
   held_source = put_back_source rank n source
 
+  -- a range comes first, and then what was still to come, by what is held before it and with it
   may-by : (range : RangeInclusive T) (before held : Option (RangeInclusive T)) (s t : Fuse S)
       (runs : List Interval)
       → before ≡ None → held ≡ Some range → t ≡ s

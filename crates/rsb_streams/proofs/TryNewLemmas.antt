@@ -15,6 +15,7 @@ use Rattle.rsb_streams.proofs.Sources.{range-end}
 use Rattle.rsb_streams.specs.NotSortedDisjoint.{IsFirstBad, start_after}
 
 module _ {T : Type 0} (rank : T → ℕ) (n : ℕ) (ranges : List (RangeInclusive T)) where
+  -- the ranks of each range
   abbrev runs : List Interval
   runs = intervals_of rank ranges
 
@@ -24,6 +25,7 @@ module _ {T : Type 0} (rank : T → ℕ) (n : ℕ) (ranges : List (RangeInclusiv
     pub before : IsCanonicalIn n (take position runs)
     pub next : next_start 0 (take position runs) ≡ start_after rank previous
 
+  -- before the first range nothing is to be checked
   pub checked-none : IsChecked 0 None
   checked-none = record {
     within = omega arith;
@@ -35,9 +37,11 @@ module _ {T : Type 0} (rank : T → ℕ) (n : ℕ) (ranges : List (RangeInclusiv
   module _ (position : ℕ) (previous : Option T) (checked : IsChecked position previous)
       (range : RangeInclusive T)
       (within : position < length ranges) (item : range ≡ get_or ranges position range) where
+    -- the ranks of the range
     abbrev run : Interval
     run = interval_of rank range
 
+    -- with it one interval more is before the position
     one-more : take (position + 1) runs ≡ take position runs ++ run ∷ []
     one-more =
         let size : position < length runs = omega
@@ -47,6 +51,7 @@ module _ {T : Type 0} (rank : T → ℕ) (n : ℕ) (ranges : List (RangeInclusiv
         ∙ ap (λ each. take position runs ++ each ∷ [])
         (get_or-map (interval_of rank) ranges position range ∙ sym (ap (interval_of rank) item)))
 
+    -- where the list is canonical with it, it follows the ones before
     pub follows-after : IsCanonicalIn n (take (position + 1) runs)
         → IsCanonicalFrom (start_after rank previous) (run ∷ [])
     follows-after canonical =

@@ -56,6 +56,7 @@ no-runs n (run ∷ runs) may = absurd (may (λ given is all.
     (subst (λ each. members each run.first ≡ true) is
     (maximal.whole run.first (covers-inside run.first run (omega arith) ordered))) refl))
 
+-- the empty list is the runs of its members, of which there are none
 pub runs-of_nothing : (n : ℕ) → AreRuns n (members []) []
 runs-of_nothing n = runs-from_canonical n (members []) [] tt
     (λ k default within. absurd (omega arith)) (λ rank below. refl)
@@ -68,6 +69,7 @@ join-covers : (rank : ℕ) (run next : Interval) → run.first ≤ next.first �
     ≡ covers rank (record { first = run.first; last = max run.last next.last })
 join-covers rank run next low touching ordered order = grind (arith, nat_tests)
 
+-- `or` of three may be taken from either end
 or-assoc : (a b c : Bool) → (a || (b || c)) ≡ ((a || b) || c)
 or-assoc true b c = refl
 or-assoc false b c = refl
@@ -109,6 +111,7 @@ module _ (n : ℕ) (Before Now After : Outcomes) (run next : Interval)
     (gathers : Gathers n Before Now run)
     (some : HasOutcome After)
     (answers : (rest : List Interval) → After rest → Now (next ∷ rest)) where
+  -- the next range starts no earlier than the run, is non-empty, and lies in the type
   pub next-sorted : (run.first ≤ next.first) × (next.first ≤ next.last) × (next.last < n)
   next-sorted = head-sorted n run.first next After some
       (λ rest may. gathers.sorted (next ∷ rest) (answers rest may))

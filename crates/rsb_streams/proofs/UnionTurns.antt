@@ -27,29 +27,37 @@ module _ {S T : Type 0} (rank : T → ℕ) (n : ℕ) (source : Source S T) where
         < size ((put_back_source rank n source).remaining entry)
 
   module _ (laws : IsLawful rank n source) where
+    -- what is held and still to come
     abbrev may : PutBack T S → Outcomes
     may = (put_back_source rank n source).may_give
 
+    -- how many ranges that is
     abbrev left : PutBack T S → Count
     left = (put_back_source rank n source).remaining
 
+    -- the stream with what is held keeps the laws
     held_laws : IsLawful rank n (put_back_source rank n source)
     held_laws = put_back-lawful rank n source laws
 
+    -- where it may be called, it ends
     ends : (s : PutBack T S) → (put_back_source rank n source).can_next s → IsFinite (left s)
     ends s ready = (held_laws.sorted s ready).ends
 
+    -- a call of it makes progress
     abbrev Goes : PutBack T S → Option (RangeInclusive T) → PutBack T S → Type 0
     Goes s item t = MakesProgress (put_back_source rank n source).can_next left s item t
 
+    -- the union of the stream
     abbrev Union : Type 0
     Union = UnionIter T S
 
+    -- what is known of a call of the union
     abbrev Answered : Union → Option (RangeInclusive T) → Union → Type 0
     Answered = AnswersAndRests rank
         (union_can_next rank n source.can_next source.may_give)
         (union_may_give rank n source.can_next source.may_give)
 
+    -- the ranks from a value to another
     abbrev run : T → T → Interval
     run start end = record { first = rank start; last = rank end }
 
@@ -140,6 +148,7 @@ module _ {S T : Type 0} (rank : T → ℕ) (n : ℕ) (source : Source S T) where
         → run start end ≡ interval_of rank answer
     gathered start end answer fresh from to = rw (fresh, from, to) refl
 
+    -- the answer comes first where the ranks gathered come first
     answer-from : (entry : PutBack T S) (t : Union) (start end : T) (answer : RangeInclusive T)
         → range_inclusive_exhausted answer ≡ false
         → range_inclusive_start answer ≡ start → range_inclusive_end answer ≡ end
@@ -176,6 +185,7 @@ module _ {S T : Type 0} (rank : T → ℕ) (n : ℕ) (source : Source S T) where
         (call : (put_back_source rank n source).steps s (Some range) u)
         (goes : Goes s (Some range) u) (put : IsPutBack range u t.iter)
         (apart : rank end + 1 < rank (range_inclusive_start range)) where
+      -- what may still come might come before, and its members lie past the run and do not touch it
       past : (late : List Interval) → may t.iter late
           → may s late × ((place : ℕ) → members late place ≡ true → rank end + 2 ≤ place)
       past late at =
@@ -189,6 +199,7 @@ module _ {S T : Type 0} (rank : T → ℕ) (n : ℕ) (source : Source S T) where
                 (subst (λ each. members each place ≡ true) first.2 member),
           )
 
+      -- the run comes before what may still come
       pub answer-ahead : range_inclusive_exhausted answer ≡ false
           → range_inclusive_start answer ≡ start → range_inclusive_end answer ≡ end
           → Answered (record { iter = entry }) (Some answer) t
@@ -196,6 +207,7 @@ module _ {S T : Type 0} (rank : T → ℕ) (n : ℕ) (source : Source S T) where
           answer-from entry t start end answer fresh from to
           (gathers-answer n (may entry) (may s) (may t.iter) (run start end) so.gathers past)
 
+      -- the union may be called again, and is nearer its end
       pub ahead-goes : MakesProgress (union_can_next rank n source.can_next source.may_give)
           (union_remaining source.remaining) (record { iter = entry }) (Some answer) t
       ahead-goes =

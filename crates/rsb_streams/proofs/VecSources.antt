@@ -13,16 +13,20 @@ use Rattle.rsb_streams.specs.Calls.{Call, IsSource, calls_give, calls-steps}
 use Rattle.rsb_streams.specs.Stream.{◌⊆◌, just}
 use Rattle.rsb_streams.proofs.ListedSources.{canonical-front, intervals-append, listed-calls, listed-yields}
 
+-- what a `Vec` of ranges becomes
 abbrev Items : Type 0 → Type 0 → Type 0
 Items T Z = IntoIter (RangeInclusive T) Z
 
 module _ {T Z : Type 0} (rank : T → ℕ) (n : ℕ) where
+  -- it may always be called
   abbrev can : Items T Z → Type 0
   can s = Unit {0}
 
+  -- how many items are left
   abbrev left : Items T Z → Count
   left s = at_most (into_iter_len s)
 
+  -- where a call gives none, none was left
   ended : (s t : Items T Z) → into_iter_steps s None t → into_iter_items s ≡ []
   ended s t call = nil_from_length (into_iter_items s) (omega (arith, s.rest.ok.0, call.0))
 
@@ -49,6 +53,7 @@ module _ {T Z : Type 0} (rank : T → ℕ) (n : ℕ) where
         };
       }
 
+  -- where an item is left, a call gives it
   more : (s : Items T Z) (range : RangeInclusive T) (ranges : List (RangeInclusive T)) → can s
       → into_iter_items s ≡ range ∷ ranges
       → (t : Items T Z) × Call rank can (into_iter_steps {X = RangeInclusive T} {Z = Z}) left s

@@ -15,19 +15,24 @@ module _ {T I : Type 0} (rank : T → ℕ) (n : ℕ) (can_next : I → Type 0)
   abbrev pub IsSortedSource : I → Type 0
   IsSortedSource = IsSource rank can_next steps remaining (HasSortedStarts n)
 
+  -- it may be called where the iterator is such a source, or once that has ended
   abbrev pub assume_can_next : AssumeSortedStarts T I → Type 0
   assume_can_next s = fuse_can_next IsSortedSource s.iter
 
+  -- a call is one of the iterator, and `None` once that has ended
   abbrev pub assume_steps : AssumeSortedStarts T I → Option (RangeInclusive T)
       → AssumeSortedStarts T I → Type 0
   assume_steps s item t = fuse_steps (Call rank can_next steps remaining) s.iter item t.iter
 
+  -- as many as the iterator has left, and none once it has ended
   abbrev pub assume_remaining : AssumeSortedStarts T I → Count
   assume_remaining s = fuse_remaining remaining s.iter
 
+  -- what calls of the iterator may give, and nothing once it has ended
   abbrev pub assume_may_give : AssumeSortedStarts T I → Outcomes
   assume_may_give s = fuse_may_give (calls_give rank can_next steps remaining) s.iter
 
+  -- what a call answered comes before what may still come
   pub assume-answers : (s t : AssumeSortedStarts T I) (item : Option (RangeInclusive T))
       → assume_steps s item t → Answers rank assume_may_give s item t
   assume-answers s t None call =
@@ -39,6 +44,7 @@ module _ {T I : Type 0} (rank : T → ℕ) (n : ℕ) (can_next : I → Type 0)
       (Call rank can_next steps remaining)
       (calls-answers rank can_next steps remaining) s.iter t.iter (Some range) call
 
+  -- the ranges come by their starts, there are some lists of them, and they end
   pub assume-keeps : (s : AssumeSortedStarts T I) → assume_can_next s
       → Keeps (HasSortedStarts n) (assume_may_give s) (assume_remaining s)
   assume-keeps s can =

@@ -80,6 +80,7 @@ module _ {S T : Type 0} (rank : T → ℕ) (can_next : S → Type 0)
       → IsFinite (remaining t) × (size (remaining t) < size (remaining s))
   fewer s t range finite call = let near = call.nearer finite in (near.1, near.2)
 
+  -- all that its calls may give keeps the law, there is some of it, and it ends
   pub calls-keeps : (law : List Interval → Type 0) (s : S) → IsSource law s
       → Keeps law (calls_give s) (remaining s)
   calls-keeps law s source = record {

@@ -21,19 +21,24 @@ module _ {T I : Type 0} (rank : T → ℕ) (n : ℕ) (can_next : I → Type 0)
   abbrev pub IsCanonicalSource : I → Type 0
   IsCanonicalSource = IsSource rank can_next steps remaining (IsCanonicalIn n)
 
+  -- it may be called where the iterator is such a source, or once that has ended
   abbrev pub check_can_next : CheckSortedDisjoint T I → Type 0
   check_can_next s = fuse_can_next IsCanonicalSource s.iter
 
+  -- a call is one of the iterator, and `None` once that has ended
   abbrev pub check_steps : CheckSortedDisjoint T I → Option (RangeInclusive T)
       → CheckSortedDisjoint T I → Type 0
   check_steps s item t = fuse_steps (Call rank can_next steps remaining) s.iter item t.iter
 
+  -- as many as the iterator has left, and none once it has ended
   abbrev pub check_remaining : CheckSortedDisjoint T I → Count
   check_remaining s = fuse_remaining remaining s.iter
 
+  -- what calls of the iterator may give, and nothing once it has ended
   abbrev pub check_may_give : CheckSortedDisjoint T I → Outcomes
   check_may_give s = fuse_may_give (calls_give rank can_next steps remaining) s.iter
 
+  -- what a call answered comes before what may still come
   pub check-answers : (s t : CheckSortedDisjoint T I) (item : Option (RangeInclusive T))
       → check_steps s item t → Answers rank check_may_give s item t
   check-answers s t None call =
@@ -45,6 +50,7 @@ module _ {T I : Type 0} (rank : T → ℕ) (n : ℕ) (can_next : I → Type 0)
       (Call rank can_next steps remaining)
       (calls-answers rank can_next steps remaining) s.iter t.iter (Some range) call
 
+  -- the ranges are canonical, there are some lists of them, and they end
   pub check-keeps : (s : CheckSortedDisjoint T I) → check_can_next s
       → Keeps (IsCanonicalIn n) (check_may_give s) (check_remaining s)
   check-keeps s can =

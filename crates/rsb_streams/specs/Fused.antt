@@ -13,9 +13,11 @@ use Rattle.rsb_streams.specs.Stream.{Outcomes, ◌⊆◌, just, unless, Answers,
 abbrev pub fuse_may_give : {S : Type 0} → (S → Outcomes) → Fuse S → Outcomes
 fuse_may_give may_give s = unless (fuse_done s) (may_give (fuse_source s))
 
+-- it may be called where its stream may, or once that has ended
 abbrev pub fuse_can_next : {S : Type 0} → (S → Type 0) → Fuse S → Type 0
 fuse_can_next can_next s = fuse_done s ≡ false → can_next (fuse_source s)
 
+-- as many as its stream has left, and none once that has ended
 abbrev pub fuse_remaining : {S : Type 0} → (S → Count) → Fuse S → Count
 fuse_remaining remaining s = count_unless (fuse_done s) (remaining (fuse_source s))
 
@@ -23,6 +25,7 @@ module _ {S T : Type 0} (rank : T → ℕ) (may_give : S → Outcomes)
     (steps : S → Option (RangeInclusive T) → S → Type 0)
     (answers : (s t : S) (item : Option (RangeInclusive T)) → steps s item t
     → Answers rank may_give s item t) where
+  -- what a call answered comes before what may still come, by whether the stream had ended before
   answers-by : (done after : Bool) (s t : S) (item : Option (RangeInclusive T))
       → MatchBool done (item ≡ None) (steps s item t)
       → MatchOption item (after ≡ true) (λ _. after ≡ false)
@@ -35,6 +38,7 @@ module _ {S T : Type 0} (rank : T → ℕ) (may_give : S → Outcomes)
   answers-by false true s t (Some range) call end = absurd (cc)
   answers-by false false s t (Some range) call end = answers s t (Some range) call
 
+  -- what a call answered comes before what may still come
   pub fuse-answers : (s t : Fuse S) (item : Option (RangeInclusive T)) → fuse_steps steps s item t
       → Answers rank (fuse_may_give may_give) s item t
   fuse-answers s t item call =
@@ -42,11 +46,13 @@ module _ {S T : Type 0} (rank : T → ℕ) (may_give : S → Outcomes)
 
 module _ {S T : Type 0} (may_give : S → Outcomes) (can_next : S → Type 0)
     (steps : S → Option (RangeInclusive T) → S → Type 0) where
+  -- a stream that has ended may be called again, and nothing comes
   rests-by : (after : Bool) (t : S) → after ≡ true
       → (after ≡ false → can_next t) × (unless after (may_give t) ⊆ just [])
   rests-by true t end = ((λ no. absurd (cc)), (λ runs may. may))
   rests-by false t end = absurd (cc)
 
+  -- after `None` it may be called again, and nothing comes
   pub fuse-rests : (s t : Fuse S) (item : Option (RangeInclusive T)) → fuse_steps steps s item t
       → Rests (fuse_can_next can_next) (fuse_may_give may_give) item t
   fuse-rests s t None call = rests-by (fuse_done t) (fuse_source t) call.1
@@ -55,6 +61,7 @@ module _ {S T : Type 0} (may_give : S → Outcomes) (can_next : S → Type 0)
 module _ {S : Type 0} (may_give : S → Outcomes) (can_next : S → Type 0) (remaining : S → Count)
     (law : List Interval → Type 0) (none : law [])
     (keeps : (s : S) → can_next s → Keeps law (may_give s) (remaining s)) where
+  -- what it may give keeps the law, by whether the stream has ended
   keeps-by : (done : Bool) (s : S) → (done ≡ false → can_next s)
       → Keeps law (unless done (may_give s)) (count_unless done (remaining s))
   keeps-by true s can = record {
@@ -66,6 +73,7 @@ module _ {S : Type 0} (may_give : S → Outcomes) (can_next : S → Type 0) (rem
       let kept = keeps s (can refl) in
       record { some = kept.some; all = kept.all; ends = kept.ends }
 
+  -- what it may give keeps the law that its stream keeps, there is some of it, and it ends
   pub fuse-keeps : (s : Fuse S) → fuse_can_next can_next s
       → Keeps law (fuse_may_give may_give s) (fuse_remaining remaining s)
   fuse-keeps s can = keeps-by (fuse_done s) (fuse_source s) can

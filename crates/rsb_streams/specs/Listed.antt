@@ -12,12 +12,14 @@ module _ {S T : Type 0} (rank : T → ℕ) (left : S → List (RangeInclusive T)
   abbrev pub listed_may_give : S → Outcomes
   listed_may_give s = just (intervals_of rank (left s))
 
+  -- what a call answers comes first in the list, and then what is left after it
   pub listed-answers : (s t : S) (item : Option (RangeInclusive T)) → YieldsFirst left s item t
       → Answers rank listed_may_give s item t
   listed-answers s t None call = ap (intervals_of rank) (sym call.0)
   listed-answers s t (Some range) call = λ rest at.
       ap (λ runs. interval_of rank range ∷ runs) at ∙ ap (intervals_of rank) (sym call)
 
+  -- where the list that is left is canonical, so is all that may be given, and it ends
   pub listed-keeps : (n : ℕ) (s : S) → IsCanonicalIn n (intervals_of rank (left s))
       → Keeps (IsCanonicalIn n) (listed_may_give s) (item_count left s)
   listed-keeps n s canonical = record {

@@ -9,6 +9,7 @@ use Rattle.rsb_streams.specs.PutBack.{PutBackReady, put_back_may_give, put_back_
 use Rattle.rsb_streams.specs.Stream.{Outcomes, merges, HasSortedStarts, HasSortedStartsFrom, IsMergeOf, Keeps}
 use Rattle.rsb_streams.specs.declared.merge.Merge.{Merge}
 
+-- as many as both have left, with those held
 abbrev pub merge_remaining : {T L R : Type 0} → (L → Count) → (R → Count) → Merge T L R → Count
 merge_remaining lefts rights s = count_add (put_back_remaining lefts s.left)
     (put_back_remaining rights s.right)
@@ -67,12 +68,14 @@ merge-from n (suc size) low (run ∷ left) (other ∷ right) within first second
           (other ∷ rest.0, (second.0, second.1, second.2, rest.1), inr (right, refl, rest.2))
     ]
 
+-- two lists by starts have a merge
 pub merge-exists : (n : ℕ) (left right : List Interval) → HasSortedStarts n left
     → HasSortedStarts n right
     → (runs : List Interval) × HasSortedStarts n runs × IsMergeOf left right runs
 merge-exists n left right first second =
     merge-from n (length left + length right) 0 left right (omega arith) first second
 
+-- two counts that end have a sum that ends
 pub both-finite : (left right : Count) → IsFinite left → IsFinite right
     → IsFinite (count_add left right)
 both-finite left right first second = elim (true_or_false left.bounded) [
@@ -80,6 +83,7 @@ both-finite left right first second = elim (true_or_false left.bounded) [
   | inr endless ↦ absurd (rw endless at first)
 ]
 
+-- the merge of what two may give is by starts, there is some of it, and it ends
 pub merges-keeps : (n : ℕ) (P Q : Outcomes) (left right : Count) → Keeps (HasSortedStarts n) P left
     → Keeps (HasSortedStarts n) Q right
     → Keeps (HasSortedStarts n) (merges n P Q) (count_add left right)

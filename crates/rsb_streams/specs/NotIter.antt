@@ -22,6 +22,7 @@ module _ {T I : Type 0} (rank : T → ℕ) (n : ℕ) (can_next : I → Type 0)
     pub value : rank start < n
     pub ahead : may_give iter ⊆ IsCanonicalFrom (rank start)
 
+  -- it has given its last gap, or the input is ready for the next one
   abbrev pub not_can_next : NotIter T I → Type 0
   not_can_next s = IfSome s.start (λ start. NotReady s.iter start)
 
@@ -37,6 +38,7 @@ not_remaining remaining s =
 module _ {T I : Type 0} (rank : T → ℕ) (n : ℕ) (can_next : I → Type 0) (may_give : I → Outcomes)
     (remaining : I → Count)
     (sorted : (s : I) → can_next s → Keeps (HasSortedStarts n) (may_give s) (remaining s)) where
+  -- the gaps are canonical, there are some lists of them, and they end, by where the next may start
   keeps-by : (start : Option T) (iter : I)
       → IfSome start (λ each. NotReady rank n can_next may_give iter each)
       → Keeps (IsCanonicalIn n) (gaps_after rank n start (may_give iter))

@@ -13,18 +13,21 @@ use Rattle.rsb_streams.specs.Stream.{Outcomes, HasSortedStartsFrom, HasSortedSta
 
 -- ---- what is decided holds where it does not fail
 
+-- a number is at most another where that does not fail
 pub settled_le : (a b : ℕ) → ¬ (¬ (a ≤ b)) → a ≤ b
 settled_le a b holds = elim (cases_lt b a) [
   | inl less ↦ absurd (holds (λ most. omega (arith, less, most)))
   | inr most ↦ most
 ]
 
+-- a number is less than another where that does not fail
 pub settled_lt : (a b : ℕ) → ¬ (¬ (a < b)) → a < b
 settled_lt a b holds = elim (cases_lt a b) [
   | inl less ↦ less
   | inr most ↦ absurd (holds (λ less. omega (arith, less, most)))
 ]
 
+-- a list is canonical from a rank on where that does not fail
 pub settled_canonical : (low : ℕ) (runs : List Interval) → ¬ (¬ (IsCanonicalFrom low runs))
     → IsCanonicalFrom low runs
 settled_canonical low [] holds = tt
@@ -34,6 +37,7 @@ settled_canonical low (run ∷ runs) holds = (
   settled_canonical (run.last + 2) runs (λ fails. holds (λ all. fails all.2)),
 )
 
+-- every interval of a list ends below n where that does not fail
 pub settled_below : (n : ℕ) (runs : List Interval) → ¬ (¬ (AllEndBelow n runs)) → AllEndBelow n runs
 settled_below n [] holds = All-nil (λ (run : Interval). run.last < n)
 settled_below n (run ∷ runs) holds =
@@ -42,6 +46,7 @@ settled_below n (run ∷ runs) holds =
     (λ fails. holds (λ all. fails (All-head P run runs all))))
     (settled_below n runs (λ fails. holds (λ all. fails (All-tail P run runs all))))
 
+-- a list is canonical in a type of n values where that does not fail
 pub settled_canonical_in : (n : ℕ) (runs : List Interval) → ¬ (¬ (IsCanonicalIn n runs))
     → IsCanonicalIn n runs
 settled_canonical_in n runs holds = (
@@ -49,6 +54,7 @@ settled_canonical_in n runs holds = (
   settled_below n runs (λ fails. holds (λ all. fails all.1)),
 )
 
+-- a list has sorted starts where that does not fail
 pub settled_sorted : (n low : ℕ) (runs : List Interval) → ¬ (¬ (HasSortedStartsFrom n low runs))
     → HasSortedStartsFrom n low runs
 settled_sorted n low [] holds = tt
@@ -61,6 +67,7 @@ settled_sorted n low (run ∷ runs) holds = (
 
 -- ---- sorted starts
 
+-- a list with sorted starts may be asked to start earlier
 pub sorted-lower : (n low lower : ℕ) (runs : List Interval) → lower ≤ low
     → HasSortedStartsFrom n low runs → HasSortedStartsFrom n lower runs
 sorted-lower n low lower [] less sorted = tt
@@ -176,6 +183,7 @@ runs-longer n selected low run runs here touching all =
       ];
     }
 
+-- a rank that is selected comes before, whether the first run touches it or not
 runs-before : (n : ℕ) (selected : Selection) (low : ℕ) (runs : List Interval) → selected low ≡ true
     → low < n → AreRunsFrom n selected (low + 1) runs → (others : List Interval)
     × AreRunsFrom n selected low others
@@ -195,6 +203,7 @@ runs-before n selected low (run ∷ runs) here below all =
       )
     ]
 
+-- a set has runs from a rank on: the type has `more` ranks from there
 runs-exist_from : (n : ℕ) (selected : Selection) (more low : ℕ) → low + more ≡ n
     → (runs : List Interval) × AreRunsFrom n selected low runs
 runs-exist_from n selected zero low is = (
@@ -212,6 +221,7 @@ runs-exist_from n selected (suc more) low is =
       | inr gap ↦ (rest.0, runs-gap n selected low rest.0 gap rest.1)
     ]
 
+-- every set has runs
 pub runs-exist : (n : ℕ) (selected : Selection) → (runs : List Interval) × AreRuns n selected runs
 runs-exist n selected =
     let found = runs-exist_from n selected n 0 (omega arith) in (

@@ -35,12 +35,14 @@ pub record PutBackSteps {T I : Type 0} (steps : I → Option (RangeInclusive T) 
   pub call : MatchOption s.held (fuse_steps steps s.iter item t.iter)
       (λ range. (item ≡ Some range) × (t.iter ≡ s.iter))
 
+-- as many as its stream has left, and one more where a range is held
 abbrev pub put_back_remaining : {T I : Type 0} → (I → Count) → PutBack T I → Count
 put_back_remaining remaining s =
     count_map (λ left. left + option_len s.held) (fuse_remaining remaining s.iter)
 
 module _ {T I : Type 0} (rank : T → ℕ) (n : ℕ) (can_next : I → Type 0)
     (may_give : I → Outcomes) where
+  -- what is held, if a range is, and then what its stream may give
   abbrev pub put_back_may_give : PutBack T I → Outcomes
   put_back_may_give s = after rank s.held (fuse_may_give may_give s.iter)
 
@@ -53,6 +55,7 @@ module _ {T I : Type 0} (rank : T → ℕ) (n : ℕ) (can_next : I → Type 0)
   module _ (steps : I → Option (RangeInclusive T) → I → Type 0)
       (answers : (s t : I) (item : Option (RangeInclusive T)) → steps s item t
       → Answers rank may_give s item t) where
+    -- what a call answered comes before what may still come, by whether a range was held
     answers-by : (held : Option (RangeInclusive T)) (s t : Fuse I)
         (item : Option (RangeInclusive T))
         → MatchOption held (fuse_steps steps s item t) (λ range. (item ≡ Some range) × (t ≡ s))
@@ -71,6 +74,7 @@ module _ {T I : Type 0} (rank : T → ℕ) (n : ℕ) (can_next : I → Type 0)
           ap (λ each. interval_of rank each ∷ rest) same,
         )
 
+    -- what a call answered comes before what may still come
     pub put_back-answers : (s t : PutBack T I) (item : Option (RangeInclusive T))
         → PutBackSteps steps s item t → Answers rank put_back_may_give s item t
     put_back-answers s t None call = answers-by s.held s.iter t.iter None call.call
@@ -80,6 +84,7 @@ module _ {T I : Type 0} (rank : T → ℕ) (n : ℕ) (can_next : I → Type 0)
 
   module _ (remaining : I → Count)
       (sorted : (s : I) → can_next s → Keeps (HasSortedStarts n) (may_give s) (remaining s)) where
+    -- something may be given, whether a range is held or not
     some-by : (held : Option (RangeInclusive T)) (s : Fuse I)
         → HasOutcome (fuse_may_give may_give s)
         → HasOutcome (after rank held (fuse_may_give may_give s))
@@ -87,6 +92,7 @@ module _ {T I : Type 0} (rank : T → ℕ) (n : ℕ) (can_next : I → Type 0)
     some-by (Some range) s some =
         λ never. some (λ runs may. never (interval_of rank range ∷ runs) (runs, may, refl))
 
+    -- the ranges come by their starts, there are some lists of them, and they end
     pub put_back-keeps : (s : PutBack T I) → PutBackReady s
         → Keeps (HasSortedStarts n) (put_back_may_give s) (put_back_remaining remaining s)
     put_back-keeps s ready =
@@ -98,7 +104,7 @@ module _ {T I : Type 0} (rank : T → ℕ) (n : ℕ) (can_next : I → Type 0)
           ends = kept.ends;
         }
 
-  -- after `None` it may be called again, and nothing comes
+  -- after `None` its stream may be called again, and nothing comes, by whether a range was held
   rests-by : (steps : I → Option (RangeInclusive T) → I → Type 0) (held : Option (RangeInclusive T))
       (s t : Fuse I)
       → MatchOption held (fuse_steps steps s None t) (λ range. (None ≡ Some range) × (t ≡ s))
@@ -106,6 +112,7 @@ module _ {T I : Type 0} (rank : T → ℕ) (n : ℕ) (can_next : I → Type 0)
   rests-by steps None s t call = fuse-rests may_give can_next steps s t None call
   rests-by steps (Some range) s t call = let no = call.0 in absurd (cc)
 
+  -- after `None` it may be called again, and nothing comes
   pub put_back-rests : (steps : I → Option (RangeInclusive T) → I → Type 0) (s t : PutBack T I)
       → PutBackSteps steps s None t → PutBackReady t × (put_back_may_give t ⊆ just [])
   put_back-rests steps s t call =

@@ -16,6 +16,7 @@ HasSortedStartsFrom n low (run ∷ runs) =
     (low ≤ run.first) × (run.first ≤ run.last) × (run.last < n)
     × HasSortedStartsFrom n run.first runs
 
+-- the intervals are non-empty and lie in a type of n values, and no start falls
 abbrev pub HasSortedStarts : ℕ → List Interval → Type 0
 HasSortedStarts n runs = HasSortedStartsFrom n 0 runs
 

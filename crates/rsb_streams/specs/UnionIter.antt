@@ -8,6 +8,7 @@ use Rattle.rsb_streams.specs.PutBack.{PutBackReady, put_back_may_give, put_back_
 use Rattle.rsb_streams.specs.Stream.{Outcomes, joined, HasSortedStarts, Keeps}
 use Rattle.rsb_streams.specs.declared.union_iter.UnionIter.{UnionIter}
 
+-- as many as its stream has left, with one that is held
 abbrev pub union_remaining : {T S : Type 0} → (S → Count) → UnionIter T S → Count
 union_remaining remaining s = put_back_remaining remaining s.iter
 
@@ -26,6 +27,7 @@ joined-keeps n law P remaining kept = record {
 
 module _ {T S : Type 0} (rank : T → ℕ) (n : ℕ) (can_next : S → Type 0)
     (may_give : S → Outcomes) where
+  -- its stream may be called, and no start falls of what is held and still to come
   abbrev pub union_can_next : UnionIter T S → Type 0
   union_can_next s = PutBackReady rank n can_next may_give s.iter
 
