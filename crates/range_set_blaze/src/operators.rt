@@ -18,8 +18,8 @@ impl<'a, T: Integer, R: SortedDisjoint<T>> BitOr<R> for RangesIter<'a, T> {
 
     ghost bitor_gives = { λ left right result.
         IsStreamOf ⟦<Union<T, RangesIter<'a, T>, R> as SortedStarts<T>>⟧ result
-        (runs_by_two T.value_count union (⟦<RangesIter<'a, T> as SortedStarts<T>>⟧.may_give left)
-        (R.may_give right)) };
+        (runs_by_two T.value_count union
+        (⟦<RangesIter<'a, T> as SortedStarts<T>>⟧.may_give left) (R.may_give right)) };
 
     fn bitor(self, other: R) -> Self::Output {
         Union::from((self, other))
@@ -49,8 +49,8 @@ impl<T: Integer, A: Allocator, R: SortedDisjoint<T>> BitOr<R> for IntoRangesIter
 
     ghost bitor_gives = { λ left right result.
         IsStreamOf ⟦<Union<T, IntoRangesIter<T, A>, R> as SortedStarts<T>>⟧ result
-        (runs_by_two T.value_count union (⟦<IntoRangesIter<T, A> as SortedStarts<T>>⟧.may_give left)
-        (R.may_give right)) };
+        (runs_by_two T.value_count union
+        (⟦<IntoRangesIter<T, A> as SortedStarts<T>>⟧.may_give left) (R.may_give right)) };
 
     fn bitor(self, other: R) -> Self::Output {
         Union::from((self, other))
