@@ -3,11 +3,11 @@ use Rattle.std.proofs.Common.{◌≡◌, ℕ, Bool, true, false, cond, nat_le, �
 use Rattle.std.proofs.lemmas.Bool.Decides.{nat_tests}
 use Rattle.std.proofs.lemmas.List.{map-append}
 use Rattle.std.proofs.lemmas.List.Sums.{sum_by-append}
-use Rattle.std.specs.List.{All, sum_by}
+use Rattle.std.specs.List.{sum_by}
 use Rattle.std.specs.Range.{range_inclusive_start, range_inclusive_end}
 use Rattle.std.specs.declared.ops.RangeInclusive.{RangeInclusive}
 use Rattle.rsb_integer.specs.Rank.{interval_of}
-use Rattle.rsb_integer.specs.Runs.{Interval, covers, length_of, members, AllEndBelow, IsCanonicalIn}
+use Rattle.rsb_integer.specs.Runs.{Interval, covers, length_of, members, IsCanonicalIn}
 use Rattle.rsb_integer.proofs.RangeLemmas.{interval_of-some}
 use Rattle.rsb_integer.proofs.CanonicalLemmas.{canonical-parts}
 use Rattle.rsb_integer.proofs.MembersLemmas.{members-cons}

@@ -4,7 +4,7 @@ use Rattle.std.proofs.lemmas.Bool.{cases_lt}
 use Rattle.std.proofs.lemmas.Bool.Decides.{nat_tests}
 use Rattle.std.proofs.lemmas.List.Elements.{All-head, All-nil, All-tail}
 use Rattle.rsb_integer.specs.Runs.{Interval, covers, members, AllEndBelow, IsCanonical, IsCanonicalFrom, IsCanonicalIn}
-use Rattle.rsb_integer.specs.Selection.{count, IsNothing}
+use Rattle.rsb_integer.specs.Selection.{IsNothing}
 use Rattle.rsb_integer.proofs.CountLemmas.{count-none}
 use Rattle.rsb_integer.proofs.ListLemmas.{not_both, or-true}
 use Rattle.rsb_integer.proofs.MembersLemmas.{members-below, members-cons, members-head, members-tail}

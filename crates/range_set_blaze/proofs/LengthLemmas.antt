@@ -1,11 +1,10 @@
 -- Whether an insertion adds a member shows in the length.
-use Rattle.std.proofs.Common.{◌≡◌, ◌↔◌, ℕ, ◌+◌, ◌<◌, ◌≤◌, Bool, true, false, not, ◌||◌, ◌&&◌, nat_le, nat_lt, IsTrue, List, refl, sym, ◌∙◌, ap, inl, inr, arith}
+use Rattle.std.proofs.Common.{◌≡◌, ◌↔◌, ℕ, ◌+◌, ◌<◌, Bool, true, false, not, ◌||◌, ◌&&◌, nat_le, nat_lt, IsTrue, List, refl, sym, ◌∙◌, ap, inl, inr, arith}
 use Rattle.std.proofs.lemmas.Bool.{cases_lt}
 use Rattle.std.proofs.lemmas.Bool.Decides.{nat_tests}
 use Rattle.rsb_integer.specs.Runs.{Interval, covers, members}
 use Rattle.rsb_integer.specs.Selection.{Selection, count}
 use Rattle.rsb_integer.proofs.CountLemmas.{count-at_most, count-finds, count-less}
-use Rattle.rsb_integer.proofs.ListLemmas.{not_both}
 use Rattle.range_set_blaze.specs.Set.{only, Adds, LacksSomeOf}
 
 -- an `or` holds where its first test holds

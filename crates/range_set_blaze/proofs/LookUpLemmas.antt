@@ -2,10 +2,10 @@
 use Rattle.std.proofs.Common.{◌≡◌, ℕ, ◌+◌, ◌-◌, ◌<◌, ◌≤◌, true, false, not, List, [], ◌∷◌, length, get_or, drop, refl, ◌∙◌, ap, inl, inr, arith, subst}
 use Rattle.std.proofs.lemmas.Bool.{cases_lt}
 use Rattle.std.proofs.lemmas.List.{drop_all}
-use Rattle.rsb_integer.specs.Runs.{Interval, covers, members, IsCanonical, IsCanonicalFrom}
+use Rattle.rsb_integer.specs.Runs.{Interval, members, IsCanonical, IsCanonicalFrom}
 use Rattle.rsb_integer.specs.Selection.{complement}
 use Rattle.rsb_integer.proofs.CanonicalLemmas.{canonical-lower}
-use Rattle.rsb_integer.proofs.MembersLemmas.{covers-bounds, covers-inside, members-below, members-covered, members-head, members-tail}
+use Rattle.rsb_integer.proofs.MembersLemmas.{covers-bounds, covers-inside, members-below, members-head, members-tail}
 use Rattle.range_set_blaze.specs.Kept.{run_of, runs_of}
 use Rattle.range_set_blaze.specs.Set.{IsRunAround}
 use Rattle.range_set_blaze.specs.declared.set.run.Run.{Run}

@@ -8,7 +8,7 @@ use Rattle.std.specs.declared.ops.RangeInclusive.{RangeInclusive}
 use Rattle.rsb_integer.specs.Rank.{interval_of, intervals_of}
 use Rattle.rsb_integer.specs.Runs.{Interval, IsCanonicalIn}
 use Rattle.rsb_integer.proofs.CanonicalLemmas.{canonical-lower, canonical-parts}
-use Rattle.range_set_blaze.specs.Kept.{range_of, ranges_of, run_of, runs_of}
+use Rattle.range_set_blaze.specs.Kept.{ranges_of, run_of, runs_of}
 use Rattle.range_set_blaze.specs.declared.set.run.Run.{Run}
 
 -- what holds of each of two lists put together holds of each of the first

@@ -4,6 +4,7 @@
 pub mod into_range_set_blaze;
 pub mod into_ranges_iter;
 pub mod laws;
+mod operators;
 pub mod prelude;
 pub mod ranges_iter;
 pub mod set;

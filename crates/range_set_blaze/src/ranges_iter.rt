@@ -15,7 +15,7 @@ use std::ops::RangeInclusive;
 
 /// The runs of a set in ascending order, from both ends. Contracts see it as the list of the ranges
 /// still to come. (`RangesIter` of the Rust crate.)
-#[derive(Drop)]
+#[derive(Clone, Debug, Drop)]
 pub struct RangesIter<'a, T: Integer> {
     pub(crate) runs: &'a [Run<T>],
 }

@@ -1,4 +1,4 @@
-use Rattle.std.proofs.Common.{◌∙◌, ◌++◌, ◌∷◌, [], ap, sym}
+use Rattle.std.proofs.Common.{◌∙◌, ◌∷◌, [], ap, sym}
 use Rattle.std.proofs.lemmas.List.{map-append}
 use Rattle.range_set_blaze.specs.Kept.{range_of, ranges_of}
 use Rattle.range_set_blaze.proofs.RangesLemmas.{canonical-goes_back}

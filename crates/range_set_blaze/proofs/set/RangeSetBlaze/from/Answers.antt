@@ -1,6 +1,5 @@
-use Rattle.std.proofs.Common.{◌∙◌, ◌∷◌, [], List, Result, Ok, Err, IfOk, ap}
+use Rattle.std.proofs.Common.{◌∙◌, Result, Ok, Err, IfOk}
 use Rattle.rsb_integer.specs.Rank.{interval_of}
-use Rattle.rsb_integer.specs.Runs.{Interval}
 use Rattle.rsb_streams.specs.Stream.{run_if_any}
 use Rattle.range_set_blaze.proofs.BulkLemmas.{members-just, members-run_if_any}
 use Rattle.range_set_blaze.proofs.set.RangeSetBlaze.from.Goals as goal

@@ -1,4 +1,3 @@
-use Rattle.rsb_integer.specs.Runs.{IsCanonicalIn}
 use Rattle.rsb_integer.proofs.RunsLemmas.{canonical-runs}
 use Rattle.range_set_blaze.specs.Kept.{runs_of}
 use Rattle.range_set_blaze.proofs.RangesLemmas.{intervals_of-ranges}

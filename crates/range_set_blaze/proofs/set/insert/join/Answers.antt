@@ -1,6 +1,6 @@
 use Rattle.std.proofs.Common.{◌∙◌, ◌+◌, ◌≤◌, ◌||◌, ap, arith, sym}
-use Rattle.rsb_integer.specs.Runs.{covers, length_of, members}
-use Rattle.range_set_blaze.specs.Kept.{run_of, runs_of}
+use Rattle.rsb_integer.specs.Runs.{covers, members}
+use Rattle.range_set_blaze.specs.Kept.{run_of}
 use Rattle.range_set_blaze.proofs.InsertLemmas.{members-joined}
 use Rattle.range_set_blaze.proofs.KeptLemmas.{All-from, canonical-drop, canonical-end, le-fails, runs_of-at, runs_of-drop, sum_by-drop}
 use Rattle.range_set_blaze.proofs.set.insert.join.Goals as goal

@@ -1,7 +1,7 @@
 use Rattle.std.proofs.Common.{◌∙◌, arith, sym}
-use Rattle.range_set_blaze.specs.Kept.{run_of, runs_of}
+use Rattle.range_set_blaze.specs.Kept.{run_of}
 use Rattle.range_set_blaze.proofs.KeptLemmas.{lt-fails, runs_of-at}
-use Rattle.range_set_blaze.proofs.LookUpLemmas.{ahead-at, ahead-end, ahead-next, free-before, gap-after, gap-before, present-here, run-here}
+use Rattle.range_set_blaze.proofs.LookUpLemmas.{ahead-at, ahead-next, free-before, gap-before, run-here}
 use Rattle.range_set_blaze.proofs.set.look_up.run_or_gap.Goals as goal
 
 -- a run of the set has values for ends
