@@ -82,7 +82,8 @@ or-false true = refl
 or-false false = refl
 
 -- the members of one interval are its ranks
-pub members-run_if_any : (run : Interval) (rank : ℕ) → members (run_if_any run) rank ≡ covers rank run
+pub members-run_if_any : (run : Interval) (rank : ℕ) → members (run_if_any run) rank
+    ≡ covers rank run
 members-run_if_any run rank = by (nat_le run.first run.last) refl
   where
     -- the same, by whether the interval has a rank

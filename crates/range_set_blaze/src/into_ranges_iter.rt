@@ -15,8 +15,8 @@ use std::marker::Model;
 use std::ops::RangeInclusive;
 use std::vec;
 
-/// The runs of a set in ascending order, from both ends. It owns them. Contracts see it as the list of
-/// the ranges still to come. (`IntoRangesIter` of the Rust crate.)
+/// The runs of a set in ascending order, from both ends. It owns them. Contracts see it as the list
+/// of the ranges still to come. (`IntoRangesIter` of the Rust crate.)
 #[derive(Drop)]
 #[derive_where(Debug)]
 pub struct IntoRangesIter<T: Integer, A: Allocator = Global> {

@@ -34,8 +34,8 @@ impl<T: Integer, A: Allocator> RangeSetBlaze<T, A> {
         Ok(RangeSetBlaze { runs, length })
     }
 
-    /// The set of the values of a range: the empty set where the range is reversed or was iterated to
-    /// its end. Without memory nothing is made. (`From<RangeInclusive>` of `RangeSetBlaze`.)
+    /// The set of the values of a range: the empty set where the range is reversed or was iterated
+    /// to its end. Without memory nothing is made. (`From<RangeInclusive>` of `RangeSetBlaze`.)
     pub fn from(alloc: A, range: RangeInclusive<T>) -> Result<Self, AllocError>
         ensures members { IfOk result (λ set.
             Adds [] set (λ rank. covers rank (interval_of T.rank range))) }
@@ -50,8 +50,8 @@ impl<T: Integer, A: Allocator> RangeSetBlaze<T, A> {
         Self::from(alloc, T::min_value()..=T::max_value())
     }
 
-    /// The runs in ascending order, from both ends. They own what the set owned, and take no memory.
-    /// (`RangeSetBlaze::into_ranges`.)
+    /// The runs in ascending order, from both ends. They own what the set owned, and take no
+    /// memory. (`RangeSetBlaze::into_ranges`.)
     pub fn into_ranges(self) -> IntoRangesIter<T, A>
         ensures ranges { intervals_of T.rank result ≡ self }
         ensures ready { IsCanonicalIn T.value_count (intervals_of T.rank result) }

@@ -14,7 +14,8 @@ safe_len-requires g c =
     let s = c.loop-range.iter in
     let t = c.next.new.self in
     let run = interval_of g.T.Integer.rank c.in-Some.range in
-    taken-ordered g.T.Integer.value_count (g.I.SortedStarts.may_give c.args.iter) (g.I.SortedStarts.may_give t)
+    taken-ordered g.T.Integer.value_count (g.I.SortedStarts.may_give c.args.iter)
+    (g.I.SortedStarts.may_give t)
     (g.met.I.SortedDisjoint.canonical c.args.iter c.requires)
     (runs_of g.T.Integer.rank c.loop-range.runs.items) run
     (λ rest may. c.loop-range.invariant.given (run ∷ rest)
@@ -24,7 +25,8 @@ safe_len-requires g c =
 -- and in the type
 pub add_assign-requires : goal.add_assign-requires
 add_assign-requires g c =
-    let laws = g.met.T.Integer g.world.𝓛 g.world.𝓜 g.world.𝓡 ((λ s x. x), (λ x. x), (λ x. x), λ x. x) in
+    let laws = g.met.T.Integer g.world.𝓛 g.world.𝓜 g.world.𝓡
+    ((λ s x. x), (λ x. x), (λ x. x), λ x. x) in
     let s = c.loop-range.iter in
     let t = c.next.new.self in
     let run = interval_of g.T.Integer.rank c.in-Some.range in
@@ -51,7 +53,8 @@ loop-range-preserved g c =
     (g.I.SortedStarts.may_give t) (g.met.I.SortedDisjoint.canonical c.args.iter c.requires)
     taken run given (g.met.I.SortedStarts.sorted t c.in-Some.ensures.goes.keeps).some in
     let more = runs_of-taken rank c.loop-range.runs.items c.push.new.self.items _ c.in-Some.range
-    c.in_ok-push.ensures.items c.into_inner-start.ensures.start c.into_inner-start.ensures.end ordered in
+    c.in_ok-push.ensures.items c.into_inner-start.ensures.start c.into_inner-start.ensures.end
+    ordered in
     let exact = g.met.T.SafeLen.SafeLength.sum_exact c.loop-range.length c.safe_len.result
     c.add_assign.new.self c.add_assign.ensures.after in
     let sum = sum_by-append length_of taken (run ∷ []) in
@@ -60,7 +63,13 @@ loop-range-preserved g c =
       finite = (c.in-Some.ensures.goes.on c.loop-range.invariant.finite).1;
       given = λ rest may.
           rw (more, append_assoc taken (run ∷ []) rest) (given rest may);
-      length = rw more (omega (arith, exact, sum, c.loop-range.invariant.length, c.safe_len.ensures));
+      length = rw more (omega (
+        arith,
+        exact,
+        sum,
+        c.loop-range.invariant.length,
+        c.safe_len.ensures,
+      ));
     }
 
 -- where the stream ends, what was taken is one of the lists that might come
@@ -68,7 +77,8 @@ pub invariant_of-result : goal.invariant_of-result
 invariant_of-result g c =
     let n = g.T.Integer.value_count in
     let taken = runs_of g.T.Integer.rank c.loop-range.runs.items in
-    let last = g.met.I.SortedStarts.answers c.loop-range.iter c.next.new.self None c.in_default.ensures.steps in
+    let last = g.met.I.SortedStarts.answers c.loop-range.iter c.next.new.self None
+    c.in_default.ensures.steps in
     let canonical : IsCanonicalIn n taken = subst (IsCanonicalIn n) (append-nil taken)
     (g.met.I.SortedDisjoint.canonical c.args.iter c.requires (taken ++ [])
     (c.loop-range.invariant.given [] last)) in

@@ -14,7 +14,8 @@ invariant-loop-range g l =
       finite : IsFinite (g.I.Iterator.remaining l.iter);
       given : (rest : List Interval) → g.I.SortedStarts.may_give l.iter rest
           → g.I.SortedStarts.may_give l.fn.iter (runs_of rank l.runs.items ++ rest);
-      length : g.T.SafeLen.SafeLength.number l.length ≡ sum_by length_of (runs_of rank l.runs.items);
+      length : g.T.SafeLen.SafeLength.number l.length
+          ≡ sum_by length_of (runs_of rank l.runs.items);
     }
 
 abbrev pub decreases-loop-range : goal.decreases-loop-range
