@@ -1,5 +1,5 @@
 -- Runs that are taken from a stream, one after the other.
-use Rattle.std.proofs.Common.{◌≡◌, ℕ, Bool, true, false, cond, nat_le, ◌||◌, ◌+◌, ◌<◌, ◌≤◌, List, [], ◌∷◌, ◌++◌, append_assoc, refl, sym, ap, ◌∙◌, subst, arith}
+use Rattle.std.proofs.Common.{◌≡◌, ℕ, Bool, true, false, cond, nat_le, ◌||◌, ◌+◌, ◌≤◌, List, [], ◌∷◌, ◌++◌, append_assoc, refl, sym, ap, ◌∙◌, subst, arith}
 use Rattle.std.proofs.lemmas.Bool.Decides.{nat_tests}
 use Rattle.std.proofs.lemmas.List.{map-append}
 use Rattle.std.proofs.lemmas.List.Sums.{sum_by-append}
@@ -9,22 +9,13 @@ use Rattle.std.specs.declared.ops.RangeInclusive.{RangeInclusive}
 use Rattle.rsb_integer.specs.Rank.{interval_of}
 use Rattle.rsb_integer.specs.Runs.{Interval, covers, length_of, members, IsCanonicalIn}
 use Rattle.rsb_integer.proofs.RangeLemmas.{interval_of-some}
-use Rattle.rsb_integer.proofs.CanonicalLemmas.{canonical-parts}
+use Rattle.rsb_integer.proofs.CanonicalLemmas.{canonical-front, canonical-parts}
 use Rattle.rsb_integer.proofs.MembersLemmas.{members-cons}
 use Rattle.rsb_streams.specs.Outcomes.{settled_canonical_in}
 use Rattle.rsb_streams.specs.Stream.{Outcomes, ◌⊆◌, just, run_if_any, HasOutcome, SomeOutcome}
 use Rattle.range_set_blaze.specs.Kept.{run_of, runs_of}
 use Rattle.range_set_blaze.specs.declared.set.run.Run.{Run}
 use Rattle.range_set_blaze.proofs.KeptLemmas.{sum_by-within}
-use Rattle.range_set_blaze.proofs.RangesLemmas.{All-front}
-
--- a front of what is canonical in a type is so too
-pub canonical_in-front : (n : ℕ) (runs others : List Interval) → IsCanonicalIn n (runs ++ others)
-    → IsCanonicalIn n runs
-canonical_in-front n runs others canonical = (
-  (canonical-parts 0 runs others canonical.0).0,
-  All-front (λ (each : Interval). each.last < n) runs others canonical.1,
-)
 
 -- the streams before and after a call that answered the run: what was taken before it is `taken`
 module _ (n : ℕ) (all after : Outcomes) (canonical : all ⊆ IsCanonicalIn n)
@@ -34,7 +25,7 @@ module _ (n : ℕ) (all after : Outcomes) (canonical : all ⊆ IsCanonicalIn n)
   -- what was taken and the run are canonical
   pub taken-canonical : IsCanonicalIn n (taken ++ run ∷ [])
   taken-canonical = settled_canonical_in n (taken ++ run ∷ []) (λ fails. some (λ rest may. fails
-      (canonical_in-front n (taken ++ run ∷ []) rest
+      (canonical-front n (taken ++ run ∷ []) rest
       (subst (IsCanonicalIn n) (sym (append_assoc taken (run ∷ []) rest))
       (canonical (taken ++ run ∷ rest) (given rest may))))))
 

@@ -10,18 +10,13 @@ use Rattle.std.specs.List.{All, sum_by}
 use Rattle.rsb_integer.specs.Runs.{Interval, covers, length_of, members, AllEndBelow, IsCanonical, IsCanonicalFrom, IsCanonicalIn}
 use Rattle.rsb_integer.specs.Selection.{count}
 use Rattle.rsb_integer.proofs.CountLemmas.{count-within}
-use Rattle.rsb_integer.proofs.ListLemmas.{not_both, true_or_false}
+use Rattle.rsb_integer.proofs.ListLemmas.{or-assoc, not_both, true_or_false}
 use Rattle.rsb_integer.proofs.CanonicalLemmas.{next_start, canonical-append, canonical-parts}
 use Rattle.rsb_integer.proofs.MembersLemmas.{covers-bounds, covers-inside, members-append, members-below, members-cons, members-tail}
 use Rattle.range_set_blaze.specs.Kept.{run_of, runs_of}
 use Rattle.range_set_blaze.specs.Set.{Adds, IsReached}
 use Rattle.range_set_blaze.specs.declared.set.run.Run.{Run}
 use Rattle.range_set_blaze.proofs.KeptLemmas.{runs_of-parts, sum_by-canonical, sum_by-parts}
-
--- `or` of three may be taken from either end
-or-assoc : (left middle right : Bool) → ((left || middle) || right) ≡ (left || (middle || right))
-or-assoc true middle right = refl
-or-assoc false middle right = refl
 
 -- an interval and one that it reaches are one
 covers-joined : (point : ℕ) (run next : Interval) → run.first ≤ run.last → next.first ≤ next.last

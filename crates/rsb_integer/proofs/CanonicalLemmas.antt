@@ -1,11 +1,11 @@
 -- Canonical lists of intervals: there is one with given members.
 use Rattle.std.proofs.Common.{◌≡◌, ℕ, ◌+◌, ◌<◌, ◌≤◌, List, [], ◌∷◌, ◌++◌, refl, sym, ◌∙◌, inl, inr, arith}
 use Rattle.std.proofs.lemmas.Bool.{cases_lt}
-use Rattle.std.proofs.lemmas.List.Elements.{All-cons, All-nil, All-weaker}
+use Rattle.std.proofs.lemmas.List.Elements.{All-cons, All-tail, All-nil, All-weaker}
 use Rattle.std.specs.List.{All, AllPairs}
-use Rattle.rsb_integer.specs.Runs.{Interval, members, IsCanonicalFrom, IsCanonical, AllEndBelow}
+use Rattle.rsb_integer.specs.Runs.{Interval, members, IsCanonicalFrom, IsCanonical, AllEndBelow, IsCanonicalIn}
 use Rattle.rsb_integer.specs.Selection.{Agree}
-use Rattle.rsb_integer.proofs.ListLemmas.{not_both, AllPairs-cons}
+use Rattle.rsb_integer.proofs.ListLemmas.{not_both, AllPairs-cons, All-front}
 use Rattle.rsb_integer.proofs.MembersLemmas.{members-below, members-end, members-head, members-tail, same_interval}
 
 -- ---- canonical lists
@@ -66,6 +66,22 @@ pub canonical-append : (low : ℕ) (runs others : List Interval) → IsCanonical
 canonical-append low [] others front rest = rest
 canonical-append low (run ∷ runs) others front rest =
     (front.0, front.1, canonical-append (run.last + 2) runs others front.2 rest)
+
+-- a front of a canonical list is canonical
+pub canonical-front : (n : ℕ) (runs others : List Interval) → IsCanonicalIn n (runs ++ others)
+    → IsCanonicalIn n runs
+canonical-front n runs others canonical = (
+  (canonical-parts 0 runs others canonical.0).0,
+  All-front (λ (run : Interval). run.last < n) runs others canonical.1,
+)
+
+-- what follows the first interval of a canonical list is canonical
+pub canonical-tail : (n : ℕ) (run : Interval) (runs : List Interval) → IsCanonicalIn n (run ∷ runs)
+    → IsCanonicalIn n runs
+canonical-tail n run runs canonical = (
+  canonical-lower (run.last + 2) 0 runs (omega arith) canonical.0.2,
+  All-tail (λ (other : Interval). other.last < n) run runs canonical.1,
+)
 
 -- ---- two canonical lists with the same members are one list
 

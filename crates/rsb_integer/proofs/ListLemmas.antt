@@ -1,6 +1,6 @@
 -- What every list of a head and a tail keeps, where std says it of pushes and appends alone.
-use Rattle.std.proofs.Common.{◌≡◌, ◌⊎◌, zero, suc, Bool, true, false, ◌||◌, List, [], ◌∷◌, get_or, refl, inl, inr, arith}
-use Rattle.std.proofs.lemmas.List.Elements.{Contains-append_left, Contains-append_right, Contains-append_cases, Contains-push, Contains-push_cases}
+use Rattle.std.proofs.Common.{◌≡◌, ◌⊎◌, zero, suc, Bool, true, false, ◌||◌, List, [], ◌∷◌, ◌++◌, get_or, refl, inl, inr, arith}
+use Rattle.std.proofs.lemmas.List.Elements.{All-cons, All-head, All-nil, All-tail, Contains-append_left, Contains-append_right, Contains-append_cases, Contains-push, Contains-push_cases}
 use Rattle.std.specs.List.{All, AllPairs, Contains}
 
 -- ---- tests
@@ -19,7 +19,18 @@ pub or-true : (test : Bool) → (test || true) ≡ true
 or-true true = refl
 or-true false = refl
 
+-- `or` of three may be taken from either end
+pub or-assoc : (left middle right : Bool) → ((left || middle) || right) ≡ (left || (middle || right))
+or-assoc true middle right = refl
+or-assoc false middle right = refl
+
 -- ---- elements
+
+-- what holds of each item of two lists put together holds of each of the first
+pub All-front : {X : Type 0} (P : X → Type 0) (xs ys : List X) → All P (xs ++ ys) → All P xs
+All-front P [] ys all = All-nil P
+All-front P (x ∷ xs) ys all =
+    All-cons P x xs (All-head P x (xs ++ ys) all) (All-front P xs ys (All-tail P x (xs ++ ys) all))
 
 -- where two facts of an item give a third, they give it of each item of a list
 pub All-both : {X : Type 0} (P Q R : X → Type 0) → ((x : X) → P x → Q x → R x) → (xs : List X)

@@ -5,10 +5,10 @@ use Rattle.std.specs.Prelude.{Option, Some}
 use Rattle.std.specs.declared.ops.RangeInclusive.{RangeInclusive}
 use Rattle.rsb_integer.specs.Rank.{intervals_of}
 use Rattle.rsb_integer.specs.Runs.{Interval, IsCanonicalIn}
+use Rattle.rsb_integer.proofs.CanonicalLemmas.{canonical-front}
 use Rattle.rsb_streams.specs.Calls.{Call, IsSource, calls-steps}
 use Rattle.rsb_streams.specs.Outcomes.{settled_canonical_in, settled_sorted}
 use Rattle.rsb_streams.specs.Stream.{◌⊆◌, HasSortedStarts, HasSortedStartsFrom}
-use Rattle.rsb_streams.proofs.ListedSources.{canonical-front}
 use Rattle.rsb_streams.proofs.Sources.{Source, IsLawful}
 
 -- a front of a list by starts is such a list

@@ -1,15 +1,13 @@
 -- Iterators whose state shows the list of what is left, as sources of streams.
-use Rattle.std.proofs.Common.{◌≡◌, ℕ, ◌<◌, List, [], ◌∷◌, ◌++◌, refl, sym, ap, ◌∙◌, subst, inl, inr, arith}
+use Rattle.std.proofs.Common.{◌≡◌, ℕ, List, [], ◌∷◌, ◌++◌, refl, sym, ap, ◌∙◌, subst, inl, inr, arith}
 use Rattle.std.specs.Prelude.{Option, Some, None}
-use Rattle.std.proofs.lemmas.List.Elements.{All-cons, All-head, All-nil, All-tail}
 use Rattle.std.specs.Iterator.{Count, IsFinite, Yields, YieldsFirst, item_count}
 use Rattle.std.specs.declared.ops.RangeInclusive.{RangeInclusive}
 use Rattle.rsb_integer.specs.Rank.{interval_of, intervals_of}
-use Rattle.rsb_integer.specs.Runs.{Interval, AllEndBelow, IsCanonicalIn}
-use Rattle.rsb_integer.proofs.CanonicalLemmas.{canonical-parts}
+use Rattle.rsb_integer.specs.Runs.{IsCanonicalIn}
+use Rattle.rsb_integer.proofs.CanonicalLemmas.{canonical-front, canonical-tail}
 use Rattle.rsb_streams.specs.Calls.{Call, IsSource, calls_give, calls-steps}
 use Rattle.rsb_streams.specs.Stream.{◌⊆◌, just}
-use Rattle.rsb_streams.proofs.SourceLemmas.{canonical-tail}
 
 -- the intervals of one list of ranges after another are the intervals of both
 pub intervals-append : {T : Type 0} (rank : T → ℕ) (ranges others : List (RangeInclusive T))
@@ -17,21 +15,6 @@ pub intervals-append : {T : Type 0} (rank : T → ℕ) (ranges others : List (Ra
 intervals-append rank [] others = refl
 intervals-append rank (range ∷ ranges) others =
     ap (λ runs. interval_of rank range ∷ runs) (intervals-append rank ranges others)
-
--- a front of a list that ends below n ends there too
-below-front : (n : ℕ) (runs others : List Interval) → AllEndBelow n (runs ++ others)
-    → AllEndBelow n runs
-below-front n [] others below = All-nil (λ (run : Interval). run.last < n)
-below-front n (run ∷ runs) others below =
-    let P : Interval → Type 0 = λ each. each.last < n in
-    All-cons P run runs (All-head P run (runs ++ others) below)
-    (below-front n runs others (All-tail P run (runs ++ others) below))
-
--- a front of a canonical list is canonical
-pub canonical-front : (n : ℕ) (runs others : List Interval) → IsCanonicalIn n (runs ++ others)
-    → IsCanonicalIn n runs
-canonical-front n runs others canonical =
-    ((canonical-parts 0 runs others canonical.0).0, below-front n runs others canonical.1)
 
 module _ {S T : Type 0} (rank : T → ℕ) (can_next : S → Type 0)
     (steps : S → Option (RangeInclusive T) → S → Type 0) (remaining : S → Count)

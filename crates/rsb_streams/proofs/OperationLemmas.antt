@@ -2,14 +2,10 @@
 use Rattle.std.proofs.Common.{◌≡◌, ℕ, Bool, true, false, ◌||◌, not, List, [], ◌∷◌, refl, sym, ap, ◌∙◌, inl, inr}
 use Rattle.rsb_integer.specs.Runs.{Interval, covers, members}
 use Rattle.rsb_integer.specs.Selection.{complement, union}
+use Rattle.rsb_integer.proofs.ListLemmas.{or-assoc}
 use Rattle.rsb_integer.proofs.MembersLemmas.{members-cons}
 use Rattle.rsb_integer.proofs.RunsLemmas.{runs-along, runs-members}
 use Rattle.rsb_streams.specs.Stream.{Outcomes, ◌⊆◌, IsMergeOf, joined, merges, runs_by, runs_by_two}
-
--- `or` of three may be taken from either end
-or-head : (head left right : Bool) → (head || (left || right)) ≡ ((head || left) || right)
-or-head true left right = refl
-or-head false left right = refl
 
 -- the first two of three in an `or` may change places
 or-swap : (head left right : Bool) → (head || (left || right)) ≡ (left || (head || right))
@@ -26,7 +22,7 @@ members-merge left right (run ∷ runs) rank merged = elim merged [
       let rest = from_left.0 in
       rw from_left.1 (members-cons run runs rank
       ∙ ap (λ test. covers rank run || test) (members-merge rest right runs rank from_left.2)
-      ∙ or-head (covers rank run) (members rest rank) (members right rank)
+      ∙ sym (or-assoc (covers rank run) (members rest rank) (members right rank))
       ∙ sym (ap (λ test. test || members right rank) (members-cons run rest rank)))
   | inr from_right ↦
       let rest = from_right.0 in

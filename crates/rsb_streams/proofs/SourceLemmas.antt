@@ -1,25 +1,15 @@
 -- One call of a stream whose maker knows the law of its items.
-use Rattle.std.proofs.Common.{◌≡◌, ℕ, ◌+◌, ◌<◌, Bool, true, false, List, ◌∷◌, refl, arith}
-use Rattle.std.proofs.lemmas.List.Elements.{All-tail}
+use Rattle.std.proofs.Common.{◌≡◌, ℕ, Bool, true, false, List, ◌∷◌, refl, arith}
 use Rattle.std.specs.Prelude.{Option, Some, None, MatchBool}
 use Rattle.std.specs.declared.iter.Fuse.{Fuse}
 use Rattle.std.specs.declared.ops.RangeInclusive.{RangeInclusive}
 use Rattle.std.specs.Iterator.{Count, IsFinite, MakesProgress}
 use Rattle.std.specs.Iterator.Adapters.{fuse_done, fuse_source, fuse_steps}
-use Rattle.rsb_integer.specs.Runs.{Interval, IsCanonicalIn}
-use Rattle.rsb_integer.proofs.CanonicalLemmas.{canonical-lower}
+use Rattle.rsb_integer.specs.Runs.{Interval}
 use Rattle.rsb_streams.specs.Calls.{IsSource, source-after}
 use Rattle.rsb_streams.specs.Outcomes.{sorted-lower}
 use Rattle.rsb_streams.specs.Stream.{HasSortedStarts}
 use Rattle.rsb_streams.specs.Fused.{fuse_can_next, fuse_remaining}
-
--- what follows the first interval of a canonical list is canonical
-pub canonical-tail : (n : ℕ) (run : Interval) (runs : List Interval) → IsCanonicalIn n (run ∷ runs)
-    → IsCanonicalIn n runs
-canonical-tail n run runs canonical = (
-  canonical-lower (run.last + 2) 0 runs (omega arith) canonical.0.2,
-  All-tail (λ (each : Interval). each.last < n) run runs canonical.1,
-)
 
 -- what follows the first interval of a list by starts is such a list
 pub sorted-tail : (n : ℕ) (run : Interval) (runs : List Interval) → HasSortedStarts n (run ∷ runs)

@@ -9,8 +9,7 @@ use Rattle.std.specs.Prelude.{Option, Some, None}
 use Rattle.std.specs.declared.ops.RangeInclusive.{RangeInclusive}
 use Rattle.rsb_integer.specs.Rank.{interval_of, intervals_of}
 use Rattle.rsb_integer.specs.Runs.{Interval, IsCanonicalFrom, IsCanonicalIn}
-use Rattle.rsb_integer.proofs.CanonicalLemmas.{canonical-append, canonical-parts, next_start, next_start-push}
-use Rattle.rsb_streams.proofs.ListedSources.{canonical-front}
+use Rattle.rsb_integer.proofs.CanonicalLemmas.{canonical-append, canonical-front, canonical-parts, next_start, next_start-push}
 use Rattle.rsb_streams.proofs.Sources.{range-end}
 use Rattle.rsb_streams.specs.NotSortedDisjoint.{IsFirstBad, start_after}
 

@@ -1,10 +1,10 @@
 -- One answer of a union: the ranges that it gathers, and what stays.
-use Rattle.std.proofs.Common.{◌≡◌, ℕ, ◌+◌, ◌<◌, ◌≤◌, Bool, true, false, ◌||◌, max, List, [], ◌∷◌, refl, sym, ap, ◌∙◌, subst, arith}
+use Rattle.std.proofs.Common.{◌≡◌, ℕ, ◌+◌, ◌<◌, ◌≤◌, true, ◌||◌, max, List, [], ◌∷◌, refl, sym, ap, ◌∙◌, subst, arith}
 use Rattle.std.proofs.lemmas.Bool.Decides.{nat_tests}
 use Rattle.std.proofs.lemmas.List.Elements.{All-head, All-cons}
 use Rattle.rsb_integer.specs.Runs.{Interval, covers, members, IsCanonicalFrom, IsMaximalRun, AreRuns}
 use Rattle.rsb_integer.specs.Selection.{Selection}
-use Rattle.rsb_integer.proofs.ListLemmas.{not_both}
+use Rattle.rsb_integer.proofs.ListLemmas.{or-assoc, not_both}
 use Rattle.rsb_integer.proofs.MembersLemmas.{covers-inside, members-cons}
 use Rattle.rsb_integer.proofs.RunsLemmas.{runs-canonical, runs-from_canonical, runs-members}
 use Rattle.rsb_streams.specs.Outcomes.{settled_le, settled_lt, sorted-lower, sorted-members}
@@ -69,11 +69,6 @@ join-covers : (rank : ℕ) (run next : Interval) → run.first ≤ next.first �
     ≡ covers rank (record { first = run.first; last = max run.last next.last })
 join-covers rank run next low touching ordered order = grind (arith, nat_tests)
 
--- `or` of three may be taken from either end
-or-assoc : (a b c : Bool) → (a || (b || c)) ≡ ((a || b) || c)
-or-assoc true b c = refl
-or-assoc false b c = refl
-
 -- the facts about a first range, where something may come after it
 pub head-sorted : (n low : ℕ) (run : Interval) (Rest : Outcomes) → HasOutcome Rest
     → ((rest : List Interval) → Rest rest → HasSortedStartsFrom n low (run ∷ rest))
@@ -135,7 +130,7 @@ module _ (n : ℕ) (Before Now After : Outcomes) (run next : Interval)
             (λ given before same.
             nothing given before (λ rank.
             same rank ∙ ap (λ test. covers rank run || test) (members-cons next rest rank)
-            ∙ or-assoc (covers rank run) (covers rank next) (members rest rank)
+            ∙ sym (or-assoc (covers rank run) (covers rank next) (members rest rank))
             ∙ ap (λ test. test || members rest rank)
             (join-covers rank run next low touching ordered order)));
       }

@@ -9,9 +9,10 @@ use Rattle.std.specs.declared.vec.IntoIter.{IntoIter}
 use Rattle.std.specs.VecDeque.Ownership.{in_place}
 use Rattle.rsb_integer.specs.Rank.{intervals_of}
 use Rattle.rsb_integer.specs.Runs.{IsCanonicalIn}
+use Rattle.rsb_integer.proofs.CanonicalLemmas.{canonical-front}
 use Rattle.rsb_streams.specs.Calls.{Call, IsSource, calls_give, calls-steps}
 use Rattle.rsb_streams.specs.Stream.{◌⊆◌, just}
-use Rattle.rsb_streams.proofs.ListedSources.{canonical-front, intervals-append, listed-calls, listed-yields}
+use Rattle.rsb_streams.proofs.ListedSources.{intervals-append, listed-calls, listed-yields}
 
 -- what a `Vec` of ranges becomes
 abbrev Items : Type 0 → Type 0 → Type 0

@@ -1,6 +1,7 @@
 use Rattle.rsb_integer.specs.Runs.{IsCanonicalIn}
 use Rattle.rsb_streams.specs.CheckSortedDisjoint.{check-keeps}
-use Rattle.rsb_streams.proofs.SourceLemmas.{canonical-tail, source-goes}
+use Rattle.rsb_integer.proofs.CanonicalLemmas.{canonical-tail}
+use Rattle.rsb_streams.proofs.SourceLemmas.{source-goes}
 use Rattle.rsb_streams.proofs.check_sorted_disjoint.CheckSortedDisjointIterator.next.Goals as goal
 
 pub returns-clause-goes : goal.returns-clause-goes
