@@ -20,8 +20,8 @@ impl<T: Integer, I: SortedDisjoint<T>, R: SortedDisjoint<T>> BitOr<R> for NotIte
 
     ghost bitor_gives = { λ left right result.
         IsStreamOf ⟦<Union<T, NotIter<T, I>, R> as SortedStarts<T>>⟧ result
-        (runs_by_two T.value_count union (⟦<NotIter<T, I> as SortedStarts<T>>⟧.may_give left)
-        (R.may_give right)) };
+        (runs_by_two T.value_count union
+        (⟦<NotIter<T, I> as SortedStarts<T>>⟧.may_give left) (R.may_give right)) };
 
     fn bitor(self, other: R) -> Self::Output {
         Union::from((self, other))
@@ -35,7 +35,8 @@ impl<T: Integer, I: SortedDisjoint<T>> Not for NotIter<T, I> {
 
     ghost not_gives = { λ stream result.
         IsStreamOf ⟦<NotIter<T, NotIter<T, I>> as SortedStarts<T>>⟧ result
-        (runs_by T.value_count complement (⟦<NotIter<T, I> as SortedStarts<T>>⟧.may_give stream)) };
+        (runs_by T.value_count complement
+        (⟦<NotIter<T, I> as SortedStarts<T>>⟧.may_give stream)) };
 
     fn not(self) -> Self::Output {
         NotIter::from(self)
@@ -50,8 +51,8 @@ impl<T: Integer, I: SortedStarts<T>, R: SortedDisjoint<T>> BitOr<R> for UnionIte
 
     ghost bitor_gives = { λ left right result.
         IsStreamOf ⟦<Union<T, UnionIter<T, I>, R> as SortedStarts<T>>⟧ result
-        (runs_by_two T.value_count union (⟦<UnionIter<T, I> as SortedStarts<T>>⟧.may_give left)
-        (R.may_give right)) };
+        (runs_by_two T.value_count union
+        (⟦<UnionIter<T, I> as SortedStarts<T>>⟧.may_give left) (R.may_give right)) };
 
     fn bitor(self, other: R) -> Self::Output {
         Union::from((self, other))
@@ -65,7 +66,8 @@ impl<T: Integer, I: SortedStarts<T>> Not for UnionIter<T, I> {
 
     ghost not_gives = { λ stream result.
         IsStreamOf ⟦<NotIter<T, UnionIter<T, I>> as SortedStarts<T>>⟧ result
-        (runs_by T.value_count complement (⟦<UnionIter<T, I> as SortedStarts<T>>⟧.may_give stream)) };
+        (runs_by T.value_count complement
+        (⟦<UnionIter<T, I> as SortedStarts<T>>⟧.may_give stream)) };
 
     fn not(self) -> Self::Output {
         NotIter::from(self)
@@ -81,8 +83,8 @@ impl<T: Integer, A: SortedDisjoint<T>, B: SortedDisjoint<T>, R: SortedDisjoint<T
 
     ghost bitor_gives = { λ left right result.
         IsStreamOf ⟦<Union<T, Union<T, A, B>, R> as SortedStarts<T>>⟧ result
-        (runs_by_two T.value_count union (⟦<Union<T, A, B> as SortedStarts<T>>⟧.may_give left)
-        (R.may_give right)) };
+        (runs_by_two T.value_count union
+        (⟦<Union<T, A, B> as SortedStarts<T>>⟧.may_give left) (R.may_give right)) };
 
     fn bitor(self, other: R) -> Self::Output {
         Union::from((self, other))
@@ -96,7 +98,8 @@ impl<T: Integer, A: SortedDisjoint<T>, B: SortedDisjoint<T>> Not for Union<T, A,
 
     ghost not_gives = { λ stream result.
         IsStreamOf ⟦<NotIter<T, Union<T, A, B>> as SortedStarts<T>>⟧ result
-        (runs_by T.value_count complement (⟦<Union<T, A, B> as SortedStarts<T>>⟧.may_give stream)) };
+        (runs_by T.value_count complement
+        (⟦<Union<T, A, B> as SortedStarts<T>>⟧.may_give stream)) };
 
     fn not(self) -> Self::Output {
         NotIter::from(self)
@@ -113,8 +116,7 @@ impl<T: Integer, I: Iterator<Item = RangeInclusive<T>>, R: SortedDisjoint<T>> Bi
     ghost bitor_gives = { λ left right result.
         IsStreamOf ⟦<Union<T, CheckSortedDisjoint<T, I>, R> as SortedStarts<T>>⟧ result
         (runs_by_two T.value_count union
-        (⟦<CheckSortedDisjoint<T, I> as SortedStarts<T>>⟧.may_give left)
-        (R.may_give right)) };
+        (⟦<CheckSortedDisjoint<T, I> as SortedStarts<T>>⟧.may_give left) (R.may_give right)) };
 
     fn bitor(self, other: R) -> Self::Output {
         Union::from((self, other))
@@ -144,8 +146,8 @@ impl<T: Integer, R: SortedDisjoint<T>> BitOr<R> for RangeOnce<T> {
 
     ghost bitor_gives = { λ left right result.
         IsStreamOf ⟦<Union<T, RangeOnce<T>, R> as SortedStarts<T>>⟧ result
-        (runs_by_two T.value_count union (⟦<RangeOnce<T> as SortedStarts<T>>⟧.may_give left)
-        (R.may_give right)) };
+        (runs_by_two T.value_count union
+        (⟦<RangeOnce<T> as SortedStarts<T>>⟧.may_give left) (R.may_give right)) };
 
     fn bitor(self, other: R) -> Self::Output {
         Union::from((self, other))
@@ -159,7 +161,8 @@ impl<T: Integer> Not for RangeOnce<T> {
 
     ghost not_gives = { λ stream result.
         IsStreamOf ⟦<NotIter<T, RangeOnce<T>> as SortedStarts<T>>⟧ result
-        (runs_by T.value_count complement (⟦<RangeOnce<T> as SortedStarts<T>>⟧.may_give stream)) };
+        (runs_by T.value_count complement
+        (⟦<RangeOnce<T> as SortedStarts<T>>⟧.may_give stream)) };
 
     fn not(self) -> Self::Output {
         NotIter::from(self)
