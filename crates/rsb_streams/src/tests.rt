@@ -179,6 +179,16 @@ fn own_stream_is_a_stream_like_any_other(rt: HostRuntime) {
     assert!(rt; Tens { value: 7, left: 0 }.is_empty());
 }
 
+#[test]
+fn clone_goes_on_where_the_stream_stands(rt: HostRuntime) -> Result<(), Fail> {
+    let mut gaps = Tens { value: 0, left: 2 }.complement();
+    assert!(rt; gaps.next() == Some(1..=9));
+    let copy = gaps.clone()?;
+    assert!(rt; gives(copy, &[(11, 255)]));
+    assert!(rt; gives(gaps, &[(11, 255)]));
+    Ok(())
+}
+
 // Whether a stream has a text for those who debug.
 fn is_shown<I: Debug>(alloc: Global, stream: &I) -> Result<bool, Fail> {
     let text = format!(in alloc; "{stream:?}")?;

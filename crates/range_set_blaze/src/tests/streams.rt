@@ -44,6 +44,7 @@ fn streams_of_sets_make_sets(rt: HostRuntime) -> Result<(), Fail> {
     bytes.ranges_insert(20..=255)?;
     let gaps = RangeSetBlaze::from_sorted_disjoint(rt.alloc(), bytes.ranges().complement())?;
     assert!(rt; gaps.range_at(15) == Some(10..=19));
+    assert!(rt; bytes.range_or_gap_at(15) == (10..=19, false));
     assert_eq!(rt; gaps.len(), 10);
     assert!(rt; bytes.ranges().union(gaps.ranges()).is_universal());
     Ok(())
