@@ -1,5 +1,6 @@
 -- Runs that are taken from a stream, one after the other.
-use Rattle.std.proofs.Common.{◌≡◌, ℕ, Bool, true, false, cond, nat_le, ◌||◌, ◌+◌, ◌≤◌, List, [], ◌∷◌, ◌++◌, append_assoc, refl, sym, ap, ◌∙◌, subst, arith}
+use Rattle.std.proofs.Common.{◌≡◌, ℕ, Bool, true, false, cond, nat_le, ◌+◌, ◌≤◌, List, [], ◌∷◌, ◌++◌, append_assoc, refl, sym, ap, ◌∙◌, subst, arith}
+use Rattle.std.proofs.Math.Bool.{or-false}
 use Rattle.std.proofs.lemmas.Bool.Decides.{nat_tests}
 use Rattle.std.proofs.lemmas.List.{map-append}
 use Rattle.std.proofs.lemmas.List.Sums.{sum_by-append}
@@ -66,11 +67,6 @@ pub members-just : (P : Outcomes) (set runs : List Interval) → P ⊆ just runs
 members-just P set runs only some rank = settled-same (members set rank) (members runs rank)
     (λ fails. some (λ given may same.
     fails (ap (λ list. members list rank) (same ∙ only given may))))
-
--- anything or false is itself
-or-false : (test : Bool) → (test || false) ≡ test
-or-false true = refl
-or-false false = refl
 
 -- the members of one interval are its ranks
 pub members-run_if_any : (run : Interval) (rank : ℕ) → members (run_if_any run) rank

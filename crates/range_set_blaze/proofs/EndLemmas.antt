@@ -1,12 +1,13 @@
 -- The least and the greatest member, and when there is none.
 use Rattle.std.proofs.Common.{◌≡◌, ◌↔◌, ◌==◌, ℕ, zero, suc, ◌+◌, ◌-◌, ◌<◌, ◌≤◌, ◌||◌, IsTrue, List, [], ◌∷◌, length, get_or, refl, sym, ◌∙◌, ap, inl, inr, arith}
+use Rattle.std.proofs.Math.Bool.{or-true}
 use Rattle.std.proofs.lemmas.Bool.{cases_lt}
 use Rattle.std.proofs.lemmas.Bool.Decides.{nat_tests}
 use Rattle.std.proofs.lemmas.List.Elements.{All-head, All-nil, All-tail}
 use Rattle.rsb_integer.specs.Runs.{Interval, covers, members, AllEndBelow, IsCanonical, IsCanonicalFrom, IsCanonicalIn}
 use Rattle.rsb_integer.specs.Selection.{IsNothing}
 use Rattle.rsb_integer.proofs.CountLemmas.{count-none}
-use Rattle.rsb_integer.proofs.ListLemmas.{not_both, or-true}
+use Rattle.rsb_integer.proofs.ListLemmas.{not_both}
 use Rattle.rsb_integer.proofs.MembersLemmas.{members-below, members-cons, members-head, members-tail}
 use Rattle.range_set_blaze.specs.Kept.{run_of, runs_of, IsKept}
 use Rattle.range_set_blaze.specs.Set.{IsGreatest, IsLeast}

@@ -1,5 +1,6 @@
 -- What an insertion makes of a list of runs.
 use Rattle.std.proofs.Common.{◌≡◌, ◌⊎◌, ℕ, Bool, true, false, ◌||◌, ◌+◌, ◌<◌, ◌≤◌, min, max, List, [], ◌∷◌, ◌++◌, take, drop, refl, sym, ◌∙◌, ap, inl, inr, arith, subst}
+use Rattle.std.proofs.Math.Bool.{or_assoc, or_comm}
 use Rattle.std.proofs.lemmas.Bool.{cases_lt}
 use Rattle.std.proofs.lemmas.Bool.Decides.{nat_tests}
 use Rattle.std.proofs.lemmas.List.{map-append}
@@ -10,7 +11,7 @@ use Rattle.std.specs.List.{All, sum_by}
 use Rattle.rsb_integer.specs.Runs.{Interval, covers, length_of, members, AllEndBelow, IsCanonical, IsCanonicalFrom, IsCanonicalIn}
 use Rattle.rsb_integer.specs.Selection.{count}
 use Rattle.rsb_integer.proofs.CountLemmas.{count-within}
-use Rattle.rsb_integer.proofs.ListLemmas.{or-assoc, not_both, true_or_false}
+use Rattle.rsb_integer.proofs.ListLemmas.{not_both, true_or_false}
 use Rattle.rsb_integer.proofs.CanonicalLemmas.{next_start, canonical-append, canonical-parts}
 use Rattle.rsb_integer.proofs.MembersLemmas.{covers-bounds, covers-inside, members-append, members-below, members-cons, members-tail}
 use Rattle.range_set_blaze.specs.Kept.{run_of, runs_of}
@@ -33,15 +34,8 @@ pub members-joined : (point : ℕ) (run next : Interval) (rest : List Interval)
     || members rest point) ≡ (covers point run || members (next ∷ rest) point)
 members-joined point run next rest ordered order near far =
     ap (λ test. test || members rest point) (covers-joined point run next ordered order near far)
-    ∙ or-assoc (covers point run) (covers point next) (members rest point)
+    ∙ or_assoc (covers point run) (covers point next) (members rest point)
     ∙ ap (λ test. covers point run || test) (sym (members-cons next rest point))
-
--- the two tests of an `or` may change places
-or-comm : (left right : Bool) → (left || right) ≡ (right || left)
-or-comm true true = refl
-or-comm true false = refl
-or-comm false true = refl
-or-comm false false = refl
 
 -- where the runs before a position end, more than one rank below the start
 next_start-before : {T : Type 0} (rank : T → ℕ) (start low : ℕ) (runs : List (Run T)) → low ≤ start
@@ -66,8 +60,8 @@ module _ {T : Type 0} (rank : T → ℕ) (n : ℕ) where
 
 -- the last two of three tests in an `or` may change places
 or-shift : (left middle right : Bool) → (left || (right || middle)) ≡ ((left || middle) || right)
-or-shift true middle right = refl
-or-shift false middle right = or-comm right middle
+or-shift left middle right =
+    ap (λ test. left || test) (or_comm right middle) ∙ sym (or_assoc left middle right)
 
 -- no rank from the one before the start on is a member of runs that end more than one before it
 members-before : {T : Type 0} (rank : T → ℕ) (start point : ℕ) (runs : List (Run T))

@@ -1,37 +1,29 @@
 -- The ranges of a set, one after the other.
-use Rattle.std.proofs.Common.{◌≡◌, ℕ, List, [], ◌∷◌, ◌++◌, ◌∙◌, Some, refl, ap, arith, length, length-append, subst}
+use Rattle.std.proofs.Common.{◌≡◌, ℕ, List, [], ◌∷◌, ◌++◌, ◌∙◌, Some, ap, arith, length, length-append, subst}
+use Rattle.std.proofs.lemmas.Simd.{map-map}
 use Rattle.std.proofs.lemmas.List.{map-append}
 use Rattle.std.specs.Iterator.{MakesProgress, item_count}
 use Rattle.std.specs.declared.ops.RangeInclusive.{RangeInclusive}
 use Rattle.rsb_integer.specs.Rank.{interval_of, intervals_of}
-use Rattle.rsb_integer.specs.Runs.{Interval, IsCanonicalIn}
+use Rattle.rsb_integer.specs.Runs.{IsCanonicalIn}
 use Rattle.rsb_integer.proofs.CanonicalLemmas.{canonical-front, canonical-tail}
-use Rattle.range_set_blaze.specs.Kept.{ranges_of, run_of, runs_of}
+use Rattle.range_set_blaze.specs.Kept.{range_of, ranges_of, runs_of}
 use Rattle.range_set_blaze.specs.declared.set.run.Run.{Run}
 
 module _ {T : Type 0} (rank : T → ℕ) where
   -- the ranges of runs have the intervals of the runs
   pub intervals_of-ranges : (runs : List (Run T)) → intervals_of rank (ranges_of runs)
       ≡ runs_of rank runs
-  intervals_of-ranges [] = refl
-  intervals_of-ranges (run ∷ runs) =
-      ap (λ (rest : List Interval). run_of rank run ∷ rest) (intervals_of-ranges runs)
+  intervals_of-ranges = map-map (interval_of rank) range_of
 
-  -- what is left of canonical ranges is canonical
-  pub canonical-rest : (n : ℕ) (range : RangeInclusive T) (ranges : List (RangeInclusive T))
-      → IsCanonicalIn n (intervals_of rank (range ∷ ranges))
-      → IsCanonicalIn n (intervals_of rank ranges)
-  canonical-rest n range ranges =
-      canonical-tail n (interval_of rank range) (intervals_of rank ranges)
-
-  -- so a call that takes the first of them makes progress
+  -- a call that takes the first of canonical ranges makes progress
   pub canonical-goes : (n : ℕ) (before after : List (RangeInclusive T))
       (first item : RangeInclusive T)
       → before ≡ first ∷ after → IsCanonicalIn n (intervals_of rank before)
       → MakesProgress (λ ranges. IsCanonicalIn n (intervals_of rank ranges))
       (item_count (λ (ranges : List (RangeInclusive T)). ranges)) before (Some item) after
   canonical-goes n before after first item is canonical =
-      let rest = canonical-rest n first after
+      let rest = canonical-tail n (interval_of rank first) (intervals_of rank after)
       (subst (λ ranges. IsCanonicalIn n (intervals_of rank ranges)) is canonical) in
       record {
         on = λ finite. (rest, tt, rw is (omega arith));
@@ -39,7 +31,7 @@ module _ {T : Type 0} (rank : T → ℕ) where
         rests = λ finite. tt;
       }
 
-  -- and so is what is left when the last one is taken
+  -- what is left when the last of canonical ranges is taken is canonical
   pub canonical-others : (n : ℕ) (ranges : List (RangeInclusive T)) (range : RangeInclusive T)
       → IsCanonicalIn n (intervals_of rank (ranges ++ range ∷ []))
       → IsCanonicalIn n (intervals_of rank ranges)

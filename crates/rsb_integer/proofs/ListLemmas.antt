@@ -1,5 +1,5 @@
 -- What every list of a head and a tail keeps, where std says it of pushes and appends alone.
-use Rattle.std.proofs.Common.{◌≡◌, ◌⊎◌, zero, suc, Bool, true, false, ◌||◌, List, [], ◌∷◌, ◌++◌, get_or, refl, inl, inr, arith}
+use Rattle.std.proofs.Common.{◌≡◌, ◌⊎◌, zero, suc, Bool, true, false, List, [], ◌∷◌, ◌++◌, get_or, refl, inl, inr, arith}
 use Rattle.std.proofs.lemmas.List.Elements.{All-cons, All-head, All-nil, All-tail, Contains-append_left, Contains-append_right, Contains-append_cases, Contains-push, Contains-push_cases}
 use Rattle.std.specs.List.{All, AllPairs, Contains}
 
@@ -13,16 +13,6 @@ true_or_false false = inr refl
 -- no test both passes and fails
 pub not_both : (test : Bool) → test ≡ true → test ≡ false → ⊥
 not_both test holds fails = absurd (cc)
-
--- anything or true is true
-pub or-true : (test : Bool) → (test || true) ≡ true
-or-true true = refl
-or-true false = refl
-
--- `or` of three may be taken from either end
-pub or-assoc : (left middle right : Bool) → ((left || middle) || right) ≡ (left || (middle || right))
-or-assoc true middle right = refl
-or-assoc false middle right = refl
 
 -- ---- elements
 

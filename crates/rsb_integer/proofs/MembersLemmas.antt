@@ -1,10 +1,11 @@
 -- What intervals cover, and the members of lists of them.
 use Rattle.std.proofs.Common.{◌≡◌, ◌⊎◌, ℕ, Bool, true, false, ◌||◌, cond, ◌+◌, ◌<◌, ◌≤◌, nat_lt, List, [], ◌∷◌, ◌++◌, refl, sym, ap, ◌∙◌, inl, inr, arith}
+use Rattle.std.proofs.Math.Bool.{or-true}
 use Rattle.std.proofs.lemmas.Bool.Decides.{nat_tests}
 use Rattle.std.proofs.lemmas.List.Elements.{All-contains}
 use Rattle.std.specs.List.{Contains}
 use Rattle.rsb_integer.specs.Runs.{Interval, covers, cover, members, IsCanonicalFrom, AllEndBelow}
-use Rattle.rsb_integer.proofs.ListLemmas.{true_or_false, or-true, Contains-head, Contains-tail, Contains-cases}
+use Rattle.rsb_integer.proofs.ListLemmas.{true_or_false, Contains-head, Contains-tail, Contains-cases}
 
 -- ---- what an interval covers
 

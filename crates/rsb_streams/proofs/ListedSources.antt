@@ -1,5 +1,6 @@
 -- Iterators whose state shows the list of what is left, as sources of streams.
 use Rattle.std.proofs.Common.{◌≡◌, ℕ, List, [], ◌∷◌, ◌++◌, refl, sym, ap, ◌∙◌, subst, inl, inr, arith}
+use Rattle.std.proofs.lemmas.List.{append-nil, map-append}
 use Rattle.std.specs.Prelude.{Option, Some, None}
 use Rattle.std.specs.Iterator.{Count, IsFinite, Yields, YieldsFirst, item_count}
 use Rattle.std.specs.declared.ops.RangeInclusive.{RangeInclusive}
@@ -8,13 +9,6 @@ use Rattle.rsb_integer.specs.Runs.{IsCanonicalIn}
 use Rattle.rsb_integer.proofs.CanonicalLemmas.{canonical-front, canonical-tail}
 use Rattle.rsb_streams.specs.Calls.{Call, IsSource, calls_give, calls-steps}
 use Rattle.rsb_streams.specs.Stream.{◌⊆◌, just}
-
--- the intervals of one list of ranges after another are the intervals of both
-pub intervals-append : {T : Type 0} (rank : T → ℕ) (ranges others : List (RangeInclusive T))
-    → intervals_of rank (ranges ++ others) ≡ intervals_of rank ranges ++ intervals_of rank others
-intervals-append rank [] others = refl
-intervals-append rank (range ∷ ranges) others =
-    ap (λ runs. interval_of rank range ∷ runs) (intervals-append rank ranges others)
 
 module _ {S T : Type 0} (rank : T → ℕ) (can_next : S → Type 0)
     (steps : S → Option (RangeInclusive T) → S → Type 0) (remaining : S → Count)
@@ -49,11 +43,6 @@ module _ {S T : Type 0} (rank : T → ℕ) (can_next : S → Type 0)
     stuck t can never [] is = refl
     stuck t can never (range ∷ ranges) is =
         let next = more t range ranges can is in absurd (never range next.0 next.1)
-
-    -- a list with nothing after it is the list
-    append-nil : (ranges : List (RangeInclusive T)) → ranges ++ [] ≡ ranges
-    append-nil [] = refl
-    append-nil (range ∷ ranges) = ap (λ rest. range ∷ rest) (append-nil ranges)
 
     -- the calls give the whole list, and nothing else
     pub listed-calls : (s : S) → can_next s
@@ -119,6 +108,6 @@ module _ {T : Type 0} (rank : T → ℕ) (n : ℕ) where
         let whole = listed-yields rank can first size_of (λ each. each) (λ s t range call. call)
         (λ s t call. call.0) ranges s t (calls-steps rank can first size_of ranges s t all) in
         canonical-front n (intervals_of rank ranges) (intervals_of rank t)
-        (subst (IsCanonicalIn n) (ap (intervals_of rank) whole ∙ intervals-append rank ranges t)
+        (subst (IsCanonicalIn n) (ap (intervals_of rank) whole ∙ map-append (interval_of rank) ranges t)
         canonical);
   }

@@ -1,5 +1,6 @@
 -- The gaps of a list, from a rank on.
-use Rattle.std.proofs.Common.{◌≡◌, ℕ, ◌+◌, ◌<◌, ◌≤◌, Bool, true, false, not, ◌&&◌, nat_le, List, [], ◌∷◌, refl, sym, ap, ◌∙◌, subst, inl, inr, arith}
+use Rattle.std.proofs.Common.{◌≡◌, ℕ, ◌+◌, ◌<◌, ◌≤◌, true, false, not, ◌&&◌, nat_le, List, [], ◌∷◌, refl, sym, ap, ◌∙◌, subst, inl, inr, arith}
+use Rattle.std.proofs.Math.Bool.{and-false}
 use Rattle.std.proofs.lemmas.Bool.{cases_lt}
 use Rattle.std.proofs.lemmas.Bool.Decides.{nat_tests}
 use Rattle.std.proofs.lemmas.List.Elements.{All-cons, All-nil}
@@ -27,11 +28,6 @@ gaps-above : (first rank : ℕ) (selected : Selection) → first ≤ rank
 gaps-above first rank selected above =
     let test : nat_le first rank ≡ true = grind (arith, nat_tests) in
     ap (λ each. each && not (selected rank)) test
-
--- anything and false is false
-and-false : (test : Bool) → (test && false) ≡ false
-and-false true = refl
-and-false false = refl
 
 -- a selected rank is in no gap
 gaps-inside : (first rank : ℕ) (selected : Selection) → selected rank ≡ true

@@ -1,17 +1,17 @@
 -- What operations on streams may give, composed.
-use Rattle.std.proofs.Common.{◌≡◌, ℕ, Bool, true, false, ◌||◌, not, List, [], ◌∷◌, refl, sym, ap, ◌∙◌, inl, inr}
+use Rattle.std.proofs.Common.{◌≡◌, ℕ, Bool, ◌||◌, not, List, [], ◌∷◌, refl, sym, ap, ◌∙◌, inl, inr}
+use Rattle.std.proofs.Math.Bool.{not-not, or_assoc, or_comm}
 use Rattle.rsb_integer.specs.Runs.{Interval, covers, members}
 use Rattle.rsb_integer.specs.Selection.{complement, union}
-use Rattle.rsb_integer.proofs.ListLemmas.{or-assoc}
 use Rattle.rsb_integer.proofs.MembersLemmas.{members-cons}
 use Rattle.rsb_integer.proofs.RunsLemmas.{runs-along, runs-members}
 use Rattle.rsb_streams.specs.Stream.{Outcomes, ◌⊆◌, IsMergeOf, joined, merges, runs_by, runs_by_two}
 
 -- the first two of three in an `or` may change places
 or-swap : (head left right : Bool) → (head || (left || right)) ≡ (left || (head || right))
-or-swap true true right = refl
-or-swap true false right = refl
-or-swap false left right = refl
+or-swap head left right =
+    sym (or_assoc head left right) ∙ ap (λ test. test || right) (or_comm head left)
+    ∙ or_assoc left head right
 
 -- a merge has the members of both lists
 pub members-merge : (left right runs : List Interval) (rank : ℕ) → IsMergeOf left right runs
@@ -22,7 +22,7 @@ members-merge left right (run ∷ runs) rank merged = elim merged [
       let rest = from_left.0 in
       rw from_left.1 (members-cons run runs rank
       ∙ ap (λ test. covers rank run || test) (members-merge rest right runs rank from_left.2)
-      ∙ sym (or-assoc (covers rank run) (members rest rank) (members right rank))
+      ∙ sym (or_assoc (covers rank run) (members rest rank) (members right rank))
       ∙ sym (ap (λ test. test || members right rank) (members-cons run rest rank)))
   | inr from_right ↦
       let rest = from_right.0 in
@@ -41,11 +41,6 @@ union-of_merge n P Q Merged merge runs may = λ nothing. may (λ given at all.
     (runs-along n (members given) (union (members left) (members right)) runs
     (λ rank within. members-merge left right given rank merged.1) all)))
 
--- a test twice negated is the test
-not_not : (test : Bool) → not (not test) ≡ test
-not_not true = refl
-not_not false = refl
-
 -- the complement of a complement has the runs of the members
 pub complement-twice : (n : ℕ) (P Gaps : Outcomes) → Gaps ⊆ runs_by n complement P
     → runs_by n complement Gaps ⊆ joined n P
@@ -54,7 +49,7 @@ complement-twice n P Gaps gaps runs may = λ nothing. may (λ given at all.
     nothing first might (runs-along n (complement (members given)) (members first) runs
     (λ rank within. ap not (runs-members n (complement (members first)) given complement_runs rank
     within)
-    ∙ not_not (members first rank)) all)))
+    ∙ not-not (members first rank)) all)))
 
 -- a union of less gives less
 pub union-within : (n : ℕ) (P Q Less : Outcomes) → Less ⊆ Q

@@ -1,10 +1,11 @@
 -- One answer of a union: the ranges that it gathers, and what stays.
 use Rattle.std.proofs.Common.{◌≡◌, ℕ, ◌+◌, ◌<◌, ◌≤◌, true, ◌||◌, max, List, [], ◌∷◌, refl, sym, ap, ◌∙◌, subst, arith}
+use Rattle.std.proofs.Math.Bool.{or_assoc}
 use Rattle.std.proofs.lemmas.Bool.Decides.{nat_tests}
 use Rattle.std.proofs.lemmas.List.Elements.{All-head, All-cons}
 use Rattle.rsb_integer.specs.Runs.{Interval, covers, members, IsCanonicalFrom, IsMaximalRun, AreRuns}
 use Rattle.rsb_integer.specs.Selection.{Selection}
-use Rattle.rsb_integer.proofs.ListLemmas.{or-assoc, not_both}
+use Rattle.rsb_integer.proofs.ListLemmas.{not_both}
 use Rattle.rsb_integer.proofs.MembersLemmas.{covers-inside, members-cons}
 use Rattle.rsb_integer.proofs.RunsLemmas.{runs-canonical, runs-from_canonical, runs-members}
 use Rattle.rsb_streams.specs.Outcomes.{settled_le, settled_lt, sorted-lower, sorted-members}
@@ -55,11 +56,6 @@ no-runs n (run ∷ runs) may = absurd (may (λ given is all.
     not_both (members [] run.first)
     (subst (λ each. members each run.first ≡ true) is
     (maximal.whole run.first (covers-inside run.first run (omega arith) ordered))) refl))
-
--- the empty list is the runs of its members, of which there are none
-pub runs-of_nothing : (n : ℕ) → AreRuns n (members []) []
-runs-of_nothing n = runs-from_canonical n (members []) [] tt
-    (λ k default within. absurd (omega arith)) (λ rank below. refl)
 
 -- two runs that overlap or touch cover what the run from the start of the one to the end of both
 -- covers
@@ -130,7 +126,7 @@ module _ (n : ℕ) (Before Now After : Outcomes) (run next : Interval)
             (λ given before same.
             nothing given before (λ rank.
             same rank ∙ ap (λ test. covers rank run || test) (members-cons next rest rank)
-            ∙ sym (or-assoc (covers rank run) (covers rank next) (members rest rank))
+            ∙ sym (or_assoc (covers rank run) (covers rank next) (members rest rank))
             ∙ ap (λ test. test || members rest rank)
             (join-covers rank run next low touching ordered order)));
       }

@@ -1,5 +1,6 @@
 -- The loop of a union.
 use Rattle.std.proofs.Common.{◌≡◌, ℕ, ◌+◌, ◌<◌, ◌≤◌, max, true, false, List, [], ◌∷◌, refl, sym, ap, ◌∙◌, subst, arith}
+use Rattle.std.proofs.lemmas.List.Elements.{All-nil}
 use Rattle.std.specs.Prelude.{Option, Some, None}
 use Rattle.std.specs.Iterator.{Count, IsFinite, MakesProgress, size}
 use Rattle.std.specs.Range.{range_inclusive_start, range_inclusive_end, range_inclusive_exhausted}
@@ -7,13 +8,14 @@ use Rattle.std.specs.declared.ops.RangeInclusive.{RangeInclusive}
 use Rattle.rsb_integer.specs.Rank.{interval_of}
 use Rattle.rsb_integer.specs.Runs.{Interval, members}
 use Rattle.rsb_integer.proofs.ListLemmas.{not_both}
+use Rattle.rsb_integer.proofs.RunsLemmas.{canonical-runs}
 use Rattle.rsb_streams.specs.PutBack.{HasRoom, IsPutBack, put_back-rests}
 use Rattle.rsb_streams.specs.Stream.{Outcomes, joined, AnswersAndRests}
 use Rattle.rsb_streams.specs.UnionIter.{union_can_next, union_may_give, union_remaining}
 use Rattle.rsb_streams.specs.declared.put_back.PutBack.{PutBack}
 use Rattle.rsb_streams.specs.declared.union_iter.UnionIter.{UnionIter}
 use Rattle.rsb_streams.proofs.Sources.{Source, IsLawful, put_back_source, put_back-lawful, range-start, range-end, put_back-may, put_back-ready, put_back-size}
-use Rattle.rsb_streams.proofs.UnionLemmas.{Gathers, gathers-first, gathers-more, gathers-answer, next-sorted, next-past, no-runs, runs-of_nothing}
+use Rattle.rsb_streams.proofs.UnionLemmas.{Gathers, gathers-first, gathers-more, gathers-answer, next-sorted, next-past, no-runs}
 
 module _ {S T : Type 0} (rank : T → ℕ) (n : ℕ) (source : Source S T) where
   -- the ranges drawn since the entry cover those from start to end
@@ -69,7 +71,7 @@ module _ {S T : Type 0} (rank : T → ℕ) (n : ℕ) (source : Source S T) where
         s.iter t.iter call in
         rw is (record {
           answers = λ never. never [] (held_laws.answers s.iter t.iter None call)
-              (runs-of_nothing n);
+              (canonical-runs n [] tt (All-nil (λ (run : Interval). run.last < n)));
           rests = (
             nothing.0,
             λ runs may. no-runs n runs

@@ -1,18 +1,18 @@
 -- What a `Vec` becomes by `into_iter`, as a source of a stream.
 use Rattle.std.proofs.Common.{◌≡◌, ℕ, ◌+◌, List, [], ◌∷◌, length, refl, sym, ap, ◌∙◌, subst, arith}
-use Rattle.std.proofs.lemmas.List.{nil_from_length}
+use Rattle.std.proofs.lemmas.List.{map-append, nil_from_length}
 use Rattle.std.specs.Prelude.{Some, None}
 use Rattle.std.specs.Iterator.{Count, at_most}
 use Rattle.std.specs.Vec.Iter.{into_iter_items, into_iter_len, into_iter_steps}
 use Rattle.std.specs.declared.ops.RangeInclusive.{RangeInclusive}
 use Rattle.std.specs.declared.vec.IntoIter.{IntoIter}
 use Rattle.std.specs.VecDeque.Ownership.{in_place}
-use Rattle.rsb_integer.specs.Rank.{intervals_of}
+use Rattle.rsb_integer.specs.Rank.{interval_of, intervals_of}
 use Rattle.rsb_integer.specs.Runs.{IsCanonicalIn}
 use Rattle.rsb_integer.proofs.CanonicalLemmas.{canonical-front}
 use Rattle.rsb_streams.specs.Calls.{Call, IsSource, calls_give, calls-steps}
 use Rattle.rsb_streams.specs.Stream.{◌⊆◌, just}
-use Rattle.rsb_streams.proofs.ListedSources.{intervals-append, listed-calls, listed-yields}
+use Rattle.rsb_streams.proofs.ListedSources.{listed-calls, listed-yields}
 
 -- what a `Vec` of ranges becomes
 abbrev Items : Type 0 → Type 0 → Type 0
@@ -91,5 +91,5 @@ module _ {T Z : Type 0} (rank : T → ℕ) (n : ℕ) where
         all) in
         canonical-front n (intervals_of rank ranges) (intervals_of rank (into_iter_items t))
         (subst (IsCanonicalIn n) (ap (intervals_of rank) whole
-        ∙ intervals-append rank ranges (into_iter_items t)) canonical);
+        ∙ map-append (interval_of rank) ranges (into_iter_items t)) canonical);
   }
