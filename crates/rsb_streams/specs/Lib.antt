@@ -10,4 +10,5 @@ pub mod NotSortedDisjoint
 pub mod Outcomes
 pub mod PutBack
 pub mod Stream
+pub mod Union
 pub mod UnionIter

@@ -1,9 +1,14 @@
 //! Named results of operations on streams.
 
-ghost use Rattle.rsb_streams.specs.Merge.{merge-keeps, merge_may_give, merge_remaining, MergeReady};
 ghost use Rattle.rsb_streams.specs.Outcomes.{canonical-starts};
 ghost use Rattle.rsb_streams.specs.Stream.{runs_by_two, IsStreamOf};
-ghost use Rattle.rsb_streams.specs.UnionIter.{union-keeps};
+ghost use Rattle.rsb_streams.specs.Union.{
+  either-keeps,
+  either_can_next,
+  either_may_give,
+  either_remaining,
+  either_steps,
+};
 ghost use Rattle.rsb_integer.specs.Selection.{union};
 
 use crate::merge::Merge;
@@ -37,12 +42,13 @@ impl<T: Integer, L: SortedDisjoint<T>, R: SortedDisjoint<T>> From<(L, R)> for Un
 impl<T: Integer, L: SortedDisjoint<T>, R: SortedDisjoint<T>> Iterator for Union<T, L, R> {
     type Item = RangeInclusive<T>;
 
-    ghost can_next = { λ s. ⟦<UnionIter<T, Merge<T, L, R>> as Iterator>⟧.can_next s.iter };
+    ghost can_next = { either_can_next T.rank T.value_count L.can_next L.may_give
+        R.can_next R.may_give };
 
-    ghost next_gives = { λ s item t.
-        ⟦<UnionIter<T, Merge<T, L, R>> as Iterator>⟧.next_gives s.iter item t.iter };
+    ghost next_gives = { either_steps T.rank T.value_count L.can_next L.may_give
+        R.can_next R.may_give };
 
-    ghost remaining = { λ s. ⟦<UnionIter<T, Merge<T, L, R>> as Iterator>⟧.remaining s.iter };
+    ghost remaining = { either_remaining L.remaining R.remaining };
 
     fn next(&mut self) -> Option<RangeInclusive<T>> {
         self.iter.next()
@@ -52,24 +58,18 @@ impl<T: Integer, L: SortedDisjoint<T>, R: SortedDisjoint<T>> Iterator for Union<
 impl<T: Integer, L: SortedDisjoint<T>, R: SortedDisjoint<T>> FusedIterator for Union<T, L, R> {}
 
 impl<T: Integer, L: SortedDisjoint<T>, R: SortedDisjoint<T>> SortedStarts<T> for Union<T, L, R> {
-    ghost may_give = { λ s.
-        ⟦<UnionIter<T, Merge<T, L, R>> as SortedStarts<T>>⟧.may_give s.iter };
+    ghost may_give = { either_may_give T.rank T.value_count L.can_next L.may_give
+        R.can_next R.may_give };
 
     ghost answers = { λ s t item gives. gives.answers };
 
-    ghost sorted = { λ s ready. canonical-starts T.value_count _ _ (union-keeps T.rank T.value_count
-        (MergeReady T.rank T.value_count L.can_next L.may_give R.can_next R.may_give)
-        (merge_may_give T.rank T.value_count L.can_next L.may_give R.can_next R.may_give)
-        (merge_remaining L.remaining R.remaining)
-        (merge-keeps T.rank T.value_count L.can_next L.may_give L.remaining L.sorted
-        R.can_next R.may_give R.remaining R.sorted) s.iter ready) };
+    ghost sorted = { λ s ready. canonical-starts T.value_count _ _
+        (either-keeps T.rank T.value_count L.can_next L.may_give R.can_next R.may_give
+        L.remaining L.sorted R.remaining R.sorted s ready) };
 }
 
 impl<T: Integer, L: SortedDisjoint<T>, R: SortedDisjoint<T>> SortedDisjoint<T> for Union<T, L, R> {
-    ghost canonical = { λ s ready. (union-keeps T.rank T.value_count
-        (MergeReady T.rank T.value_count L.can_next L.may_give R.can_next R.may_give)
-        (merge_may_give T.rank T.value_count L.can_next L.may_give R.can_next R.may_give)
-        (merge_remaining L.remaining R.remaining)
-        (merge-keeps T.rank T.value_count L.can_next L.may_give L.remaining L.sorted
-        R.can_next R.may_give R.remaining R.sorted) s.iter ready).all };
+    ghost canonical = { λ s ready.
+        (either-keeps T.rank T.value_count L.can_next L.may_give R.can_next R.may_give
+        L.remaining L.sorted R.remaining R.sorted s ready).all };
 }

@@ -5,6 +5,8 @@ mod own_stream;
 use crate::check_sorted_disjoint::CheckSortedDisjoint;
 use crate::merge::Merge;
 use crate::nested::{complement_twice, joined_again, known, union_with_complement};
+use crate::not_iter::NotIter;
+use crate::operation_results::Union;
 use crate::range_once::RangeOnce;
 use crate::sorted_disjoint::{AnythingGoes, SortedDisjoint, SortedStarts};
 use crate::tests::own_stream::Tens;
@@ -105,6 +107,8 @@ fn operators_are_union_and_complement(rt: HostRuntime) {
     assert!(rt; gives(!UnionIter::new(Merge::new(low(), high())), &[(10, 199)]));
     assert!(rt; gives(known(low()) | high(), &[(0, 9), (200, 255)]));
     assert!(rt; gives(!known(low()), &[(10, 255)]));
+    assert!(rt; gives(Union::from((low(), high())), &[(0, 9), (200, 255)]));
+    assert!(rt; gives(NotIter::new(low()), &[(10, 255)]));
 }
 
 #[test]
