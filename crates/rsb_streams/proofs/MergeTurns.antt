@@ -80,7 +80,7 @@ module _ {L R T : Type 0} (rank : T → ℕ) (n : ℕ) (left : Source L T) (righ
 
   -- what the merge may give
   abbrev may : Merge T L R → Outcomes
-  may = merge_may_give rank n left.can_next left.may_give right.can_next right.may_give
+  may = merge_may_give rank n left.may_give right.may_give
 
   -- what is known of a call of the merge
   abbrev Answered : Merge T L R → Option (RangeInclusive T) → Merge T L R → Type 0

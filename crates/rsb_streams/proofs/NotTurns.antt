@@ -9,7 +9,7 @@ use Rattle.rsb_integer.specs.Runs.{Interval, members, IsCanonicalIn, AreRuns}
 use Rattle.rsb_integer.proofs.CanonicalLemmas.{canonical-lower}
 use Rattle.rsb_integer.proofs.RunsLemmas.{runs-along}
 use Rattle.rsb_streams.specs.NotIter.{NotReady, gaps_after, not_can_next, not_may_give, not_remaining}
-use Rattle.rsb_streams.specs.Outcomes.{canonical-sorted}
+use Rattle.rsb_streams.specs.Outcomes.{canonical-sorted, sorted-below}
 use Rattle.rsb_streams.specs.Stream.{Outcomes, ◌⊆◌, just, gaps_from, runs_by, AnswersAndRests, HasSortedStartsFrom, SomeOutcome}
 use Rattle.rsb_streams.specs.declared.not_iter.NotIter.{NotIter}
 use Rattle.std.specs.Ordering.{partial_lt}
@@ -30,7 +30,7 @@ module _ {I T : Type 0} (rank : T → ℕ) (n : ℕ) (source : Source I T) where
 
   -- what the complement may give
   abbrev may : NotIter T I → Outcomes
-  may = not_may_give rank n source.can_next source.may_give
+  may = not_may_give rank n source.may_give
 
   -- how many gaps are left at most
   abbrev left : NotIter T I → Count
@@ -69,8 +69,7 @@ module _ {I T : Type 0} (rank : T → ℕ) (n : ℕ) (source : Source I T) where
         rests = (so.ready, nothing);
       }
 
-  module _ (laws : IsLawful rank n source)
-      (canonical : (s : I) → source.can_next s → source.may_give s ⊆ IsCanonicalIn n) where
+  module _ (laws : IsLawful rank n source) where
     -- the gap to the greatest value
     pub last-gap : (entry : NotIter T I) (i j : I) (now : Option T) (start greatest : T)
         (answer : RangeInclusive T)
@@ -115,10 +114,11 @@ module _ {I T : Type 0} (rank : T → ℕ) (n : ℕ) (source : Source I T) where
           → IsCanonicalIn n (run ∷ rest) × HasSortedStartsFrom n (rank start) (run ∷ rest)
       comes rest at =
           let before = laws.answers i j (Some range) call rest at in
-          let all = canonical i so.ready.callable (run ∷ rest) before in (
-            all,
-            canonical-sorted n (rank start) (run ∷ rest) (so.ready.ahead (run ∷ rest) before)
-                all.1,
+          let ahead = so.ready.ahead (run ∷ rest) before in
+          let sorted = (laws.sorted i so.ready.callable).all (run ∷ rest) before in
+          let below = sorted-below n 0 (run ∷ rest) sorted in (
+            (canonical-lower (rank start) 0 (run ∷ rest) (omega arith) ahead, below),
+            canonical-sorted n (rank start) (run ∷ rest) ahead below,
           )
 
       -- the range starts no earlier than the gap may, is non-empty, and lies in the type

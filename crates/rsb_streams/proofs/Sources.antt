@@ -1,17 +1,16 @@
 -- A stream that a proof knows by its laws alone.
 use Rattle.std.proofs.Common.{◌≡◌, ℕ, ◌+◌, ◌≤◌, Bool, false, List, ◌∷◌, sym, ap, subst, arith}
 use Rattle.std.specs.Prelude.{Option, Some, None}
-use Rattle.std.specs.declared.iter.Fuse.{Fuse}
 use Rattle.std.specs.Iterator.{Count, size}
-use Rattle.std.specs.Iterator.Adapters.{fuse_done, fuse_source}
 use Rattle.std.specs.Range.{range_inclusive_start, range_inclusive_end}
 use Rattle.std.specs.declared.ops.RangeInclusive.{RangeInclusive}
 use Rattle.rsb_integer.specs.Rank.{interval_of}
 use Rattle.rsb_integer.specs.Runs.{Interval}
 use Rattle.rsb_integer.proofs.RangeLemmas.{interval_of-some}
-use Rattle.rsb_streams.specs.Fused.{fuse_can_next, fuse_may_give}
+use Rattle.rsb_streams.specs.Fused.{fused_can, fused_may_give}
 use Rattle.rsb_streams.specs.PutBack.{HasRoom, IsFresh, IsPutBack, PutBackReady, PutBackSteps, put_back_may_give, put_back_remaining, put_back-answers, put_back-keeps}
-use Rattle.rsb_streams.specs.Stream.{Outcomes, ◌⊆◌, after, unless, HasSortedStarts, Answers, Keeps}
+use Rattle.rsb_streams.specs.Stream.{Outcomes, ◌⊆◌, after, unless, HasSortedStarts, Answers, IsDrawn, Keeps}
+use Rattle.rsb_streams.specs.declared.fused.Fused.{Fused}
 use Rattle.rsb_streams.specs.declared.put_back.PutBack.{PutBack}
 
 -- the members of `SortedStarts`
@@ -34,7 +33,7 @@ put_back_source rank n source = record {
   can_next = PutBackReady rank n source.can_next source.may_give;
   steps = PutBackSteps source.steps;
   remaining = put_back_remaining source.remaining;
-  may_give = put_back_may_give rank n source.can_next source.may_give;
+  may_give = put_back_may_give rank source.may_give;
 }
 
 -- it keeps the laws that the stream keeps
@@ -58,6 +57,24 @@ pub range-end : {T : Type 0} (rank : T → ℕ) (range : RangeInclusive T)
     → (interval_of rank range).last ≡ rank (range_inclusive_end range)
 range-end rank range ordered = ap (λ run. run.last) (interval_of-some rank range ordered)
 
+-- a stream keeps by its `next` the laws that it keeps by its `draw`
+pub drawn-lawful : {S T : Type 0} (rank : T → ℕ) (n : ℕ) (source : Source S T)
+    (can_next : S → Type 0) (next_gives : S → Option (RangeInclusive T) → S → Type 0)
+    (remaining : S → Count)
+    → IsDrawn source.can_next source.steps source.remaining can_next next_gives remaining
+    → IsLawful rank n source
+    → IsLawful rank n (record {
+      can_next = can_next;
+      steps = next_gives;
+      remaining = remaining;
+      may_give = source.may_give;
+    })
+drawn-lawful rank n source can_next next_gives remaining drawn laws = record {
+  answers = λ s t item call. laws.answers s t item (drawn.calls s t item call);
+  sorted = λ s can. subst (Keeps (HasSortedStarts n) (source.may_give s)) (sym (drawn.counts s))
+      (laws.sorted s (drawn.drawable s can));
+}
+
 -- ---- a range that was put back
 module _ {S T : Type 0} (rank : T → ℕ) (n : ℕ) (source : Source S T) where
   -- the stream, with what is put back
@@ -65,17 +82,17 @@ module _ {S T : Type 0} (rank : T → ℕ) (n : ℕ) (source : Source S T) where
   held_source = put_back_source rank n source
 
   -- a range comes first, and then what was still to come, by what is held before it and with it
-  may-by : (range : RangeInclusive T) (before held : Option (RangeInclusive T)) (s t : Fuse S)
+  may-by : (range : RangeInclusive T) (before held : Option (RangeInclusive T)) (s t : Fused S)
       (runs : List Interval)
       → before ≡ None → held ≡ Some range → t ≡ s
-      → after rank held (fuse_may_give source.may_give t) runs
-      → (rest : List Interval) × after rank before (fuse_may_give source.may_give s) rest
+      → after rank held (fused_may_give source.may_give t) runs
+      → (rest : List Interval) × after rank before (fused_may_give source.may_give s) rest
       × (runs ≡ interval_of rank range ∷ rest)
   may-by range before held s t runs room is same may =
-      let first = subst (λ each. after rank each (fuse_may_give source.may_give s) runs) is
-      (subst (λ each. after rank held (fuse_may_give source.may_give each) runs) same may) in (
+      let first = subst (λ each. after rank each (fused_may_give source.may_give s) runs) is
+      (subst (λ each. after rank held (fused_may_give source.may_give each) runs) same may) in (
         first.0,
-        subst (λ each. after rank each (fuse_may_give source.may_give s) first.0) (sym room)
+        subst (λ each. after rank each (fused_may_give source.may_give s) first.0) (sym room)
             first.1,
         first.2,
       )
@@ -97,7 +114,7 @@ module _ {S T : Type 0} (rank : T → ℕ) (n : ℕ) (source : Source S T) where
       → HasSortedStarts n (interval_of rank range ∷ rest))
       → held_source.can_next t
   put_back-ready range s t room put ready sorted = record {
-    callable = subst (fuse_can_next source.can_next) (sym put.iter) ready.callable;
+    callable = subst (fused_can source.can_next) (sym put.iter) ready.callable;
     sorted = λ runs may.
         let first = put_back-may range s t runs room put may in
         subst (HasSortedStarts n) (sym first.2) (sorted first.0 first.1);
@@ -121,7 +138,7 @@ module _ {S T : Type 0} (rank : T → ℕ) (n : ℕ) (source : Source S T) where
   -- it gives what the stream gives
   pub fresh-may : (iter : S) (s : PutBack T S) → IsFresh iter s
       → held_source.may_give s ⊆ source.may_give iter
-  fresh-may iter s fresh = fresh-by s.held (fuse_done s.iter) (fuse_source s.iter) iter fresh.room
+  fresh-may iter s fresh = fresh-by s.held s.iter.done s.iter.iter iter fresh.room
       fresh.undone fresh.source
 
   -- and may be called where the stream may

@@ -57,7 +57,7 @@ module _ {S T : Type 0} (rank : T → ℕ) (n : ℕ) (source : Source S T) where
     abbrev Answered : Union → Option (RangeInclusive T) → Union → Type 0
     Answered = AnswersAndRests rank
         (union_can_next rank n source.can_next source.may_give)
-        (union_may_give rank n source.can_next source.may_give)
+        (union_may_give rank n source.may_give)
 
     -- the ranks from a value to another
     abbrev run : T → T → Interval

@@ -22,10 +22,11 @@ module _ {T L R : Type 0} (rank : T → ℕ) (n : ℕ)
     pub left : PutBackReady rank n left_can left_may s.left
     pub right : PutBackReady rank n right_can right_may s.right
 
-  -- what is held and still to come of both, by starts
-  abbrev pub merge_may_give : Merge T L R → Outcomes
-  merge_may_give s = merges n (put_back_may_give rank n left_can left_may s.left)
-      (put_back_may_give rank n right_can right_may s.right)
+-- what is held and still to come of both, by starts
+abbrev pub merge_may_give : {T L R : Type 0} → (T → ℕ) → ℕ → (L → Outcomes) → (R → Outcomes)
+    → Merge T L R → Outcomes
+merge_may_give rank n left_may right_may s = merges n (put_back_may_give rank left_may s.left)
+    (put_back_may_give rank right_may s.right)
 
 -- ---- lists by starts
 
@@ -102,11 +103,11 @@ module _ {T L R : Type 0} (rank : T → ℕ) (n : ℕ)
     (right_sorted : (s : R) → right_can s → Keeps (HasSortedStarts n) (right_may s) (right s)) where
   -- the ranges come by their starts, there are some lists of them, and they end
   pub merge-keeps : (s : Merge T L R) → MergeReady rank n left_can left_may right_can right_may s
-      → Keeps (HasSortedStarts n) (merge_may_give rank n left_can left_may right_can right_may s)
+      → Keeps (HasSortedStarts n) (merge_may_give rank n left_may right_may s)
       (merge_remaining left right s)
   merge-keeps s ready =
-      merges-keeps n (put_back_may_give rank n left_can left_may s.left)
-      (put_back_may_give rank n right_can right_may s.right)
+      merges-keeps n (put_back_may_give rank left_may s.left)
+      (put_back_may_give rank right_may s.right)
       (put_back_remaining left s.left) (put_back_remaining right s.right)
       (put_back-keeps rank n left_can left_may left left_sorted s.left ready.left)
       (put_back-keeps rank n right_can right_may right right_sorted s.right ready.right)

@@ -26,9 +26,9 @@ module _ {T I : Type 0} (rank : T → ℕ) (n : ℕ) (can_next : I → Type 0)
   abbrev pub not_can_next : NotIter T I → Type 0
   not_can_next s = IfSome s.start (λ start. NotReady s.iter start)
 
-  -- the runs of what the input leaves out, from where the next gap would start
-  abbrev pub not_may_give : NotIter T I → Outcomes
-  not_may_give s = gaps_after rank n s.start (may_give s.iter)
+-- the runs of what the input leaves out, from where the next gap would start
+abbrev pub not_may_give : {T I : Type 0} → (T → ℕ) → ℕ → (I → Outcomes) → NotIter T I → Outcomes
+not_may_give rank n may_give s = gaps_after rank n s.start (may_give s.iter)
 
 -- one gap more than the input has ranges, and none once the last gap was given
 abbrev pub not_remaining : {T I : Type 0} → (I → Count) → NotIter T I → Count
@@ -61,6 +61,6 @@ module _ {T I : Type 0} (rank : T → ℕ) (n : ℕ) (can_next : I → Type 0) (
 
   -- the gaps are canonical, there are some lists of them, and they end
   pub not-keeps : (s : NotIter T I) → not_can_next rank n can_next may_give s
-      → Keeps (IsCanonicalIn n) (not_may_give rank n can_next may_give s)
+      → Keeps (IsCanonicalIn n) (not_may_give rank n may_give s)
       (not_remaining remaining s)
   not-keeps s ready = keeps-by s.start s.iter ready

@@ -101,6 +101,14 @@ canonical-starts n P remaining kept = record {
   ends = kept.ends;
 }
 
+-- every interval of a sorted list ends below n
+pub sorted-below : (n low : ℕ) (runs : List Interval) → HasSortedStartsFrom n low runs
+    → AllEndBelow n runs
+sorted-below n low [] sorted = All-nil (λ (run : Interval). run.last < n)
+sorted-below n low (run ∷ runs) sorted =
+    All-cons (λ (each : Interval). each.last < n) run runs sorted.2
+    (sorted-below n run.first runs sorted.3)
+
 -- no member lies below the start of a sorted list
 pub sorted-members : (n low : ℕ) (runs : List Interval) (rank : ℕ) → HasSortedStartsFrom n low runs
     → members runs rank ≡ true → low ≤ rank

@@ -1,10 +1,11 @@
 -- What a stream of ranges may still give, as lists of intervals of ranks.
+use Rattle.std.proofs.Common.{refl}
 use Rattle.std.specs.Prelude.{◌≡◌, ◌⊎◌, ℕ, Bool, not, ◌&&◌, cond, ◌<◌, ◌≤◌, nat_le, List, [], ◌∷◌, Option, Some, None, MatchOption, MatchBool}
 use Rattle.std.specs.declared.ops.RangeInclusive.{RangeInclusive}
 use Rattle.std.specs.Iterator.{Count, IsFinite}
 use Rattle.rsb_integer.specs.Rank.{interval_of}
 use Rattle.rsb_integer.specs.Runs.{Interval, members, AreRuns}
-use Rattle.rsb_integer.specs.Selection.{Selection}
+use Rattle.rsb_integer.specs.Selection.{Selection, complement, union}
 
 -- ---- lists of intervals
 
@@ -121,15 +122,40 @@ pub record Keeps (law : List Interval → Type 0) (P : Outcomes) (remaining : Co
   pub all : P ⊆ law
   pub ends : IsFinite remaining
 
--- the stream may be called, and gives nothing but what P may give; `stream` is the members of
--- `SortedStarts` at its type
-pub record IsStreamOf {S T : Type 0}
-    (stream : record {
-      can_next : S → Type 0;
-      next_gives : S → Option (RangeInclusive T) → S → Type 0;
-      remaining : S → Count;
-      may_give : S → Outcomes;
-    })
-    (s : S) (P : Outcomes) : Type 0 where
-  pub ready : stream.can_next s
-  pub runs : stream.may_give s ⊆ P
+-- ---- results
+
+-- a stream made of another gives nothing but runs of its complement
+abbrev pub GivesComplement : ℕ → Outcomes → Outcomes → Type 0
+GivesComplement n of given = given ⊆ runs_by n complement of
+
+-- a stream made of two others gives nothing but runs of their union
+abbrev pub GivesUnion : ℕ → Outcomes → Outcomes → Outcomes → Type 0
+GivesUnion n left right given = given ⊆ runs_by_two n union left right
+
+-- a stream may be called, and the fact holds of what it gives
+pub record IsReadyAnd {S : Type 0} (can_next : S → Type 0) (s : S) (Gives : Type 0) : Type 0 where
+  pub ready : can_next s
+  pub gives : Gives
+
+-- ---- `next` and `draw`
+
+-- `next` may be called exactly where `draw` may, does what it does, and counts as many to come
+pub record IsDrawn {S T : Type 0} (can_draw : S → Type 0)
+    (draw_gives : S → Option (RangeInclusive T) → S → Type 0) (draws_left : S → Count)
+    (can_next : S → Type 0) (next_gives : S → Option (RangeInclusive T) → S → Type 0)
+    (remaining : S → Count) : Type 0 where
+  pub drawable : (s : S) → can_next s → can_draw s
+  pub callable : (s : S) → can_draw s → can_next s
+  pub calls : (s t : S) (item : Option (RangeInclusive T)) → next_gives s item t → draw_gives s item t
+  pub counts : (s : S) → remaining s ≡ draws_left s
+
+-- so it is where both are given alike
+pub drawn-itself : {S T : Type 0} {can_next : S → Type 0}
+    {next_gives : S → Option (RangeInclusive T) → S → Type 0} {remaining : S → Count}
+    → IsDrawn can_next next_gives remaining can_next next_gives remaining
+drawn-itself = record {
+  drawable = λ s can. can;
+  callable = λ s can. can;
+  calls = λ s t item call. call;
+  counts = λ s. refl;
+}

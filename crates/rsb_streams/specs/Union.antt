@@ -10,6 +10,12 @@ use Rattle.rsb_streams.specs.UnionIter.{union-keeps, union_can_next, union_may_g
 use Rattle.rsb_streams.specs.declared.merge.Merge.{Merge}
 use Rattle.rsb_streams.specs.declared.operation_results.Union.{Union}
 
+-- it may give the runs of what both may give
+abbrev pub either_may_give : {T L R : Type 0} → (T → ℕ) → ℕ → (L → Outcomes) → (R → Outcomes)
+    → Union T L R → Outcomes
+either_may_give rank n left_may right_may s =
+    union_may_give rank n (merge_may_give rank n left_may right_may) s.iter
+
 -- how much is left of both at most
 abbrev pub either_remaining : {T L R : Type 0} → (L → Count) → (R → Count) → Union T L R → Count
 either_remaining left right s = union_remaining (merge_remaining left right) s.iter
@@ -22,20 +28,16 @@ module _ {T L R : Type 0} (rank : T → ℕ) (n : ℕ) (left_can : L → Type 0)
 
   -- what both may give, by starts
   abbrev both_may : Merge T L R → Outcomes
-  both_may = merge_may_give rank n left_can left_may right_can right_may
+  both_may = merge_may_give rank n left_may right_may
 
   -- the union may be called where both streams may
   abbrev pub either_can_next : Union T L R → Type 0
   either_can_next s = union_can_next rank n both_can both_may s.iter
 
-  -- it may give the runs of what both may give
-  abbrev pub either_may_give : Union T L R → Outcomes
-  either_may_give s = union_may_give rank n both_can both_may s.iter
-
   -- a call answers what may come, and after `None` nothing comes
   abbrev pub either_steps : Union T L R → Option (RangeInclusive T) → Union T L R → Type 0
   either_steps s item t = AnswersAndRests rank (union_can_next rank n both_can both_may)
-      (union_may_give rank n both_can both_may) s.iter item t.iter
+      (union_may_give rank n both_may) s.iter item t.iter
 
   -- the runs are canonical, there are some lists of them, and they end
   pub either-keeps : (left : L → Count)
@@ -43,7 +45,7 @@ module _ {T L R : Type 0} (rank : T → ℕ) (n : ℕ) (left_can : L → Type 0)
       → (right : R → Count)
       → ((s : R) → right_can s → Keeps (HasSortedStarts n) (right_may s) (right s))
       → (s : Union T L R) → either_can_next s
-      → Keeps (IsCanonicalIn n) (either_may_give s) (either_remaining left right s)
+      → Keeps (IsCanonicalIn n) (either_may_give rank n left_may right_may s) (either_remaining left right s)
   either-keeps left left_sorted right right_sorted s =
       union-keeps rank n both_can both_may (merge_remaining left right)
       (merge-keeps rank n left_can left_may left left_sorted right_can right_may right right_sorted)

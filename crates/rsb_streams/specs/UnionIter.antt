@@ -25,22 +25,22 @@ joined-keeps n law P remaining kept = record {
   ends = kept.ends;
 }
 
+-- the runs of what is held and still to come
+abbrev pub union_may_give : {T S : Type 0} → (T → ℕ) → ℕ → (S → Outcomes) → UnionIter T S → Outcomes
+union_may_give rank n may_give s = joined n (put_back_may_give rank may_give s.iter)
+
 module _ {T S : Type 0} (rank : T → ℕ) (n : ℕ) (can_next : S → Type 0)
     (may_give : S → Outcomes) where
   -- its stream may be called, and no start falls of what is held and still to come
   abbrev pub union_can_next : UnionIter T S → Type 0
   union_can_next s = PutBackReady rank n can_next may_give s.iter
 
-  -- the runs of what is held and still to come
-  abbrev pub union_may_give : UnionIter T S → Outcomes
-  union_may_give s = joined n (put_back_may_give rank n can_next may_give s.iter)
-
   -- the runs are canonical, there are some lists of them, and they end
   pub union-keeps : (remaining : S → Count)
       → ((s : S) → can_next s → Keeps (HasSortedStarts n) (may_give s) (remaining s))
       → (s : UnionIter T S) → union_can_next s
-      → Keeps (IsCanonicalIn n) (union_may_give s) (union_remaining remaining s)
+      → Keeps (IsCanonicalIn n) (union_may_give rank n may_give s) (union_remaining remaining s)
   union-keeps remaining sorted s ready =
-      joined-keeps n (HasSortedStarts n) (put_back_may_give rank n can_next may_give s.iter)
+      joined-keeps n (HasSortedStarts n) (put_back_may_give rank may_give s.iter)
       (put_back_remaining remaining s.iter)
       (put_back-keeps rank n can_next may_give remaining sorted s.iter ready)

@@ -11,8 +11,9 @@ ghost use Rattle.rsb_streams.specs.AssumeSortedStarts.{
   IsSortedSource,
 };
 ghost use Rattle.rsb_streams.specs.CheckSortedDisjoint.{gives_as};
-ghost use Rattle.rsb_streams.specs.Stream.{IsStreamOf};
+ghost use Rattle.rsb_streams.specs.Stream.{◌⊆◌, drawn-itself};
 
+use crate::draw::Draw;
 use crate::sorted_disjoint::SortedStarts;
 use rsb_integer::Integer;
 use std::iter::{Fuse, FusedIterator};
@@ -33,9 +34,10 @@ impl<T: Integer, I: Iterator> AssumeSortedStarts<T, I> {
     pub fn new<J: IntoIterator<Item = RangeInclusive<T>, IntoIter = I>>(iter: J) -> Self
         requires { (source : I) → J.into_iter_gives iter source
             → IsSortedSource T.rank T.value_count I.can_next I.next_gives I.remaining source }
-        ensures { IsStreamOf ⟦<AssumeSortedStarts<T, I> as SortedStarts<T>>⟧ result
-            (gives_as J.into_iter_gives
-            (calls_give T.rank I.can_next I.next_gives I.remaining) iter) }
+        ensures ready { ⟦<AssumeSortedStarts<T, I> as Iterator>⟧.can_next result }
+        ensures gives { ⟦<AssumeSortedStarts<T, I> as Draw<T>>⟧.may_give result
+            ⊆ gives_as J.into_iter_gives
+            (calls_give T.rank I.can_next I.next_gives I.remaining) iter }
     {
         AssumeSortedStarts {
             iter: iter.into_iter().fuse(),
@@ -61,11 +63,25 @@ impl<T: Integer, I: Iterator<Item = RangeInclusive<T>>> Iterator for AssumeSorte
 impl<T: Integer, I: Iterator<Item = RangeInclusive<T>>> FusedIterator
     for AssumeSortedStarts<T, I> {}
 
-impl<T: Integer, I: Iterator<Item = RangeInclusive<T>>> SortedStarts<T>
-    for AssumeSortedStarts<T, I> {
+impl<T: Integer, I: Iterator<Item = RangeInclusive<T>>> Draw<T> for AssumeSortedStarts<T, I> {
+    ghost can_draw = { ⟦<AssumeSortedStarts<T, I> as Iterator>⟧.can_next };
+
+    ghost draw_gives = { ⟦<AssumeSortedStarts<T, I> as Iterator>⟧.next_gives };
+
+    ghost draws_left = { ⟦<AssumeSortedStarts<T, I> as Iterator>⟧.remaining };
+
     ghost may_give = { assume_may_give T.rank T.value_count I.can_next I.next_gives I.remaining };
+
+    fn draw(&mut self) -> Option<RangeInclusive<T>> {
+        self.next()
+    }
 
     ghost answers = { assume-answers T.rank T.value_count I.can_next I.next_gives I.remaining };
 
     ghost sorted = { assume-keeps T.rank T.value_count I.can_next I.next_gives I.remaining };
+}
+
+impl<T: Integer, I: Iterator<Item = RangeInclusive<T>>> SortedStarts<T>
+    for AssumeSortedStarts<T, I> {
+    ghost drawn = { drawn-itself };
 }

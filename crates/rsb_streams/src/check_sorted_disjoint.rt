@@ -16,8 +16,9 @@ ghost use Rattle.rsb_streams.specs.CheckSortedDisjoint.{
 };
 ghost use Rattle.rsb_streams.specs.NotSortedDisjoint.{IsFirstBad};
 ghost use Rattle.rsb_streams.specs.Outcomes.{canonical-starts};
-ghost use Rattle.rsb_streams.specs.Stream.{just, IsStreamOf};
+ghost use Rattle.rsb_streams.specs.Stream.{◌⊆◌, drawn-itself, just, IsReadyAnd};
 
+use crate::draw::Draw;
 use crate::not_sorted_disjoint::{NotSortedDisjoint, first_bad};
 use crate::range_once::RangeOnce;
 use crate::sorted_disjoint::{SortedDisjoint, SortedStarts};
@@ -41,9 +42,10 @@ impl<T: Integer, I: Iterator> CheckSortedDisjoint<T, I> {
     pub fn new<J: IntoIterator<Item = RangeInclusive<T>, IntoIter = I>>(iter: J) -> Self
         requires { (source : I) → J.into_iter_gives iter source
             → IsCanonicalSource T.rank T.value_count I.can_next I.next_gives I.remaining source }
-        ensures { IsStreamOf ⟦<CheckSortedDisjoint<T, I> as SortedStarts<T>>⟧ result
-            (gives_as J.into_iter_gives
-            (calls_give T.rank I.can_next I.next_gives I.remaining) iter) }
+        ensures ready { ⟦<CheckSortedDisjoint<T, I> as Iterator>⟧.can_next result }
+        ensures gives { ⟦<CheckSortedDisjoint<T, I> as Draw<T>>⟧.may_give result
+            ⊆ gives_as J.into_iter_gives
+            (calls_give T.rank I.can_next I.next_gives I.remaining) iter }
     {
         CheckSortedDisjoint {
             iter: iter.into_iter().fuse(),
@@ -57,9 +59,11 @@ impl<T: Integer, A: Allocator> CheckSortedDisjoint<T, IntoIter<RangeInclusive<T>
     /// takes no memory.
     pub fn try_new(ranges: Vec<RangeInclusive<T>, A>) -> Result<Self, NotSortedDisjoint<T, A>>
         ensures ok { IsOk result ↔ IsCanonicalIn T.value_count (intervals_of T.rank ranges.items) }
+        ensures ready { IfOk result
+            ⟦<CheckSortedDisjoint<T, IntoIter<RangeInclusive<T>, A>> as Iterator>⟧.can_next }
         ensures runs { IfOk result (λ stream.
-            IsStreamOf ⟦<CheckSortedDisjoint<T, IntoIter<RangeInclusive<T>, A>> as SortedStarts<T>>⟧
-            stream (just (intervals_of T.rank ranges.items))) }
+            ⟦<CheckSortedDisjoint<T, IntoIter<RangeInclusive<T>, A>> as Draw<T>>⟧.may_give stream
+            ⊆ just (intervals_of T.rank ranges.items)) }
         ensures ranges { IfErr result (λ refused. refused.ranges ≡ ranges) }
         ensures position { IfErr result (λ refused.
             IsFirstBad T.value_count (intervals_of T.rank ranges.items) refused.position) }
@@ -73,7 +77,8 @@ impl<T: Integer, A: Allocator> CheckSortedDisjoint<T, IntoIter<RangeInclusive<T>
 
 impl<T: Integer> Default for CheckSortedDisjoint<T, RangeOnce<T>> {
     ghost is_default = { λ result.
-        IsStreamOf ⟦<CheckSortedDisjoint<T, RangeOnce<T>> as SortedStarts<T>>⟧ result (just []) };
+        IsReadyAnd ⟦<CheckSortedDisjoint<T, RangeOnce<T>> as Iterator>⟧.can_next result
+        (⟦<CheckSortedDisjoint<T, RangeOnce<T>> as Draw<T>>⟧.may_give result ⊆ just []) };
 
     /// No items. It takes no memory.
     fn default() -> Self {
@@ -101,14 +106,28 @@ impl<T: Integer, I: Iterator<Item = RangeInclusive<T>>> Iterator for CheckSorted
 impl<T: Integer, I: Iterator<Item = RangeInclusive<T>>> FusedIterator
     for CheckSortedDisjoint<T, I> {}
 
-impl<T: Integer, I: Iterator<Item = RangeInclusive<T>>> SortedStarts<T>
-    for CheckSortedDisjoint<T, I> {
+impl<T: Integer, I: Iterator<Item = RangeInclusive<T>>> Draw<T> for CheckSortedDisjoint<T, I> {
+    ghost can_draw = { ⟦<CheckSortedDisjoint<T, I> as Iterator>⟧.can_next };
+
+    ghost draw_gives = { ⟦<CheckSortedDisjoint<T, I> as Iterator>⟧.next_gives };
+
+    ghost draws_left = { ⟦<CheckSortedDisjoint<T, I> as Iterator>⟧.remaining };
+
     ghost may_give = { check_may_give T.rank T.value_count I.can_next I.next_gives I.remaining };
+
+    fn draw(&mut self) -> Option<RangeInclusive<T>> {
+        self.next()
+    }
 
     ghost answers = { check-answers T.rank T.value_count I.can_next I.next_gives I.remaining };
 
     ghost sorted = { λ s can. canonical-starts T.value_count _ _
         (check-keeps T.rank T.value_count I.can_next I.next_gives I.remaining s can) };
+}
+
+impl<T: Integer, I: Iterator<Item = RangeInclusive<T>>> SortedStarts<T>
+    for CheckSortedDisjoint<T, I> {
+    ghost drawn = { drawn-itself };
 }
 
 impl<T: Integer, I: Iterator<Item = RangeInclusive<T>>> SortedDisjoint<T>

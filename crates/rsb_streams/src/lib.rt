@@ -3,6 +3,8 @@
 
 pub mod assume_sorted_starts;
 pub mod check_sorted_disjoint;
+pub mod draw;
+mod fused;
 pub mod merge;
 #[cfg(test)]
 mod nested;
@@ -19,6 +21,7 @@ pub mod union_iter;
 
 pub use assume_sorted_starts::AssumeSortedStarts;
 pub use check_sorted_disjoint::CheckSortedDisjoint;
+pub use draw::Draw;
 pub use merge::Merge;
 pub use not_iter::NotIter;
 pub use not_sorted_disjoint::NotSortedDisjoint;

@@ -7,8 +7,9 @@ ghost use Rattle.rsb_streams.specs.Merge.{
   MergeReady,
 };
 ghost use Rattle.rsb_streams.specs.PutBack.{IsFresh};
-ghost use Rattle.rsb_streams.specs.Stream.{merges, AnswersAndRests, IsStreamOf};
+ghost use Rattle.rsb_streams.specs.Stream.{◌⊆◌, drawn-itself, merges, AnswersAndRests};
 
+use crate::draw::Draw;
 use crate::put_back::PutBack;
 use crate::sorted_disjoint::{SortedDisjoint, SortedStarts};
 use rsb_integer::Integer;
@@ -24,7 +25,7 @@ pub struct Merge<T, L, R> {
     right: PutBack<T, R>,
 }
 
-impl<T, L: Iterator, R: Iterator> Merge<T, L, R> {
+impl<T, L, R> Merge<T, L, R> {
     /// The merge of what two iterators give, of which nothing is drawn yet.
     pub(crate) fn of(left: L, right: R) -> Self
         ensures left { IsFresh left result.left }
@@ -42,29 +43,30 @@ impl<T: Integer, L: SortedDisjoint<T>, R: SortedDisjoint<T>> Merge<T, L, R> {
     pub fn new(left: L, right: R) -> Self
         requires left { L.can_next left }
         requires right { R.can_next right }
-        ensures { IsStreamOf ⟦<Merge<T, L, R> as SortedStarts<T>>⟧ result
-            (merges T.value_count (L.may_give left) (R.may_give right)) }
+        ensures ready { ⟦<Merge<T, L, R> as Iterator>⟧.can_next result }
+        ensures gives { ⟦<Merge<T, L, R> as Draw<T>>⟧.may_give result
+            ⊆ merges T.value_count (L.may_give left) (R.may_give right) }
     {
         Merge::of(left, right)
     }
 }
 
-impl<T: Integer, L: SortedDisjoint<T>, R: SortedDisjoint<T>> Iterator for Merge<T, L, R> {
+impl<T: Integer, L: Draw<T>, R: Draw<T>> Iterator for Merge<T, L, R> {
     type Item = RangeInclusive<T>;
 
-    ghost can_next = { MergeReady T.rank T.value_count L.can_next L.may_give R.can_next R.may_give };
+    ghost can_next = { MergeReady T.rank T.value_count L.can_draw L.may_give R.can_draw R.may_give };
 
     ghost next_gives = { AnswersAndRests T.rank
-        (MergeReady T.rank T.value_count L.can_next L.may_give R.can_next R.may_give)
-        (merge_may_give T.rank T.value_count L.can_next L.may_give R.can_next R.may_give) };
+        (MergeReady T.rank T.value_count L.can_draw L.may_give R.can_draw R.may_give)
+        (merge_may_give T.rank T.value_count L.may_give R.may_give) };
 
-    ghost remaining = { merge_remaining L.remaining R.remaining };
+    ghost remaining = { merge_remaining L.draws_left R.draws_left };
 
     fn next(&mut self) -> Option<RangeInclusive<T>> {
-        let Some(first) = self.left.next() else {
-            return self.right.next();
+        let Some(first) = self.left.draw() else {
+            return self.right.draw();
         };
-        let Some(second) = self.right.next() else {
+        let Some(second) = self.right.draw() else {
             return Some(first);
         };
         if *second.start() < *first.start() {
@@ -76,14 +78,27 @@ impl<T: Integer, L: SortedDisjoint<T>, R: SortedDisjoint<T>> Iterator for Merge<
     }
 }
 
-impl<T: Integer, L: SortedDisjoint<T>, R: SortedDisjoint<T>> FusedIterator for Merge<T, L, R> {}
+impl<T: Integer, L: Draw<T>, R: Draw<T>> FusedIterator for Merge<T, L, R> {}
 
-impl<T: Integer, L: SortedDisjoint<T>, R: SortedDisjoint<T>> SortedStarts<T> for Merge<T, L, R> {
-    ghost may_give = { merge_may_give T.rank T.value_count L.can_next L.may_give R.can_next
-        R.may_give };
+impl<T: Integer, L: Draw<T>, R: Draw<T>> Draw<T> for Merge<T, L, R> {
+    ghost can_draw = { ⟦<Merge<T, L, R> as Iterator>⟧.can_next };
+
+    ghost draw_gives = { ⟦<Merge<T, L, R> as Iterator>⟧.next_gives };
+
+    ghost draws_left = { ⟦<Merge<T, L, R> as Iterator>⟧.remaining };
+
+    ghost may_give = { merge_may_give T.rank T.value_count L.may_give R.may_give };
+
+    fn draw(&mut self) -> Option<RangeInclusive<T>> {
+        self.next()
+    }
 
     ghost answers = { λ s t item gives. gives.answers };
 
-    ghost sorted = { merge-keeps T.rank T.value_count L.can_next L.may_give L.remaining L.sorted
-        R.can_next R.may_give R.remaining R.sorted };
+    ghost sorted = { merge-keeps T.rank T.value_count L.can_draw L.may_give L.draws_left L.sorted
+        R.can_draw R.may_give R.draws_left R.sorted };
+}
+
+impl<T: Integer, L: Draw<T>, R: Draw<T>> SortedStarts<T> for Merge<T, L, R> {
+    ghost drawn = { drawn-itself };
 }

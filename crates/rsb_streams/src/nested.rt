@@ -1,10 +1,11 @@
 //! Results of results, from public contracts alone.
 
 ghost use Rattle.rsb_integer.specs.Selection.{complement, union};
-ghost use Rattle.rsb_streams.specs.Stream.{joined, runs_by, runs_by_two, IsStreamOf};
+ghost use Rattle.rsb_streams.specs.Stream.{◌⊆◌, joined, runs_by, runs_by_two};
 
 use crate::assume_sorted_starts::AssumeSortedStarts;
 use crate::check_sorted_disjoint::CheckSortedDisjoint;
+use crate::draw::Draw;
 use crate::not_iter::NotIter;
 use crate::operation_results::Union;
 use crate::sorted_disjoint::{SortedDisjoint, SortedStarts};
@@ -16,8 +17,9 @@ pub(crate) fn complement_twice<T: Integer, I: SortedDisjoint<T>>(
     stream: I,
 ) -> NotIter<T, NotIter<T, I>>
     requires { I.can_next stream }
-    ensures { IsStreamOf ⟦<NotIter<T, NotIter<T, I>> as SortedStarts<T>>⟧ result
-        (joined T.value_count (I.may_give stream)) }
+    ensures ready { ⟦<NotIter<T, NotIter<T, I>> as Iterator>⟧.can_next result }
+    ensures gives { ⟦<NotIter<T, NotIter<T, I>> as Draw<T>>⟧.may_give result
+        ⊆ joined T.value_count (I.may_give stream) }
 {
     !stream.complement()
 }
@@ -29,9 +31,10 @@ pub(crate) fn union_with_complement<T: Integer, L: SortedDisjoint<T>, R: SortedD
 ) -> Union<T, L, NotIter<T, R>>
     requires left { L.can_next left }
     requires right { R.can_next right }
-    ensures { IsStreamOf ⟦<Union<T, L, NotIter<T, R>> as SortedStarts<T>>⟧ result
-        (runs_by_two T.value_count union (L.may_give left)
-        (runs_by T.value_count complement (R.may_give right))) }
+    ensures ready { ⟦<Union<T, L, NotIter<T, R>> as Iterator>⟧.can_next result }
+    ensures gives { ⟦<Union<T, L, NotIter<T, R>> as Draw<T>>⟧.may_give result
+        ⊆ runs_by_two T.value_count union (L.may_give left)
+        (runs_by T.value_count complement (R.may_give right)) }
 {
     left.union(right.complement())
 }

@@ -1,10 +1,10 @@
 //! The complement of a stream.
 
-ghost use Rattle.rsb_integer.specs.Selection.{complement};
 ghost use Rattle.rsb_streams.specs.NotIter.{not-keeps, not_can_next, not_may_give, not_remaining};
 ghost use Rattle.rsb_streams.specs.Outcomes.{canonical-starts};
-ghost use Rattle.rsb_streams.specs.Stream.{runs_by, AnswersAndRests, IsStreamOf};
+ghost use Rattle.rsb_streams.specs.Stream.{drawn-itself, AnswersAndRests, GivesComplement, IsReadyAnd};
 
+use crate::draw::Draw;
 use crate::sorted_disjoint::{SortedDisjoint, SortedStarts};
 use rsb_integer::Integer;
 use std::iter::FusedIterator;
@@ -22,8 +22,9 @@ impl<T: Integer, I: SortedDisjoint<T>> NotIter<T, I> {
     /// The complement of a stream, of which nothing is drawn yet.
     pub fn new(iter: I) -> Self
         requires { I.can_next iter }
-        ensures { IsStreamOf ⟦<NotIter<T, I> as SortedStarts<T>>⟧ result
-            (runs_by T.value_count complement (I.may_give iter)) }
+        ensures ready { ⟦<NotIter<T, I> as Iterator>⟧.can_next result }
+        ensures gives { GivesComplement T.value_count (I.may_give iter)
+            (⟦<NotIter<T, I> as Draw<T>>⟧.may_give result) }
     {
         NotIter::from(iter)
     }
@@ -32,8 +33,9 @@ impl<T: Integer, I: SortedDisjoint<T>> NotIter<T, I> {
 impl<T: Integer, I: SortedDisjoint<T>> From<I> for NotIter<T, I> {
     // The complement of a stream that may be called, of which nothing is drawn yet.
     ghost from_gives = { λ iter result. I.can_next iter
-        → IsStreamOf ⟦<NotIter<T, I> as SortedStarts<T>>⟧ result
-        (runs_by T.value_count complement (I.may_give iter)) };
+        → IsReadyAnd ⟦<NotIter<T, I> as Iterator>⟧.can_next result
+        (GivesComplement T.value_count (I.may_give iter)
+        (⟦<NotIter<T, I> as Draw<T>>⟧.may_give result)) };
 
     fn from(iter: I) -> Self {
         NotIter {
@@ -43,20 +45,20 @@ impl<T: Integer, I: SortedDisjoint<T>> From<I> for NotIter<T, I> {
     }
 }
 
-impl<T: Integer, I: SortedDisjoint<T>> Iterator for NotIter<T, I> {
+impl<T: Integer, I: Draw<T>> Iterator for NotIter<T, I> {
     type Item = RangeInclusive<T>;
 
-    ghost can_next = { not_can_next T.rank T.value_count I.can_next I.may_give };
+    ghost can_next = { not_can_next T.rank T.value_count I.can_draw I.may_give };
 
     ghost next_gives = { AnswersAndRests T.rank
-        (not_can_next T.rank T.value_count I.can_next I.may_give)
-        (not_may_give T.rank T.value_count I.can_next I.may_give) };
+        (not_can_next T.rank T.value_count I.can_draw I.may_give)
+        (not_may_give T.rank T.value_count I.may_give) };
 
-    ghost remaining = { not_remaining I.remaining };
+    ghost remaining = { not_remaining I.draws_left };
 
     fn next(&mut self) -> Option<RangeInclusive<T>> {
         while let Some(start) = self.start {
-            let Some(range) = self.iter.next() else {
+            let Some(range) = self.iter.draw() else {
                 self.start = None;
                 return Some(start..=T::max_value());
             };
@@ -70,18 +72,32 @@ impl<T: Integer, I: SortedDisjoint<T>> Iterator for NotIter<T, I> {
     }
 }
 
-impl<T: Integer, I: SortedDisjoint<T>> FusedIterator for NotIter<T, I> {}
+impl<T: Integer, I: Draw<T>> FusedIterator for NotIter<T, I> {}
 
-impl<T: Integer, I: SortedDisjoint<T>> SortedStarts<T> for NotIter<T, I> {
-    ghost may_give = { not_may_give T.rank T.value_count I.can_next I.may_give };
+impl<T: Integer, I: Draw<T>> Draw<T> for NotIter<T, I> {
+    ghost can_draw = { ⟦<NotIter<T, I> as Iterator>⟧.can_next };
+
+    ghost draw_gives = { ⟦<NotIter<T, I> as Iterator>⟧.next_gives };
+
+    ghost draws_left = { ⟦<NotIter<T, I> as Iterator>⟧.remaining };
+
+    ghost may_give = { not_may_give T.rank T.value_count I.may_give };
+
+    fn draw(&mut self) -> Option<RangeInclusive<T>> {
+        self.next()
+    }
 
     ghost answers = { λ s t item gives. gives.answers };
 
     ghost sorted = { λ s ready. canonical-starts T.value_count _ _
-        (not-keeps T.rank T.value_count I.can_next I.may_give I.remaining I.sorted s ready) };
+        (not-keeps T.rank T.value_count I.can_draw I.may_give I.draws_left I.sorted s ready) };
 }
 
-impl<T: Integer, I: SortedDisjoint<T>> SortedDisjoint<T> for NotIter<T, I> {
+impl<T: Integer, I: Draw<T>> SortedStarts<T> for NotIter<T, I> {
+    ghost drawn = { drawn-itself };
+}
+
+impl<T: Integer, I: Draw<T>> SortedDisjoint<T> for NotIter<T, I> {
     ghost canonical = { λ s ready.
-        (not-keeps T.rank T.value_count I.can_next I.may_give I.remaining I.sorted s ready).all };
+        (not-keeps T.rank T.value_count I.can_draw I.may_give I.draws_left I.sorted s ready).all };
 }

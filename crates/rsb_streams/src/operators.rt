@@ -1,80 +1,84 @@
 //! The operators `|` and `!` on streams.
 
-ghost use Rattle.rsb_integer.specs.Selection.{complement, union};
-ghost use Rattle.rsb_streams.specs.Stream.{runs_by, runs_by_two, IsStreamOf};
+ghost use Rattle.rsb_streams.specs.Stream.{GivesComplement, GivesUnion, IsReadyAnd};
 
 use crate::check_sorted_disjoint::CheckSortedDisjoint;
+use crate::draw::Draw;
 use crate::not_iter::NotIter;
 use crate::operation_results::Union;
 use crate::range_once::RangeOnce;
-use crate::sorted_disjoint::{SortedDisjoint, SortedStarts};
+use crate::sorted_disjoint::SortedDisjoint;
 use crate::union_iter::UnionIter;
 use rsb_integer::Integer;
 use std::ops::{BitOr, Not, RangeInclusive};
 
-impl<T: Integer, I: SortedDisjoint<T>, R: SortedDisjoint<T>> BitOr<R> for NotIter<T, I> {
+impl<T: Integer, I: Draw<T>, R: SortedDisjoint<T>> BitOr<R> for NotIter<T, I> {
     type Output = Union<T, NotIter<T, I>, R>;
 
     ghost can_bitor = { λ left right.
         (⟦<NotIter<T, I> as Iterator>⟧.can_next left) × (R.can_next right) };
 
     ghost bitor_gives = { λ left right result.
-        IsStreamOf ⟦<Union<T, NotIter<T, I>, R> as SortedStarts<T>>⟧ result
-        (runs_by_two T.value_count union
-        (⟦<NotIter<T, I> as SortedStarts<T>>⟧.may_give left) (R.may_give right)) };
+        IsReadyAnd ⟦<Union<T, NotIter<T, I>, R> as Iterator>⟧.can_next result
+        (GivesUnion T.value_count
+        (⟦<NotIter<T, I> as Draw<T>>⟧.may_give left) (R.may_give right)
+        (⟦<Union<T, NotIter<T, I>, R> as Draw<T>>⟧.may_give result)) };
 
     fn bitor(self, other: R) -> Self::Output {
         Union::from((self, other))
     }
 }
 
-impl<T: Integer, I: SortedDisjoint<T>> Not for NotIter<T, I> {
+impl<T: Integer, I: Draw<T>> Not for NotIter<T, I> {
     type Output = NotIter<T, NotIter<T, I>>;
 
     ghost can_not = { λ stream. ⟦<NotIter<T, I> as Iterator>⟧.can_next stream };
 
     ghost not_gives = { λ stream result.
-        IsStreamOf ⟦<NotIter<T, NotIter<T, I>> as SortedStarts<T>>⟧ result
-        (runs_by T.value_count complement
-        (⟦<NotIter<T, I> as SortedStarts<T>>⟧.may_give stream)) };
+        IsReadyAnd ⟦<NotIter<T, NotIter<T, I>> as Iterator>⟧.can_next result
+        (GivesComplement T.value_count
+        (⟦<NotIter<T, I> as Draw<T>>⟧.may_give stream)
+        (⟦<NotIter<T, NotIter<T, I>> as Draw<T>>⟧.may_give result)) };
 
     fn not(self) -> Self::Output {
         NotIter::from(self)
     }
 }
 
-impl<T: Integer, I: SortedStarts<T>, R: SortedDisjoint<T>> BitOr<R> for UnionIter<T, I> {
+impl<T: Integer, I: Draw<T>, R: SortedDisjoint<T>> BitOr<R> for UnionIter<T, I> {
     type Output = Union<T, UnionIter<T, I>, R>;
 
     ghost can_bitor = { λ left right.
         (⟦<UnionIter<T, I> as Iterator>⟧.can_next left) × (R.can_next right) };
 
     ghost bitor_gives = { λ left right result.
-        IsStreamOf ⟦<Union<T, UnionIter<T, I>, R> as SortedStarts<T>>⟧ result
-        (runs_by_two T.value_count union
-        (⟦<UnionIter<T, I> as SortedStarts<T>>⟧.may_give left) (R.may_give right)) };
+        IsReadyAnd ⟦<Union<T, UnionIter<T, I>, R> as Iterator>⟧.can_next result
+        (GivesUnion T.value_count
+        (⟦<UnionIter<T, I> as Draw<T>>⟧.may_give left) (R.may_give right)
+        (⟦<Union<T, UnionIter<T, I>, R> as Draw<T>>⟧.may_give result)) };
 
     fn bitor(self, other: R) -> Self::Output {
         Union::from((self, other))
     }
 }
 
-impl<T: Integer, I: SortedStarts<T>> Not for UnionIter<T, I> {
+impl<T: Integer, I: Draw<T>> Not for UnionIter<T, I> {
     type Output = NotIter<T, UnionIter<T, I>>;
 
     ghost can_not = { λ stream. ⟦<UnionIter<T, I> as Iterator>⟧.can_next stream };
 
     ghost not_gives = { λ stream result.
-        IsStreamOf ⟦<NotIter<T, UnionIter<T, I>> as SortedStarts<T>>⟧ result
-        (runs_by T.value_count complement
-        (⟦<UnionIter<T, I> as SortedStarts<T>>⟧.may_give stream)) };
+        IsReadyAnd ⟦<NotIter<T, UnionIter<T, I>> as Iterator>⟧.can_next result
+        (GivesComplement T.value_count
+        (⟦<UnionIter<T, I> as Draw<T>>⟧.may_give stream)
+        (⟦<NotIter<T, UnionIter<T, I>> as Draw<T>>⟧.may_give result)) };
 
     fn not(self) -> Self::Output {
         NotIter::from(self)
     }
 }
 
-impl<T: Integer, A: SortedDisjoint<T>, B: SortedDisjoint<T>, R: SortedDisjoint<T>> BitOr<R>
+impl<T: Integer, A: Draw<T>, B: Draw<T>, R: SortedDisjoint<T>> BitOr<R>
     for Union<T, A, B> {
     type Output = Union<T, Union<T, A, B>, R>;
 
@@ -82,24 +86,26 @@ impl<T: Integer, A: SortedDisjoint<T>, B: SortedDisjoint<T>, R: SortedDisjoint<T
         (⟦<Union<T, A, B> as Iterator>⟧.can_next left) × (R.can_next right) };
 
     ghost bitor_gives = { λ left right result.
-        IsStreamOf ⟦<Union<T, Union<T, A, B>, R> as SortedStarts<T>>⟧ result
-        (runs_by_two T.value_count union
-        (⟦<Union<T, A, B> as SortedStarts<T>>⟧.may_give left) (R.may_give right)) };
+        IsReadyAnd ⟦<Union<T, Union<T, A, B>, R> as Iterator>⟧.can_next result
+        (GivesUnion T.value_count
+        (⟦<Union<T, A, B> as Draw<T>>⟧.may_give left) (R.may_give right)
+        (⟦<Union<T, Union<T, A, B>, R> as Draw<T>>⟧.may_give result)) };
 
     fn bitor(self, other: R) -> Self::Output {
         Union::from((self, other))
     }
 }
 
-impl<T: Integer, A: SortedDisjoint<T>, B: SortedDisjoint<T>> Not for Union<T, A, B> {
+impl<T: Integer, A: Draw<T>, B: Draw<T>> Not for Union<T, A, B> {
     type Output = NotIter<T, Union<T, A, B>>;
 
     ghost can_not = { λ stream. ⟦<Union<T, A, B> as Iterator>⟧.can_next stream };
 
     ghost not_gives = { λ stream result.
-        IsStreamOf ⟦<NotIter<T, Union<T, A, B>> as SortedStarts<T>>⟧ result
-        (runs_by T.value_count complement
-        (⟦<Union<T, A, B> as SortedStarts<T>>⟧.may_give stream)) };
+        IsReadyAnd ⟦<NotIter<T, Union<T, A, B>> as Iterator>⟧.can_next result
+        (GivesComplement T.value_count
+        (⟦<Union<T, A, B> as Draw<T>>⟧.may_give stream)
+        (⟦<NotIter<T, Union<T, A, B>> as Draw<T>>⟧.may_give result)) };
 
     fn not(self) -> Self::Output {
         NotIter::from(self)
@@ -114,9 +120,10 @@ impl<T: Integer, I: Iterator<Item = RangeInclusive<T>>, R: SortedDisjoint<T>> Bi
         (⟦<CheckSortedDisjoint<T, I> as Iterator>⟧.can_next left) × (R.can_next right) };
 
     ghost bitor_gives = { λ left right result.
-        IsStreamOf ⟦<Union<T, CheckSortedDisjoint<T, I>, R> as SortedStarts<T>>⟧ result
-        (runs_by_two T.value_count union
-        (⟦<CheckSortedDisjoint<T, I> as SortedStarts<T>>⟧.may_give left) (R.may_give right)) };
+        IsReadyAnd ⟦<Union<T, CheckSortedDisjoint<T, I>, R> as Iterator>⟧.can_next result
+        (GivesUnion T.value_count
+        (⟦<CheckSortedDisjoint<T, I> as Draw<T>>⟧.may_give left) (R.may_give right)
+        (⟦<Union<T, CheckSortedDisjoint<T, I>, R> as Draw<T>>⟧.may_give result)) };
 
     fn bitor(self, other: R) -> Self::Output {
         Union::from((self, other))
@@ -129,9 +136,10 @@ impl<T: Integer, I: Iterator<Item = RangeInclusive<T>>> Not for CheckSortedDisjo
     ghost can_not = { λ stream. ⟦<CheckSortedDisjoint<T, I> as Iterator>⟧.can_next stream };
 
     ghost not_gives = { λ stream result.
-        IsStreamOf ⟦<NotIter<T, CheckSortedDisjoint<T, I>> as SortedStarts<T>>⟧ result
-        (runs_by T.value_count complement
-        (⟦<CheckSortedDisjoint<T, I> as SortedStarts<T>>⟧.may_give stream)) };
+        IsReadyAnd ⟦<NotIter<T, CheckSortedDisjoint<T, I>> as Iterator>⟧.can_next result
+        (GivesComplement T.value_count
+        (⟦<CheckSortedDisjoint<T, I> as Draw<T>>⟧.may_give stream)
+        (⟦<NotIter<T, CheckSortedDisjoint<T, I>> as Draw<T>>⟧.may_give result)) };
 
     fn not(self) -> Self::Output {
         NotIter::from(self)
@@ -145,9 +153,10 @@ impl<T: Integer, R: SortedDisjoint<T>> BitOr<R> for RangeOnce<T> {
         (⟦<RangeOnce<T> as Iterator>⟧.can_next left) × (R.can_next right) };
 
     ghost bitor_gives = { λ left right result.
-        IsStreamOf ⟦<Union<T, RangeOnce<T>, R> as SortedStarts<T>>⟧ result
-        (runs_by_two T.value_count union
-        (⟦<RangeOnce<T> as SortedStarts<T>>⟧.may_give left) (R.may_give right)) };
+        IsReadyAnd ⟦<Union<T, RangeOnce<T>, R> as Iterator>⟧.can_next result
+        (GivesUnion T.value_count
+        (⟦<RangeOnce<T> as Draw<T>>⟧.may_give left) (R.may_give right)
+        (⟦<Union<T, RangeOnce<T>, R> as Draw<T>>⟧.may_give result)) };
 
     fn bitor(self, other: R) -> Self::Output {
         Union::from((self, other))
@@ -160,9 +169,10 @@ impl<T: Integer> Not for RangeOnce<T> {
     ghost can_not = { λ stream. ⟦<RangeOnce<T> as Iterator>⟧.can_next stream };
 
     ghost not_gives = { λ stream result.
-        IsStreamOf ⟦<NotIter<T, RangeOnce<T>> as SortedStarts<T>>⟧ result
-        (runs_by T.value_count complement
-        (⟦<RangeOnce<T> as SortedStarts<T>>⟧.may_give stream)) };
+        IsReadyAnd ⟦<NotIter<T, RangeOnce<T>> as Iterator>⟧.can_next result
+        (GivesComplement T.value_count
+        (⟦<RangeOnce<T> as Draw<T>>⟧.may_give stream)
+        (⟦<NotIter<T, RangeOnce<T>> as Draw<T>>⟧.may_give result)) };
 
     fn not(self) -> Self::Output {
         NotIter::from(self)

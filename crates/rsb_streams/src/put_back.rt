@@ -1,4 +1,4 @@
-//! A stream of which one range may be put back.
+//! A source of which one range may be put back.
 
 ghost use Rattle.rsb_streams.specs.PutBack.{
   put_back-answers,
@@ -12,26 +12,26 @@ ghost use Rattle.rsb_streams.specs.PutBack.{
   PutBackSteps,
 };
 
-use crate::sorted_disjoint::SortedStarts;
+use crate::draw::Draw;
+use crate::fused::Fused;
 use rsb_integer::Integer;
-use std::iter::{Fuse, FusedIterator};
 use std::ops::RangeInclusive;
 
-/// A stream of which one range may be put back. It draws a range only where none is held.
+/// A source of which one range may be put back. It draws a range only where none is held.
 #[derive(Clone, Debug, Drop)]
 pub(crate) struct PutBack<T, I> {
     held: Option<RangeInclusive<T>>,
-    iter: Fuse<I>,
+    iter: Fused<I>,
 }
 
-impl<T, I: Iterator> PutBack<T, I> {
-    /// The stream, of which nothing is drawn yet.
+impl<T, I> PutBack<T, I> {
+    /// The source, of which nothing is drawn yet.
     pub(crate) fn new(iter: I) -> Self
         ensures { IsFresh iter result }
     {
         PutBack {
             held: None,
-            iter: iter.fuse(),
+            iter: Fused::new(iter),
         }
     }
 }
@@ -46,31 +46,25 @@ impl<T: Copy, I> PutBack<T, I> {
     }
 }
 
-impl<T: Integer, I: SortedStarts<T>> Iterator for PutBack<T, I> {
-    type Item = RangeInclusive<T>;
+impl<T: Integer, I: Draw<T>> Draw<T> for PutBack<T, I> {
+    ghost can_draw = { PutBackReady T.rank T.value_count I.can_draw I.may_give };
 
-    ghost can_next = { PutBackReady T.rank T.value_count I.can_next I.may_give };
+    ghost draw_gives = { PutBackSteps I.draw_gives };
 
-    ghost next_gives = { PutBackSteps I.next_gives };
+    ghost draws_left = { put_back_remaining I.draws_left };
 
-    ghost remaining = { put_back_remaining I.remaining };
+    ghost may_give = { put_back_may_give T.rank I.may_give };
 
-    fn next(&mut self) -> Option<RangeInclusive<T>> {
+    fn draw(&mut self) -> Option<RangeInclusive<T>> {
         match self.held.take() {
             Some(range) => Some(range),
-            None => self.iter.next(),
+            None => self.iter.draw(),
         }
     }
-}
 
-impl<T: Integer, I: SortedStarts<T>> FusedIterator for PutBack<T, I> {}
-
-impl<T: Integer, I: SortedStarts<T>> SortedStarts<T> for PutBack<T, I> {
-    ghost may_give = { put_back_may_give T.rank T.value_count I.can_next I.may_give };
-
-    ghost answers = { put_back-answers T.rank T.value_count I.can_next I.may_give I.next_gives
+    ghost answers = { put_back-answers T.rank T.value_count I.can_draw I.may_give I.draw_gives
         I.answers };
 
-    ghost sorted = { put_back-keeps T.rank T.value_count I.can_next I.may_give I.remaining
+    ghost sorted = { put_back-keeps T.rank T.value_count I.can_draw I.may_give I.draws_left
         I.sorted };
 }

@@ -5,8 +5,9 @@ ghost use Rattle.rsb_integer.specs.Rank.{interval_of, intervals_of};
 ghost use Rattle.rsb_integer.specs.Runs.{IsCanonicalIn};
 ghost use Rattle.rsb_streams.specs.Listed.{listed-answers, listed-keeps, listed_may_give};
 ghost use Rattle.rsb_streams.specs.Outcomes.{canonical-starts};
-ghost use Rattle.rsb_streams.specs.Stream.{just, run_if_any, IsStreamOf};
+ghost use Rattle.rsb_streams.specs.Stream.{◌⊆◌, drawn-itself, just, run_if_any, IsReadyAnd};
 
+use crate::draw::Draw;
 use crate::sorted_disjoint::{SortedDisjoint, SortedStarts};
 use rsb_integer::Integer;
 use std::iter::FusedIterator;
@@ -32,8 +33,9 @@ impl<T> Model for RangeOnce<T> {
 impl<T: Integer> RangeOnce<T> {
     /// The range if it is non-empty, else nothing. It takes no memory. (`RangeOnce::new`.)
     pub fn new(range: RangeInclusive<T>) -> Self
-        ensures { IsStreamOf ⟦<RangeOnce<T> as SortedStarts<T>>⟧ result
-            (just (run_if_any (interval_of T.rank range))) }
+        ensures ready { ⟦<RangeOnce<T> as Iterator>⟧.can_next result }
+        ensures gives { ⟦<RangeOnce<T> as Draw<T>>⟧.may_give result
+            ⊆ just (run_if_any (interval_of T.rank range)) }
     {
         RangeOnce::from(range)
     }
@@ -41,8 +43,9 @@ impl<T: Integer> RangeOnce<T> {
 
 impl<T: Integer> From<RangeInclusive<T>> for RangeOnce<T> {
     ghost from_gives = { λ range result.
-        IsStreamOf ⟦<RangeOnce<T> as SortedStarts<T>>⟧ result
-        (just (run_if_any (interval_of T.rank range))) };
+        IsReadyAnd ⟦<RangeOnce<T> as Iterator>⟧.can_next result
+        (⟦<RangeOnce<T> as Draw<T>>⟧.may_give result
+        ⊆ just (run_if_any (interval_of T.rank range))) };
 
     fn from(range: RangeInclusive<T>) -> Self {
         // Its ends are known for values from here on.
@@ -88,13 +91,27 @@ impl<T: Integer> ExactSizeIterator for RangeOnce<T> {
 
 impl<T: Integer> FusedIterator for RangeOnce<T> {}
 
-impl<T: Integer> SortedStarts<T> for RangeOnce<T> {
+impl<T: Integer> Draw<T> for RangeOnce<T> {
+    ghost can_draw = { ⟦<RangeOnce<T> as Iterator>⟧.can_next };
+
+    ghost draw_gives = { ⟦<RangeOnce<T> as Iterator>⟧.next_gives };
+
+    ghost draws_left = { ⟦<RangeOnce<T> as Iterator>⟧.remaining };
+
     ghost may_give = { listed_may_give T.rank (λ s. s) };
+
+    fn draw(&mut self) -> Option<RangeInclusive<T>> {
+        self.next()
+    }
 
     ghost answers = { listed-answers T.rank (λ s. s) };
 
     ghost sorted = { λ s canonical. canonical-starts T.value_count _ _
         (listed-keeps T.rank (λ s. s) T.value_count s canonical) };
+}
+
+impl<T: Integer> SortedStarts<T> for RangeOnce<T> {
+    ghost drawn = { drawn-itself };
 }
 
 impl<T: Integer> SortedDisjoint<T> for RangeOnce<T> {

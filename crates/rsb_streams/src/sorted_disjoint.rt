@@ -1,39 +1,22 @@
 //! The traits of streams, and the operations on them.
 
-ghost use Rattle.std.specs.Prelude.{◌↔◌, Option, IsTrue};
-ghost use Rattle.std.specs.declared.ops.RangeInclusive.{RangeInclusive};
+ghost use Rattle.std.specs.Prelude.{◌↔◌, IsTrue};
 ghost use Rattle.rsb_integer.specs.Runs.{members, IsCanonicalIn};
-ghost use Rattle.rsb_integer.specs.Selection.{complement, union, IsEverything, IsNothing};
-ghost use Rattle.rsb_streams.specs.Stream.{
-  ◌⊆◌,
-  runs_by,
-  runs_by_two,
-  Answers,
-  HasSortedStarts,
-  IsStreamOf,
-  Keeps,
-  Outcomes,
-  SomeOutcome,
-};
+ghost use Rattle.rsb_integer.specs.Selection.{IsEverything, IsNothing};
+ghost use Rattle.rsb_streams.specs.Stream.{◌⊆◌, GivesComplement, GivesUnion, IsDrawn, SomeOutcome};
 
+use crate::draw::Draw;
 use crate::not_iter::NotIter;
 use crate::operation_results::Union;
 use rsb_integer::Integer;
 use std::iter::FusedIterator;
 use std::ops::RangeInclusive;
 
-/// A stream of non-empty ranges whose starts do not fall.
-pub trait SortedStarts<T: Integer>: Iterator<Item = RangeInclusive<T>> + FusedIterator {
-    // The lists that may still come, as intervals of ranks.
-    ghost may_give: { Self → Outcomes };
-
-    // A call answers what may come, and leaves what may come after that.
-    ghost answers: { (s t : Self) (item : Option (RangeInclusive T))
-        → Self.next_gives s item t → Answers T.rank may_give s item t };
-
-    // A stream that may be called gives something, ends, and no start falls.
-    ghost sorted: { (s : Self) → Self.can_next s
-        → Keeps (HasSortedStarts T.value_count) (may_give s) (Self.remaining s) };
+/// A stream of non-empty ranges whose starts do not fall. (`SortedStarts` of the Rust crate.)
+pub trait SortedStarts<T: Integer>: Iterator<Item = RangeInclusive<T>> + FusedIterator + Draw<T> {
+    // `next` is `draw`.
+    ghost drawn: { IsDrawn Self.can_draw Self.draw_gives Self.draws_left
+        Self.can_next Self.next_gives Self.remaining };
 }
 
 /// A stream of ranges in ascending order that neither overlap nor touch.
@@ -43,8 +26,9 @@ pub trait SortedDisjoint<T: Integer>: SortedStarts<T> {
     where
         Self: Sized,
         requires { Self.can_next self }
-        ensures { IsStreamOf ⟦<NotIter<T, Self> as SortedStarts<T>>⟧ result
-            (runs_by T.value_count complement (Self.may_give self)) }
+        ensures ready { ⟦<NotIter<T, Self> as Iterator>⟧.can_next result }
+        ensures gives { GivesComplement T.value_count (Self.may_give self)
+            (⟦<NotIter<T, Self> as Draw<T>>⟧.may_give result) }
     {
         NotIter::new(self)
     }
@@ -55,8 +39,9 @@ pub trait SortedDisjoint<T: Integer>: SortedStarts<T> {
         Self: Sized,
         requires left { Self.can_next self }
         requires right { R.can_next other }
-        ensures { IsStreamOf ⟦<Union<T, Self, R> as SortedStarts<T>>⟧ result
-            (runs_by_two T.value_count union (Self.may_give self) (R.may_give other)) }
+        ensures ready { ⟦<Union<T, Self, R> as Iterator>⟧.can_next result }
+        ensures gives { GivesUnion T.value_count (Self.may_give self) (R.may_give other)
+            (⟦<Union<T, Self, R> as Draw<T>>⟧.may_give result) }
     {
         Union::from((self, other))
     }
@@ -70,7 +55,7 @@ pub trait SortedDisjoint<T: Integer>: SortedStarts<T> {
             (λ runs. IsTrue result ↔ IsNothing (members runs)) }
     {
         let mut stream = self;
-        stream.next().is_none()
+        stream.draw().is_none()
     }
 
     /// Whether every value is a member. It takes no memory. (`is_universal` of the Rust crate.)
@@ -82,7 +67,7 @@ pub trait SortedDisjoint<T: Integer>: SortedStarts<T> {
             IsTrue result ↔ IsEverything T.value_count (members runs)) }
     {
         let mut stream = self;
-        let Some(range) = stream.next() else {
+        let Some(range) = stream.draw() else {
             return false;
         };
         let (start, end) = range.into_inner();
@@ -92,8 +77,8 @@ pub trait SortedDisjoint<T: Integer>: SortedStarts<T> {
         T::max_value() <= end
     }
 
-    // What may come of a stream that may be called is canonical.
-    ghost canonical: { (s : Self) → Self.can_next s
+    // What may come of a stream that may be drawn from is canonical.
+    ghost canonical: { (s : Self) → Self.can_draw s
         → Self.may_give s ⊆ IsCanonicalIn T.value_count };
 }
 

@@ -2,7 +2,7 @@
 
 ghost use Rattle.rsb_streams.specs.Outcomes.{canonical-starts};
 ghost use Rattle.rsb_streams.specs.PutBack.{IsFresh};
-ghost use Rattle.rsb_streams.specs.Stream.{joined, AnswersAndRests, IsStreamOf};
+ghost use Rattle.rsb_streams.specs.Stream.{◌⊆◌, drawn-itself, joined, AnswersAndRests};
 ghost use Rattle.rsb_streams.specs.UnionIter.{
   union-keeps,
   union_can_next,
@@ -10,6 +10,7 @@ ghost use Rattle.rsb_streams.specs.UnionIter.{
   union_remaining,
 };
 
+use crate::draw::Draw;
 use crate::put_back::PutBack;
 use crate::sorted_disjoint::{SortedDisjoint, SortedStarts};
 use rsb_integer::Integer;
@@ -23,7 +24,7 @@ pub struct UnionIter<T, SS> {
     iter: PutBack<T, SS>,
 }
 
-impl<T, SS: Iterator> UnionIter<T, SS> {
+impl<T, SS> UnionIter<T, SS> {
     /// The union of what an iterator gives, of which nothing is drawn yet.
     pub(crate) fn over(iter: SS) -> Self
         ensures { IsFresh iter result.iter }
@@ -38,27 +39,28 @@ impl<T: Integer, SS: SortedStarts<T>> UnionIter<T, SS> {
     /// The union of the ranges of a stream, of which nothing is drawn yet.
     pub fn new(iter: SS) -> Self
         requires { SS.can_next iter }
-        ensures { IsStreamOf ⟦<UnionIter<T, SS> as SortedStarts<T>>⟧ result
-            (joined T.value_count (SS.may_give iter)) }
+        ensures ready { ⟦<UnionIter<T, SS> as Iterator>⟧.can_next result }
+        ensures gives { ⟦<UnionIter<T, SS> as Draw<T>>⟧.may_give result
+            ⊆ joined T.value_count (SS.may_give iter) }
     {
         UnionIter::over(iter)
     }
 }
 
-impl<T: Integer, SS: SortedStarts<T>> Iterator for UnionIter<T, SS> {
+impl<T: Integer, SS: Draw<T>> Iterator for UnionIter<T, SS> {
     type Item = RangeInclusive<T>;
 
-    ghost can_next = { union_can_next T.rank T.value_count SS.can_next SS.may_give };
+    ghost can_next = { union_can_next T.rank T.value_count SS.can_draw SS.may_give };
 
     ghost next_gives = { AnswersAndRests T.rank
-        (union_can_next T.rank T.value_count SS.can_next SS.may_give)
-        (union_may_give T.rank T.value_count SS.can_next SS.may_give) };
+        (union_can_next T.rank T.value_count SS.can_draw SS.may_give)
+        (union_may_give T.rank T.value_count SS.may_give) };
 
-    ghost remaining = { union_remaining SS.remaining };
+    ghost remaining = { union_remaining SS.draws_left };
 
     fn next(&mut self) -> Option<RangeInclusive<T>> {
-        let (start, mut end) = self.iter.next()?.into_inner();
-        while let Some(range) = self.iter.next() {
+        let (start, mut end) = self.iter.draw()?.into_inner();
+        while let Some(range) = self.iter.draw() {
             if let Some(after) = end.checked_add_one() {
                 if after < *range.start() {
                     self.iter.put_back(range);
@@ -71,19 +73,33 @@ impl<T: Integer, SS: SortedStarts<T>> Iterator for UnionIter<T, SS> {
     }
 }
 
-impl<T: Integer, SS: SortedStarts<T>> FusedIterator for UnionIter<T, SS> {}
+impl<T: Integer, SS: Draw<T>> FusedIterator for UnionIter<T, SS> {}
 
-impl<T: Integer, SS: SortedStarts<T>> SortedStarts<T> for UnionIter<T, SS> {
-    ghost may_give = { union_may_give T.rank T.value_count SS.can_next SS.may_give };
+impl<T: Integer, SS: Draw<T>> Draw<T> for UnionIter<T, SS> {
+    ghost can_draw = { ⟦<UnionIter<T, SS> as Iterator>⟧.can_next };
+
+    ghost draw_gives = { ⟦<UnionIter<T, SS> as Iterator>⟧.next_gives };
+
+    ghost draws_left = { ⟦<UnionIter<T, SS> as Iterator>⟧.remaining };
+
+    ghost may_give = { union_may_give T.rank T.value_count SS.may_give };
+
+    fn draw(&mut self) -> Option<RangeInclusive<T>> {
+        self.next()
+    }
 
     ghost answers = { λ s t item gives. gives.answers };
 
     ghost sorted = { λ s ready. canonical-starts T.value_count _ _
-        (union-keeps T.rank T.value_count SS.can_next SS.may_give SS.remaining SS.sorted s ready) };
+        (union-keeps T.rank T.value_count SS.can_draw SS.may_give SS.draws_left SS.sorted s ready) };
 }
 
-impl<T: Integer, SS: SortedStarts<T>> SortedDisjoint<T> for UnionIter<T, SS> {
+impl<T: Integer, SS: Draw<T>> SortedStarts<T> for UnionIter<T, SS> {
+    ghost drawn = { drawn-itself };
+}
+
+impl<T: Integer, SS: Draw<T>> SortedDisjoint<T> for UnionIter<T, SS> {
     ghost canonical = { λ s ready.
-        (union-keeps T.rank T.value_count SS.can_next SS.may_give SS.remaining SS.sorted
+        (union-keeps T.rank T.value_count SS.can_draw SS.may_give SS.draws_left SS.sorted
         s ready).all };
 }

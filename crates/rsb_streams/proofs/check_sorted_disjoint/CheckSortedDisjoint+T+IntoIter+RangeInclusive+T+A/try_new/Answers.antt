@@ -13,10 +13,7 @@ new-requires-after_bounds g c κs within = λ source becomes.
 
 -- the stream gives the items of the list
 pub returns-clause-runs : goal.returns-clause-runs
-returns-clause-runs g c = record {
-  ready = c.new.ensures.ready;
-  runs = λ runs may.
-      let given = c.new.ensures.runs runs may in
-      vec-calls g.T.Integer.rank g.T.Integer.value_count given.0 runs given.2
-      ∙ ap (intervals_of g.T.Integer.rank) given.1.0;
-}
+returns-clause-runs g c = λ runs may.
+    let given = c.new.ensures.gives runs may in
+    vec-calls g.T.Integer.rank g.T.Integer.value_count given.0 runs given.2
+    ∙ ap (intervals_of g.T.Integer.rank) given.1.0

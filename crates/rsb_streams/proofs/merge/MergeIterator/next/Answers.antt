@@ -8,30 +8,30 @@ use Rattle.rsb_streams.proofs.merge.MergeIterator.next.Goals as goal
 
 abbrev left : (g : Over) → Source g.row.L.Denot g.row.T.Denot
 left g = record {
-  can_next = g.L.Iterator.can_next;
-  steps = g.L.Iterator.next_gives;
-  remaining = g.L.Iterator.remaining;
-  may_give = g.L.SortedStarts.may_give;
+  can_next = g.L.Draw.can_draw;
+  steps = g.L.Draw.draw_gives;
+  remaining = g.L.Draw.draws_left;
+  may_give = g.L.Draw.may_give;
 }
 
 abbrev right : (g : Over) → Source g.row.R.Denot g.row.T.Denot
 right g = record {
-  can_next = g.R.Iterator.can_next;
-  steps = g.R.Iterator.next_gives;
-  remaining = g.R.Iterator.remaining;
-  may_give = g.R.SortedStarts.may_give;
+  can_next = g.R.Draw.can_draw;
+  steps = g.R.Draw.draw_gives;
+  remaining = g.R.Draw.draws_left;
+  may_give = g.R.Draw.may_give;
 }
 
 left_laws : (g : Over) → IsLawful g.T.Integer.rank g.T.Integer.value_count (left g)
 left_laws g = record {
-  answers = g.met.L.SortedStarts.answers;
-  sorted = g.met.L.SortedStarts.sorted;
+  answers = g.met.L.Draw.answers;
+  sorted = g.met.L.Draw.sorted;
 }
 
 right_laws : (g : Over) → IsLawful g.T.Integer.rank g.T.Integer.value_count (right g)
 right_laws g = record {
-  answers = g.met.R.SortedStarts.answers;
-  sorted = g.met.R.SortedStarts.sorted;
+  answers = g.met.R.Draw.answers;
+  sorted = g.met.R.Draw.sorted;
 }
 
 ranked : (g : Over) → IsRanked g.T.Integer.rank g.T.Integer.value_count g.T.PartialOrd.partial_cmp
@@ -45,27 +45,27 @@ pub returns-in_default-clause-steps : goal.returns-in_default-clause-steps
 returns-in_default-clause-steps g c =
     only-right g.T.Integer.rank g.T.Integer.value_count (left g) (right g) (left_laws g)
     (right_laws g)
-    c.args.self.now _ c.next-in_default.result c.requires c.in_default.ensures.steps
-    c.next-in_default.ensures.steps
+    c.args.self.now _ c.draw-in_default.result c.requires c.in_default.ensures.steps
+    c.draw-in_default.ensures.steps
 
-pub returns-in_default-next-clause-steps : goal.returns-in_default-next-clause-steps
-returns-in_default-next-clause-steps g c =
+pub returns-in_default-draw-clause-steps : goal.returns-in_default-draw-clause-steps
+returns-in_default-draw-clause-steps g c =
     only-left g.T.Integer.rank g.T.Integer.value_count (left g) (right g) (left_laws g)
     (right_laws g)
     c.args.self.now _ c.in-Some.first c.requires c.in-Some.ensures.steps
-    c.in_default-next.ensures.steps
+    c.in_default-draw.ensures.steps
 
 -- the right range starts first
 less : (g : Over) (c : goal.After-put_back g)
-    → g.T.Integer.rank (range_inclusive_start c.in-Some-next.second)
+    → g.T.Integer.rank (range_inclusive_start c.in-Some-draw.second)
     < g.T.Integer.rank (range_inclusive_start c.in-Some.first)
 less g c =
     let rank = g.T.Integer.rank in
     let n = g.T.Integer.value_count in
     let values = start-values rank n (left g) (right g) (left_laws g) (right_laws g) c.args.self.now
-    c.next.new.self c.next-2.new.self c.in-Some.first c.in-Some-next.second c.requires
-    c.in-Some.ensures.steps c.in-Some-next.ensures.steps c.in-Some.ensures.goes
-    c.in-Some-next.ensures.goes in
+    c.draw.new.self c.draw-2.new.self c.in-Some.first c.in-Some-draw.second c.requires
+    c.in-Some.ensures.steps c.in-Some-draw.ensures.steps c.in-Some.ensures.goes
+    c.in-Some-draw.ensures.goes in
     let low : rank c.start.result.now < n = omega (arith, values.1, ap rank c.start.ensures) in
     let high : rank c.start-2.result.now < n = omega (arith, values.0, ap rank c.start-2.ensures) in
     let less = less-rank rank n g.T.PartialOrd.partial_cmp g.T.Ord.cmp (ranked g) c.start.result.now
@@ -76,31 +76,31 @@ pub returns-then-lt-clause-steps : goal.returns-then-lt-clause-steps
 returns-then-lt-clause-steps g c =
     right-answers g.T.Integer.rank g.T.Integer.value_count (left g) (right g) (left_laws g)
     (right_laws g)
-    c.args.self.now c.next.new.self c.next-2.new.self c.in-Some.first c.in-Some-next.second
+    c.args.self.now c.draw.new.self c.draw-2.new.self c.in-Some.first c.in-Some-draw.second
     c.requires
-    c.in-Some.ensures.steps c.in-Some-next.ensures.steps c.in-Some.ensures.goes
-    c.in-Some-next.ensures.goes c.put_back.new.self c.put_back.ensures (less g c)
+    c.in-Some.ensures.steps c.in-Some-draw.ensures.steps c.in-Some.ensures.goes
+    c.in-Some-draw.ensures.goes c.put_back.new.self c.put_back.ensures (less g c)
 
 pub returns-then-lt-clause-goes : goal.returns-then-lt-clause-goes
 returns-then-lt-clause-goes g c =
     right-goes g.T.Integer.rank g.T.Integer.value_count (left g) (right g) (left_laws g)
     (right_laws g)
-    c.args.self.now c.next.new.self c.next-2.new.self c.in-Some.first c.in-Some-next.second
+    c.args.self.now c.draw.new.self c.draw-2.new.self c.in-Some.first c.in-Some-draw.second
     c.requires
-    c.in-Some.ensures.steps c.in-Some-next.ensures.steps c.in-Some.ensures.goes
-    c.in-Some-next.ensures.goes c.put_back.new.self c.put_back.ensures (less g c)
+    c.in-Some.ensures.steps c.in-Some-draw.ensures.steps c.in-Some.ensures.goes
+    c.in-Some-draw.ensures.goes c.put_back.new.self c.put_back.ensures (less g c)
 
 -- the left range starts no later
 most : (g : Over) (c : goal.After-put_back-2 g)
     → g.T.Integer.rank (range_inclusive_start c.in-Some.first)
-    ≤ g.T.Integer.rank (range_inclusive_start c.in-Some-next.second)
+    ≤ g.T.Integer.rank (range_inclusive_start c.in-Some-draw.second)
 most g c =
     let rank = g.T.Integer.rank in
     let n = g.T.Integer.value_count in
     let values = start-values rank n (left g) (right g) (left_laws g) (right_laws g) c.args.self.now
-    c.next.new.self c.next-2.new.self c.in-Some.first c.in-Some-next.second c.requires
-    c.in-Some.ensures.steps c.in-Some-next.ensures.steps c.in-Some.ensures.goes
-    c.in-Some-next.ensures.goes in
+    c.draw.new.self c.draw-2.new.self c.in-Some.first c.in-Some-draw.second c.requires
+    c.in-Some.ensures.steps c.in-Some-draw.ensures.steps c.in-Some.ensures.goes
+    c.in-Some-draw.ensures.goes in
     let low : rank c.start.result.now < n = omega (arith, values.1, ap rank c.start.ensures) in
     let high : rank c.start-2.result.now < n = omega (arith, values.0, ap rank c.start-2.ensures) in
     let most = not_less-rank rank n g.T.PartialOrd.partial_cmp g.T.Ord.cmp (ranked g)
@@ -112,16 +112,16 @@ pub returns-clause-steps : goal.returns-clause-steps
 returns-clause-steps g c =
     left-answers g.T.Integer.rank g.T.Integer.value_count (left g) (right g) (left_laws g)
     (right_laws g)
-    c.args.self.now c.next.new.self c.next-2.new.self c.in-Some.first c.in-Some-next.second
+    c.args.self.now c.draw.new.self c.draw-2.new.self c.in-Some.first c.in-Some-draw.second
     c.requires
-    c.in-Some.ensures.steps c.in-Some-next.ensures.steps c.in-Some.ensures.goes
-    c.in-Some-next.ensures.goes c.put_back-2.new.self c.put_back-2.ensures (most g c)
+    c.in-Some.ensures.steps c.in-Some-draw.ensures.steps c.in-Some.ensures.goes
+    c.in-Some-draw.ensures.goes c.put_back-2.new.self c.put_back-2.ensures (most g c)
 
 pub returns-clause-goes : goal.returns-clause-goes
 returns-clause-goes g c =
     left-goes g.T.Integer.rank g.T.Integer.value_count (left g) (right g) (left_laws g)
     (right_laws g)
-    c.args.self.now c.next.new.self c.next-2.new.self c.in-Some.first c.in-Some-next.second
+    c.args.self.now c.draw.new.self c.draw-2.new.self c.in-Some.first c.in-Some-draw.second
     c.requires
-    c.in-Some.ensures.steps c.in-Some-next.ensures.steps c.in-Some.ensures.goes
-    c.in-Some-next.ensures.goes c.put_back-2.new.self c.put_back-2.ensures (most g c)
+    c.in-Some.ensures.steps c.in-Some-draw.ensures.steps c.in-Some.ensures.goes
+    c.in-Some-draw.ensures.goes c.put_back-2.new.self c.put_back-2.ensures (most g c)

@@ -7,8 +7,8 @@ use Rattle.rsb_streams.proofs.not_iter.NotIterIterator.next.Goals as goal
 
 laws : (g : Over) → IsLawful g.T.Integer.rank g.T.Integer.value_count (source g)
 laws g = record {
-  answers = g.met.I.SortedStarts.answers;
-  sorted = g.met.I.SortedStarts.sorted;
+  answers = g.met.I.Draw.answers;
+  sorted = g.met.I.Draw.sorted;
 }
 
 ranked : (g : Over) → IsRanked g.T.Integer.rank g.T.Integer.value_count g.T.PartialOrd.partial_cmp
@@ -19,33 +19,30 @@ ranked g = record {
 }
 
 -- the gap to the greatest value
-pub returns-in_default-next-clause-steps : goal.returns-in_default-next-clause-steps
-returns-in_default-next-clause-steps g c =
+pub returns-in_default-draw-clause-steps : goal.returns-in_default-draw-clause-steps
+returns-in_default-draw-clause-steps g c =
     last-gap g.T.Integer.rank g.T.Integer.value_count (source g) (laws g)
-    g.met.I.SortedDisjoint.canonical
-    c.args.self.now c.loop-self.self.iter c.next.new.self c.loop-self.self.start c.in-Some.start
+    c.args.self.now c.loop-self.self.iter c.draw.new.self c.loop-self.self.start c.in-Some.start
     c.max_value.result c.new.result c.loop-self.invariant c.in-Some.is
-    c.in_default-next.ensures.steps
+    c.in_default-draw.ensures.steps
     c.max_value.ensures c.new.ensures.exhausted c.new.ensures.start c.new.ensures.end
 
 -- the gap before a range
 pub returns-then-lt-clause-steps : goal.returns-then-lt-clause-steps
 returns-then-lt-clause-steps g c =
     gap-answers g.T.Integer.rank g.T.Integer.value_count (source g) (laws g)
-    g.met.I.SortedDisjoint.canonical
-    c.args.self.now c.loop-self.self.iter c.next.new.self c.loop-self.self.start c.in-Some.start
+    c.args.self.now c.loop-self.self.iter c.draw.new.self c.loop-self.self.start c.in-Some.start
     c.into_inner-past_gap.result.0 c.into_inner-past_gap.result.1 c.checked_add_one-self.result
-    c.in-Some-next.range c.loop-self.invariant c.in-Some.is c.in-Some-next.ensures.steps
-    c.in-Some-next.ensures.goes c.into_inner-past_gap.ensures.start
+    c.in-Some-draw.range c.loop-self.invariant c.in-Some.is c.in-Some-draw.ensures.steps
+    c.in-Some-draw.ensures.goes c.into_inner-past_gap.ensures.start
     c.into_inner-past_gap.ensures.end
     c.checked_add_one-self.ensures.none c.checked_add_one-self.ensures.next
     c.sub_one.result c.new-then-lt.result
     (gap-less g.T.Integer.rank g.T.Integer.value_count (source g) (laws g)
-    g.met.I.SortedDisjoint.canonical
-    c.args.self.now c.loop-self.self.iter c.next.new.self c.loop-self.self.start c.in-Some.start
+    c.args.self.now c.loop-self.self.iter c.draw.new.self c.loop-self.self.start c.in-Some.start
     c.into_inner-past_gap.result.0 c.into_inner-past_gap.result.1 c.checked_add_one-self.result
-    c.in-Some-next.range c.loop-self.invariant c.in-Some.is c.in-Some-next.ensures.steps
-    c.in-Some-next.ensures.goes c.into_inner-past_gap.ensures.start
+    c.in-Some-draw.range c.loop-self.invariant c.in-Some.is c.in-Some-draw.ensures.steps
+    c.in-Some-draw.ensures.goes c.into_inner-past_gap.ensures.start
     c.into_inner-past_gap.ensures.end
     c.checked_add_one-self.ensures.none c.checked_add_one-self.ensures.next
     g.T.PartialOrd.partial_cmp g.T.Ord.cmp (ranked g) c.if-lt.ensures)
@@ -55,11 +52,10 @@ returns-then-lt-clause-steps g c =
 pub returns-then-lt-clause-goes : goal.returns-then-lt-clause-goes
 returns-then-lt-clause-goes g c =
     gap-goes g.T.Integer.rank g.T.Integer.value_count (source g) (laws g)
-    g.met.I.SortedDisjoint.canonical
-    c.args.self.now c.loop-self.self.iter c.next.new.self c.loop-self.self.start c.in-Some.start
+    c.args.self.now c.loop-self.self.iter c.draw.new.self c.loop-self.self.start c.in-Some.start
     c.into_inner-past_gap.result.0 c.into_inner-past_gap.result.1 c.checked_add_one-self.result
-    c.in-Some-next.range c.loop-self.invariant c.in-Some.is c.in-Some-next.ensures.steps
-    c.in-Some-next.ensures.goes c.into_inner-past_gap.ensures.start
+    c.in-Some-draw.range c.loop-self.invariant c.in-Some.is c.in-Some-draw.ensures.steps
+    c.in-Some-draw.ensures.goes c.into_inner-past_gap.ensures.start
     c.into_inner-past_gap.ensures.end
     c.checked_add_one-self.ensures.none c.checked_add_one-self.ensures.next
     c.new-then-lt.result
@@ -68,19 +64,17 @@ returns-then-lt-clause-goes g c =
 pub loop-self-preserved : goal.loop-self-preserved
 loop-self-preserved g c =
     so-next g.T.Integer.rank g.T.Integer.value_count (source g) (laws g)
-    g.met.I.SortedDisjoint.canonical
-    c.args.self.now c.loop-self.self.iter c.next.new.self c.loop-self.self.start c.in-Some.start
+    c.args.self.now c.loop-self.self.iter c.draw.new.self c.loop-self.self.start c.in-Some.start
     c.into_inner-past_gap.result.0 c.into_inner-past_gap.result.1 c.checked_add_one-self.result
-    c.in-Some-next.range c.loop-self.invariant c.in-Some.is c.in-Some-next.ensures.steps
-    c.in-Some-next.ensures.goes c.into_inner-past_gap.ensures.start
+    c.in-Some-draw.range c.loop-self.invariant c.in-Some.is c.in-Some-draw.ensures.steps
+    c.in-Some-draw.ensures.goes c.into_inner-past_gap.ensures.start
     c.into_inner-past_gap.ensures.end
     c.checked_add_one-self.ensures.none c.checked_add_one-self.ensures.next
     (gap-none g.T.Integer.rank g.T.Integer.value_count (source g) (laws g)
-    g.met.I.SortedDisjoint.canonical
-    c.args.self.now c.loop-self.self.iter c.next.new.self c.loop-self.self.start c.in-Some.start
+    c.args.self.now c.loop-self.self.iter c.draw.new.self c.loop-self.self.start c.in-Some.start
     c.into_inner-past_gap.result.0 c.into_inner-past_gap.result.1 c.checked_add_one-self.result
-    c.in-Some-next.range c.loop-self.invariant c.in-Some.is c.in-Some-next.ensures.steps
-    c.in-Some-next.ensures.goes c.into_inner-past_gap.ensures.start
+    c.in-Some-draw.range c.loop-self.invariant c.in-Some.is c.in-Some-draw.ensures.steps
+    c.in-Some-draw.ensures.goes c.into_inner-past_gap.ensures.start
     c.into_inner-past_gap.ensures.end
     c.checked_add_one-self.ensures.none c.checked_add_one-self.ensures.next
     g.T.PartialOrd.partial_cmp g.T.Ord.cmp (ranked g) c.if-lt.ensures)

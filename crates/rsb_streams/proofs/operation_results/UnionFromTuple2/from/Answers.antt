@@ -8,18 +8,18 @@ use Rattle.rsb_streams.proofs.operation_results.UnionFromTuple2.from.Goals as go
 
 abbrev left : (g : Over) → Source g.row.L.Denot g.row.T.Denot
 left g = record {
-  can_next = g.L.Iterator.can_next;
-  steps = g.L.Iterator.next_gives;
-  remaining = g.L.Iterator.remaining;
-  may_give = g.L.SortedStarts.may_give;
+  can_next = g.L.Draw.can_draw;
+  steps = g.L.Draw.draw_gives;
+  remaining = g.L.Draw.draws_left;
+  may_give = g.L.Draw.may_give;
 }
 
 abbrev right : (g : Over) → Source g.row.R.Denot g.row.T.Denot
 right g = record {
-  can_next = g.R.Iterator.can_next;
-  steps = g.R.Iterator.next_gives;
-  remaining = g.R.Iterator.remaining;
-  may_give = g.R.SortedStarts.may_give;
+  can_next = g.R.Draw.can_draw;
+  steps = g.R.Draw.draw_gives;
+  remaining = g.R.Draw.draws_left;
+  may_give = g.R.Draw.may_give;
 }
 
 abbrev merged : (g : Over) → Source (Merge g.row.T.Denot g.row.L.Denot g.row.R.Denot) g.row.T.Denot
@@ -28,8 +28,7 @@ merged g =
     let n = g.T.Integer.value_count in
     let ready = MergeReady rank n (left g).can_next (left g).may_give (right g).can_next
     (right g).may_give in
-    let may = merge_may_give rank n (left g).can_next (left g).may_give (right g).can_next
-    (right g).may_give in
+    let may = merge_may_give rank n (left g).may_give (right g).may_give in
     record {
       can_next = ready;
       steps = AnswersAndRests rank ready may;
@@ -39,24 +38,26 @@ merged g =
 
 -- a union of the merge of the two
 pub returns : goal.returns
-returns g c = λ left_can right_can.
+returns g c = λ left_ready right_ready.
     let rank = g.T.Integer.rank in
     let n = g.T.Integer.value_count in
     let merge = c.of-merge.result in
     let first = c.args.streams.0 in
     let second = c.args.streams.1 in
+    let left_can = g.met.L.SortedStarts.drawn.drawable first left_ready in
+    let right_can = g.met.R.SortedStarts.drawn.drawable second right_ready in
     let ready : (merged g).can_next merge = record {
       left = fresh-ready rank n (left g) first merge.left c.of-merge.ensures.left left_can
-          (g.met.L.SortedStarts.sorted first left_can).all;
+          (g.met.L.Draw.sorted first left_can).all;
       right = fresh-ready rank n (right g) second merge.right c.of-merge.ensures.right right_can
-          (g.met.R.SortedStarts.sorted second right_can).all;
+          (g.met.R.Draw.sorted second right_can).all;
     } in
     let kept = merge-keeps rank n (left g).can_next (left g).may_give (left g).remaining
-    g.met.L.SortedStarts.sorted (right g).can_next (right g).may_give (right g).remaining
-    g.met.R.SortedStarts.sorted merge ready in
+    g.met.L.Draw.sorted (right g).can_next (right g).may_give (right g).remaining
+    g.met.R.Draw.sorted merge ready in
     record {
       ready = fresh-ready rank n (merged g) merge c.over.result.iter c.over.ensures ready kept.all;
-      runs = λ runs may. union-of_merge n ((left g).may_give first) ((right g).may_give second)
+      gives = λ runs may. union-of_merge n ((left g).may_give first) ((right g).may_give second)
           ((merged g).may_give merge)
           (λ given at nothing. at (λ one two also too all. nothing one two
           (fresh-may rank n (left g) first merge.left c.of-merge.ensures.left one also)

@@ -5,21 +5,21 @@ use Rattle.rsb_streams.proofs.sorted_disjoint.SortedDisjoint.is_empty.Goals as g
 
 abbrev source : (g : Over) → Source g.row.Self.Denot g.row.T.Denot
 source g = record {
-  can_next = g.Self.Iterator.can_next;
-  steps = g.Self.Iterator.next_gives;
-  remaining = g.Self.Iterator.remaining;
-  may_give = g.Self.SortedStarts.may_give;
+  can_next = g.Self.Draw.can_draw;
+  steps = g.Self.Draw.draw_gives;
+  remaining = g.Self.Draw.draws_left;
+  may_give = g.Self.Draw.may_give;
 }
 
 laws : (g : Over) → IsLawful g.T.Integer.rank g.T.Integer.value_count (source g)
 laws g = record {
-  answers = g.met.Self.SortedStarts.answers;
-  sorted = g.met.Self.SortedStarts.sorted;
+  answers = g.met.Self.Draw.answers;
+  sorted = g.met.Self.Draw.sorted;
 }
 
 pub returns : goal.returns
 returns g c =
     tells-nothing g.T.Integer.rank g.T.Integer.value_count (source g) (laws g) c.args.self
-    c.next.new.self
-    c.requires c.next.result c.is_none.result c.next.ensures.steps c.next.ensures.goes
+    c.draw.new.self
+    (g.met.Self.SortedStarts.drawn.drawable c.args.self c.requires) c.draw.result c.is_none.result c.draw.ensures.steps c.draw.ensures.goes
     c.is_none.ensures

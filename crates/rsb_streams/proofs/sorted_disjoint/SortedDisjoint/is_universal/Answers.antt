@@ -11,16 +11,16 @@ use Rattle.rsb_streams.proofs.sorted_disjoint.SortedDisjoint.is_universal.Goals 
 
 abbrev source : (g : Over) → Source g.row.Self.Denot g.row.T.Denot
 source g = record {
-  can_next = g.Self.Iterator.can_next;
-  steps = g.Self.Iterator.next_gives;
-  remaining = g.Self.Iterator.remaining;
-  may_give = g.Self.SortedStarts.may_give;
+  can_next = g.Self.Draw.can_draw;
+  steps = g.Self.Draw.draw_gives;
+  remaining = g.Self.Draw.draws_left;
+  may_give = g.Self.Draw.may_give;
 }
 
 laws : (g : Over) → IsLawful g.T.Integer.rank g.T.Integer.value_count (source g)
 laws g = record {
-  answers = g.met.Self.SortedStarts.answers;
-  sorted = g.met.Self.SortedStarts.sorted;
+  answers = g.met.Self.Draw.answers;
+  sorted = g.met.Self.Draw.sorted;
 }
 
 ranked : (g : Over) → IsRanked g.T.Integer.rank g.T.Integer.value_count g.T.PartialOrd.partial_cmp
@@ -37,8 +37,9 @@ pub returns-then-lt : goal.returns-then-lt
 returns-then-lt g c =
     let rank = g.T.Integer.rank in
     let n = g.T.Integer.value_count in
+    let can = g.met.Self.SortedStarts.drawn.drawable c.args.self c.requires in
     let run = interval_of rank c.in-Some.range in
-    let facts = first-range rank n (source g) (laws g) c.args.self c.next.new.self c.requires
+    let facts = first-range rank n (source g) (laws g) c.args.self c.draw.new.self can
     c.in-Some.range c.in-Some.ensures.steps c.in-Some.ensures.goes in
     let start = range-start rank c.in-Some.range facts.0
     ∙ sym (ap rank c.into_inner-start.ensures.start) in
@@ -47,10 +48,10 @@ returns-then-lt g c =
     let low : rank c.into_inner-start.result.0 < n = omega (arith, facts.0, facts.1, start) in
     let less = less-rank rank n g.T.PartialOrd.partial_cmp g.T.Ord.cmp (ranked g) c.min_value.result
     c.into_inner-start.result.0 least low c.if-lt.ensures in
-    first-tells rank n (source g) (laws g) c.args.self c.next.new.self c.requires c.in-Some.range
+    first-tells rank n (source g) (laws g) c.args.self c.draw.new.self can c.in-Some.range
     (λ runs. IsTrue false ↔ IsEverything n (members runs)) c.in-Some.ensures.steps
     c.in-Some.ensures.goes
-    (g.met.Self.SortedDisjoint.canonical c.args.self c.requires)
+    (g.met.Self.SortedDisjoint.canonical c.args.self can)
     (λ rest canonical. late-lacks n run rest canonical
     (omega (arith, less, start, c.min_value.ensures)))
 
@@ -59,8 +60,9 @@ pub returns : goal.returns
 returns g c =
     let rank = g.T.Integer.rank in
     let n = g.T.Integer.value_count in
+    let can = g.met.Self.SortedStarts.drawn.drawable c.args.self c.requires in
     let run = interval_of rank c.in-Some.range in
-    let facts = first-range rank n (source g) (laws g) c.args.self c.next.new.self c.requires
+    let facts = first-range rank n (source g) (laws g) c.args.self c.draw.new.self can
     c.in-Some.range c.in-Some.ensures.steps c.in-Some.ensures.goes in
     let start = range-start rank c.in-Some.range facts.0
     ∙ sym (ap rank c.into_inner-start.ensures.start) in
@@ -80,8 +82,8 @@ returns g c =
     let whole : nat_le n (run.last + 1) ≡ c.le.result =
     (same-test (rank c.max_value.result) (rank c.into_inner-start.result.1) n (run.last + 1)
     c.max_value.ensures (ap (λ each. each + 1) end)) ∙ sym test ∙ sym c.le.ensures in
-    first-tells rank n (source g) (laws g) c.args.self c.next.new.self c.requires c.in-Some.range
+    first-tells rank n (source g) (laws g) c.args.self c.draw.new.self can c.in-Some.range
     (λ runs. IsTrue c.le.result ↔ IsEverything n (members runs)) c.in-Some.ensures.steps
-    c.in-Some.ensures.goes (g.met.Self.SortedDisjoint.canonical c.args.self c.requires)
+    c.in-Some.ensures.goes (g.met.Self.SortedDisjoint.canonical c.args.self can)
     (λ rest canonical. first-whole n run rest c.le.result canonical
     (omega (arith, most, start, c.min_value.ensures)) whole)

@@ -4,21 +4,21 @@ use Rattle.rsb_streams.proofs.union_iter.UnionIter.new.Goals as goal
 
 abbrev source : (g : Over) → Source g.row.SS.Denot g.row.T.Denot
 source g = record {
-  can_next = g.SS.Iterator.can_next;
-  steps = g.SS.Iterator.next_gives;
-  remaining = g.SS.Iterator.remaining;
-  may_give = g.SS.SortedStarts.may_give;
+  can_next = g.SS.Draw.can_draw;
+  steps = g.SS.Draw.draw_gives;
+  remaining = g.SS.Draw.draws_left;
+  may_give = g.SS.Draw.may_give;
 }
 
-pub returns : goal.returns
-returns g c =
-    let rank = g.T.Integer.rank in
-    let n = g.T.Integer.value_count in
-    let stream = c.over.result.iter in
-    record {
-      ready = fresh-ready rank n (source g) c.args.iter stream c.over.ensures c.requires
-          (g.met.SS.SortedStarts.sorted c.args.iter c.requires).all;
-      runs = λ runs may nothing. may (λ given at all.
-          nothing given (fresh-may rank n (source g) c.args.iter stream c.over.ensures given at)
-          all);
-    }
+pub returns-clause-ready : goal.returns-clause-ready
+returns-clause-ready g c =
+    let can = g.met.SS.SortedStarts.drawn.drawable c.args.iter c.requires in
+    fresh-ready g.T.Integer.rank g.T.Integer.value_count (source g) c.args.iter c.over.result.iter
+    c.over.ensures can (g.met.SS.Draw.sorted c.args.iter can).all
+
+pub returns-clause-gives : goal.returns-clause-gives
+returns-clause-gives g c = λ runs may nothing. may (λ given at all.
+    nothing given
+    (fresh-may g.T.Integer.rank g.T.Integer.value_count (source g) c.args.iter c.over.result.iter
+    c.over.ensures given at)
+    all)

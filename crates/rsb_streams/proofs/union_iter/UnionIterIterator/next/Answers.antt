@@ -10,8 +10,8 @@ use Rattle.rsb_streams.proofs.union_iter.UnionIterIterator.next.Goals.{in-Some-c
 
 laws : (g : Over) → IsLawful g.T.Integer.rank g.T.Integer.value_count (source g)
 laws g = record {
-  answers = g.met.SS.SortedStarts.answers;
-  sorted = g.met.SS.SortedStarts.sorted;
+  answers = g.met.SS.Draw.answers;
+  sorted = g.met.SS.Draw.sorted;
 }
 
 ranked : (g : Over) → IsRanked g.T.Integer.rank g.T.Integer.value_count g.T.PartialOrd.partial_cmp
@@ -29,7 +29,7 @@ apart g c =
     let rank = g.T.Integer.rank in
     let values = next-values g.T.Integer.rank g.T.Integer.value_count (source g) (laws g)
     c.args.self.now.iter c.loop-range.self.iter
-    c.next-in-loop-range.new.self c.into_inner-start.result.0 c.loop-range.end c.in-Some.range
+    c.draw-in-loop-range.new.self c.into_inner-start.result.0 c.loop-range.end c.in-Some.range
     c.loop-range.invariant c.in-Some.ensures.steps c.in-Some.ensures.goes in
     let step = c.in-Some-checked_add_one in
     let next = next-value g.T.Integer.value_count (rank c.loop-range.end) (rank step.after)
@@ -42,23 +42,23 @@ apart g c =
     step.after c.start.result.now next start c.if-lt.ensures in
     omega (arith, less, step.ensures.next, ap rank c.start.ensures)
 
-pub returns-in_err-next-clause-steps : goal.returns-in_err-next-clause-steps
-returns-in_err-next-clause-steps g c =
+pub returns-in_err-draw-clause-steps : goal.returns-in_err-draw-clause-steps
+returns-in_err-draw-clause-steps g c =
     rests g.T.Integer.rank g.T.Integer.value_count (source g) (laws g) c.args.self.now _
-    c.from_residual.result c.from_residual.ensures c.in_err-next.ensures.steps
+    c.from_residual.result c.from_residual.ensures c.in_err-draw.ensures.steps
 
 pub loop-range-init : goal.loop-range-init
 loop-range-init g c =
     begun g.T.Integer.rank g.T.Integer.value_count (source g) (laws g) c.args.self.now.iter
-    c.next.new.self c.in_ok-next.field-0 _ _ c.requires
-    c.in_ok-next.ensures.steps c.in_ok-next.ensures.goes c.into_inner-start.ensures.start
+    c.draw.new.self c.in_ok-draw.field-0 _ _ c.requires
+    c.in_ok-draw.ensures.steps c.in_ok-draw.ensures.goes c.into_inner-start.ensures.start
     c.into_inner-start.ensures.end
 
 pub returns-then-lt-clause-steps : goal.returns-then-lt-clause-steps
 returns-then-lt-clause-steps g c =
     answer-ahead g.T.Integer.rank g.T.Integer.value_count (source g) (laws g) c.args.self.now.iter
     c.loop-range.self.iter
-    c.next-in-loop-range.new.self (record { iter = c.put_back.new.self })
+    c.draw-in-loop-range.new.self (record { iter = c.put_back.new.self })
     c.into_inner-start.result.0
     c.loop-range.end c.in-Some.range c.new.result c.loop-range.invariant c.in-Some.ensures.steps
     c.in-Some.ensures.goes c.put_back.ensures (apart g c) c.new.ensures.exhausted
@@ -68,7 +68,7 @@ pub returns-then-lt-clause-goes : goal.returns-then-lt-clause-goes
 returns-then-lt-clause-goes g c =
     ahead-goes g.T.Integer.rank g.T.Integer.value_count (source g) (laws g) c.args.self.now.iter
     c.loop-range.self.iter
-    c.next-in-loop-range.new.self (record { iter = c.put_back.new.self })
+    c.draw-in-loop-range.new.self (record { iter = c.put_back.new.self })
     c.into_inner-start.result.0
     c.loop-range.end c.in-Some.range c.new.result c.loop-range.invariant c.in-Some.ensures.steps
     c.in-Some.ensures.goes c.put_back.ensures (apart g c)
@@ -79,10 +79,10 @@ loop-range-preserved g c =
     let rank = g.T.Integer.rank in
     let values = next-values g.T.Integer.rank g.T.Integer.value_count (source g) (laws g)
     c.args.self.now.iter c.loop-range.self.iter
-    c.next-in-loop-range.new.self c.into_inner-start.result.0 c.loop-range.end c.in-Some.range
+    c.draw-in-loop-range.new.self c.into_inner-start.result.0 c.loop-range.end c.in-Some.range
     c.loop-range.invariant c.in-Some.ensures.steps c.in-Some.ensures.goes in
     more g.T.Integer.rank g.T.Integer.value_count (source g) (laws g) c.args.self.now.iter
-    c.loop-range.self.iter c.next-in-loop-range.new.self
+    c.loop-range.self.iter c.draw-in-loop-range.new.self
     c.into_inner-start.result.0 c.loop-range.end c.max-end.result c.in-Some.range
     c.loop-range.invariant
     c.in-Some.ensures.steps c.in-Some.ensures.goes

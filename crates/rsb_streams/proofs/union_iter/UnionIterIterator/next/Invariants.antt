@@ -6,10 +6,10 @@ use Rattle.rsb_streams.proofs.union_iter.UnionIterIterator.next.Given as goal
 
 abbrev pub source : (g : goal.Over) → Source g.row.SS.Denot g.row.T.Denot
 source g = record {
-  can_next = g.SS.Iterator.can_next;
-  steps = g.SS.Iterator.next_gives;
-  remaining = g.SS.Iterator.remaining;
-  may_give = g.SS.SortedStarts.may_give;
+  can_next = g.SS.Draw.can_draw;
+  steps = g.SS.Draw.draw_gives;
+  remaining = g.SS.Draw.draws_left;
+  may_give = g.SS.Draw.may_give;
 }
 
 abbrev pub invariant-loop-range : goal.invariant-loop-range
@@ -17,4 +17,4 @@ invariant-loop-range g l = SoFar g.T.Integer.rank g.T.Integer.value_count (sourc
     l.self.iter l.start l.end
 
 abbrev pub decreases-loop-range : goal.decreases-loop-range
-decreases-loop-range g l = size (put_back_remaining g.SS.Iterator.remaining l.self.iter)
+decreases-loop-range g l = size (put_back_remaining g.SS.Draw.draws_left l.self.iter)
