@@ -34,7 +34,7 @@ impl<T: Integer, I: Iterator> AssumeSortedStarts<T, I> {
     pub fn new<J: IntoIterator<Item = RangeInclusive<T>, IntoIter = I>>(iter: J) -> Self
         requires { (source : I) → J.into_iter_gives iter source
             → IsSortedSource T.rank T.value_count I.can_next I.next_gives I.remaining source }
-        ensures ready { ⟦<AssumeSortedStarts<T, I> as Iterator>⟧.can_next result }
+        ensures ready { ⟦<AssumeSortedStarts<T, I> as Draw<T>>⟧.can_draw result }
         ensures gives { ⟦<AssumeSortedStarts<T, I> as Draw<T>>⟧.may_give result
             ⊆ gives_as J.into_iter_gives
             (calls_give T.rank I.can_next I.next_gives I.remaining) iter }

@@ -21,7 +21,7 @@ ghost use Rattle.rsb_streams.specs.Stream.{◌⊆◌, drawn-itself, just, IsRead
 use crate::draw::Draw;
 use crate::not_sorted_disjoint::{NotSortedDisjoint, first_bad};
 use crate::range_once::RangeOnce;
-use crate::sorted_disjoint::{SortedDisjoint, SortedStarts};
+use crate::sorted_disjoint::{DrawDisjoint, SortedDisjoint, SortedStarts};
 use rsb_integer::Integer;
 use std::alloc::Allocator;
 use std::iter::{Fuse, FusedIterator};
@@ -42,7 +42,7 @@ impl<T: Integer, I: Iterator> CheckSortedDisjoint<T, I> {
     pub fn new<J: IntoIterator<Item = RangeInclusive<T>, IntoIter = I>>(iter: J) -> Self
         requires { (source : I) → J.into_iter_gives iter source
             → IsCanonicalSource T.rank T.value_count I.can_next I.next_gives I.remaining source }
-        ensures ready { ⟦<CheckSortedDisjoint<T, I> as Iterator>⟧.can_next result }
+        ensures ready { ⟦<CheckSortedDisjoint<T, I> as Draw<T>>⟧.can_draw result }
         ensures gives { ⟦<CheckSortedDisjoint<T, I> as Draw<T>>⟧.may_give result
             ⊆ gives_as J.into_iter_gives
             (calls_give T.rank I.can_next I.next_gives I.remaining) iter }
@@ -60,7 +60,7 @@ impl<T: Integer, A: Allocator> CheckSortedDisjoint<T, IntoIter<RangeInclusive<T>
     pub fn try_new(ranges: Vec<RangeInclusive<T>, A>) -> Result<Self, NotSortedDisjoint<T, A>>
         ensures ok { IsOk result ↔ IsCanonicalIn T.value_count (intervals_of T.rank ranges.items) }
         ensures ready { IfOk result
-            ⟦<CheckSortedDisjoint<T, IntoIter<RangeInclusive<T>, A>> as Iterator>⟧.can_next }
+            ⟦<CheckSortedDisjoint<T, IntoIter<RangeInclusive<T>, A>> as Draw<T>>⟧.can_draw }
         ensures runs { IfOk result (λ stream.
             ⟦<CheckSortedDisjoint<T, IntoIter<RangeInclusive<T>, A>> as Draw<T>>⟧.may_give stream
             ⊆ just (intervals_of T.rank ranges.items)) }
@@ -77,7 +77,7 @@ impl<T: Integer, A: Allocator> CheckSortedDisjoint<T, IntoIter<RangeInclusive<T>
 
 impl<T: Integer> Default for CheckSortedDisjoint<T, RangeOnce<T>> {
     ghost is_default = { λ result.
-        IsReadyAnd ⟦<CheckSortedDisjoint<T, RangeOnce<T>> as Iterator>⟧.can_next result
+        IsReadyAnd ⟦<CheckSortedDisjoint<T, RangeOnce<T>> as Draw<T>>⟧.can_draw result
         (⟦<CheckSortedDisjoint<T, RangeOnce<T>> as Draw<T>>⟧.may_give result ⊆ just []) };
 
     /// No items. It takes no memory.
@@ -130,8 +130,11 @@ impl<T: Integer, I: Iterator<Item = RangeInclusive<T>>> SortedStarts<T>
     ghost drawn = { drawn-itself };
 }
 
-impl<T: Integer, I: Iterator<Item = RangeInclusive<T>>> SortedDisjoint<T>
+impl<T: Integer, I: Iterator<Item = RangeInclusive<T>>> DrawDisjoint<T>
     for CheckSortedDisjoint<T, I> {
     ghost canonical = { λ s can.
         (check-keeps T.rank T.value_count I.can_next I.next_gives I.remaining s can).all };
 }
+
+impl<T: Integer, I: Iterator<Item = RangeInclusive<T>>> SortedDisjoint<T>
+    for CheckSortedDisjoint<T, I> {}

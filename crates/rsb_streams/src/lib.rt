@@ -27,5 +27,5 @@ pub use not_iter::NotIter;
 pub use not_sorted_disjoint::NotSortedDisjoint;
 pub use operation_results::Union;
 pub use range_once::RangeOnce;
-pub use sorted_disjoint::{AnythingGoes, SortedDisjoint, SortedStarts};
+pub use sorted_disjoint::{AnythingGoes, DrawDisjoint, SortedDisjoint, SortedStarts};
 pub use union_iter::UnionIter;

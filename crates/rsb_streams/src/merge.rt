@@ -11,7 +11,7 @@ ghost use Rattle.rsb_streams.specs.Stream.{◌⊆◌, drawn-itself, merges, Answ
 
 use crate::draw::Draw;
 use crate::put_back::PutBack;
-use crate::sorted_disjoint::{SortedDisjoint, SortedStarts};
+use crate::sorted_disjoint::SortedStarts;
 use rsb_integer::Integer;
 use std::iter::FusedIterator;
 use std::ops::RangeInclusive;
@@ -38,12 +38,12 @@ impl<T, L, R> Merge<T, L, R> {
     }
 }
 
-impl<T: Integer, L: SortedDisjoint<T>, R: SortedDisjoint<T>> Merge<T, L, R> {
+impl<T: Integer, L: Draw<T>, R: Draw<T>> Merge<T, L, R> {
     /// The merge of two streams, of which nothing is drawn yet.
     pub fn new(left: L, right: R) -> Self
-        requires left { L.can_next left }
-        requires right { R.can_next right }
-        ensures ready { ⟦<Merge<T, L, R> as Iterator>⟧.can_next result }
+        requires left { L.can_draw left }
+        requires right { R.can_draw right }
+        ensures ready { ⟦<Merge<T, L, R> as Draw<T>>⟧.can_draw result }
         ensures gives { ⟦<Merge<T, L, R> as Draw<T>>⟧.may_give result
             ⊆ merges T.value_count (L.may_give left) (R.may_give right) }
     {

@@ -16,8 +16,8 @@ use rsb_integer::Integer;
 pub(crate) fn complement_twice<T: Integer, I: SortedDisjoint<T>>(
     stream: I,
 ) -> NotIter<T, NotIter<T, I>>
-    requires { I.can_next stream }
-    ensures ready { ⟦<NotIter<T, NotIter<T, I>> as Iterator>⟧.can_next result }
+    requires { I.can_draw stream }
+    ensures ready { ⟦<NotIter<T, NotIter<T, I>> as Draw<T>>⟧.can_draw result }
     ensures gives { ⟦<NotIter<T, NotIter<T, I>> as Draw<T>>⟧.may_give result
         ⊆ joined T.value_count (I.may_give stream) }
 {
@@ -29,9 +29,9 @@ pub(crate) fn union_with_complement<T: Integer, L: SortedDisjoint<T>, R: SortedD
     left: L,
     right: R,
 ) -> Union<T, L, NotIter<T, R>>
-    requires left { L.can_next left }
-    requires right { R.can_next right }
-    ensures ready { ⟦<Union<T, L, NotIter<T, R>> as Iterator>⟧.can_next result }
+    requires left { L.can_draw left }
+    requires right { R.can_draw right }
+    ensures ready { ⟦<Union<T, L, NotIter<T, R>> as Draw<T>>⟧.can_draw result }
     ensures gives { ⟦<Union<T, L, NotIter<T, R>> as Draw<T>>⟧.may_give result
         ⊆ runs_by_two T.value_count union (L.may_give left)
         (runs_by T.value_count complement (R.may_give right)) }
@@ -43,16 +43,16 @@ pub(crate) fn union_with_complement<T: Integer, L: SortedDisjoint<T>, R: SortedD
 pub(crate) fn joined_again<T: Integer, I: SortedStarts<T>>(
     stream: I,
 ) -> UnionIter<T, AssumeSortedStarts<T, I>>
-    requires { I.can_next stream }
-    ensures { ⟦<UnionIter<T, AssumeSortedStarts<T, I>> as Iterator>⟧.can_next result }
+    requires { I.can_draw stream }
+    ensures { ⟦<UnionIter<T, AssumeSortedStarts<T, I>> as Draw<T>>⟧.can_draw result }
 {
     UnionIter::new(AssumeSortedStarts::new(stream))
 }
 
 // The ranges of a stream once more, since they are known to be canonical.
 pub(crate) fn known<T: Integer, I: SortedDisjoint<T>>(stream: I) -> CheckSortedDisjoint<T, I>
-    requires { I.can_next stream }
-    ensures { ⟦<CheckSortedDisjoint<T, I> as Iterator>⟧.can_next result }
+    requires { I.can_draw stream }
+    ensures { ⟦<CheckSortedDisjoint<T, I> as Draw<T>>⟧.can_draw result }
 {
     CheckSortedDisjoint::new(stream)
 }

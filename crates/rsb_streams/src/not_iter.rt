@@ -5,7 +5,7 @@ ghost use Rattle.rsb_streams.specs.Outcomes.{canonical-starts};
 ghost use Rattle.rsb_streams.specs.Stream.{drawn-itself, AnswersAndRests, GivesComplement, IsReadyAnd};
 
 use crate::draw::Draw;
-use crate::sorted_disjoint::{SortedDisjoint, SortedStarts};
+use crate::sorted_disjoint::{DrawDisjoint, SortedDisjoint, SortedStarts};
 use rsb_integer::Integer;
 use std::iter::FusedIterator;
 use std::ops::RangeInclusive;
@@ -18,11 +18,11 @@ pub struct NotIter<T, I> {
     start: Option<T>,
 }
 
-impl<T: Integer, I: SortedDisjoint<T>> NotIter<T, I> {
+impl<T: Integer, I: DrawDisjoint<T>> NotIter<T, I> {
     /// The complement of a stream, of which nothing is drawn yet.
     pub fn new(iter: I) -> Self
-        requires { I.can_next iter }
-        ensures ready { ⟦<NotIter<T, I> as Iterator>⟧.can_next result }
+        requires { I.can_draw iter }
+        ensures ready { ⟦<NotIter<T, I> as Draw<T>>⟧.can_draw result }
         ensures gives { GivesComplement T.value_count (I.may_give iter)
             (⟦<NotIter<T, I> as Draw<T>>⟧.may_give result) }
     {
@@ -30,10 +30,10 @@ impl<T: Integer, I: SortedDisjoint<T>> NotIter<T, I> {
     }
 }
 
-impl<T: Integer, I: SortedDisjoint<T>> From<I> for NotIter<T, I> {
+impl<T: Integer, I: DrawDisjoint<T>> From<I> for NotIter<T, I> {
     // The complement of a stream that may be called, of which nothing is drawn yet.
-    ghost from_gives = { λ iter result. I.can_next iter
-        → IsReadyAnd ⟦<NotIter<T, I> as Iterator>⟧.can_next result
+    ghost from_gives = { λ iter result. I.can_draw iter
+        → IsReadyAnd ⟦<NotIter<T, I> as Draw<T>>⟧.can_draw result
         (GivesComplement T.value_count (I.may_give iter)
         (⟦<NotIter<T, I> as Draw<T>>⟧.may_give result)) };
 
@@ -97,7 +97,9 @@ impl<T: Integer, I: Draw<T>> SortedStarts<T> for NotIter<T, I> {
     ghost drawn = { drawn-itself };
 }
 
-impl<T: Integer, I: Draw<T>> SortedDisjoint<T> for NotIter<T, I> {
+impl<T: Integer, I: Draw<T>> DrawDisjoint<T> for NotIter<T, I> {
     ghost canonical = { λ s ready.
         (not-keeps T.rank T.value_count I.can_draw I.may_give I.draws_left I.sorted s ready).all };
 }
+
+impl<T: Integer, I: Draw<T>> SortedDisjoint<T> for NotIter<T, I> {}

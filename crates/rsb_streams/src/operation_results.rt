@@ -12,7 +12,7 @@ ghost use Rattle.rsb_streams.specs.Union.{
 
 use crate::draw::Draw;
 use crate::merge::Merge;
-use crate::sorted_disjoint::{SortedDisjoint, SortedStarts};
+use crate::sorted_disjoint::{DrawDisjoint, SortedDisjoint, SortedStarts};
 use crate::union_iter::UnionIter;
 use rsb_integer::Integer;
 use std::iter::FusedIterator;
@@ -24,10 +24,10 @@ pub struct Union<T, L, R> {
     iter: UnionIter<T, Merge<T, L, R>>,
 }
 
-impl<T: Integer, L: SortedDisjoint<T>, R: SortedDisjoint<T>> From<(L, R)> for Union<T, L, R> {
+impl<T: Integer, L: DrawDisjoint<T>, R: DrawDisjoint<T>> From<(L, R)> for Union<T, L, R> {
     // The union of two streams that may be called, of which nothing is drawn yet.
-    ghost from_gives = { λ streams result. L.can_next streams.0 → R.can_next streams.1
-        → IsReadyAnd ⟦<Union<T, L, R> as Iterator>⟧.can_next result
+    ghost from_gives = { λ streams result. L.can_draw streams.0 → R.can_draw streams.1
+        → IsReadyAnd ⟦<Union<T, L, R> as Draw<T>>⟧.can_draw result
         (GivesUnion T.value_count (L.may_give streams.0) (R.may_give streams.1)
         (⟦<Union<T, L, R> as Draw<T>>⟧.may_give result)) };
 
@@ -82,8 +82,10 @@ impl<T: Integer, L: Draw<T>, R: Draw<T>> SortedStarts<T> for Union<T, L, R> {
     ghost drawn = { drawn-itself };
 }
 
-impl<T: Integer, L: Draw<T>, R: Draw<T>> SortedDisjoint<T> for Union<T, L, R> {
+impl<T: Integer, L: Draw<T>, R: Draw<T>> DrawDisjoint<T> for Union<T, L, R> {
     ghost canonical = { λ s ready.
         (either-keeps T.rank T.value_count L.can_draw L.may_give R.can_draw R.may_give
         L.draws_left L.sorted R.draws_left R.sorted s ready).all };
 }
+
+impl<T: Integer, L: Draw<T>, R: Draw<T>> SortedDisjoint<T> for Union<T, L, R> {}

@@ -7,19 +7,19 @@ use crate::draw::Draw;
 use crate::not_iter::NotIter;
 use crate::operation_results::Union;
 use crate::range_once::RangeOnce;
-use crate::sorted_disjoint::SortedDisjoint;
+use crate::sorted_disjoint::DrawDisjoint;
 use crate::union_iter::UnionIter;
 use rsb_integer::Integer;
 use std::ops::{BitOr, Not, RangeInclusive};
 
-impl<T: Integer, I: Draw<T>, R: SortedDisjoint<T>> BitOr<R> for NotIter<T, I> {
+impl<T: Integer, I: Draw<T>, R: DrawDisjoint<T>> BitOr<R> for NotIter<T, I> {
     type Output = Union<T, NotIter<T, I>, R>;
 
     ghost can_bitor = { λ left right.
-        (⟦<NotIter<T, I> as Iterator>⟧.can_next left) × (R.can_next right) };
+        (⟦<NotIter<T, I> as Draw<T>>⟧.can_draw left) × (R.can_draw right) };
 
     ghost bitor_gives = { λ left right result.
-        IsReadyAnd ⟦<Union<T, NotIter<T, I>, R> as Iterator>⟧.can_next result
+        IsReadyAnd ⟦<Union<T, NotIter<T, I>, R> as Draw<T>>⟧.can_draw result
         (GivesUnion T.value_count
         (⟦<NotIter<T, I> as Draw<T>>⟧.may_give left) (R.may_give right)
         (⟦<Union<T, NotIter<T, I>, R> as Draw<T>>⟧.may_give result)) };
@@ -32,10 +32,10 @@ impl<T: Integer, I: Draw<T>, R: SortedDisjoint<T>> BitOr<R> for NotIter<T, I> {
 impl<T: Integer, I: Draw<T>> Not for NotIter<T, I> {
     type Output = NotIter<T, NotIter<T, I>>;
 
-    ghost can_not = { λ stream. ⟦<NotIter<T, I> as Iterator>⟧.can_next stream };
+    ghost can_not = { λ stream. ⟦<NotIter<T, I> as Draw<T>>⟧.can_draw stream };
 
     ghost not_gives = { λ stream result.
-        IsReadyAnd ⟦<NotIter<T, NotIter<T, I>> as Iterator>⟧.can_next result
+        IsReadyAnd ⟦<NotIter<T, NotIter<T, I>> as Draw<T>>⟧.can_draw result
         (GivesComplement T.value_count
         (⟦<NotIter<T, I> as Draw<T>>⟧.may_give stream)
         (⟦<NotIter<T, NotIter<T, I>> as Draw<T>>⟧.may_give result)) };
@@ -45,14 +45,14 @@ impl<T: Integer, I: Draw<T>> Not for NotIter<T, I> {
     }
 }
 
-impl<T: Integer, I: Draw<T>, R: SortedDisjoint<T>> BitOr<R> for UnionIter<T, I> {
+impl<T: Integer, I: Draw<T>, R: DrawDisjoint<T>> BitOr<R> for UnionIter<T, I> {
     type Output = Union<T, UnionIter<T, I>, R>;
 
     ghost can_bitor = { λ left right.
-        (⟦<UnionIter<T, I> as Iterator>⟧.can_next left) × (R.can_next right) };
+        (⟦<UnionIter<T, I> as Draw<T>>⟧.can_draw left) × (R.can_draw right) };
 
     ghost bitor_gives = { λ left right result.
-        IsReadyAnd ⟦<Union<T, UnionIter<T, I>, R> as Iterator>⟧.can_next result
+        IsReadyAnd ⟦<Union<T, UnionIter<T, I>, R> as Draw<T>>⟧.can_draw result
         (GivesUnion T.value_count
         (⟦<UnionIter<T, I> as Draw<T>>⟧.may_give left) (R.may_give right)
         (⟦<Union<T, UnionIter<T, I>, R> as Draw<T>>⟧.may_give result)) };
@@ -65,10 +65,10 @@ impl<T: Integer, I: Draw<T>, R: SortedDisjoint<T>> BitOr<R> for UnionIter<T, I> 
 impl<T: Integer, I: Draw<T>> Not for UnionIter<T, I> {
     type Output = NotIter<T, UnionIter<T, I>>;
 
-    ghost can_not = { λ stream. ⟦<UnionIter<T, I> as Iterator>⟧.can_next stream };
+    ghost can_not = { λ stream. ⟦<UnionIter<T, I> as Draw<T>>⟧.can_draw stream };
 
     ghost not_gives = { λ stream result.
-        IsReadyAnd ⟦<NotIter<T, UnionIter<T, I>> as Iterator>⟧.can_next result
+        IsReadyAnd ⟦<NotIter<T, UnionIter<T, I>> as Draw<T>>⟧.can_draw result
         (GivesComplement T.value_count
         (⟦<UnionIter<T, I> as Draw<T>>⟧.may_give stream)
         (⟦<NotIter<T, UnionIter<T, I>> as Draw<T>>⟧.may_give result)) };
@@ -78,15 +78,15 @@ impl<T: Integer, I: Draw<T>> Not for UnionIter<T, I> {
     }
 }
 
-impl<T: Integer, A: Draw<T>, B: Draw<T>, R: SortedDisjoint<T>> BitOr<R>
+impl<T: Integer, A: Draw<T>, B: Draw<T>, R: DrawDisjoint<T>> BitOr<R>
     for Union<T, A, B> {
     type Output = Union<T, Union<T, A, B>, R>;
 
     ghost can_bitor = { λ left right.
-        (⟦<Union<T, A, B> as Iterator>⟧.can_next left) × (R.can_next right) };
+        (⟦<Union<T, A, B> as Draw<T>>⟧.can_draw left) × (R.can_draw right) };
 
     ghost bitor_gives = { λ left right result.
-        IsReadyAnd ⟦<Union<T, Union<T, A, B>, R> as Iterator>⟧.can_next result
+        IsReadyAnd ⟦<Union<T, Union<T, A, B>, R> as Draw<T>>⟧.can_draw result
         (GivesUnion T.value_count
         (⟦<Union<T, A, B> as Draw<T>>⟧.may_give left) (R.may_give right)
         (⟦<Union<T, Union<T, A, B>, R> as Draw<T>>⟧.may_give result)) };
@@ -99,10 +99,10 @@ impl<T: Integer, A: Draw<T>, B: Draw<T>, R: SortedDisjoint<T>> BitOr<R>
 impl<T: Integer, A: Draw<T>, B: Draw<T>> Not for Union<T, A, B> {
     type Output = NotIter<T, Union<T, A, B>>;
 
-    ghost can_not = { λ stream. ⟦<Union<T, A, B> as Iterator>⟧.can_next stream };
+    ghost can_not = { λ stream. ⟦<Union<T, A, B> as Draw<T>>⟧.can_draw stream };
 
     ghost not_gives = { λ stream result.
-        IsReadyAnd ⟦<NotIter<T, Union<T, A, B>> as Iterator>⟧.can_next result
+        IsReadyAnd ⟦<NotIter<T, Union<T, A, B>> as Draw<T>>⟧.can_draw result
         (GivesComplement T.value_count
         (⟦<Union<T, A, B> as Draw<T>>⟧.may_give stream)
         (⟦<NotIter<T, Union<T, A, B>> as Draw<T>>⟧.may_give result)) };
@@ -112,15 +112,15 @@ impl<T: Integer, A: Draw<T>, B: Draw<T>> Not for Union<T, A, B> {
     }
 }
 
-impl<T: Integer, I: Iterator<Item = RangeInclusive<T>>, R: SortedDisjoint<T>> BitOr<R>
+impl<T: Integer, I: Iterator<Item = RangeInclusive<T>>, R: DrawDisjoint<T>> BitOr<R>
     for CheckSortedDisjoint<T, I> {
     type Output = Union<T, CheckSortedDisjoint<T, I>, R>;
 
     ghost can_bitor = { λ left right.
-        (⟦<CheckSortedDisjoint<T, I> as Iterator>⟧.can_next left) × (R.can_next right) };
+        (⟦<CheckSortedDisjoint<T, I> as Draw<T>>⟧.can_draw left) × (R.can_draw right) };
 
     ghost bitor_gives = { λ left right result.
-        IsReadyAnd ⟦<Union<T, CheckSortedDisjoint<T, I>, R> as Iterator>⟧.can_next result
+        IsReadyAnd ⟦<Union<T, CheckSortedDisjoint<T, I>, R> as Draw<T>>⟧.can_draw result
         (GivesUnion T.value_count
         (⟦<CheckSortedDisjoint<T, I> as Draw<T>>⟧.may_give left) (R.may_give right)
         (⟦<Union<T, CheckSortedDisjoint<T, I>, R> as Draw<T>>⟧.may_give result)) };
@@ -133,10 +133,10 @@ impl<T: Integer, I: Iterator<Item = RangeInclusive<T>>, R: SortedDisjoint<T>> Bi
 impl<T: Integer, I: Iterator<Item = RangeInclusive<T>>> Not for CheckSortedDisjoint<T, I> {
     type Output = NotIter<T, CheckSortedDisjoint<T, I>>;
 
-    ghost can_not = { λ stream. ⟦<CheckSortedDisjoint<T, I> as Iterator>⟧.can_next stream };
+    ghost can_not = { λ stream. ⟦<CheckSortedDisjoint<T, I> as Draw<T>>⟧.can_draw stream };
 
     ghost not_gives = { λ stream result.
-        IsReadyAnd ⟦<NotIter<T, CheckSortedDisjoint<T, I>> as Iterator>⟧.can_next result
+        IsReadyAnd ⟦<NotIter<T, CheckSortedDisjoint<T, I>> as Draw<T>>⟧.can_draw result
         (GivesComplement T.value_count
         (⟦<CheckSortedDisjoint<T, I> as Draw<T>>⟧.may_give stream)
         (⟦<NotIter<T, CheckSortedDisjoint<T, I>> as Draw<T>>⟧.may_give result)) };
@@ -146,14 +146,14 @@ impl<T: Integer, I: Iterator<Item = RangeInclusive<T>>> Not for CheckSortedDisjo
     }
 }
 
-impl<T: Integer, R: SortedDisjoint<T>> BitOr<R> for RangeOnce<T> {
+impl<T: Integer, R: DrawDisjoint<T>> BitOr<R> for RangeOnce<T> {
     type Output = Union<T, RangeOnce<T>, R>;
 
     ghost can_bitor = { λ left right.
-        (⟦<RangeOnce<T> as Iterator>⟧.can_next left) × (R.can_next right) };
+        (⟦<RangeOnce<T> as Draw<T>>⟧.can_draw left) × (R.can_draw right) };
 
     ghost bitor_gives = { λ left right result.
-        IsReadyAnd ⟦<Union<T, RangeOnce<T>, R> as Iterator>⟧.can_next result
+        IsReadyAnd ⟦<Union<T, RangeOnce<T>, R> as Draw<T>>⟧.can_draw result
         (GivesUnion T.value_count
         (⟦<RangeOnce<T> as Draw<T>>⟧.may_give left) (R.may_give right)
         (⟦<Union<T, RangeOnce<T>, R> as Draw<T>>⟧.may_give result)) };
@@ -166,10 +166,10 @@ impl<T: Integer, R: SortedDisjoint<T>> BitOr<R> for RangeOnce<T> {
 impl<T: Integer> Not for RangeOnce<T> {
     type Output = NotIter<T, RangeOnce<T>>;
 
-    ghost can_not = { λ stream. ⟦<RangeOnce<T> as Iterator>⟧.can_next stream };
+    ghost can_not = { λ stream. ⟦<RangeOnce<T> as Draw<T>>⟧.can_draw stream };
 
     ghost not_gives = { λ stream result.
-        IsReadyAnd ⟦<NotIter<T, RangeOnce<T>> as Iterator>⟧.can_next result
+        IsReadyAnd ⟦<NotIter<T, RangeOnce<T>> as Draw<T>>⟧.can_draw result
         (GivesComplement T.value_count
         (⟦<RangeOnce<T> as Draw<T>>⟧.may_give stream)
         (⟦<NotIter<T, RangeOnce<T>> as Draw<T>>⟧.may_give result)) };

@@ -8,7 +8,7 @@ ghost use Rattle.rsb_streams.specs.Outcomes.{canonical-starts};
 ghost use Rattle.rsb_streams.specs.Stream.{◌⊆◌, drawn-itself, just, run_if_any, IsReadyAnd};
 
 use crate::draw::Draw;
-use crate::sorted_disjoint::{SortedDisjoint, SortedStarts};
+use crate::sorted_disjoint::{DrawDisjoint, SortedDisjoint, SortedStarts};
 use rsb_integer::Integer;
 use std::iter::FusedIterator;
 use std::marker::Model;
@@ -33,7 +33,7 @@ impl<T> Model for RangeOnce<T> {
 impl<T: Integer> RangeOnce<T> {
     /// The range if it is non-empty, else nothing. It takes no memory. (`RangeOnce::new`.)
     pub fn new(range: RangeInclusive<T>) -> Self
-        ensures ready { ⟦<RangeOnce<T> as Iterator>⟧.can_next result }
+        ensures ready { ⟦<RangeOnce<T> as Draw<T>>⟧.can_draw result }
         ensures gives { ⟦<RangeOnce<T> as Draw<T>>⟧.may_give result
             ⊆ just (run_if_any (interval_of T.rank range)) }
     {
@@ -43,7 +43,7 @@ impl<T: Integer> RangeOnce<T> {
 
 impl<T: Integer> From<RangeInclusive<T>> for RangeOnce<T> {
     ghost from_gives = { λ range result.
-        IsReadyAnd ⟦<RangeOnce<T> as Iterator>⟧.can_next result
+        IsReadyAnd ⟦<RangeOnce<T> as Draw<T>>⟧.can_draw result
         (⟦<RangeOnce<T> as Draw<T>>⟧.may_give result
         ⊆ just (run_if_any (interval_of T.rank range))) };
 
@@ -114,7 +114,9 @@ impl<T: Integer> SortedStarts<T> for RangeOnce<T> {
     ghost drawn = { drawn-itself };
 }
 
-impl<T: Integer> SortedDisjoint<T> for RangeOnce<T> {
+impl<T: Integer> DrawDisjoint<T> for RangeOnce<T> {
     ghost canonical = { λ s canonical.
         (listed-keeps T.rank (λ s. s) T.value_count s canonical).all };
 }
+
+impl<T: Integer> SortedDisjoint<T> for RangeOnce<T> {}

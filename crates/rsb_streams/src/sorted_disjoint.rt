@@ -19,14 +19,16 @@ pub trait SortedStarts<T: Integer>: Iterator<Item = RangeInclusive<T>> + FusedIt
         Self.can_next Self.next_gives Self.remaining };
 }
 
-/// A stream of ranges in ascending order that neither overlap nor touch.
-pub trait SortedDisjoint<T: Integer>: SortedStarts<T> {
+/// A source of ranges in ascending order that neither overlap nor touch, and the operations on it.
+/// (Own: every `SortedDisjoint` is one. What is passed for a call of an operation is what this asks,
+/// so it has no supertrait but `Draw`.)
+pub trait DrawDisjoint<T: Integer>: Draw<T> {
     /// The gaps, to both ends of the type. It takes no memory. (`complement` of the Rust crate.)
     final fn complement(self) -> NotIter<T, Self>
     where
         Self: Sized,
-        requires { Self.can_next self }
-        ensures ready { ⟦<NotIter<T, Self> as Iterator>⟧.can_next result }
+        requires { Self.can_draw self }
+        ensures ready { ⟦<NotIter<T, Self> as Draw<T>>⟧.can_draw result }
         ensures gives { GivesComplement T.value_count (Self.may_give self)
             (⟦<NotIter<T, Self> as Draw<T>>⟧.may_give result) }
     {
@@ -34,12 +36,12 @@ pub trait SortedDisjoint<T: Integer>: SortedStarts<T> {
     }
 
     /// What lies in either of two streams. It takes no memory. (`union` of the Rust crate.)
-    final fn union<R: SortedDisjoint<T>>(self, other: R) -> Union<T, Self, R>
+    final fn union<R: DrawDisjoint<T>>(self, other: R) -> Union<T, Self, R>
     where
         Self: Sized,
-        requires left { Self.can_next self }
-        requires right { R.can_next other }
-        ensures ready { ⟦<Union<T, Self, R> as Iterator>⟧.can_next result }
+        requires left { Self.can_draw self }
+        requires right { R.can_draw other }
+        ensures ready { ⟦<Union<T, Self, R> as Draw<T>>⟧.can_draw result }
         ensures gives { GivesUnion T.value_count (Self.may_give self) (R.may_give other)
             (⟦<Union<T, Self, R> as Draw<T>>⟧.may_give result) }
     {
@@ -50,7 +52,7 @@ pub trait SortedDisjoint<T: Integer>: SortedStarts<T> {
     final fn is_empty(self) -> bool
     where
         Self: Sized,
-        requires { Self.can_next self }
+        requires { Self.can_draw self }
         ensures { SomeOutcome (Self.may_give self)
             (λ runs. IsTrue result ↔ IsNothing (members runs)) }
     {
@@ -62,7 +64,7 @@ pub trait SortedDisjoint<T: Integer>: SortedStarts<T> {
     final fn is_universal(self) -> bool
     where
         Self: Sized,
-        requires { Self.can_next self }
+        requires { Self.can_draw self }
         ensures { SomeOutcome (Self.may_give self) (λ runs.
             IsTrue result ↔ IsEverything T.value_count (members runs)) }
     {
@@ -81,6 +83,10 @@ pub trait SortedDisjoint<T: Integer>: SortedStarts<T> {
     ghost canonical: { (s : Self) → Self.can_draw s
         → Self.may_give s ⊆ IsCanonicalIn T.value_count };
 }
+
+/// A stream of ranges in ascending order that neither overlap nor touch. (`SortedDisjoint` of the
+/// Rust crate, whose operations stand in `DrawDisjoint`.)
+pub trait SortedDisjoint<T: Integer>: SortedStarts<T> + DrawDisjoint<T> {}
 
 /// Any stream of ranges: nothing is said of them.
 pub trait AnythingGoes<T: Integer>: Iterator<Item = RangeInclusive<T>> + FusedIterator {}

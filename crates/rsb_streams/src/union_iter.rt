@@ -12,7 +12,7 @@ ghost use Rattle.rsb_streams.specs.UnionIter.{
 
 use crate::draw::Draw;
 use crate::put_back::PutBack;
-use crate::sorted_disjoint::{SortedDisjoint, SortedStarts};
+use crate::sorted_disjoint::{DrawDisjoint, SortedDisjoint, SortedStarts};
 use rsb_integer::Integer;
 use std::iter::FusedIterator;
 use std::ops::RangeInclusive;
@@ -35,11 +35,11 @@ impl<T, SS> UnionIter<T, SS> {
     }
 }
 
-impl<T: Integer, SS: SortedStarts<T>> UnionIter<T, SS> {
+impl<T: Integer, SS: Draw<T>> UnionIter<T, SS> {
     /// The union of the ranges of a stream, of which nothing is drawn yet.
     pub fn new(iter: SS) -> Self
-        requires { SS.can_next iter }
-        ensures ready { ⟦<UnionIter<T, SS> as Iterator>⟧.can_next result }
+        requires { SS.can_draw iter }
+        ensures ready { ⟦<UnionIter<T, SS> as Draw<T>>⟧.can_draw result }
         ensures gives { ⟦<UnionIter<T, SS> as Draw<T>>⟧.may_give result
             ⊆ joined T.value_count (SS.may_give iter) }
     {
@@ -98,8 +98,10 @@ impl<T: Integer, SS: Draw<T>> SortedStarts<T> for UnionIter<T, SS> {
     ghost drawn = { drawn-itself };
 }
 
-impl<T: Integer, SS: Draw<T>> SortedDisjoint<T> for UnionIter<T, SS> {
+impl<T: Integer, SS: Draw<T>> DrawDisjoint<T> for UnionIter<T, SS> {
     ghost canonical = { λ s ready.
         (union-keeps T.rank T.value_count SS.can_draw SS.may_give SS.draws_left SS.sorted
         s ready).all };
 }
+
+impl<T: Integer, SS: Draw<T>> SortedDisjoint<T> for UnionIter<T, SS> {}

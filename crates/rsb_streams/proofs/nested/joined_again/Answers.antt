@@ -30,4 +30,4 @@ laws g = drawn-lawful g.T.Integer.rank g.T.Integer.value_count (drawn g) g.I.Ite
 pub new-requires-after_bounds : goal.new-requires-after_bounds
 new-requires-after_bounds g c κs within = λ stream same.
     sorted-source g.T.Integer.rank g.T.Integer.value_count (source g) (laws g) stream
-    (subst g.I.Iterator.can_next (sym same) c.requires)
+    (g.met.I.SortedStarts.drawn.callable stream (subst g.I.Draw.can_draw (sym same) c.requires))

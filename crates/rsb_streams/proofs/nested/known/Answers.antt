@@ -29,6 +29,6 @@ laws g = drawn-lawful g.T.Integer.rank g.T.Integer.value_count (drawn g) g.I.Ite
 
 pub new-requires-after_bounds : goal.new-requires-after_bounds
 new-requires-after_bounds g c κs within = λ stream same.
-    let can = subst g.I.Iterator.can_next (sym same) c.requires in
-    canonical-source g.T.Integer.rank g.T.Integer.value_count (source g) (laws g) stream can
-    (g.met.I.SortedDisjoint.canonical stream (g.met.I.SortedStarts.drawn.drawable stream can))
+    let can = subst g.I.Draw.can_draw (sym same) c.requires in
+    canonical-source g.T.Integer.rank g.T.Integer.value_count (source g) (laws g) stream
+    (g.met.I.SortedStarts.drawn.callable stream can) (g.met.I.DrawDisjoint.canonical stream can)

@@ -23,14 +23,12 @@ pub returns-clause-ready : goal.returns-clause-ready
 returns-clause-ready g c =
     let rank = g.T.Integer.rank in
     let n = g.T.Integer.value_count in
-    let left_can = g.met.L.SortedStarts.drawn.drawable c.args.left c.requires.left in
-    let right_can = g.met.R.SortedStarts.drawn.drawable c.args.right c.requires.right in
     record {
-      left = fresh-ready rank n (left g) c.args.left c.of.result.left c.of.ensures.left left_can
-          (g.met.L.Draw.sorted c.args.left left_can).all;
+      left = fresh-ready rank n (left g) c.args.left c.of.result.left c.of.ensures.left c.requires.left
+          (g.met.L.Draw.sorted c.args.left c.requires.left).all;
       right = fresh-ready rank n (right g) c.args.right c.of.result.right c.of.ensures.right
-          right_can
-          (g.met.R.Draw.sorted c.args.right right_can).all;
+          c.requires.right
+          (g.met.R.Draw.sorted c.args.right c.requires.right).all;
     }
 
 -- nothing is drawn of either

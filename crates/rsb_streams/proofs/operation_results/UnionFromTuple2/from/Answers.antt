@@ -38,14 +38,12 @@ merged g =
 
 -- a union of the merge of the two
 pub returns : goal.returns
-returns g c = λ left_ready right_ready.
+returns g c = λ left_can right_can.
     let rank = g.T.Integer.rank in
     let n = g.T.Integer.value_count in
     let merge = c.of-merge.result in
     let first = c.args.streams.0 in
     let second = c.args.streams.1 in
-    let left_can = g.met.L.SortedStarts.drawn.drawable first left_ready in
-    let right_can = g.met.R.SortedStarts.drawn.drawable second right_ready in
     let ready : (merged g).can_next merge = record {
       left = fresh-ready rank n (left g) first merge.left c.of-merge.ensures.left left_can
           (g.met.L.Draw.sorted first left_can).all;

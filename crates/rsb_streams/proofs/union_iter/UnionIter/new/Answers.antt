@@ -12,9 +12,8 @@ source g = record {
 
 pub returns-clause-ready : goal.returns-clause-ready
 returns-clause-ready g c =
-    let can = g.met.SS.SortedStarts.drawn.drawable c.args.iter c.requires in
     fresh-ready g.T.Integer.rank g.T.Integer.value_count (source g) c.args.iter c.over.result.iter
-    c.over.ensures can (g.met.SS.Draw.sorted c.args.iter can).all
+    c.over.ensures c.requires (g.met.SS.Draw.sorted c.args.iter c.requires).all
 
 pub returns-clause-gives : goal.returns-clause-gives
 returns-clause-gives g c = λ runs may nothing. may (λ given at all.

@@ -6,8 +6,8 @@ use Rattle.rsb_integer.specs.Selection.{IsEverything}
 use Rattle.rsb_streams.proofs.Compare.{IsRanked, at_most-by, less-rank, not_less-rank}
 use Rattle.rsb_streams.proofs.FirstItems.{first-range, first-tells, first-whole, late-lacks, same-test}
 use Rattle.rsb_streams.proofs.Sources.{Source, IsLawful, range-start, range-end}
-use Rattle.rsb_streams.proofs.sorted_disjoint.SortedDisjoint.is_universal.Given.{Over}
-use Rattle.rsb_streams.proofs.sorted_disjoint.SortedDisjoint.is_universal.Goals as goal
+use Rattle.rsb_streams.proofs.sorted_disjoint.DrawDisjoint.is_universal.Given.{Over}
+use Rattle.rsb_streams.proofs.sorted_disjoint.DrawDisjoint.is_universal.Goals as goal
 
 abbrev source : (g : Over) → Source g.row.Self.Denot g.row.T.Denot
 source g = record {
@@ -37,9 +37,8 @@ pub returns-then-lt : goal.returns-then-lt
 returns-then-lt g c =
     let rank = g.T.Integer.rank in
     let n = g.T.Integer.value_count in
-    let can = g.met.Self.SortedStarts.drawn.drawable c.args.self c.requires in
     let run = interval_of rank c.in-Some.range in
-    let facts = first-range rank n (source g) (laws g) c.args.self c.draw.new.self can
+    let facts = first-range rank n (source g) (laws g) c.args.self c.draw.new.self c.requires
     c.in-Some.range c.in-Some.ensures.steps c.in-Some.ensures.goes in
     let start = range-start rank c.in-Some.range facts.0
     ∙ sym (ap rank c.into_inner-start.ensures.start) in
@@ -48,10 +47,10 @@ returns-then-lt g c =
     let low : rank c.into_inner-start.result.0 < n = omega (arith, facts.0, facts.1, start) in
     let less = less-rank rank n g.T.PartialOrd.partial_cmp g.T.Ord.cmp (ranked g) c.min_value.result
     c.into_inner-start.result.0 least low c.if-lt.ensures in
-    first-tells rank n (source g) (laws g) c.args.self c.draw.new.self can c.in-Some.range
+    first-tells rank n (source g) (laws g) c.args.self c.draw.new.self c.requires c.in-Some.range
     (λ runs. IsTrue false ↔ IsEverything n (members runs)) c.in-Some.ensures.steps
     c.in-Some.ensures.goes
-    (g.met.Self.SortedDisjoint.canonical c.args.self can)
+    (g.met.Self.DrawDisjoint.canonical c.args.self c.requires)
     (λ rest canonical. late-lacks n run rest canonical
     (omega (arith, less, start, c.min_value.ensures)))
 
@@ -60,9 +59,8 @@ pub returns : goal.returns
 returns g c =
     let rank = g.T.Integer.rank in
     let n = g.T.Integer.value_count in
-    let can = g.met.Self.SortedStarts.drawn.drawable c.args.self c.requires in
     let run = interval_of rank c.in-Some.range in
-    let facts = first-range rank n (source g) (laws g) c.args.self c.draw.new.self can
+    let facts = first-range rank n (source g) (laws g) c.args.self c.draw.new.self c.requires
     c.in-Some.range c.in-Some.ensures.steps c.in-Some.ensures.goes in
     let start = range-start rank c.in-Some.range facts.0
     ∙ sym (ap rank c.into_inner-start.ensures.start) in
@@ -82,8 +80,8 @@ returns g c =
     let whole : nat_le n (run.last + 1) ≡ c.le.result =
     (same-test (rank c.max_value.result) (rank c.into_inner-start.result.1) n (run.last + 1)
     c.max_value.ensures (ap (λ each. each + 1) end)) ∙ sym test ∙ sym c.le.ensures in
-    first-tells rank n (source g) (laws g) c.args.self c.draw.new.self can c.in-Some.range
+    first-tells rank n (source g) (laws g) c.args.self c.draw.new.self c.requires c.in-Some.range
     (λ runs. IsTrue c.le.result ↔ IsEverything n (members runs)) c.in-Some.ensures.steps
-    c.in-Some.ensures.goes (g.met.Self.SortedDisjoint.canonical c.args.self can)
+    c.in-Some.ensures.goes (g.met.Self.DrawDisjoint.canonical c.args.self c.requires)
     (λ rest canonical. first-whole n run rest c.le.result canonical
     (omega (arith, most, start, c.min_value.ensures)) whole)

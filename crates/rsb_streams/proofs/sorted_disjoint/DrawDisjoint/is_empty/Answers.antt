@@ -1,7 +1,7 @@
 use Rattle.rsb_streams.proofs.FirstItems.{tells-nothing}
 use Rattle.rsb_streams.proofs.Sources.{Source, IsLawful}
-use Rattle.rsb_streams.proofs.sorted_disjoint.SortedDisjoint.is_empty.Given.{Over}
-use Rattle.rsb_streams.proofs.sorted_disjoint.SortedDisjoint.is_empty.Goals as goal
+use Rattle.rsb_streams.proofs.sorted_disjoint.DrawDisjoint.is_empty.Given.{Over}
+use Rattle.rsb_streams.proofs.sorted_disjoint.DrawDisjoint.is_empty.Goals as goal
 
 abbrev source : (g : Over) → Source g.row.Self.Denot g.row.T.Denot
 source g = record {
@@ -21,5 +21,5 @@ pub returns : goal.returns
 returns g c =
     tells-nothing g.T.Integer.rank g.T.Integer.value_count (source g) (laws g) c.args.self
     c.draw.new.self
-    (g.met.Self.SortedStarts.drawn.drawable c.args.self c.requires) c.draw.result c.is_none.result c.draw.ensures.steps c.draw.ensures.goes
+    c.requires c.draw.result c.is_none.result c.draw.ensures.steps c.draw.ensures.goes
     c.is_none.ensures
