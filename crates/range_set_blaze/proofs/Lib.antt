@@ -1,7 +1,10 @@
+pub mod BoundsLemmas
 pub mod BulkLemmas
 pub mod EndLemmas
+pub mod EntriesLemmas
 pub mod InsertLemmas
 pub mod KeptLemmas
-pub mod LengthLemmas
 pub mod LookUpLemmas
+pub mod PlacesLemmas
 pub mod RangesLemmas
+pub mod TakeOutLemmas

@@ -8,11 +8,10 @@ use Rattle.rsb_integer.specs.Rank.{interval_of, intervals_of}
 use Rattle.rsb_integer.specs.Runs.{IsCanonicalIn}
 use Rattle.rsb_integer.proofs.CanonicalLemmas.{canonical-front, canonical-tail}
 use Rattle.range_set_blaze.specs.Kept.{range_of, ranges_of, runs_of}
-use Rattle.range_set_blaze.specs.declared.set.run.Run.{Run}
 
 module _ {T : Type 0} (rank : T → ℕ) where
   -- the ranges of runs have the intervals of the runs
-  pub intervals_of-ranges : (runs : List (Run T)) → intervals_of rank (ranges_of runs)
+  pub intervals_of-ranges : (runs : List (T × T)) → intervals_of rank (ranges_of runs)
       ≡ runs_of rank runs
   intervals_of-ranges = map-map (interval_of rank) range_of
 

@@ -1,5 +1,5 @@
--- How a set is kept: as the starts and the ends of its runs, and its length.
-use Rattle.std.specs.Prelude.{◌≡◌, ℕ, false, List, map}
+-- How a set is kept: as a map from the starts of its runs to their ends, and its length.
+use Rattle.std.specs.Prelude.{◌≡◌, ℕ, false, ◌+◌, ◌<◌, ◌≤◌, List, [], ◌∷◌, map}
 use Rattle.std.specs.declared.ops.RangeInclusive.{RangeInclusive}
 use Rattle.rsb_integer.specs.Runs.{Interval, members, IsCanonicalIn}
 use Rattle.rsb_integer.specs.Selection.{count}
@@ -9,21 +9,35 @@ use Rattle.range_set_blaze.specs.declared.set.run.Run.{Run}
 abbrev pub run_of : {T : Type 0} → (T → ℕ) → Run T → Interval
 run_of rank run = record { first = rank run.start; last = rank run.end }
 
--- the ranks of each run of a list
-abbrev pub runs_of : {T : Type 0} → (T → ℕ) → List (Run T) → List Interval
-runs_of rank runs = map (run_of rank) runs
+-- a run as an entry of the map
+abbrev pub entry_of : {T : Type 0} → Run T → T × T
+entry_of run = (run.start, run.end)
 
--- the values of a run as a range
-abbrev pub range_of : {T : Type 0} → Run T → RangeInclusive T
-range_of run = record { start = run.start; end = run.end; exhausted = false }
+-- the ranks of the run of an entry
+abbrev pub entry_run : {T : Type 0} → (T → ℕ) → T × T → Interval
+entry_run rank entry = record { first = rank entry.0; last = rank entry.1 }
 
--- the values of each run of a list, as ranges
-abbrev pub ranges_of : {T : Type 0} → List (Run T) → List (RangeInclusive T)
-ranges_of runs = map range_of runs
+-- the ranks of the run of each entry
+abbrev pub runs_of : {T : Type 0} → (T → ℕ) → List (T × T) → List Interval
+runs_of rank entries = map (entry_run rank) entries
+
+-- the values of the run of an entry, as a range
+abbrev pub range_of : {T : Type 0} → T × T → RangeInclusive T
+range_of entry = record { start = entry.0; end = entry.1; exhausted = false }
+
+-- the values of the run of each entry, as ranges
+abbrev pub ranges_of : {T : Type 0} → List (T × T) → List (RangeInclusive T)
+ranges_of entries = map range_of entries
 
 -- the runs are canonical in a type of n values, and the length that is kept is the number of their
 -- members
-pub record IsKept {T : Type 0} (rank : T → ℕ) (n : ℕ) (runs : List (Run T)) (kept : ℕ) : Type 0
+pub record IsKept {T : Type 0} (rank : T → ℕ) (n : ℕ) (entries : List (T × T)) (kept : ℕ) : Type 0
   where
-    pub canonical : IsCanonicalIn n (runs_of rank runs)
-    pub length : kept ≡ count n (members (runs_of rank runs))
+    pub canonical : IsCanonicalIn n (runs_of rank entries)
+    pub length : kept ≡ count n (members (runs_of rank entries))
+
+-- the starts of the entries are among n values, and ascend from `low` on
+abbrev pub IsAscendingFrom : {T : Type 0} → (T → ℕ) → ℕ → ℕ → List (T × T) → Type 0
+IsAscendingFrom rank n low [] = Unit {0}
+IsAscendingFrom rank n low (entry ∷ entries) =
+    (low ≤ rank entry.0) × (rank entry.0 < n) × IsAscendingFrom rank n (rank entry.0 + 1) entries

@@ -6,32 +6,30 @@ ghost use Rattle.rsb_integer.specs.Runs.{IsCanonicalIn};
 ghost use Rattle.rsb_streams.specs.Listed.{listed-answers, listed-keeps, listed_may_give};
 ghost use Rattle.rsb_streams.specs.Outcomes.{canonical-starts};
 
-use crate::set::run::Run;
 use rsb_integer::Integer;
 use rsb_streams::{SortedDisjoint, SortedStarts};
 use std::alloc::{Allocator, Global};
+use std::collections::btree_map::IntoIter;
 use std::iter::FusedIterator;
 use std::marker::Model;
 use std::ops::RangeInclusive;
-use std::vec;
 
 /// The runs of a set in ascending order, from both ends. It owns them. Contracts see it as the list
 /// of the ranges still to come. (`IntoRangesIter` of the Rust crate.)
 #[derive(Drop)]
 #[derive_where(Debug)]
 pub struct IntoRangesIter<T: Integer, A: Allocator = Global> {
-    pub(crate) runs: vec::IntoIter<Run<T>, A>,
+    pub(crate) entries: IntoIter<T, T, A>,
 }
 
 impl<T: Integer, A: Allocator> Model for IntoRangesIter<T, A> {
     ghost use Rattle.std.specs.Prelude.{List};
-    ghost use Rattle.std.specs.Vec.Iter.{into_iter_items};
     ghost use Rattle.std.specs.declared.ops.RangeInclusive.{RangeInclusive};
     ghost use Rattle.range_set_blaze.specs.Kept.{ranges_of};
 
     ghost Value = { List (RangeInclusive T) };
 
-    ghost view = { λ s. ranges_of (into_iter_items s.runs) };
+    ghost view = { λ s. ranges_of s.entries };
 }
 
 impl<T: Integer, A: Allocator> Iterator for IntoRangesIter<T, A> {
@@ -44,8 +42,8 @@ impl<T: Integer, A: Allocator> Iterator for IntoRangesIter<T, A> {
     ghost remaining = { item_count (λ s. s) };
 
     fn next(&mut self) -> Option<RangeInclusive<T>> {
-        let run = self.runs.next()?;
-        Some(run.start..=run.end)
+        let (start, end) = self.entries.next()?;
+        Some(start..=end)
     }
 }
 
@@ -57,14 +55,14 @@ impl<T: Integer, A: Allocator> DoubleEndedIterator for IntoRangesIter<T, A> {
     ghost next_back_gives = { YieldsLast (λ s. s) };
 
     fn next_back(&mut self) -> Option<RangeInclusive<T>> {
-        let run = self.runs.next_back()?;
-        Some(run.start..=run.end)
+        let (start, end) = self.entries.next_back()?;
+        Some(start..=end)
     }
 }
 
 impl<T: Integer, A: Allocator> ExactSizeIterator for IntoRangesIter<T, A> {
     fn len(&self) -> usize {
-        self.runs.len()
+        self.entries.len()
     }
 }
 

@@ -6,9 +6,9 @@ ghost use Rattle.rsb_integer.specs.Runs.{IsCanonicalIn};
 ghost use Rattle.rsb_streams.specs.Listed.{listed-answers, listed-keeps, listed_may_give};
 ghost use Rattle.rsb_streams.specs.Outcomes.{canonical-starts};
 
-use crate::set::run::Run;
 use rsb_integer::Integer;
 use rsb_streams::{SortedDisjoint, SortedStarts};
+use std::collections::btree_map::Iter;
 use std::iter::FusedIterator;
 use std::marker::Model;
 use std::ops::RangeInclusive;
@@ -17,7 +17,7 @@ use std::ops::RangeInclusive;
 /// still to come. (`RangesIter` of the Rust crate.)
 #[derive(Clone, Debug, Drop)]
 pub struct RangesIter<'a, T: Integer> {
-    pub(crate) runs: &'a [Run<T>],
+    pub(crate) entries: Iter<'a, T, T>,
 }
 
 impl<'a, T: Integer> Model for RangesIter<'a, T> {
@@ -27,7 +27,7 @@ impl<'a, T: Integer> Model for RangesIter<'a, T> {
 
     ghost Value = { List (RangeInclusive T) };
 
-    ghost view = { λ s. ranges_of s.runs.now };
+    ghost view = { λ s. ranges_of s.entries };
 }
 
 impl<'a, T: Integer> Iterator for RangesIter<'a, T> {
@@ -40,9 +40,8 @@ impl<'a, T: Integer> Iterator for RangesIter<'a, T> {
     ghost remaining = { item_count (λ s. s) };
 
     fn next(&mut self) -> Option<RangeInclusive<T>> {
-        let (first, others) = self.runs.split_first()?;
-        self.runs = others;
-        Some(first.start..=first.end)
+        let (start, end) = self.entries.next()?;
+        Some(*start..=*end)
     }
 }
 
@@ -54,15 +53,14 @@ impl<'a, T: Integer> DoubleEndedIterator for RangesIter<'a, T> {
     ghost next_back_gives = { YieldsLast (λ s. s) };
 
     fn next_back(&mut self) -> Option<RangeInclusive<T>> {
-        let (last, others) = self.runs.split_last()?;
-        self.runs = others;
-        Some(last.start..=last.end)
+        let (start, end) = self.entries.next_back()?;
+        Some(*start..=*end)
     }
 }
 
 impl<'a, T: Integer> ExactSizeIterator for RangesIter<'a, T> {
     fn len(&self) -> usize {
-        self.runs.len()
+        self.entries.len()
     }
 }
 

@@ -1,4 +1,4 @@
-//! The set: its runs in ascending order, and how many members they have.
+//! The set: a map of its runs in ascending order, and how many members they have.
 
 ghost use Rattle.std.specs.Prelude.{◌≡◌, ◌↔◌, ◌<◌, [], length, IfSome, IsNone, IsTrue};
 ghost use Rattle.rsb_integer.specs.Rank.{intervals_of};
@@ -7,22 +7,24 @@ ghost use Rattle.rsb_integer.specs.Selection.{count, IsNothing};
 ghost use Rattle.range_set_blaze.specs.Set.{IsGreatest, IsLeast};
 
 mod bulk;
+mod entries;
 mod insert;
 mod look_up;
 pub(crate) mod run;
 
 use crate::ranges_iter::RangesIter;
-use crate::set::run::Run;
 use num_traits::Zero;
 use rsb_integer::Integer;
 use std::alloc::{Allocator, Global};
+use std::collections::BTreeMap;
 use std::marker::Model;
 
 /// A set of integers. Contracts see it as the list of its runs, each as the interval of its ranks.
 /// (`RangeSetBlaze` of the Rust crate.)
 #[derive(Drop)]
 pub struct RangeSetBlaze<T: Integer, A: Allocator = Global> {
-    runs: Vec<Run<T>, A>,
+    // From the start of each run to its end.
+    map: BTreeMap<T, T, A>,
     length: T::SafeLen,
 }
 
@@ -33,9 +35,9 @@ impl<T: Integer, A: Allocator> Model for RangeSetBlaze<T, A> {
 
     ghost Value = { List Interval };
 
-    ghost view = { λ s. runs_of T.rank s.runs.items };
+    ghost view = { λ s. runs_of T.rank s.map.entries };
 
-    ghost invariant = { λ s. IsKept T.rank T.value_count s.runs.items (T.SafeLen.number s.length) };
+    ghost invariant = { λ s. IsKept T.rank T.value_count s.map.entries (T.SafeLen.number s.length) };
 }
 
 impl<T: Integer, A: Allocator> RangeSetBlaze<T, A> {
@@ -44,7 +46,7 @@ impl<T: Integer, A: Allocator> RangeSetBlaze<T, A> {
         ensures { result ≡ [] }
     {
         RangeSetBlaze {
-            runs: Vec::new(alloc),
+            map: BTreeMap::new(alloc),
             length: T::SafeLen::zero(),
         }
     }
@@ -67,14 +69,14 @@ impl<T: Integer, A: Allocator> RangeSetBlaze<T, A> {
     pub fn ranges_len(&self) -> usize
         ensures { result ≡ length self.now }
     {
-        self.runs.len()
+        self.map.len()
     }
 
     /// Whether there is no member. (`RangeSetBlaze::is_empty`.)
     pub fn is_empty(&self) -> bool
         ensures { IsTrue result ↔ IsNothing (members self.now) }
     {
-        self.runs.is_empty()
+        self.map.is_empty()
     }
 
     /// The least member, or `None` of the empty set. (`RangeSetBlaze::first`.)
@@ -83,7 +85,8 @@ impl<T: Integer, A: Allocator> RangeSetBlaze<T, A> {
         ensures found { IfSome result (λ first.
             IsLeast T.value_count (members self.now) (T.rank first)) }
     {
-        Some(self.runs.first()?.start)
+        let (start, _) = self.map.first_key_value()?;
+        Some(*start)
     }
 
     /// The greatest member, or `None` of the empty set. (`RangeSetBlaze::last`.)
@@ -92,7 +95,8 @@ impl<T: Integer, A: Allocator> RangeSetBlaze<T, A> {
         ensures found { IfSome result (λ last.
             IsGreatest T.value_count (members self.now) (T.rank last)) }
     {
-        Some(self.runs.last()?.end)
+        let (_, end) = self.map.last_key_value()?;
+        Some(*end)
     }
 
     /// The runs in ascending order, from both ends. (`RangeSetBlaze::ranges`.)
@@ -101,14 +105,16 @@ impl<T: Integer, A: Allocator> RangeSetBlaze<T, A> {
         ensures ready { IsCanonicalIn T.value_count (intervals_of T.rank result) }
         ensures runs { AreRuns T.value_count (members self.now) self.now }
     {
-        RangesIter { runs: &self.runs }
+        RangesIter {
+            entries: self.map.iter(),
+        }
     }
 
-    /// Takes all members out. It takes no memory, and gives none back. (`RangeSetBlaze::clear`.)
+    /// Takes all members out. It takes no memory. (`RangeSetBlaze::clear`.)
     pub fn clear(&mut self)
         ensures { self.new ≡ [] }
     {
-        self.runs.clear();
+        self.map.clear();
         self.length = T::SafeLen::zero();
     }
 }

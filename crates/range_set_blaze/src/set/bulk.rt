@@ -9,14 +9,14 @@ ghost use Rattle.range_set_blaze.specs.Set.{Adds};
 
 use crate::into_ranges_iter::IntoRangesIter;
 use crate::set::RangeSetBlaze;
-use crate::set::run::Run;
 use num_traits::Zero;
 use rsb_integer::Integer;
 use rsb_streams::{RangeOnce, SortedDisjoint};
 use std::alloc::{AllocError, Allocator};
+use std::collections::BTreeMap;
 use std::ops::RangeInclusive;
 
-impl<T: Integer, A: Allocator> RangeSetBlaze<T, A> {
+impl<T: Integer, A: Allocator + Clone> RangeSetBlaze<T, A> {
     /// The set of the ranges of a stream. Without memory nothing is made.
     /// (`RangeSetBlaze::from_sorted_disjoint`.)
     pub fn from_sorted_disjoint<I: SortedDisjoint<T>>(alloc: A, iter: I) -> Result<Self, AllocError>
@@ -24,14 +24,14 @@ impl<T: Integer, A: Allocator> RangeSetBlaze<T, A> {
         ensures runs { IfOk result (λ set. SomeOutcome (I.may_give iter) (λ runs. set ≡ runs)) }
     {
         let mut iter = iter;
-        let mut runs = Vec::new(alloc);
+        let mut map = BTreeMap::new(alloc);
         let mut length = T::SafeLen::zero();
         while let Some(range) = iter.next() {
             length += T::safe_len(&range);
             let (start, end) = range.into_inner();
-            runs.push(Run { start, end })?;
+            map.insert(start, end)?;
         }
-        Ok(RangeSetBlaze { runs, length })
+        Ok(RangeSetBlaze { map, length })
     }
 
     /// The set of the values of a range: the empty set where the range is reversed or was iterated
@@ -49,7 +49,9 @@ impl<T: Integer, A: Allocator> RangeSetBlaze<T, A> {
     {
         Self::from(alloc, T::min_value()..=T::max_value())
     }
+}
 
+impl<T: Integer, A: Allocator> RangeSetBlaze<T, A> {
     /// The runs in ascending order, from both ends. They own what the set owned, and take no
     /// memory. (`RangeSetBlaze::into_ranges`.)
     pub fn into_ranges(self) -> IntoRangesIter<T, A>
@@ -57,7 +59,7 @@ impl<T: Integer, A: Allocator> RangeSetBlaze<T, A> {
         ensures ready { IsCanonicalIn T.value_count (intervals_of T.rank result) }
     {
         IntoRangesIter {
-            runs: self.runs.into_iter(),
+            entries: self.map.into_iter(),
         }
     }
 }

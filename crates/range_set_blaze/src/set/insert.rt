@@ -1,19 +1,22 @@
 //! Insertions.
 
-ghost use Rattle.std.specs.Prelude.{◌≡◌, ◌↔◌, ◌+◌, ◌-◌, ◌<◌, ◌≤◌, ◌++◌, ◌∷◌, ◌||◌, ℕ, All, drop, length, take, vec_len, IfOk, IfSome, IsFalse, IsNone, IsOk, IsSome, IsTrue, OnErr, OnOk};
+ghost use Rattle.std.specs.Prelude.{◌≡◌, ◌↔◌, ◌+◌, ◌-◌, ◌<◌, ◌≤◌, min, All, IfOk, IfSome, IsFalse, IsNone, IsOk, IsSome, IsTrue, OnErr, OnOk};
 ghost use Rattle.std.specs.List.{sum_by};
-ghost use Rattle.rsb_integer.specs.Runs.{covers, length_of, members, IsCanonicalFrom, IsCanonicalIn, IsNonEmpty};
+ghost use Rattle.rsb_integer.specs.Runs.{covers, length_of, members, IsCanonicalIn, IsNonEmpty};
 ghost use Rattle.rsb_integer.specs.Selection.{IsNothing};
-ghost use Rattle.range_set_blaze.specs.Kept.{run_of, runs_of};
+ghost use Rattle.range_set_blaze.specs.Kept.{run_of, runs_of, IsAscendingFrom, IsKept};
+ghost use Rattle.range_set_blaze.specs.Places.{spared, swallowed, Has, IsFree, IsInserted, IsReaching};
 ghost use Rattle.range_set_blaze.specs.Set.{between, first_rank, only, past_rank, Adds, IsReached, LacksSomeOf};
 
 use crate::set::RangeSetBlaze;
-use crate::set::run::{Run, greater, is_below, known, lesser, reaches};
+use crate::set::entries::{move_end, run_up_to};
+use crate::set::run::{Run, greater, is_below, known, next_or_greatest, reaches};
 use rsb_integer::Integer;
 use std::alloc::{AllocError, Allocator};
+use std::collections::BTreeMap;
 use std::ops::{Bound, RangeBounds};
 
-impl<T: Integer, A: Allocator> RangeSetBlaze<T, A> {
+impl<T: Integer, A: Allocator + Clone> RangeSetBlaze<T, A> {
     /// Adds the values between two bounds, and says whether one of them was new. Bounds with
     /// nothing between them add nothing. Without memory the set is as it was.
     /// (`RangeSetBlaze::ranges_insert`.)
@@ -37,9 +40,7 @@ impl<T: Integer, A: Allocator> RangeSetBlaze<T, A> {
         let Some(run) = run_between(&range) else {
             return Ok(false);
         };
-        let before = self.length;
-        self.insert_run(run)?;
-        Ok(self.length != before)
+        self.insert_run(run)
     }
 
     /// Adds a value, and says whether it was new. Without memory the set is as it was.
@@ -75,22 +76,23 @@ impl<T: Integer, A: Allocator> RangeSetBlaze<T, A> {
         }
     }
 
-    // Adds the values of a run.
-    fn insert_run(&mut self, run: Run<T>) -> Result<(), AllocError>
+    // Adds the values of a run, and says whether one of them was new.
+    fn insert_run(&mut self, run: Run<T>) -> Result<bool, AllocError>
         requires order { T.rank run.start ≤ T.rank run.end }
         requires value { T.rank run.end < T.value_count }
         ensures members { OnOk result
             (Adds self.old self.new (λ rank. covers rank (run_of T.rank run))) }
+        ensures added { IfOk result (λ added. IsTrue added ↔
+            LacksSomeOf self.old (λ rank. covers rank (run_of T.rank run))) }
         ensures err { OnErr result (self.new ≡ self.old) }
         ensures succeeds { IsReached self.old (T.rank run.start) → IsOk result }
     {
-        let at = first_reaching(&self.runs, run.start);
         let length = self.length;
-        let joined = join(&self.runs, at, run, length);
-        replace_runs(&mut self.runs, at, joined.past, joined.run)?;
-        self.length = joined.others;
-        add_length(&mut self.length, joined.run);
-        Ok(())
+        let Some(length) = add_run(&mut self.map, run, length)? else {
+            return Ok(false);
+        };
+        self.length = length;
+        Ok(true)
     }
 }
 
@@ -127,99 +129,222 @@ fn run_between<T: Integer, R: RangeBounds<T>>(range: &R) -> Option<Run<T>>
     Some(Run { start, end })
 }
 
-// The position of the first run that reaches the start, or the number of runs where none does.
-fn first_reaching<T: Integer>(runs: &[Run<T>], start: T) -> usize
-    requires canonical { IsCanonicalIn T.value_count (runs_of T.rank runs.now) }
-    requires value { T.rank start < T.value_count }
-    ensures within { result ≤ length runs.now }
-    ensures before { All (λ run. T.rank run.end + 1 < T.rank start) (take result runs.now) }
-    ensures from { All (λ run. T.rank start ≤ T.rank run.end + 1) (drop result runs.now) }
-{
-    for (i, run) in runs.iter().enumerate() {
-        if reaches(run.end, start) {
-            return i;
-        }
-    }
-    runs.len()
-}
-
-// A run joined with those of a set that it reaches.
-#[derive(Drop)]
-struct Joined<T: Integer> {
+// Adds the values of a run, and says how many members there are then, or `None` where none of the
+// values was new.
+fn add_run<T: Integer, A: Allocator + Clone>(
+    map: &mut BTreeMap<T, T, A>,
     run: Run<T>,
-    // The position after the last run that was joined.
-    past: usize,
-    // How many members the runs have that were not joined.
-    others: T::SafeLen,
-}
-
-// Joins a run with the runs from a position on that it reaches. `total` is how many
-// members all runs have.
-fn join<T: Integer>(runs: &[Run<T>], at: usize, run: Run<T>, total: T::SafeLen) -> Joined<T>
-    requires canonical { IsCanonicalIn T.value_count (runs_of T.rank runs.now) }
-    requires within { at ≤ length runs.now }
-    requires from { All (λ other. T.rank run.start ≤ T.rank other.end + 1) (drop at runs.now) }
+    total: T::SafeLen,
+) -> Result<Option<T::SafeLen>, AllocError>
+    requires kept { IsKept T.rank T.value_count map.old.entries (T.SafeLen.number total) }
     requires order { T.rank run.start ≤ T.rank run.end }
     requires value { T.rank run.end < T.value_count }
-    requires counted { sum_by length_of (runs_of T.rank (drop at runs.now))
-        ≤ T.SafeLen.number total }
-    requires fits { T.SafeLen.number total ≤ T.value_count }
-    ensures order { T.rank result.run.start ≤ T.rank result.run.end }
-    ensures value { T.rank result.run.end < T.value_count }
-    ensures within { (at ≤ result.past) × (result.past ≤ length runs.now) }
-
-    // The joined run and those after it have what the run and those from the position on have.
-    ensures members { (rank : ℕ) → (covers rank (run_of T.rank result.run)
-        || members (runs_of T.rank (drop result.past runs.now)) rank)
-        ≡ (covers rank (run_of T.rank run) || members (runs_of T.rank (drop at runs.now)) rank) }
-    ensures apart { IsCanonicalFrom (T.rank result.run.end + 2)
-        (runs_of T.rank (drop result.past runs.now)) }
-    ensures others { T.SafeLen.number result.others
-        + sum_by length_of (runs_of T.rank (drop at runs.now))
-        ≡ T.SafeLen.number total + sum_by length_of (runs_of T.rank (drop result.past runs.now)) }
+    ensures unchanged { IfOk result (λ found. IsNone found → map.new.entries ≡ map.old.entries) }
+    ensures within { IfOk result (λ found. IsNone found →
+        Has (runs_of T.rank map.old.entries) (λ rank. covers rank (run_of T.rank run))) }
+    ensures inserted { IfOk result (λ found. IfSome found (λ length. IsInserted T.rank T.value_count
+        map.old.entries map.new.entries run (T.SafeLen.number length))) }
+    ensures err { OnErr result (map.new.entries ≡ map.old.entries) }
+    ensures succeeds { IsReached (runs_of T.rank map.old.entries) (T.rank run.start)
+        → IsOk result }
 {
-    let mut start = run.start;
-    let mut end = run.end;
-    let mut past = at;
-    let mut others = total;
-    while past < runs.len() {
-        let next = runs[past];
-        if !reaches(end, next.start) {
-            break;
-        }
-        start = lesser(start, next.start);
-        end = greater(end, next.end);
-        take_off_length(&mut others, next);
-        past += 1;
+    let Some(last) = last_reaching(map, run.start, next_or_greatest(run.end)) else {
+        return Ok(Some(put_free(map, run, total)?));
+    };
+    if is_below(run.start, last.start) {
+        return Ok(Some(swallow(map, run, last, total)?));
     }
-    Joined {
-        run: Run { start, end },
-        past,
-        others,
+    if is_below(last.end, run.end) {
+        return Ok(Some(lengthen(map, run, last, total)));
     }
+    Ok(None)
 }
 
-// Puts a run in the place of those from one position to another. Only where there are none of these
-// does it take memory.
-fn replace_runs<T: Integer, A: Allocator>(
-    runs: &mut Vec<Run<T>, A>,
-    at: usize,
-    past: usize,
-    run: Run<T>,
-) -> Result<(), AllocError>
-    requires { (at ≤ past) × (past ≤ vec_len runs.old) }
-    ensures replaced { OnOk result
-        (runs.new.items ≡ take at runs.old.items ++ run ∷ drop past runs.old.items) }
-    ensures err { OnErr result (runs.new.items ≡ runs.old.items) }
-    ensures succeeds { at < past → IsOk result }
+// The last of the runs that start at a point or before it, or `None` where it doesn't reach the
+// start.
+fn last_reaching<T: Integer, A: Allocator>(
+    map: &BTreeMap<T, T, A>,
+    start: T,
+    point: T,
+) -> Option<Run<T>>
+    requires canonical { IsCanonicalIn T.value_count (runs_of T.rank map.now.entries) }
+    requires start { T.rank start ≤ T.rank point }
+    requires point { T.rank point < T.value_count }
+    ensures none { IsNone result →
+        IsFree T.rank (T.rank start) (T.rank point) map.now.entries }
+    ensures found { IfSome result
+        (IsReaching T.rank (T.rank start) (T.rank point) map.now.entries) }
 {
-    if at == past {
-        runs.insert(at, run)?;
-    } else {
-        runs[at] = run;
-        runs.drain(at + 1..past);
+    let run = run_up_to(map, point)?;
+    if !reaches(run.end, start) {
+        return None;
     }
-    Ok(())
+    Some(run)
+}
+
+// Puts in a run that no other reaches.
+fn put_free<T: Integer, A: Allocator + Clone>(
+    map: &mut BTreeMap<T, T, A>,
+    run: Run<T>,
+    total: T::SafeLen,
+) -> Result<T::SafeLen, AllocError>
+    requires kept { IsKept T.rank T.value_count map.old.entries (T.SafeLen.number total) }
+    requires order { T.rank run.start ≤ T.rank run.end }
+    requires value { T.rank run.end < T.value_count }
+    requires free { IsFree T.rank (T.rank run.start)
+        (min (T.rank run.end + 1) (T.value_count - 1)) map.old.entries }
+    ensures inserted { IfOk result (λ length. IsInserted T.rank T.value_count
+        map.old.entries map.new.entries run (T.SafeLen.number length)) }
+    ensures err { OnErr result (map.new.entries ≡ map.old.entries) }
+{
+    map.insert(run.start, run.end)?;
+    let mut length = total;
+    add_length(&mut length, run);
+    Ok(length)
+}
+
+// Lengthens the last run that reaches a run, where that one starts in it or right after it.
+fn lengthen<T: Integer, A: Allocator>(
+    map: &mut BTreeMap<T, T, A>,
+    run: Run<T>,
+    last: Run<T>,
+    total: T::SafeLen,
+) -> T::SafeLen
+    requires kept { IsKept T.rank T.value_count map.old.entries (T.SafeLen.number total) }
+    requires order { T.rank run.start ≤ T.rank run.end }
+    requires value { T.rank run.end < T.value_count }
+    requires reaching { IsReaching T.rank (T.rank run.start)
+        (min (T.rank run.end + 1) (T.value_count - 1)) map.old.entries last }
+    requires start { T.rank last.start ≤ T.rank run.start }
+    requires end { T.rank last.end < T.rank run.end }
+    ensures { IsInserted T.rank T.value_count
+        map.old.entries map.new.entries run (T.SafeLen.number result) }
+{
+    let mut length = total;
+    let fresh = Run {
+        start: last.end.add_one(),
+        end: run.end,
+    };
+    add_length(&mut length, fresh);
+    move_end(map, last.start, run.end);
+    length
+}
+
+// Adds a run that takes in the last run that it reaches, and those between.
+fn swallow<T: Integer, A: Allocator + Clone>(
+    map: &mut BTreeMap<T, T, A>,
+    run: Run<T>,
+    last: Run<T>,
+    total: T::SafeLen,
+) -> Result<T::SafeLen, AllocError>
+    requires kept { IsKept T.rank T.value_count map.old.entries (T.SafeLen.number total) }
+    requires order { T.rank run.start ≤ T.rank run.end }
+    requires value { T.rank run.end < T.value_count }
+    requires reaching { IsReaching T.rank (T.rank run.start)
+        (min (T.rank run.end + 1) (T.value_count - 1)) map.old.entries last }
+    requires start { T.rank run.start < T.rank last.start }
+    ensures inserted { IfOk result (λ length. IsInserted T.rank T.value_count
+        map.old.entries map.new.entries run (T.SafeLen.number length)) }
+    ensures err { OnErr result (map.new.entries ≡ map.old.entries) }
+    ensures succeeds { IsReached (runs_of T.rank map.old.entries) (T.rank run.start)
+        → IsOk result }
+{
+    let Some(first) = last_reaching(map, run.start, run.start) else {
+        return put_over(map, run, last, total);
+    };
+    Ok(join(map, run, first, last, total))
+}
+
+// Puts in a run that takes in the last run that it reaches and those between, where none reaches
+// its start.
+fn put_over<T: Integer, A: Allocator + Clone>(
+    map: &mut BTreeMap<T, T, A>,
+    run: Run<T>,
+    last: Run<T>,
+    total: T::SafeLen,
+) -> Result<T::SafeLen, AllocError>
+    requires kept { IsKept T.rank T.value_count map.old.entries (T.SafeLen.number total) }
+    requires order { T.rank run.start ≤ T.rank run.end }
+    requires value { T.rank run.end < T.value_count }
+    requires reaching { IsReaching T.rank (T.rank run.start)
+        (min (T.rank run.end + 1) (T.value_count - 1)) map.old.entries last }
+    requires start { T.rank run.start < T.rank last.start }
+    requires free { IsFree T.rank (T.rank run.start) (T.rank run.start) map.old.entries }
+    ensures inserted { IfOk result (λ length. IsInserted T.rank T.value_count
+        map.old.entries map.new.entries run (T.SafeLen.number length)) }
+    ensures err { OnErr result (map.new.entries ≡ map.old.entries) }
+{
+    let end = greater(run.end, last.end);
+    // The new entry comes before any other is taken out, since it may find no memory.
+    map.insert(run.start, end)?;
+    let mut length = take_out(map, run.start, last.start, total);
+    add_length(&mut length, Run { start: run.start, end });
+    Ok(length)
+}
+
+// Lengthens the run that reaches the start of a run to the end of that one, or of the last run that
+// it reaches, and takes out those between.
+fn join<T: Integer, A: Allocator>(
+    map: &mut BTreeMap<T, T, A>,
+    run: Run<T>,
+    first: Run<T>,
+    last: Run<T>,
+    total: T::SafeLen,
+) -> T::SafeLen
+    requires kept { IsKept T.rank T.value_count map.old.entries (T.SafeLen.number total) }
+    requires order { T.rank run.start ≤ T.rank run.end }
+    requires value { T.rank run.end < T.value_count }
+    requires reaching { IsReaching T.rank (T.rank run.start)
+        (min (T.rank run.end + 1) (T.value_count - 1)) map.old.entries last }
+    requires start { T.rank run.start < T.rank last.start }
+    requires first { IsReaching T.rank (T.rank run.start) (T.rank run.start)
+        map.old.entries first }
+    ensures { IsInserted T.rank T.value_count
+        map.old.entries map.new.entries run (T.SafeLen.number result) }
+{
+    let end = greater(run.end, last.end);
+    let mut length = take_out(map, run.start, last.start, total);
+    let fresh = Run {
+        start: first.end.add_one(),
+        end,
+    };
+    add_length(&mut length, fresh);
+    move_end(map, first.start, end);
+    length
+}
+
+// Takes out the runs that start past `start`, up to the one that starts at `last`, and says how
+// many members the others have. `total` is how many all have.
+fn take_out<T: Integer, A: Allocator>(
+    map: &mut BTreeMap<T, T, A>,
+    start: T,
+    last: T,
+    total: T::SafeLen,
+) -> T::SafeLen
+    requires ascending { IsAscendingFrom T.rank T.value_count 0 map.old.entries }
+    requires order { T.rank start ≤ T.rank last }
+    requires last { T.rank last < T.value_count }
+    requires runs { All IsNonEmpty (runs_of T.rank
+        (swallowed T.rank (T.rank start) (T.rank last) map.old.entries)) }
+    requires counted { sum_by length_of (runs_of T.rank
+        (swallowed T.rank (T.rank start) (T.rank last) map.old.entries))
+        ≤ T.SafeLen.number total }
+    requires fits { T.SafeLen.number total ≤ T.value_count }
+    ensures spared { map.new.entries
+        ≡ spared T.rank (T.rank start) (T.rank last) map.old.entries }
+    ensures others { T.SafeLen.number result + sum_by length_of (runs_of T.rank
+        (swallowed T.rank (T.rank start) (T.rank last) map.old.entries))
+        ≡ T.SafeLen.number total }
+{
+    let mut others = total;
+    while let Some(run) = run_up_to(map, last) {
+        if !is_below(start, run.start) {
+            break;
+        }
+        take_off_length(&mut others, run);
+        map.remove(&run.start);
+    }
+    others
 }
 
 // Takes the number of values of a run off a length.

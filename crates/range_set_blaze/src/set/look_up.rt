@@ -1,16 +1,19 @@
 //! Where a value lies in a set.
 
-ghost use Rattle.std.specs.Prelude.{◌≡◌, ◌↔◌, ◌<◌, IfSome, IsFalse, IsNone, IsSome, IsTrue};
+ghost use Rattle.std.specs.Prelude.{◌≡◌, ◌↔◌, ◌+◌, ◌<◌, ◌≤◌, ℕ, IfSome, IsFalse, IsNone, IsSome, IsTrue};
 ghost use Rattle.rsb_integer.specs.Rank.{interval_of};
 ghost use Rattle.rsb_integer.specs.Runs.{members, IsCanonicalIn};
 ghost use Rattle.rsb_integer.specs.Selection.{complement, IsEverything};
 ghost use Rattle.range_set_blaze.specs.Kept.{run_of, runs_of};
+ghost use Rattle.range_set_blaze.specs.Places.{past};
 ghost use Rattle.range_set_blaze.specs.Set.{IsRunAround};
 
 use crate::set::RangeSetBlaze;
+use crate::set::entries::{run_after, run_up_to};
 use crate::set::run::{Run, is_below, known};
 use rsb_integer::Integer;
 use std::alloc::Allocator;
+use std::collections::BTreeMap;
 use std::ops::RangeInclusive;
 
 impl<T: Integer, A: Allocator> RangeSetBlaze<T, A> {
@@ -18,7 +21,7 @@ impl<T: Integer, A: Allocator> RangeSetBlaze<T, A> {
     pub fn contains(&self, value: T) -> bool
         ensures { result ≡ members self.now (T.rank value) }
     {
-        run_or_gap(&self.runs, known(value)).present
+        run_at(&self.map, known(value)).is_some()
     }
 
     /// The value, exactly where it is a member. (`RangeSetBlaze::get`.)
@@ -40,12 +43,8 @@ impl<T: Integer, A: Allocator> RangeSetBlaze<T, A> {
         ensures run { IfSome result (λ range. IsRunAround T.value_count (members self.now)
             (T.rank value) (interval_of T.rank range)) }
     {
-        let found = run_or_gap(&self.runs, known(value));
-        if found.present {
-            Some(found.piece.start..=found.piece.end)
-        } else {
-            None
-        }
+        let run = run_at(&self.map, known(value))?;
+        Some(run.start..=run.end)
     }
 
     /// The run that has a value and true, or else the gap that it lies in and false. A gap reaches
@@ -57,61 +56,58 @@ impl<T: Integer, A: Allocator> RangeSetBlaze<T, A> {
         ensures gap { IsFalse result.1 → IsRunAround T.value_count (complement (members self.now))
             (T.rank value) (interval_of T.rank result.0) }
     {
-        let found = run_or_gap(&self.runs, known(value));
-        (found.piece.start..=found.piece.end, found.present)
+        let value = known(value);
+        let start = match run_up_to(&self.map, value) {
+            Some(run) => {
+                if !is_below(run.end, value) {
+                    return (run.start..=run.end, true);
+                }
+                run.end.add_one()
+            }
+            None => T::min_value(),
+        };
+        let end = gap_end(&self.map, value);
+        (start..=end, false)
     }
 
     /// Whether every value is a member. (`RangeSetBlaze::is_universal`.)
     pub fn is_universal(&self) -> bool
         ensures { IsTrue result ↔ IsEverything T.value_count (members self.now) }
     {
-        let found = run_or_gap(&self.runs, T::min_value());
-        found.present && !is_below(found.piece.end, T::max_value())
+        self.length == T::safe_len(&(T::min_value()..=T::max_value()))
     }
 }
 
-// A run, or else a gap.
-#[derive(Clone, Copy)]
-struct RunOrGap<T> {
-    piece: Run<T>,
-    present: bool,
-}
-
-// The run that has the value, or else the gap.
-fn run_or_gap<T: Integer>(runs: &[Run<T>], value: T) -> RunOrGap<T>
-    requires canonical { IsCanonicalIn T.value_count (runs_of T.rank runs.now) }
+// The run that has the value, or `None` where none has it.
+fn run_at<T: Integer, A: Allocator>(map: &BTreeMap<T, T, A>, value: T) -> Option<Run<T>>
+    requires canonical { IsCanonicalIn T.value_count (runs_of T.rank map.now.entries) }
     requires value { T.rank value < T.value_count }
-    ensures found { result.present ≡ members (runs_of T.rank runs.now) (T.rank value) }
-    ensures run { IsTrue result.present → IsRunAround T.value_count
-        (members (runs_of T.rank runs.now)) (T.rank value) (run_of T.rank result.piece) }
-    ensures gap { IsFalse result.present → IsRunAround T.value_count
-        (complement (members (runs_of T.rank runs.now))) (T.rank value)
-        (run_of T.rank result.piece) }
+    ensures none { IsNone result ↔
+        IsFalse (members (runs_of T.rank map.now.entries) (T.rank value)) }
+    ensures run { IfSome result (λ run. IsRunAround T.value_count
+        (members (runs_of T.rank map.now.entries)) (T.rank value) (run_of T.rank run)) }
 {
-    let mut start = T::min_value();
-    for run in runs {
-        if is_below(value, run.start) {
-            let end = run.start.sub_one();
-            return gap(start, end);
-        }
-        if !is_below(run.end, value) {
-            return RunOrGap {
-                piece: *run,
-                present: true,
-            };
-        }
-        start = run.end.add_one();
+    let run = run_up_to(map, value)?;
+    if is_below(run.end, value) {
+        return None;
     }
-    gap(start, T::max_value())
+    Some(run)
 }
 
-fn gap<T: Integer>(start: T, end: T) -> RunOrGap<T>
-    ensures start { result.piece.start ≡ start }
-    ensures end { result.piece.end ≡ end }
-    ensures absent { IsFalse result.present }
+// Where the gap ends that has a value.
+fn gap_end<T: Integer, A: Allocator>(map: &BTreeMap<T, T, A>, value: T) -> T
+    requires canonical { IsCanonicalIn T.value_count (runs_of T.rank map.now.entries) }
+    requires value { T.rank value < T.value_count }
+    ensures from { T.rank value ≤ T.rank result }
+    ensures value { T.rank result < T.value_count }
+    ensures free { (rank : ℕ) → T.rank value < rank → rank ≤ T.rank result
+        → IsFalse (members (runs_of T.rank (past T.rank (T.rank value) map.now.entries)) rank) }
+    ensures ends { T.rank result + 1 < T.value_count → IsTrue
+        (members (runs_of T.rank (past T.rank (T.rank value) map.now.entries))
+        (T.rank result + 1)) }
 {
-    RunOrGap {
-        piece: Run { start, end },
-        present: false,
+    match run_after(map, value) {
+        Some(run) => run.start.sub_one(),
+        None => T::max_value(),
     }
 }

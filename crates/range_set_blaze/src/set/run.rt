@@ -1,11 +1,11 @@
-//! A run as a set keeps it, and comparisons of values in ranks.
+//! A run of values, and comparisons of values in ranks.
 
-ghost use Rattle.std.specs.Prelude.{◌≡◌, ◌↔◌, ◌+◌, ◌<◌, ◌≤◌, min, max, IsTrue};
+ghost use Rattle.std.specs.Prelude.{◌≡◌, ◌↔◌, ◌+◌, ◌-◌, ◌<◌, ◌≤◌, max, min, IsTrue};
 
 use rsb_integer::Integer;
 
 /// A run: its first and its last value.
-#[derive(Clone, Copy, Debug)]
+#[derive(Clone, Copy)]
 pub(crate) struct Run<T> {
     pub(crate) start: T,
     pub(crate) end: T,
@@ -19,6 +19,16 @@ pub(crate) fn known<T: Integer>(value: T) -> T
     // Called for its clause alone.
     value.checked_add_one();
     value
+}
+
+/// The value one rank higher, or the greatest value itself.
+pub(crate) fn next_or_greatest<T: Integer>(value: T) -> T
+    ensures { T.rank result ≡ min (T.rank value + 1) (T.value_count - 1) }
+{
+    match value.checked_add_one() {
+        Some(next) => next,
+        None => value,
+    }
 }
 
 /// Whether one value is below another.
@@ -39,15 +49,6 @@ pub(crate) fn reaches<T: Integer>(end: T, start: T) -> bool
         Some(next) => start <= next,
         None => true,
     }
-}
-
-/// The lesser of two values.
-pub(crate) fn lesser<T: Integer>(left: T, right: T) -> T
-    requires left { T.rank left < T.value_count }
-    requires right { T.rank right < T.value_count }
-    ensures { T.rank result ≡ min (T.rank left) (T.rank right) }
-{
-    if is_below(right, left) { right } else { left }
 }
 
 /// The greater of two values.

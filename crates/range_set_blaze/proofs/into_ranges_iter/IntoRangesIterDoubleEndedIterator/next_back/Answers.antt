@@ -1,6 +1,5 @@
 use Rattle.std.proofs.Common.{◌∙◌, ◌∷◌, [], ap, sym}
 use Rattle.std.proofs.lemmas.List.{map-append}
-use Rattle.std.specs.Vec.Iter.{into_iter_items}
 use Rattle.range_set_blaze.specs.Kept.{range_of, ranges_of}
 use Rattle.range_set_blaze.proofs.RangesLemmas.{canonical-goes_back}
 use Rattle.range_set_blaze.proofs.into_ranges_iter.IntoRangesIterDoubleEndedIterator.next_back.Goals as goal
@@ -8,8 +7,9 @@ use Rattle.range_set_blaze.proofs.into_ranges_iter.IntoRangesIterDoubleEndedIter
 -- what is left of canonical ranges is canonical
 pub returns-clause-goes : goal.returns-clause-goes
 returns-clause-goes g c =
-    let others = into_iter_items c.next_back.new.self in
+    let last : g.row.T.Denot × g.row.T.Denot = (c.in_ok-start.start, c.in_ok-start.end) in
+    let others = c.next_back.new.self in
     canonical-goes_back g.T.Integer.rank g.T.Integer.value_count c.args.self.now
-    (ranges_of others) (range_of c.in_ok-run.run') c.new.result
-    (sym c.self.view_is ∙ ap ranges_of c.in_ok-run.ensures.steps
-    ∙ map-append range_of others (c.in_ok-run.run' ∷ [])) c.requires
+    (ranges_of others) (range_of last) c.new.result
+    (sym c.self.view_is ∙ ap ranges_of c.in_ok-start.ensures.steps
+    ∙ map-append range_of others (last ∷ [])) c.requires

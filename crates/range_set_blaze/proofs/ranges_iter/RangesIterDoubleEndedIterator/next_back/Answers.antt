@@ -7,9 +7,9 @@ use Rattle.range_set_blaze.proofs.ranges_iter.RangesIterDoubleEndedIterator.next
 -- what is left of canonical ranges is canonical
 pub returns-clause-goes : goal.returns-clause-goes
 returns-clause-goes g c =
-    let run = c.in_ok-last.last.now in
-    let others = c.in_ok-last.others.now in
-    canonical-goes_back g.T.Integer.rank g.T.Integer.value_count c.args.self.now (ranges_of others)
-    (range_of run)
-    c.new.result (sym c.self.view_is ∙ ap ranges_of c.in_ok-last.ensures.cases.0
-    ∙ map-append range_of others (run ∷ [])) c.requires
+    let last : g.row.T.Denot × g.row.T.Denot = (c.in_ok-start.start.now, c.in_ok-start.end.now) in
+    let others = c.next_back.new.self in
+    canonical-goes_back g.T.Integer.rank g.T.Integer.value_count c.args.self.now
+    (ranges_of others) (range_of last) c.new.result
+    (sym c.self.view_is ∙ ap ranges_of c.in_ok-start.ensures.steps
+    ∙ map-append range_of others (last ∷ [])) c.requires

@@ -1,10 +1,11 @@
-use Rattle.std.proofs.Common.{List, ◌++◌, ◌∷◌, [], ◌∙◌, append_assoc, append-nil, arith, subst}
+use Rattle.std.proofs.Common.{List, ◌++◌, ◌∷◌, [], ◌∙◌, append_assoc, append-nil, ap, arith, subst, sym}
 use Rattle.std.proofs.lemmas.List.Sums.{sum_by-append}
 use Rattle.std.specs.Prelude.{Some, None}
 use Rattle.rsb_integer.specs.Rank.{interval_of}
 use Rattle.rsb_integer.specs.Runs.{Interval, length_of, IsCanonicalIn}
+use Rattle.rsb_integer.proofs.RangeLemmas.{interval_of-some}
 use Rattle.range_set_blaze.specs.Kept.{runs_of}
-use Rattle.range_set_blaze.proofs.BulkLemmas.{runs_of-taken, taken-ordered, taken-within}
+use Rattle.range_set_blaze.proofs.BulkLemmas.{put-last, runs_of-taken, taken-canonical, taken-ordered, taken-within}
 use Rattle.range_set_blaze.proofs.KeptLemmas.{sum_by-canonical}
 use Rattle.range_set_blaze.proofs.set.RangeSetBlaze.from_sorted_disjoint.Goals as goal
 
@@ -17,7 +18,7 @@ safe_len-requires g c =
     taken-ordered g.T.Integer.value_count (g.I.SortedStarts.may_give c.args.iter)
     (g.I.SortedStarts.may_give t)
     (g.met.I.SortedDisjoint.canonical c.args.iter c.requires)
-    (runs_of g.T.Integer.rank c.loop-range.runs.items) run
+    (runs_of g.T.Integer.rank c.loop-range.map.entries) run
     (λ rest may. c.loop-range.invariant.given (run ∷ rest)
     (g.met.I.SortedStarts.answers s t (Some c.in-Some.range) c.in-Some.ensures.steps rest may))
     (g.met.I.SortedStarts.sorted t c.in-Some.ensures.goes.keeps).some
@@ -32,7 +33,7 @@ add_assign-requires g c =
     let run = interval_of g.T.Integer.rank c.in-Some.range in
     let fits = taken-within g.T.Integer.value_count (g.I.SortedStarts.may_give c.args.iter)
     (g.I.SortedStarts.may_give t) (g.met.I.SortedDisjoint.canonical c.args.iter c.requires)
-    (runs_of g.T.Integer.rank c.loop-range.runs.items) run
+    (runs_of g.T.Integer.rank c.loop-range.map.entries) run
     (λ rest may. c.loop-range.invariant.given (run ∷ rest)
     (g.met.I.SortedStarts.answers s t (Some c.in-Some.range) c.in-Some.ensures.steps rest may))
     (g.met.I.SortedStarts.sorted t c.in-Some.ensures.goes.keeps).some in
@@ -43,17 +44,28 @@ pub loop-range-preserved : goal.loop-range-preserved
 loop-range-preserved g c =
     let s = c.loop-range.iter in
     let t = c.next.new.self in
+    let laws = g.met.T.Integer g.world.𝓛 g.world.𝓜 g.world.𝓡
+    ((λ s x. x), (λ x. x), (λ x. x), λ x. x) in
     let rank = g.T.Integer.rank in
+    let n = g.T.Integer.value_count in
     let run = interval_of rank c.in-Some.range in
-    let taken = runs_of rank c.loop-range.runs.items in
+    let taken = runs_of rank c.loop-range.map.entries in
     let given = λ (rest : List Interval) (may : g.I.SortedStarts.may_give t rest).
     c.loop-range.invariant.given (run ∷ rest)
     (g.met.I.SortedStarts.answers s t (Some c.in-Some.range) c.in-Some.ensures.steps rest may) in
     let ordered = taken-ordered g.T.Integer.value_count (g.I.SortedStarts.may_give c.args.iter)
     (g.I.SortedStarts.may_give t) (g.met.I.SortedDisjoint.canonical c.args.iter c.requires)
     taken run given (g.met.I.SortedStarts.sorted t c.in-Some.ensures.goes.keeps).some in
-    let more = runs_of-taken rank c.loop-range.runs.items c.push.new.self.items _ c.in-Some.range
-    c.in_ok-push.ensures.items c.into_inner-start.ensures.start c.into_inner-start.ensures.end
+    let both = taken-canonical n (g.I.SortedStarts.may_give c.args.iter)
+    (g.I.SortedStarts.may_give t) (g.met.I.SortedDisjoint.canonical c.args.iter c.requires)
+    taken run given (g.met.I.SortedStarts.sorted t c.in-Some.ensures.goes.keeps).some in
+    let same = interval_of-some rank c.in-Some.range ordered in
+    let last = put-last g.T.Ord.cmp rank n laws.in_order c.loop-range.map.entries run both
+    c.into_inner-start.result.0 c.into_inner-start.result.1
+    (ap rank c.into_inner-start.ensures.start ∙ sym (ap (λ (each : Interval). each.first) same))
+    c.insert.new.self.entries c.in_ok-insert.ensures.entries in
+    let more = runs_of-taken rank c.loop-range.map.entries c.insert.new.self.entries
+    (c.into_inner-start.result.0, c.into_inner-start.result.1) c.in-Some.range last c.into_inner-start.ensures.start c.into_inner-start.ensures.end
     ordered in
     let exact = g.met.T.SafeLen.SafeLength.sum_exact c.loop-range.length c.safe_len.result
     c.add_assign.new.self c.add_assign.ensures.after in
@@ -76,7 +88,7 @@ loop-range-preserved g c =
 pub invariant_of-result : goal.invariant_of-result
 invariant_of-result g c =
     let n = g.T.Integer.value_count in
-    let taken = runs_of g.T.Integer.rank c.loop-range.runs.items in
+    let taken = runs_of g.T.Integer.rank c.loop-range.map.entries in
     let last = g.met.I.SortedStarts.answers c.loop-range.iter c.next.new.self None
     c.in_default.ensures.steps in
     let canonical : IsCanonicalIn n taken = subst (IsCanonicalIn n) (append-nil taken)

@@ -13,9 +13,9 @@ invariant-loop-range g l =
       ready : g.I.Iterator.can_next l.iter;
       finite : IsFinite (g.I.Iterator.remaining l.iter);
       given : (rest : List Interval) → g.I.SortedStarts.may_give l.iter rest
-          → g.I.SortedStarts.may_give l.fn.iter (runs_of rank l.runs.items ++ rest);
+          → g.I.SortedStarts.may_give l.fn.iter (runs_of rank l.map.entries ++ rest);
       length : g.T.SafeLen.SafeLength.number l.length
-          ≡ sum_by length_of (runs_of rank l.runs.items);
+          ≡ sum_by length_of (runs_of rank l.map.entries);
     }
 
 abbrev pub decreases-loop-range : goal.decreases-loop-range

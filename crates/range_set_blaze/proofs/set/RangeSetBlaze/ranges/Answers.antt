@@ -6,18 +6,18 @@ use Rattle.range_set_blaze.proofs.set.RangeSetBlaze.ranges.Goals as goal
 -- the ranges have the intervals of the runs
 pub returns-clause-ranges : goal.returns-clause-ranges
 returns-clause-ranges g c =
-    rw (← c.self.view_is, c.deref.ensures.value)
-    (intervals_of-ranges g.T.Integer.rank c.self.inside.runs.items)
+    rw (c.iter.ensures.rest, ← c.self.view_is)
+    (intervals_of-ranges g.T.Integer.rank c.self.inside.map.entries)
 
 -- and these are canonical
 pub returns-clause-ready : goal.returns-clause-ready
 returns-clause-ready g c =
-    rw (c.deref.ensures.value, intervals_of-ranges g.T.Integer.rank c.self.inside.runs.items)
+    rw (c.iter.ensures.rest, intervals_of-ranges g.T.Integer.rank c.self.inside.map.entries)
     c.self.invariant.canonical
 
 pub returns-clause-runs : goal.returns-clause-runs
 returns-clause-runs g c =
     let canonical = c.self.invariant.canonical in
     rw (← c.self.view_is)
-    (canonical-runs g.T.Integer.value_count (runs_of g.T.Integer.rank c.self.inside.runs.items)
+    (canonical-runs g.T.Integer.value_count (runs_of g.T.Integer.rank c.self.inside.map.entries)
     canonical.0 canonical.1)

@@ -1,84 +1,162 @@
-use Rattle.std.proofs.Common.{◌∙◌, ◌+◌, ◌≤◌, ◌||◌, ap, arith, sym}
-use Rattle.rsb_integer.specs.Runs.{covers, members}
-use Rattle.range_set_blaze.specs.Kept.{run_of}
-use Rattle.range_set_blaze.proofs.InsertLemmas.{members-joined}
-use Rattle.range_set_blaze.proofs.KeptLemmas.{All-from, canonical-drop, canonical-end, le-fails, runs_of-at, runs_of-drop, sum_by-drop}
+use Rattle.std.proofs.Common.{◌+◌, ◌-◌, arith, refl}
+use Rattle.std.specs.BTreeMap.{is_at}
+use Rattle.std.specs.Map.{set_value}
+use Rattle.range_set_blaze.proofs.PlacesLemmas.{first-joined, first-order, first-swallowed, inserted-fits, kept-ascending, kept-fits, last-order, taken-runs}
 use Rattle.range_set_blaze.proofs.set.insert.join.Goals as goal
-use Rattle.range_set_blaze.proofs.set.insert.join.Goals.{else-loop-past-test, then-loop-past-test+then-not-reaches}
 
--- a run of the set is in order and has values for ends
-pub reaches-requires-after_bounds : goal.reaches-requires-after_bounds
-reaches-requires-after_bounds g c κs within =
-    let at = runs_of-at g.T.Integer.rank g.T.Integer.value_count 0 c.args.runs.now c.loop-past.past
-    c.index-runs-past.result c.requires.canonical.0 c.requires.canonical.1 c.loop-past-test.true
-    c.index-runs-past.is in
-    omega (arith, at.0, at.1)
-
-pub lesser-start-requires-clause-right : goal.lesser-start-requires-clause-right
-lesser-start-requires-clause-right g c κs within =
-    let at = runs_of-at g.T.Integer.rank g.T.Integer.value_count 0 c.args.runs.now c.loop-past.past
-    c.index-runs-past.result c.requires.canonical.0 c.requires.canonical.1 c.loop-past-test.true
-    c.index-runs-past.is in
-    omega (arith, at.0, at.1)
-
+-- the last run is in order, and lies in the type
 pub greater-end-requires-clause-right : goal.greater-end-requires-clause-right
 greater-end-requires-clause-right g c κs within =
-    (runs_of-at g.T.Integer.rank g.T.Integer.value_count 0 c.args.runs.now c.loop-past.past
-    c.index-runs-past.result c.requires.canonical.0 c.requires.canonical.1 c.loop-past-test.true
-    c.index-runs-past.is).1
-
-pub take_off_length-requires-clause-some : goal.take_off_length-requires-clause-some
-take_off_length-requires-clause-some g c κs within =
-    (runs_of-at g.T.Integer.rank g.T.Integer.value_count 0 c.args.runs.now c.loop-past.past
-    c.index-runs-past.result c.requires.canonical.0 c.requires.canonical.1 c.loop-past-test.true
-    c.index-runs-past.is).0
-
--- the next run is reached, and joined
-pub loop-past-preserved : goal.loop-past-preserved
-loop-past-preserved g c =
+    let laws = g.met.T.Integer g.world.𝓛 g.world.𝓜 g.world.𝓡
+    ((λ s x. x), (λ x. x), (λ x. x), λ x. x) in
     let rank = g.T.Integer.rank in
-    let runs = c.args.runs.now in
-    let next = c.index-runs-past.result in
-    let i = c.loop-past.invariant in
-    let at = runs_of-at rank g.T.Integer.value_count 0 runs c.loop-past.past next
-    c.requires.canonical.0
-    c.requires.canonical.1 c.loop-past-test.true c.index-runs-past.is in
-    let rest = runs_of-drop rank runs c.loop-past.past next c.loop-past-test.true
-    c.index-runs-past.is in
-    let sum = sum_by-drop rank runs c.loop-past.past next c.loop-past-test.true c.index-runs-past.is
-    in
-    let near = c.reaches.ensures.0 c.if-not-reaches.false in
-    let far = All-from (λ other. rank c.args.run.start ≤ rank other.end + 1) runs c.args.at
-    c.loop-past.past
-    next c.requires.from i.at c.loop-past-test.true c.index-runs-past.is in
-    record {
-      at = omega (arith, i.at);
-      within = omega (arith, c.loop-past-test.true);
-      order = omega (arith, i.order, at.0, c.lesser-start.ensures, c.greater-end.ensures);
-      value = omega (arith, i.value, at.1, c.greater-end.ensures);
-      first = omega (arith, i.first, c.lesser-start.ensures);
-      members = λ point.
-          rw (c.lesser-start.ensures, c.greater-end.ensures)
-          (members-joined point
-          (record { first = rank c.loop-past.start; last = rank c.loop-past.end })
-          (run_of rank next) _ i.order at.0 near (omega (arith, far, i.first))
-          ∙ ap (λ others. covers point
-          (record { first = rank c.loop-past.start; last = rank c.loop-past.end })
-          || members others point) (sym rest)
-          ∙ i.members point);
-      fits = omega (arith, i.fits, c.take_off_length.ensures);
-      others = omega (arith, i.others, sum, c.take_off_length.ensures);
-    }
+    let n = g.T.Integer.value_count in
+    (last-order g.T.Ord.cmp rank n laws.in_order c.args.map.now.entries
+    (g.T.SafeLen.SafeLength.number c.args.total) c.requires.kept c.args.run c.requires.order
+    c.requires.value c.args.last c.requires.reaching).1
 
--- the runs that are left are not reached, or there are none
-pub returns-clause-apart : goal.returns-clause-apart
-returns-clause-apart g c =
+-- the starts of a set ascend
+pub take_out-length-requires-clause-ascending : goal.take_out-length-requires-clause-ascending
+take_out-length-requires-clause-ascending g c κs within =
+    kept-ascending g.T.Integer.rank g.T.Integer.value_count c.args.map.now.entries
+    c.requires.kept.canonical
+
+pub take_out-length-requires-clause-last : goal.take_out-length-requires-clause-last
+take_out-length-requires-clause-last g c κs within =
+    let laws = g.met.T.Integer g.world.𝓛 g.world.𝓜 g.world.𝓡
+    ((λ s x. x), (λ x. x), (λ x. x), λ x. x) in
     let rank = g.T.Integer.rank in
-    elim c.loop-past-test.branch [
-      | else-loop-past-test w ↦ canonical-end rank _ c.args.runs.now c.loop-past.past
-          w.loop-past-test.false
-      | then-loop-past-test+then-not-reaches w ↦
-          let far = le-fails w.reaches.result _ _ w.reaches.ensures w.if-not-reaches.true in
-          canonical-drop rank _ 0 c.args.runs.now c.loop-past.past w.index-runs-past.result
-          c.requires.canonical.0 w.loop-past-test.true w.index-runs-past.is (omega (arith, far))
-    ]
+    let n = g.T.Integer.value_count in
+    let order = last-order g.T.Ord.cmp rank n laws.in_order c.args.map.now.entries
+    (g.T.SafeLen.SafeLength.number c.args.total) c.requires.kept c.args.run c.requires.order
+    c.requires.value c.args.last c.requires.reaching in
+    omega (arith, order.0, order.1)
+
+-- what is swallowed has values, and no more than all
+pub take_out-length-requires-clause-runs : goal.take_out-length-requires-clause-runs
+take_out-length-requires-clause-runs g c κs within =
+    let laws = g.met.T.Integer g.world.𝓛 g.world.𝓜 g.world.𝓡
+    ((λ s x. x), (λ x. x), (λ x. x), λ x. x) in
+    let rank = g.T.Integer.rank in
+    let n = g.T.Integer.value_count in
+    (taken-runs g.T.Ord.cmp rank n laws.in_order c.args.map.now.entries
+    (g.T.SafeLen.SafeLength.number c.args.total) c.requires.kept c.args.run c.requires.order
+    c.requires.value c.args.last c.requires.reaching c.requires.start
+    c.args.map.now.entries
+    (first-swallowed g.T.Ord.cmp rank n laws.in_order c.args.map.now.entries
+    (g.T.SafeLen.SafeLength.number c.args.total) c.requires.kept c.args.run c.requires.order
+    c.requires.value c.args.last c.requires.reaching c.requires.start
+    c.args.first c.requires.first)).0
+
+pub take_out-length-requires-clause-counted : goal.take_out-length-requires-clause-counted
+take_out-length-requires-clause-counted g c κs within =
+    let laws = g.met.T.Integer g.world.𝓛 g.world.𝓜 g.world.𝓡
+    ((λ s x. x), (λ x. x), (λ x. x), λ x. x) in
+    let rank = g.T.Integer.rank in
+    let n = g.T.Integer.value_count in
+    (taken-runs g.T.Ord.cmp rank n laws.in_order c.args.map.now.entries
+    (g.T.SafeLen.SafeLength.number c.args.total) c.requires.kept c.args.run c.requires.order
+    c.requires.value c.args.last c.requires.reaching c.requires.start
+    c.args.map.now.entries
+    (first-swallowed g.T.Ord.cmp rank n laws.in_order c.args.map.now.entries
+    (g.T.SafeLen.SafeLength.number c.args.total) c.requires.kept c.args.run c.requires.order
+    c.requires.value c.args.last c.requires.reaching c.requires.start
+    c.args.first c.requires.first)).1
+
+pub take_out-length-requires-clause-fits : goal.take_out-length-requires-clause-fits
+take_out-length-requires-clause-fits g c κs within =
+    kept-fits g.T.Integer.rank g.T.Integer.value_count c.args.map.now.entries _ c.requires.kept
+
+-- the first run ends before the last starts
+pub add_one-requires : goal.add_one-requires
+add_one-requires g c =
+    let laws = g.met.T.Integer g.world.𝓛 g.world.𝓜 g.world.𝓡
+    ((λ s x. x), (λ x. x), (λ x. x), λ x. x) in
+    let rank = g.T.Integer.rank in
+    let n = g.T.Integer.value_count in
+    let placed = first-order g.T.Ord.cmp rank n laws.in_order c.args.map.now.entries
+    (g.T.SafeLen.SafeLength.number c.args.total) c.requires.kept c.args.run c.requires.order
+    c.requires.value c.args.last c.requires.reaching c.requires.start
+    c.args.first c.requires.first in
+    let order = last-order g.T.Ord.cmp rank n laws.in_order c.args.map.now.entries
+    (g.T.SafeLen.SafeLength.number c.args.total) c.requires.kept c.args.run c.requires.order
+    c.requires.value c.args.last c.requires.reaching in
+    omega (arith, placed.2, order.0, order.1)
+
+pub add_length-requires-clause-some : goal.add_length-requires-clause-some
+add_length-requires-clause-some g c κs within =
+    let laws = g.met.T.Integer g.world.𝓛 g.world.𝓜 g.world.𝓡
+    ((λ s x. x), (λ x. x), (λ x. x), λ x. x) in
+    let rank = g.T.Integer.rank in
+    let n = g.T.Integer.value_count in
+    let placed = first-order g.T.Ord.cmp rank n laws.in_order c.args.map.now.entries
+    (g.T.SafeLen.SafeLength.number c.args.total) c.requires.kept c.args.run c.requires.order
+    c.requires.value c.args.last c.requires.reaching c.requires.start
+    c.args.first c.requires.first in
+    let order = last-order g.T.Ord.cmp rank n laws.in_order c.args.map.now.entries
+    (g.T.SafeLen.SafeLength.number c.args.total) c.requires.kept c.args.run c.requires.order
+    c.requires.value c.args.last c.requires.reaching in
+    omega (arith, placed.2, order.0, c.add_one.ensures, c.greater-end.ensures)
+
+-- the length with the fresh values is the number of members then
+pub add_length-requires-clause-fits : goal.add_length-requires-clause-fits
+add_length-requires-clause-fits g c κs within =
+    let laws = g.met.T.Integer g.world.𝓛 g.world.𝓜 g.world.𝓡
+    ((λ s x. x), (λ x. x), (λ x. x), λ x. x) in
+    let rank = g.T.Integer.rank in
+    let n = g.T.Integer.value_count in
+    let number = g.T.SafeLen.SafeLength.number in
+    let first = c.args.first in
+    let placed = first-order g.T.Ord.cmp rank n laws.in_order c.args.map.now.entries
+    (g.T.SafeLen.SafeLength.number c.args.total) c.requires.kept c.args.run c.requires.order
+    c.requires.value c.args.last c.requires.reaching c.requires.start
+    first c.requires.first in
+    let order = last-order g.T.Ord.cmp rank n laws.in_order c.args.map.now.entries
+    (g.T.SafeLen.SafeLength.number c.args.total) c.requires.kept c.args.run c.requires.order
+    c.requires.value c.args.last c.requires.reaching in
+    let swallows = first-swallowed g.T.Ord.cmp rank n laws.in_order c.args.map.now.entries
+    (g.T.SafeLen.SafeLength.number c.args.total) c.requires.kept c.args.run c.requires.order
+    c.requires.value c.args.last c.requires.reaching c.requires.start
+    first c.requires.first in
+    let others = rw swallows at c.take_out-length.ensures.others in
+    let left = c.take_out-length.new.map.entries in
+    let fits = inserted-fits rank n c.args.map.now.entries
+    (set_value (is_at (g.T.Ord.cmp first.start)) left c.greater-end.result) c.args.run _
+    (first-joined g.T.Ord.cmp rank n laws.in_order c.args.map.now.entries
+    (g.T.SafeLen.SafeLength.number c.args.total) c.requires.kept c.args.run c.requires.order
+    c.requires.value c.args.last c.requires.reaching c.requires.start
+    first c.requires.first c.greater-end.result c.greater-end.ensures left
+    (set_value (is_at (g.T.Ord.cmp first.start)) left c.greater-end.result)
+    (number c.take_out-length.result + (rank c.greater-end.result - rank first.end))
+    c.take_out-length.ensures.spared refl (omega (arith, others))) in
+    omega (arith, fits, placed.2, order.0, c.add_one.ensures, c.greater-end.ensures)
+
+-- the first run takes in the others
+pub returns : goal.returns
+returns g c =
+    let laws = g.met.T.Integer g.world.𝓛 g.world.𝓜 g.world.𝓡
+    ((λ s x. x), (λ x. x), (λ x. x), λ x. x) in
+    let rank = g.T.Integer.rank in
+    let n = g.T.Integer.value_count in
+    let number = g.T.SafeLen.SafeLength.number in
+    let first = c.args.first in
+    let placed = first-order g.T.Ord.cmp rank n laws.in_order c.args.map.now.entries
+    (g.T.SafeLen.SafeLength.number c.args.total) c.requires.kept c.args.run c.requires.order
+    c.requires.value c.args.last c.requires.reaching c.requires.start
+    first c.requires.first in
+    let order = last-order g.T.Ord.cmp rank n laws.in_order c.args.map.now.entries
+    (g.T.SafeLen.SafeLength.number c.args.total) c.requires.kept c.args.run c.requires.order
+    c.requires.value c.args.last c.requires.reaching in
+    let swallows = first-swallowed g.T.Ord.cmp rank n laws.in_order c.args.map.now.entries
+    (g.T.SafeLen.SafeLength.number c.args.total) c.requires.kept c.args.run c.requires.order
+    c.requires.value c.args.last c.requires.reaching c.requires.start
+    first c.requires.first in
+    let others = rw swallows at c.take_out-length.ensures.others in
+    first-joined g.T.Ord.cmp rank n laws.in_order c.args.map.now.entries
+    (g.T.SafeLen.SafeLength.number c.args.total) c.requires.kept c.args.run c.requires.order
+    c.requires.value c.args.last c.requires.reaching c.requires.start
+    first c.requires.first c.greater-end.result c.greater-end.ensures
+    c.take_out-length.new.map.entries c.move_end.new.map.entries (number c.add_length.new.length)
+    c.take_out-length.ensures.spared c.move_end.ensures
+    (omega (arith, others, c.add_length.ensures, placed.2, order.0, c.add_one.ensures,
+    c.greater-end.ensures))

@@ -1,0 +1,57 @@
+-- Where a run lies among the entries of a map, and what an insertion makes of them.
+use Rattle.std.specs.Prelude.{◌≡◌, ℕ, nat_le, nat_lt, ◌+◌, ◌<◌, ◌≤◌, IsTrue, List, [], ◌∷◌, ◌++◌}
+use Rattle.std.specs.List.{filter}
+use Rattle.rsb_integer.specs.Runs.{Interval, covers, members}
+use Rattle.rsb_integer.specs.Selection.{Selection}
+use Rattle.rsb_integer.proofs.CanonicalLemmas.{next_start}
+use Rattle.range_set_blaze.specs.Kept.{entry_of, run_of, runs_of, IsKept}
+use Rattle.range_set_blaze.specs.Set.{Adds, LacksSomeOf}
+use Rattle.range_set_blaze.specs.declared.set.run.Run.{Run}
+
+-- the list has this item last
+pub record EndsWith {X : Type 0} (items : List X) (last : X) : Type 0 where
+  pub front : List X
+  pub parts : items ≡ front ++ last ∷ []
+
+-- the list has this item first
+pub record StartsWith {X : Type 0} (items : List X) (first : X) : Type 0 where
+  pub rest : List X
+  pub parts : items ≡ first ∷ rest
+
+module _ {T : Type 0} (rank : T → ℕ) where
+  -- the entries that start at the point or below it
+  abbrev pub up_to : ℕ → List (T × T) → List (T × T)
+  up_to point entries = filter (λ entry. nat_le (rank entry.0) point) entries
+
+  -- the entries that start past the point
+  abbrev pub past : ℕ → List (T × T) → List (T × T)
+  past point entries = filter (λ entry. nat_lt point (rank entry.0)) entries
+
+  -- the entries that start past the one point, and at the other or below it
+  abbrev pub swallowed : ℕ → ℕ → List (T × T) → List (T × T)
+  swallowed start last entries = past start (up_to last entries)
+
+  -- the entries that start at the one point or below it, and those past the other
+  abbrev pub spared : ℕ → ℕ → List (T × T) → List (T × T)
+  spared start last entries = up_to start entries ++ past last entries
+
+  -- the runs up to the point end more than one rank below the start
+  abbrev pub IsFree : ℕ → ℕ → List (T × T) → Type 0
+  IsFree start point entries = next_start 0 (runs_of rank (up_to point entries)) ≤ start
+
+  -- the run is the last of those up to the point, and reaches the start
+  pub record IsReaching (start point : ℕ) (entries : List (T × T)) (run : Run T) : Type 0 where
+    pub last : EndsWith (up_to point entries) (entry_of run)
+    pub reaches : start ≤ rank run.end + 1
+
+-- every selected rank is a member
+abbrev pub Has : List Interval → Selection → Type 0
+Has set selected = (rank : ℕ) → IsTrue (selected rank) → IsTrue (members set rank)
+
+-- the new entries are kept with this length, and have the members of the old ones and those of the
+-- run, one of which is new
+pub record IsInserted {T : Type 0} (rank : T → ℕ) (n : ℕ) (old new : List (T × T)) (run : Run T)
+    (length : ℕ) : Type 0 where
+  pub kept : IsKept rank n new length
+  pub adds : Adds (runs_of rank old) (runs_of rank new) (λ point. covers point (run_of rank run))
+  pub lacks : LacksSomeOf (runs_of rank old) (λ point. covers point (run_of rank run))
