@@ -1,8 +1,8 @@
 //! Memory that is refused.
 
-use crate::tests::{runs_of, set_of};
-use crate::{IntoRangeSetBlaze, RangeSetBlaze};
+use crate::tables::{runs_of, set_of};
 use linked_list_allocator::LocalHeap;
+use range_set_blaze::{IntoRangeSetBlaze, RangeSetBlaze};
 use std::alloc::{AllocError, Global};
 use std::test::*;
 
