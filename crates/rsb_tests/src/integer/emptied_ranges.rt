@@ -9,10 +9,10 @@ fn takes_from_the_ends<T: Integer>(rt: &impl Abort) {
     let least = T::min_value();
     let greatest = T::max_value();
     let mut range = least..=least;
-    assert_eq!(rt; T::range_next(&mut range), Some(least));
-    assert_eq!(rt; T::range_next(&mut range), None);
+    assert!(rt; T::range_next(&mut range) == Some(least));
+    assert!(rt; T::range_next(&mut range) == None);
     let mut range = least..=greatest;
-    assert_eq!(rt; T::range_next_back(&mut range), Some(greatest));
+    assert!(rt; T::range_next_back(&mut range) == Some(greatest));
 }
 
 #[test]
@@ -26,8 +26,8 @@ fn members_are_taken_from_both_ends(rt: HostRuntime) {
 /// Takes the one member of a range from its end.
 fn empties<T: Integer>(rt: &impl Abort, only: T) {
     let mut range = only..=only;
-    assert_eq!(rt; T::range_next_back(&mut range), Some(only));
-    assert_eq!(rt; T::range_next(&mut range), None);
+    assert!(rt; T::range_next_back(&mut range) == Some(only));
+    assert!(rt; T::range_next(&mut range) == None);
 }
 
 #[test]
@@ -42,10 +42,10 @@ fn an_emptied_range_has_no_member(rt: HostRuntime) {
 fn is_exhausted<T: Integer>(rt: &impl Abort) {
     let mut range = T::exhausted_range();
     assert!(rt; range.is_empty());
-    assert_eq!(rt; *range.start(), T::max_value());
-    assert_eq!(rt; *range.end(), T::min_value());
-    assert_eq!(rt; T::range_next(&mut range), None);
-    assert_eq!(rt; T::range_next_back(&mut range), None);
+    assert!(rt; *range.start() == T::max_value());
+    assert!(rt; *range.end() == T::min_value());
+    assert!(rt; T::range_next(&mut range) == None);
+    assert!(rt; T::range_next_back(&mut range) == None);
 }
 
 #[test]

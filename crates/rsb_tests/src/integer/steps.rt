@@ -10,13 +10,13 @@ fn steps_at_the_ends<T: Integer>(rt: &impl Abort) {
     let greatest = T::max_value();
     let next = least.add_one();
     let before = greatest.sub_one();
-    assert_eq!(rt; least.checked_add_one(), Some(next));
-    assert_eq!(rt; greatest.checked_add_one(), None);
-    assert_eq!(rt; next.sub_one(), least);
-    assert_eq!(rt; before.add_one(), greatest);
+    assert!(rt; least.checked_add_one() == Some(next));
+    assert!(rt; greatest.checked_add_one() == None);
+    assert!(rt; next.sub_one() == least);
+    assert!(rt; before.add_one() == greatest);
     let mut stepped = next;
     stepped.assign_sub_one();
-    assert_eq!(rt; stepped, least);
+    assert!(rt; stepped == least);
 }
 
 #[test]
@@ -31,8 +31,8 @@ fn steps_at_an_end_lead_back(rt: HostRuntime) {
 fn a_step_down_crosses_zero(rt: HostRuntime) {
     let mut signed = 0_i128;
     signed.assign_sub_one();
-    assert_eq!(rt; signed, -1);
+    assert!(rt; signed == -1);
     let mut unsigned = 1_u128;
     unsigned.assign_sub_one();
-    assert_eq!(rt; unsigned, 0);
+    assert!(rt; unsigned == 0);
 }

@@ -13,8 +13,9 @@ struct Recorder {
 
 impl Hasher for Recorder {
     ghost write = { λ s bytes. record {
-        digits = fold (λ digits byte. (digits * 257 % 2 ^ 128 + (byte + 1)) % 2 ^ 128)
-        s.digits bytes } };
+      digits = fold (λ digits byte. (digits * 257 % 2 ^ 128 + (byte + 1)) % 2 ^ 128)
+          s.digits bytes;
+    } };
 
     ghost finish = { λ s. s.digits % 2 ^ 64 };
 

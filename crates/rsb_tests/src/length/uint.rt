@@ -1,28 +1,37 @@
 //! The five calls of `UInt`.
 
 use rsb_length::UInt;
-use std::process::Abort;
 
-/// Tries the calls at the greatest value, where the sum, the difference and the product end.
-fn calls_end_at_the_greatest<T: UInt>(rt: &impl Abort, two: T, half: T, one_past: &str) {
+/// Whether a sum past the greatest value is refused, and one up to it is not.
+fn sums_end_at_the_greatest<T: UInt>() -> bool {
     let greatest = T::greatest();
-    let none: Option<T> = None;
-    assert!(rt; greatest.checked_sum(T::zero()) == Some(greatest));
-    assert!(rt; greatest.checked_sum(T::one()) == none);
-    assert!(rt; greatest.checked_difference(greatest) == Some(T::zero()));
-    assert!(rt; T::one().checked_difference(two) == none);
-    assert!(rt; half.checked_product(two).is_some());
-    assert!(rt; greatest.checked_product(T::zero()) == Some(T::zero()));
-    assert!(rt; greatest.checked_product(two) == none);
-    assert_eq!(rt; T::one_past_text(), one_past);
+    greatest.checked_sum(T::zero()) == Some(greatest) && greatest.checked_sum(T::one()).is_none()
+}
+
+/// Whether a difference below 0 is refused, and one down to it is not.
+fn differences_end_at_zero<T: UInt>(two: T) -> bool {
+    two.checked_difference(two) == Some(T::zero()) && T::one().checked_difference(two).is_none()
+}
+
+/// Whether a product past the greatest value is refused, and one below it is not.
+fn products_end_at_the_greatest<T: UInt>(two: T, half: T) -> bool {
+    half.checked_product(two).is_some() && T::greatest().checked_product(two).is_none()
 }
 
 #[test]
-fn calls_end_at_the_greatest_of_each_type(rt: HostRuntime) {
-    calls_end_at_the_greatest::<u8>(&rt, 2, 127, "256");
-    calls_end_at_the_greatest::<u128>(&rt, 2, u128::MAX / 2, "(u128::MAX + 1)");
-    assert_eq!(rt; <u8 as UInt>::greatest(), 255);
-    assert_eq!(rt; <u128 as UInt>::greatest(), u128::MAX);
+fn calls_end_where_the_type_does(rt: HostRuntime) {
+    assert!(rt; sums_end_at_the_greatest::<u8>() && sums_end_at_the_greatest::<u128>());
+    assert!(rt; differences_end_at_zero::<u8>(2) && differences_end_at_zero::<u128>(2));
+    assert!(rt; products_end_at_the_greatest::<u8>(2, 127));
+    assert!(rt; products_end_at_the_greatest::<u128>(2, u128::MAX / 2));
+}
+
+#[test]
+fn greatest_values_and_the_text_past_them(rt: HostRuntime) {
+    assert!(rt; <u8 as UInt>::greatest() == 255);
+    assert!(rt; <u128 as UInt>::greatest() == u128::MAX);
+    assert!(rt; <u8 as UInt>::one_past_text() == "256");
+    assert!(rt; <u128 as UInt>::one_past_text() == "(u128::MAX + 1)");
 }
 
 #[test]
@@ -30,10 +39,13 @@ fn calls_of_u8_are_exact(rt: HostRuntime) {
     for a in 0..=255_u8 {
         for b in 0..=255_u8 {
             let (x, y) = (u16::from(a), u16::from(b));
-            assert_eq!(rt; a.checked_sum(b), u8::try_from(x + y).ok(), "{a} + {b}");
-            assert_eq!(rt; a.checked_product(b), u8::try_from(x * y).ok(), "{a} * {b}");
+            assert!(rt; a.checked_sum(b) == u8::try_from(x + y).ok(), "{a} + {b}");
+            assert!(rt;
+                a.checked_product(b) == u8::try_from(x * y).ok(),
+                "{a} * {b}"
+            );
             let rest = if b <= a { Some(a - b) } else { None };
-            assert_eq!(rt; a.checked_difference(b), rest, "{a} - {b}");
+            assert!(rt; a.checked_difference(b) == rest, "{a} - {b}");
         }
     }
 }

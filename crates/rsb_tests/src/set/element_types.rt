@@ -33,7 +33,7 @@ fn signed_runs_join_across_zero(rt: HostRuntime) -> Result<(), Fail> {
     signed.ranges_insert(i128::MIN..=-1)?;
     signed.ranges_insert(1..=i128::MAX)?;
     assert!(rt; signed.insert(0)?);
-    assert_eq!(rt; signed.ranges_len(), 1);
+    assert!(rt; signed.ranges_len() == 1);
     assert!(rt; signed.is_universal());
     Ok(())
 }
@@ -42,9 +42,9 @@ fn signed_runs_join_across_zero(rt: HostRuntime) -> Result<(), Fail> {
 fn characters_beside_the_surrogates_are_two(rt: HostRuntime) -> Result<(), Fail> {
     let mut letters = RangeSetBlaze::<char>::new(rt.alloc());
     letters.ranges_insert('\u{D7FF}'..='\u{E000}')?;
-    assert_eq!(rt; letters.len(), 2);
-    assert_eq!(rt; letters.first(), Some('\u{D7FF}'));
-    assert_eq!(rt; letters.last(), Some('\u{E000}'));
+    assert!(rt; letters.len() == 2);
+    assert!(rt; letters.first() == Some('\u{D7FF}'));
+    assert!(rt; letters.last() == Some('\u{E000}'));
     Ok(())
 }
 
@@ -54,7 +54,7 @@ fn an_own_type_of_two_values_is_filled_by_two(rt: HostRuntime) -> Result<(), Fai
     assert!(rt; sides.insert(Side::Lo)?);
     assert!(rt; !sides.is_universal());
     assert!(rt; sides.insert(Side::Hi)?);
-    assert_eq!(rt; sides.ranges_len(), 1);
+    assert!(rt; sides.ranges_len() == 1);
     assert!(rt; sides.is_universal());
     Ok(())
 }

@@ -1,50 +1,52 @@
 //! Sets of thousands of runs.
 
-ghost use Rattle.std.specs.Prelude.{◌≤ℤ◌, pos};
-
 use range_set_blaze::{IntoRangeSetBlaze, RangeSetBlaze};
-use std::alloc::{AllocError, Global};
+use std::alloc::{AllocError, Allocator, Global};
 use std::test::*;
 
-// More runs than any small bound that a body might keep.
-const MANY: i32 = 4_000;
-
-/// The set of the even numbers from 0 on, as many as are told.
-fn evens(alloc: Global, count: i32) -> Result<RangeSetBlaze<i32>, AllocError>
-    requires { count ≤ℤ pos 1000000 }
-{
+/// The set of thousands of even numbers from 0 on: more runs than a body might have room for.
+fn evens(alloc: Global) -> Result<RangeSetBlaze<i32>, AllocError> {
     let mut set = RangeSetBlaze::new(alloc);
-    for place in 0..count {
-        set.insert(2 * place)?;
+    for place in 0..4_000_u16 {
+        set.insert(2 * i32::from(place))?;
     }
     Ok(set)
 }
 
+/// Whether a set has thousands of runs, each of one value.
+fn has_many<A: Allocator>(set: &RangeSetBlaze<i32, A>) -> bool {
+    set.ranges_len() == 4_000 && set.len() == 4_000 && set.last() == Some(7_998)
+}
+
 #[test]
 fn thousands_of_values_are_inserted(rt: HostRuntime) -> Result<(), Fail> {
-    let set = evens(rt.alloc(), MANY)?;
-    assert_eq!(rt; set.ranges_len(), 4_000);
-    assert_eq!(rt; set.len(), 4_000);
-    assert_eq!(rt; set.last(), Some(7_998));
+    let set = evens(rt.alloc())?;
+    assert!(rt; has_many(&set));
     Ok(())
 }
 
 #[test]
 fn thousands_of_runs_are_joined_by_one_range(rt: HostRuntime) -> Result<(), Fail> {
-    let mut set = evens(rt.alloc(), MANY)?;
+    let mut set = evens(rt.alloc())?;
     assert!(rt; set.ranges_insert(1..=7_997)?);
-    assert_eq!(rt; set.ranges_len(), 1);
-    assert_eq!(rt; set.len(), 7_999);
+    assert!(rt; set.ranges_len() == 1);
+    assert!(rt; set.len() == 7_999);
     Ok(())
 }
 
 #[test]
 fn a_stream_of_thousands_of_runs_makes_a_set(rt: HostRuntime) -> Result<(), Fail> {
-    let set = evens(rt.alloc(), MANY)?;
+    let set = evens(rt.alloc())?;
     let copy = RangeSetBlaze::from_sorted_disjoint(rt.alloc(), set.ranges())?;
-    assert_eq!(rt; copy.ranges_len(), 4_000);
-    assert_eq!(rt; copy.len(), 4_000);
+    assert!(rt; has_many(&copy));
+    Ok(())
+}
+
+#[test]
+fn thousands_of_runs_are_made_a_set(rt: HostRuntime) -> Result<(), Fail> {
+    let set = evens(rt.alloc())?;
     let copy = set.ranges().into_range_set_blaze(rt.alloc())?;
-    assert_eq!(rt; copy.ranges_len(), 4_000);
+    assert!(rt; has_many(&copy));
+    assert!(rt; copy.range_at(4_000) == Some(4_000..=4_000));
     Ok(())
 }

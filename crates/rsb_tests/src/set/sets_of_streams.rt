@@ -10,11 +10,8 @@ fn a_union_makes_a_set(rt: HostRuntime) -> Result<(), Fail> {
     let right = set_of(rt.alloc(), &[(-20, -20), (400, 599)])?;
     let union = left.ranges().union(right.ranges());
     let both = union.into_range_set_blaze(rt.alloc())?;
-    assert_eq!(rt;
-        runs_of(rt.alloc(), &both)?.as_slice(),
-        [(-20, -20), (100, 999)].as_slice()
-    );
-    assert_eq!(rt; both.len(), 901);
+    assert!(rt; runs_of(rt.alloc(), &both)?.as_slice() == [(-20, -20), (100, 999)].as_slice());
+    assert!(rt; both.len() == 901);
     Ok(())
 }
 
@@ -26,7 +23,7 @@ fn a_complement_makes_a_set(rt: HostRuntime) -> Result<(), Fail> {
     let gaps = RangeSetBlaze::from_sorted_disjoint(rt.alloc(), bytes.ranges().complement())?;
     assert!(rt; gaps.range_at(15) == Some(10..=19));
     assert!(rt; bytes.range_or_gap_at(15) == (10..=19, false));
-    assert_eq!(rt; gaps.len(), 10);
+    assert!(rt; gaps.len() == 10);
     assert!(rt; bytes.ranges().union(gaps.ranges()).is_universal());
     Ok(())
 }
@@ -37,7 +34,7 @@ fn a_range_and_the_universe_make_sets(rt: HostRuntime) -> Result<(), Fail> {
     assert!(rt; some.range_at(5) == Some(3..=7));
     assert!(rt; RangeSetBlaze::from(rt.alloc(), 7..=3_u8)?.is_empty());
     let letters = RangeSetBlaze::<char>::universe(rt.alloc())?;
-    assert_eq!(rt; letters.len(), 1_112_064);
+    assert!(rt; letters.len() == 1_112_064);
     assert!(rt; RangeSetBlaze::<i128>::universe(rt.alloc())?.len() == UIntPlusOne::MaxPlusOne);
     Ok(())
 }
