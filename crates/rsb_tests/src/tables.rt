@@ -1,15 +1,14 @@
-//! What no clause of the set says: rows worked by hand, and growths that are refused in turn.
+//! Tables of ranges, each by its two ends: what tests write, and compare with.
 
-mod calls;
-mod refusals;
-mod streams;
-
-use crate::{RangeSetBlaze, SortedStarts};
+use range_set_blaze::{RangeSetBlaze, SortedStarts};
 use rsb_integer::Integer;
 use std::alloc::{AllocError, Allocator, Global};
 
 /// The set of the ranges of a table.
-fn set_of(alloc: Global, ranges: &[(i32, i32)]) -> Result<RangeSetBlaze<i32>, AllocError> {
+pub(crate) fn set_of(
+    alloc: Global,
+    ranges: &[(i32, i32)],
+) -> Result<RangeSetBlaze<i32>, AllocError> {
     let mut set = RangeSetBlaze::new(alloc);
     for (start, end) in ranges {
         set.ranges_insert(*start..=*end)?;
@@ -18,7 +17,7 @@ fn set_of(alloc: Global, ranges: &[(i32, i32)]) -> Result<RangeSetBlaze<i32>, Al
 }
 
 /// The runs of a set as a table.
-fn runs_of<A: Allocator>(
+pub(crate) fn runs_of<A: Allocator>(
     alloc: Global,
     set: &RangeSetBlaze<i32, A>,
 ) -> Result<Vec<(i32, i32)>, AllocError> {
@@ -30,7 +29,7 @@ fn runs_of<A: Allocator>(
 }
 
 /// Whether a stream gives the ranges with these ends, and then nothing.
-fn gives<T: Integer, I: SortedStarts<T>>(stream: I, wanted: &[(T, T)]) -> bool
+pub(crate) fn gives<T: Integer, I: SortedStarts<T>>(stream: I, wanted: &[(T, T)]) -> bool
     requires { I.can_next stream }
 {
     let mut stream = stream;

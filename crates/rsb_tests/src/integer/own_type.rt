@@ -3,15 +3,15 @@
 ghost use Rattle.std.specs.Prelude.{◌≡◌};
 ghost use Rattle.std.specs.Ordering.{nat_cmp};
 ghost use Rattle.std.proofs.Common.{arith, lit≤, refl};
-ghost use Rattle.rsb_integer.specs.declared.tests.own_type.Side.{Side};
-ghost use Rattle.rsb_integer.specs.declared.tests.own_type.Side.TheVariants.{Lo, Hi};
+ghost use Rattle.rsb_tests.specs.declared.integer.own_type.Side.{Side};
+ghost use Rattle.rsb_tests.specs.declared.integer.own_type.Side.TheVariants.{Lo, Hi};
 
-use crate::integer::Integer;
+use rsb_integer::Integer;
 use std::ops::RangeInclusive;
 
 /// A type of two values, as few as an element type may have.
 #[derive(Clone, Copy, Debug, PartialEq, Eq, PartialOrd, Ord)]
-pub enum Side {
+pub(crate) enum Side {
     Lo,
     Hi,
 }
