@@ -8,4 +8,6 @@ mod length;
 #[cfg(test)]
 mod set;
 #[cfg(test)]
+mod streams;
+#[cfg(test)]
 mod tables;
