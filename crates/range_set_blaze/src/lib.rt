@@ -12,7 +12,7 @@ pub mod set;
 mod tests;
 
 pub use crate::prelude::{
-    AnythingGoes, AssumeSortedStarts, CheckSortedDisjoint, Integer, IntoRangeSetBlaze,
+    AnythingGoes, AssumeSortedStarts, CheckSortedDisjoint, Draw, DrawDisjoint, Integer, IntoRangeSetBlaze,
     IntoRangesIter, Merge, NotIter, NotSortedDisjoint, RangeOnce, RangeSetBlaze, RangesIter,
     SafeLength, SortedDisjoint, SortedStarts, UInt, UIntPlusOne, Union, UnionIter,
 };
