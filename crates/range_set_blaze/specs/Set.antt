@@ -35,6 +35,10 @@ between rank n start end other = nat_le (first_rank rank start) other && nat_lt 
 abbrev pub Adds : List Interval → List Interval → Selection → Type 0
 Adds old new added = (rank : ℕ) → members new rank ≡ union (members old) added rank
 
+-- the set has the ranks of the interval, and no others
+abbrev pub HasExactly : List Interval → Interval → Type 0
+HasExactly set run = (rank : ℕ) → members set rank ≡ covers rank run
+
 -- some selected rank is no member
 abbrev pub LacksSomeOf : List Interval → Selection → Type 0
 LacksSomeOf set selected = (rank : ℕ) × IsTrue (selected rank) × IsFalse (members set rank)

@@ -1,16 +1,15 @@
 //! Streams into sets.
 
-ghost use Rattle.std.specs.Prelude.{◌≡◌, IfOk};
-ghost use Rattle.rsb_streams.specs.Stream.{SomeOutcome};
+ghost use Rattle.std.specs.Prelude.{IfOk};
 
 use crate::set::RangeSetBlaze;
 use rsb_integer::Integer;
-use rsb_streams::SortedDisjoint;
+use rsb_streams::DrawDisjoint;
 use std::alloc::{AllocError, Allocator};
 
 /// Every stream of the runs of a set can be made that set. (Own: in the Rust crate the method is
 /// one of `SortedDisjoint`.)
-pub trait IntoRangeSetBlaze<T: Integer>: SortedDisjoint<T> {
+pub trait IntoRangeSetBlaze<T: Integer>: DrawDisjoint<T> {
     /// The set of the ranges of the stream. Without memory nothing is made.
     final fn into_range_set_blaze<A: Allocator + Clone>(
         self,
@@ -18,12 +17,11 @@ pub trait IntoRangeSetBlaze<T: Integer>: SortedDisjoint<T> {
     ) -> Result<RangeSetBlaze<T, A>, AllocError>
     where
         Self: Sized,
-        requires { Self.can_next self }
-        ensures runs { IfOk result (λ set.
-            SomeOutcome (Self.may_give self) (λ runs. set ≡ runs)) }
+        requires { Self.can_draw self }
+        ensures runs { IfOk result (λ set. Self.may_give self set) }
     {
         RangeSetBlaze::from_sorted_disjoint(alloc, self)
     }
 }
 
-impl<T: Integer, I: SortedDisjoint<T>> IntoRangeSetBlaze<T> for I {}
+impl<T: Integer, I: DrawDisjoint<T>> IntoRangeSetBlaze<T> for I {}

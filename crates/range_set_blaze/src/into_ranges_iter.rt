@@ -5,9 +5,10 @@ ghost use Rattle.rsb_integer.specs.Rank.{intervals_of};
 ghost use Rattle.rsb_integer.specs.Runs.{IsCanonicalIn};
 ghost use Rattle.rsb_streams.specs.Listed.{listed-answers, listed-keeps, listed_may_give};
 ghost use Rattle.rsb_streams.specs.Outcomes.{canonical-starts};
+ghost use Rattle.rsb_streams.specs.Stream.{drawn-itself};
 
 use rsb_integer::Integer;
-use rsb_streams::{SortedDisjoint, SortedStarts};
+use rsb_streams::{Draw, DrawDisjoint, SortedDisjoint, SortedStarts};
 use std::alloc::{Allocator, Global};
 use std::collections::btree_map::IntoIter;
 use std::iter::FusedIterator;
@@ -66,8 +67,18 @@ impl<T: Integer, A: Allocator> ExactSizeIterator for IntoRangesIter<T, A> {
     }
 }
 
-impl<T: Integer, A: Allocator> SortedStarts<T> for IntoRangesIter<T, A> {
+impl<T: Integer, A: Allocator> Draw<T> for IntoRangesIter<T, A> {
+    ghost can_draw = { ⟦<IntoRangesIter<T, A> as Iterator>⟧.can_next };
+
+    ghost draw_gives = { ⟦<IntoRangesIter<T, A> as Iterator>⟧.next_gives };
+
+    ghost draws_left = { ⟦<IntoRangesIter<T, A> as Iterator>⟧.remaining };
+
     ghost may_give = { listed_may_give T.rank (λ s. s) };
+
+    fn draw(&mut self) -> Option<RangeInclusive<T>> {
+        self.next()
+    }
 
     ghost answers = { listed-answers T.rank (λ s. s) };
 
@@ -75,7 +86,13 @@ impl<T: Integer, A: Allocator> SortedStarts<T> for IntoRangesIter<T, A> {
         (listed-keeps T.rank (λ s. s) T.value_count s canonical) };
 }
 
-impl<T: Integer, A: Allocator> SortedDisjoint<T> for IntoRangesIter<T, A> {
+impl<T: Integer, A: Allocator> SortedStarts<T> for IntoRangesIter<T, A> {
+    ghost drawn = { drawn-itself };
+}
+
+impl<T: Integer, A: Allocator> DrawDisjoint<T> for IntoRangesIter<T, A> {
     ghost canonical = { λ s canonical.
         (listed-keeps T.rank (λ s. s) T.value_count s canonical).all };
 }
+
+impl<T: Integer, A: Allocator> SortedDisjoint<T> for IntoRangesIter<T, A> {}

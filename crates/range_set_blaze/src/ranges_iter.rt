@@ -5,9 +5,10 @@ ghost use Rattle.rsb_integer.specs.Rank.{intervals_of};
 ghost use Rattle.rsb_integer.specs.Runs.{IsCanonicalIn};
 ghost use Rattle.rsb_streams.specs.Listed.{listed-answers, listed-keeps, listed_may_give};
 ghost use Rattle.rsb_streams.specs.Outcomes.{canonical-starts};
+ghost use Rattle.rsb_streams.specs.Stream.{drawn-itself};
 
 use rsb_integer::Integer;
-use rsb_streams::{SortedDisjoint, SortedStarts};
+use rsb_streams::{Draw, DrawDisjoint, SortedDisjoint, SortedStarts};
 use std::collections::btree_map::Iter;
 use std::iter::FusedIterator;
 use std::marker::Model;
@@ -64,8 +65,18 @@ impl<'a, T: Integer> ExactSizeIterator for RangesIter<'a, T> {
     }
 }
 
-impl<'a, T: Integer> SortedStarts<T> for RangesIter<'a, T> {
+impl<'a, T: Integer> Draw<T> for RangesIter<'a, T> {
+    ghost can_draw = { ⟦<RangesIter<'a, T> as Iterator>⟧.can_next };
+
+    ghost draw_gives = { ⟦<RangesIter<'a, T> as Iterator>⟧.next_gives };
+
+    ghost draws_left = { ⟦<RangesIter<'a, T> as Iterator>⟧.remaining };
+
     ghost may_give = { listed_may_give T.rank (λ s. s) };
+
+    fn draw(&mut self) -> Option<RangeInclusive<T>> {
+        self.next()
+    }
 
     ghost answers = { listed-answers T.rank (λ s. s) };
 
@@ -73,7 +84,13 @@ impl<'a, T: Integer> SortedStarts<T> for RangesIter<'a, T> {
         (listed-keeps T.rank (λ s. s) T.value_count s canonical) };
 }
 
-impl<'a, T: Integer> SortedDisjoint<T> for RangesIter<'a, T> {
+impl<'a, T: Integer> SortedStarts<T> for RangesIter<'a, T> {
+    ghost drawn = { drawn-itself };
+}
+
+impl<'a, T: Integer> DrawDisjoint<T> for RangesIter<'a, T> {
     ghost canonical = { λ s canonical.
         (listed-keeps T.rank (λ s. s) T.value_count s canonical).all };
 }
+
+impl<'a, T: Integer> SortedDisjoint<T> for RangesIter<'a, T> {}

@@ -40,19 +40,3 @@ union-of_merge n P Q Merged merge runs may = λ nothing. may (λ given at all.
     nothing left right might also
     (runs-along n (members given) (union (members left) (members right)) runs
     (λ rank within. members-merge left right given rank merged.1) all)))
-
--- the complement of a complement has the runs of the members
-pub complement-twice : (n : ℕ) (P Gaps : Outcomes) → Gaps ⊆ runs_by n complement P
-    → runs_by n complement Gaps ⊆ joined n P
-complement-twice n P Gaps gaps runs may = λ nothing. may (λ given at all.
-    gaps given at (λ first might complement_runs.
-    nothing first might (runs-along n (complement (members given)) (members first) runs
-    (λ rank within. ap not (runs-members n (complement (members first)) given complement_runs rank
-    within)
-    ∙ not-not (members first rank)) all)))
-
--- a union of less gives less
-pub union-within : (n : ℕ) (P Q Less : Outcomes) → Less ⊆ Q
-    → runs_by_two n union P Less ⊆ runs_by_two n union P Q
-union-within n P Q Less within runs may = λ nothing. may (λ left right at also all.
-    nothing left right at (within right also) all)

@@ -1,17 +1,16 @@
 //! Sets from streams of ranges, and back.
 
-ghost use Rattle.std.specs.Prelude.{◌≡◌, [], IfOk};
+ghost use Rattle.std.specs.Prelude.{◌≡◌, IfOk};
 ghost use Rattle.rsb_integer.specs.Rank.{intervals_of, interval_of};
-ghost use Rattle.rsb_integer.specs.Runs.{covers, members, IsCanonicalIn};
+ghost use Rattle.rsb_integer.specs.Runs.{members, IsCanonicalIn};
 ghost use Rattle.rsb_integer.specs.Selection.{IsEverything};
-ghost use Rattle.rsb_streams.specs.Stream.{SomeOutcome};
-ghost use Rattle.range_set_blaze.specs.Set.{Adds};
+ghost use Rattle.range_set_blaze.specs.Set.{HasExactly};
 
 use crate::into_ranges_iter::IntoRangesIter;
 use crate::set::RangeSetBlaze;
 use num_traits::Zero;
 use rsb_integer::Integer;
-use rsb_streams::{RangeOnce, SortedDisjoint};
+use rsb_streams::{DrawDisjoint, RangeOnce};
 use std::alloc::{AllocError, Allocator};
 use std::collections::BTreeMap;
 use std::ops::RangeInclusive;
@@ -19,14 +18,14 @@ use std::ops::RangeInclusive;
 impl<T: Integer, A: Allocator + Clone> RangeSetBlaze<T, A> {
     /// The set of the ranges of a stream. Without memory nothing is made.
     /// (`RangeSetBlaze::from_sorted_disjoint`.)
-    pub fn from_sorted_disjoint<I: SortedDisjoint<T>>(alloc: A, iter: I) -> Result<Self, AllocError>
-        requires { I.can_next iter }
-        ensures runs { IfOk result (λ set. SomeOutcome (I.may_give iter) (λ runs. set ≡ runs)) }
+    pub fn from_sorted_disjoint<I: DrawDisjoint<T>>(alloc: A, iter: I) -> Result<Self, AllocError>
+        requires { I.can_draw iter }
+        ensures runs { IfOk result (λ set. I.may_give iter set) }
     {
         let mut iter = iter;
         let mut map = BTreeMap::new(alloc);
         let mut length = T::SafeLen::zero();
-        while let Some(range) = iter.next() {
+        while let Some(range) = iter.draw() {
             length += T::safe_len(&range);
             let (start, end) = range.into_inner();
             map.insert(start, end)?;
@@ -37,8 +36,7 @@ impl<T: Integer, A: Allocator + Clone> RangeSetBlaze<T, A> {
     /// The set of the values of a range: the empty set where the range is reversed or was iterated
     /// to its end. Without memory nothing is made. (`From<RangeInclusive>` of `RangeSetBlaze`.)
     pub fn from(alloc: A, range: RangeInclusive<T>) -> Result<Self, AllocError>
-        ensures members { IfOk result (λ set.
-            Adds [] set (λ rank. covers rank (interval_of T.rank range))) }
+        ensures members { IfOk result (λ set. HasExactly set (interval_of T.rank range)) }
     {
         Self::from_sorted_disjoint(alloc, RangeOnce::new(range))
     }

@@ -13,15 +13,15 @@ use Rattle.range_set_blaze.proofs.set.RangeSetBlaze.from_sorted_disjoint.Goals a
 pub safe_len-requires : goal.safe_len-requires
 safe_len-requires g c =
     let s = c.loop-range.iter in
-    let t = c.next.new.self in
+    let t = c.draw.new.self in
     let run = interval_of g.T.Integer.rank c.in-Some.range in
-    taken-ordered g.T.Integer.value_count (g.I.SortedStarts.may_give c.args.iter)
-    (g.I.SortedStarts.may_give t)
-    (g.met.I.SortedDisjoint.canonical c.args.iter c.requires)
+    taken-ordered g.T.Integer.value_count (g.I.Draw.may_give c.args.iter)
+    (g.I.Draw.may_give t)
+    (g.met.I.DrawDisjoint.canonical c.args.iter c.requires)
     (runs_of g.T.Integer.rank c.loop-range.map.entries) run
     (λ rest may. c.loop-range.invariant.given (run ∷ rest)
-    (g.met.I.SortedStarts.answers s t (Some c.in-Some.range) c.in-Some.ensures.steps rest may))
-    (g.met.I.SortedStarts.sorted t c.in-Some.ensures.goes.keeps).some
+    (g.met.I.Draw.answers s t (Some c.in-Some.range) c.in-Some.ensures.steps rest may))
+    (g.met.I.Draw.sorted t c.in-Some.ensures.goes.keeps).some
 
 -- and in the type
 pub add_assign-requires : goal.add_assign-requires
@@ -29,36 +29,36 @@ add_assign-requires g c =
     let laws = g.met.T.Integer g.world.𝓛 g.world.𝓜 g.world.𝓡
     ((λ s x. x), (λ x. x), (λ x. x), λ x. x) in
     let s = c.loop-range.iter in
-    let t = c.next.new.self in
+    let t = c.draw.new.self in
     let run = interval_of g.T.Integer.rank c.in-Some.range in
-    let fits = taken-within g.T.Integer.value_count (g.I.SortedStarts.may_give c.args.iter)
-    (g.I.SortedStarts.may_give t) (g.met.I.SortedDisjoint.canonical c.args.iter c.requires)
+    let fits = taken-within g.T.Integer.value_count (g.I.Draw.may_give c.args.iter)
+    (g.I.Draw.may_give t) (g.met.I.DrawDisjoint.canonical c.args.iter c.requires)
     (runs_of g.T.Integer.rank c.loop-range.map.entries) run
     (λ rest may. c.loop-range.invariant.given (run ∷ rest)
-    (g.met.I.SortedStarts.answers s t (Some c.in-Some.range) c.in-Some.ensures.steps rest may))
-    (g.met.I.SortedStarts.sorted t c.in-Some.ensures.goes.keeps).some in
+    (g.met.I.Draw.answers s t (Some c.in-Some.range) c.in-Some.ensures.steps rest may))
+    (g.met.I.Draw.sorted t c.in-Some.ensures.goes.keeps).some in
     g.met.T.SafeLen.SafeLength.sum_allowed c.loop-range.length c.safe_len.result
     (omega (arith, fits, laws.lengths_suffice, c.loop-range.invariant.length, c.safe_len.ensures))
 
 pub loop-range-preserved : goal.loop-range-preserved
 loop-range-preserved g c =
     let s = c.loop-range.iter in
-    let t = c.next.new.self in
+    let t = c.draw.new.self in
     let laws = g.met.T.Integer g.world.𝓛 g.world.𝓜 g.world.𝓡
     ((λ s x. x), (λ x. x), (λ x. x), λ x. x) in
     let rank = g.T.Integer.rank in
     let n = g.T.Integer.value_count in
     let run = interval_of rank c.in-Some.range in
     let taken = runs_of rank c.loop-range.map.entries in
-    let given = λ (rest : List Interval) (may : g.I.SortedStarts.may_give t rest).
+    let given = λ (rest : List Interval) (may : g.I.Draw.may_give t rest).
     c.loop-range.invariant.given (run ∷ rest)
-    (g.met.I.SortedStarts.answers s t (Some c.in-Some.range) c.in-Some.ensures.steps rest may) in
-    let ordered = taken-ordered g.T.Integer.value_count (g.I.SortedStarts.may_give c.args.iter)
-    (g.I.SortedStarts.may_give t) (g.met.I.SortedDisjoint.canonical c.args.iter c.requires)
-    taken run given (g.met.I.SortedStarts.sorted t c.in-Some.ensures.goes.keeps).some in
-    let both = taken-canonical n (g.I.SortedStarts.may_give c.args.iter)
-    (g.I.SortedStarts.may_give t) (g.met.I.SortedDisjoint.canonical c.args.iter c.requires)
-    taken run given (g.met.I.SortedStarts.sorted t c.in-Some.ensures.goes.keeps).some in
+    (g.met.I.Draw.answers s t (Some c.in-Some.range) c.in-Some.ensures.steps rest may) in
+    let ordered = taken-ordered g.T.Integer.value_count (g.I.Draw.may_give c.args.iter)
+    (g.I.Draw.may_give t) (g.met.I.DrawDisjoint.canonical c.args.iter c.requires)
+    taken run given (g.met.I.Draw.sorted t c.in-Some.ensures.goes.keeps).some in
+    let both = taken-canonical n (g.I.Draw.may_give c.args.iter)
+    (g.I.Draw.may_give t) (g.met.I.DrawDisjoint.canonical c.args.iter c.requires)
+    taken run given (g.met.I.Draw.sorted t c.in-Some.ensures.goes.keeps).some in
     let same = interval_of-some rank c.in-Some.range ordered in
     let last = put-last g.T.Ord.cmp rank n laws.in_order c.loop-range.map.entries run both
     c.into_inner-start.result.0 c.into_inner-start.result.1
@@ -89,12 +89,23 @@ pub invariant_of-result : goal.invariant_of-result
 invariant_of-result g c =
     let n = g.T.Integer.value_count in
     let taken = runs_of g.T.Integer.rank c.loop-range.map.entries in
-    let last = g.met.I.SortedStarts.answers c.loop-range.iter c.next.new.self None
+    let last = g.met.I.Draw.answers c.loop-range.iter c.draw.new.self None
     c.in_default.ensures.steps in
     let canonical : IsCanonicalIn n taken = subst (IsCanonicalIn n) (append-nil taken)
-    (g.met.I.SortedDisjoint.canonical c.args.iter c.requires (taken ++ [])
+    (g.met.I.DrawDisjoint.canonical c.args.iter c.requires (taken ++ [])
     (c.loop-range.invariant.given [] last)) in
     record {
       canonical = canonical;
       length = c.loop-range.invariant.length ∙ sum_by-canonical n taken canonical;
+    }
+
+-- so the set is one of them
+pub returns : goal.returns
+returns g c =
+    let taken = runs_of g.T.Integer.rank c.loop-range.map.entries in
+    let last = g.met.I.Draw.answers c.loop-range.iter c.draw.new.self None
+    c.in_default.ensures.steps in
+    record {
+      runs = subst (g.I.Draw.may_give c.args.iter) (append-nil taken)
+          (c.loop-range.invariant.given [] last);
     }

@@ -10,13 +10,13 @@ abbrev pub invariant-loop-range : goal.invariant-loop-range
 invariant-loop-range g l =
     let rank = g.T.Integer.rank in
     record {
-      ready : g.I.Iterator.can_next l.iter;
-      finite : IsFinite (g.I.Iterator.remaining l.iter);
-      given : (rest : List Interval) → g.I.SortedStarts.may_give l.iter rest
-          → g.I.SortedStarts.may_give l.fn.iter (runs_of rank l.map.entries ++ rest);
+      ready : g.I.Draw.can_draw l.iter;
+      finite : IsFinite (g.I.Draw.draws_left l.iter);
+      given : (rest : List Interval) → g.I.Draw.may_give l.iter rest
+          → g.I.Draw.may_give l.fn.iter (runs_of rank l.map.entries ++ rest);
       length : g.T.SafeLen.SafeLength.number l.length
           ≡ sum_by length_of (runs_of rank l.map.entries);
     }
 
 abbrev pub decreases-loop-range : goal.decreases-loop-range
-decreases-loop-range g l = size (g.I.Iterator.remaining l.iter)
+decreases-loop-range g l = size (g.I.Draw.draws_left l.iter)

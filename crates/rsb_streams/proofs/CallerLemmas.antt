@@ -1,0 +1,98 @@
+-- What a caller of operations on streams needs: their results composed, and the members of a list
+-- that an operation gives.
+use Rattle.std.proofs.Common.{◌≡◌, ℕ, Bool, true, false, ◌<◌, ◌∙◌, List, not, refl, ap, arith}
+use Rattle.std.proofs.Math.Bool.{not-not}
+use Rattle.rsb_integer.specs.Runs.{Interval, members}
+use Rattle.rsb_integer.specs.Selection.{Selection, Agree, complement, union}
+use Rattle.rsb_integer.proofs.RunsLemmas.{runs-along, runs-members}
+use Rattle.rsb_streams.specs.Stream.{Outcomes, ◌⊆◌, joined, just, runs_by, runs_by_two}
+
+-- ---- less given gives less
+
+-- by an operation on one
+pub runs_by-within : (n : ℕ) (operation : Selection → Selection) (P Less : Outcomes) → Less ⊆ P
+    → runs_by n operation Less ⊆ runs_by n operation P
+runs_by-within n operation P Less within runs may = λ nothing. may (λ given at all.
+    nothing given (within given at) all)
+
+-- and on two
+pub runs_by_two-within : (n : ℕ) (operation : Selection → Selection → Selection)
+    (P Q Less Fewer : Outcomes) → Less ⊆ P → Fewer ⊆ Q
+    → runs_by_two n operation Less Fewer ⊆ runs_by_two n operation P Q
+runs_by_two-within n operation P Q Less Fewer within also_within runs may = λ nothing.
+    may (λ left right at also all.
+    nothing left right (within left at) (also_within right also) all)
+
+-- ---- an operation after another
+
+-- the operation gives the same of sets that agree in a type of n values
+abbrev pub Respects : ℕ → (Selection → Selection) → Type 0
+Respects n operation = (these others : Selection) → Agree n these others
+    → Agree n (operation these) (operation others)
+
+-- the complement does
+pub complement-respects : (n : ℕ) → Respects n complement
+complement-respects n these others same rank below = ap not (same rank below)
+
+-- an operation on the result of one on one
+pub runs_by-after : (n : ℕ) (outer inner : Selection → Selection) (P : Outcomes)
+    → Respects n outer
+    → runs_by n outer (runs_by n inner P) ⊆ runs_by n (λ given. outer (inner given)) P
+runs_by-after n outer inner P respects runs may = λ nothing. may (λ given at all.
+    at (λ first might inner_runs.
+    nothing first might
+    (runs-along n (outer (members given)) (outer (inner (members first))) runs
+    (respects (members given) (inner (members first))
+    (runs-members n (inner (members first)) given inner_runs)) all)))
+
+-- and of one on two
+pub runs_by-after_two : (n : ℕ) (outer : Selection → Selection)
+    (inner : Selection → Selection → Selection) (P Q : Outcomes) → Respects n outer
+    → runs_by n outer (runs_by_two n inner P Q)
+    ⊆ runs_by_two n (λ left right. outer (inner left right)) P Q
+runs_by-after_two n outer inner P Q respects runs may = λ nothing. may (λ given at all.
+    at (λ left right might also inner_runs.
+    nothing left right might also
+    (runs-along n (outer (members given)) (outer (inner (members left) (members right))) runs
+    (respects (members given) (inner (members left) (members right))
+    (runs-members n (inner (members left) (members right)) given inner_runs)) all)))
+
+-- ---- the members of what an operation gives
+
+-- two tests that do not differ are the same
+settled-same : (left right : Bool) → ¬ (¬ (left ≡ right)) → left ≡ right
+settled-same true true holds = refl
+settled-same true false holds = absurd (holds (λ same. absurd (cc)))
+settled-same false true holds = absurd (holds (λ same. absurd (cc)))
+settled-same false false holds = refl
+
+-- a list that an operation on one list may give has the members that the operation selects
+pub members-runs_by : (n : ℕ) (operation : Selection → Selection) (given set : List Interval)
+    → runs_by n operation (just given) set
+    → Agree n (members set) (operation (members given))
+members-runs_by n operation given set may rank below =
+    settled-same (members set rank) (operation (members given) rank)
+    (λ fails. may (λ other is all.
+    fails (runs-members n (operation (members other)) set all rank below
+    ∙ ap (λ (runs : List Interval). operation (members runs) rank) is)))
+
+-- and a list that an operation on two lists may give
+pub members-runs_by_two : (n : ℕ) (operation : Selection → Selection → Selection)
+    (left right set : List Interval) → runs_by_two n operation (just left) (just right) set
+    → Agree n (members set) (operation (members left) (members right))
+members-runs_by_two n operation left right set may rank below =
+    settled-same (members set rank) (operation (members left) (members right) rank)
+    (λ fails. may (λ one other is also all.
+    fails (runs-members n (operation (members one) (members other)) set all rank below
+    ∙ ap (λ (runs : List Interval). operation (members runs) (members other) rank) is
+    ∙ ap (λ (runs : List Interval). operation (members left) (members runs) rank) also)))
+
+-- the complement of a complement has the runs of the members
+pub complement-twice : (n : ℕ) (P Gaps : Outcomes) → Gaps ⊆ runs_by n complement P
+    → runs_by n complement Gaps ⊆ joined n P
+complement-twice n P Gaps gaps runs may = λ nothing. may (λ given at all.
+    gaps given at (λ first might complement_runs.
+    nothing first might (runs-along n (complement (members given)) (members first) runs
+    (λ rank below. ap not (runs-members n (complement (members first)) given complement_runs rank
+    below)
+    ∙ not-not (members first rank)) all)))
