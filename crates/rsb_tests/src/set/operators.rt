@@ -29,8 +29,8 @@ fn both_leave_out<T: Integer, L: SortedDisjoint<T>, R: SortedDisjoint<T>>(
     right: R,
     wanted: &[(T, T)],
 ) -> bool
-    requires left { L.can_next left }
-    requires right { R.can_next right }
+    requires left { L.can_draw left }
+    requires right { R.can_draw right }
 {
     gives(left.union(right).complement(), wanted)
 }

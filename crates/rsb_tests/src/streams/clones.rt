@@ -3,16 +3,20 @@
 use crate::streams::nested::{known, sorted};
 use crate::streams::own_stream::Tens;
 use crate::tables::gives;
-use rsb_streams::{DrawDisjoint, Merge, UnionIter};
+use rsb_streams::{Draw, DrawDisjoint, Merge, UnionIter};
 use std::test::Fail;
 
 /// The values 0, 10 and 20.
-fn tens() -> Tens {
+fn tens() -> Tens
+    ensures { ⟦<Tens as Draw<u8>>⟧.can_draw result }
+{
     Tens { value: 0, left: 3 }
 }
 
 /// The values 5, 15 and 25.
-fn fives() -> Tens {
+fn fives() -> Tens
+    ensures { ⟦<Tens as Draw<u8>>⟧.can_draw result }
+{
     Tens { value: 5, left: 3 }
 }
 

@@ -1,25 +1,58 @@
 //! Intersections by complements, nested three deep with unions between.
 
 use crate::tables::gives;
-use rsb_streams::{DrawDisjoint, RangeOnce};
+use rsb_integer::Integer;
+use rsb_streams::{Draw, DrawDisjoint, NotIter, RangeOnce, SortedDisjoint, Union};
 
-#[test]
-fn intersections_by_operators_nest(rt: HostRuntime) {
-    let inner = !(!RangeOnce::new(0u8..=100) | !RangeOnce::new(50..=200));
-    let widened = inner | RangeOnce::new(150..=160);
-    let middle = !(!widened | !RangeOnce::new(80..=155));
-    let widened = middle | RangeOnce::new(0..=10);
-    let outer = !(!widened | !RangeOnce::new(5..=90));
-    assert!(rt; gives(outer, &[(5, 10), (80, 90)]));
+/// What two streams both have.
+type Both<T, L, R> = NotIter<T, Union<T, NotIter<T, L>, NotIter<T, R>>>;
+
+/// What neither of two streams leaves out.
+fn both<T: Integer, L: SortedDisjoint<T>, R: SortedDisjoint<T>>(left: L, right: R) -> Both<T, L, R>
+    requires left { L.can_draw left }
+    requires right { R.can_draw right }
+    ensures { ⟦<Both<T, L, R> as Draw<T>>⟧.can_draw result }
+{
+    !(left.complement() | right.complement())
 }
 
 #[test]
-fn intersections_by_methods_nest(rt: HostRuntime) {
-    let left = RangeOnce::new(0u8..=100).complement();
-    let inner = left.union(RangeOnce::new(50..=200).complement()).complement();
-    let left = inner.union(RangeOnce::new(150..=160)).complement();
-    let middle = left.union(RangeOnce::new(80..=155).complement()).complement();
-    let left = middle.union(RangeOnce::new(0..=10)).complement();
-    let outer = left.union(RangeOnce::new(5..=90).complement()).complement();
+fn intersection_is_what_neither_leaves_out(rt: HostRuntime) {
+    let inner = !(!RangeOnce::new(0u8..=100) | !RangeOnce::new(50..=200));
+    assert!(rt; gives(inner, &[(50, 100)]));
+}
+
+#[test]
+fn three_intersections_nest(rt: HostRuntime) {
+    let inner = both(RangeOnce::new(0u8..=100), RangeOnce::new(50..=200));
+    let middle = both(inner.union(RangeOnce::new(150..=160)), RangeOnce::new(80..=155));
+    let outer = both(middle | RangeOnce::new(0..=10), RangeOnce::new(5..=90));
     assert!(rt; gives(outer, &[(5, 10), (80, 90)]));
+}
+
+/// Whether three intersections with two unions between have the ranges with these ends, and nothing
+/// else.
+fn three_intersections_give<T: Integer, I: SortedDisjoint<T>>(
+    inner: (I, I),
+    middle: (I, I),
+    outer: (I, I),
+    wanted: &[(T, T)],
+) -> bool
+    requires inner { (I.can_draw inner.0) × (I.can_draw inner.1) }
+    requires middle { (I.can_draw middle.0) × (I.can_draw middle.1) }
+    requires outer { (I.can_draw outer.0) × (I.can_draw outer.1) }
+{
+    let first = both(inner.0, inner.1);
+    let second = both(first | middle.0, middle.1);
+    let third = both(second | outer.0, outer.1);
+    gives(third, wanted)
+}
+
+#[test]
+fn three_intersections_of_any_streams_nest(rt: HostRuntime) {
+    let inner = (RangeOnce::new(0u8..=100), RangeOnce::new(50..=200));
+    let middle = (RangeOnce::new(150..=160), RangeOnce::new(80..=155));
+    let outer = (RangeOnce::new(0..=10), RangeOnce::new(5..=90));
+    let wanted = &[(5, 10), (80, 90)];
+    assert!(rt; three_intersections_give(inner, middle, outer, wanted));
 }

@@ -12,7 +12,7 @@ fn touching_ranges_are_refused_where_they_stand(rt: HostRuntime) -> Result<(), F
         assert!(rt; false, "touching ranges were accepted");
         return Ok(());
     };
-    assert_eq!(rt; refused.position, 1);
+    assert!(rt; refused.position == 1);
     assert!(rt; refused.ranges == vec![in rt.alloc(); 1u8..=2, 3..=4, 9..=8]?);
     Ok(())
 }
@@ -24,7 +24,7 @@ fn an_empty_range_is_refused_where_it_stands(rt: HostRuntime) -> Result<(), Fail
         assert!(rt; false, "an empty range was accepted");
         return Ok(());
     };
-    assert_eq!(rt; refused.position, 1);
+    assert!(rt; refused.position == 1);
     Ok(())
 }
 

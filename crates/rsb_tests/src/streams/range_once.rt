@@ -19,9 +19,9 @@ fn single_range_comes_only_where_it_has_members(rt: HostRuntime) {
 #[test]
 fn single_range_comes_from_both_ends(rt: HostRuntime) {
     let mut once = RangeOnce::from(3u8..=5);
-    assert_eq!(rt; once.len(), 1);
+    assert!(rt; once.len() == 1);
     assert!(rt; once.next_back() == Some(3..=5));
-    assert_eq!(rt; once.len(), 0);
+    assert!(rt; once.len() == 0);
     assert!(rt; once.next() == None);
     assert!(rt; once.next_back() == None);
 }

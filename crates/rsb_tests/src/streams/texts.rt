@@ -2,7 +2,7 @@
 
 use crate::streams::nested::{joined_again, known};
 use crate::streams::own_stream::Tens;
-use rsb_streams::{DrawDisjoint, Merge};
+use rsb_streams::{Draw, DrawDisjoint, Merge};
 use std::alloc::Global;
 use std::fmt::Debug;
 use std::test::Fail;
@@ -14,7 +14,9 @@ fn is_shown<I: Debug>(alloc: Global, stream: &I) -> Result<bool, Fail> {
 }
 
 /// The values 0 and 10.
-fn tens() -> Tens {
+fn tens() -> Tens
+    ensures { ⟦<Tens as Draw<u8>>⟧.can_draw result }
+{
     Tens { value: 0, left: 2 }
 }
 
