@@ -16,16 +16,19 @@ fn four_complements<T: Integer, I: SortedDisjoint<T>>(stream: I) -> FourTimes<T,
     stream.complement().complement().complement().complement()
 }
 
-/// Whether eight complements of a stream have the ranges with these ends, and nothing else.
-fn eight_complements_give<T: Integer, I: SortedDisjoint<T>>(stream: I, wanted: &[(T, T)]) -> bool
+/// Eight complements of a stream.
+fn eight_complements<T: Integer, I: SortedDisjoint<T>>(
+    stream: I,
+) -> FourTimes<T, FourTimes<T, I>>
     requires { I.can_draw stream }
+    ensures { ⟦<FourTimes<T, FourTimes<T, I>> as Draw<T>>⟧.can_draw result }
 {
-    gives(four_complements(four_complements(stream)), wanted)
+    four_complements(four_complements(stream))
 }
 
 #[test]
 fn eight_complements_of_any_stream_give_it_back(rt: HostRuntime) {
-    assert!(rt; eight_complements_give(RangeOnce::new(3u8..=5), &[(3, 5)]));
+    assert!(rt; gives(eight_complements(RangeOnce::new(3u8..=5)), &[(3, 5)]));
 }
 
 /// A stream, and four others.
@@ -47,20 +50,20 @@ fn four_unions<T: Integer, L: SortedDisjoint<T>, I: SortedDisjoint<T>>(
     stream.union(first).union(second) | third | fourth
 }
 
-/// Whether the eight unions of nine streams have the ranges with these ends, and nothing else.
-fn eight_unions_give<T: Integer, I: SortedDisjoint<T>>(
+/// What lies in one of nine streams.
+fn eight_unions<T: Integer, I: SortedDisjoint<T>>(
     stream: I,
     some: (I, I, I, I),
     others: (I, I, I, I),
-    wanted: &[(T, T)],
-) -> bool
+) -> FourMore<T, FourMore<T, I, I>, I>
     requires stream { I.can_draw stream }
     requires some { (I.can_draw some.0) × (I.can_draw some.1) × (I.can_draw some.2)
         × (I.can_draw some.3) }
     requires others { (I.can_draw others.0) × (I.can_draw others.1) × (I.can_draw others.2)
         × (I.can_draw others.3) }
+    ensures { ⟦<FourMore<T, FourMore<T, I, I>, I> as Draw<T>>⟧.can_draw result }
 {
-    gives(four_unions(four_unions(stream, some), others), wanted)
+    four_unions(four_unions(stream, some), others)
 }
 
 #[test]
@@ -77,6 +80,6 @@ fn eight_unions_of_any_streams_join_what_touches(rt: HostRuntime) {
         RangeOnce::new(249..=249),
         RangeOnce::new(10..=19),
     );
-    let wanted = &[(0, 3), (10, 20), (30, 30), (90, 120), (249, 255)];
-    assert!(rt; eight_unions_give(RangeOnce::new(100u8..=120), some, others, wanted));
+    let union = eight_unions(RangeOnce::new(100u8..=120), some, others);
+    assert!(rt; gives(union, &[(0, 3), (10, 20), (30, 30), (90, 120), (249, 255)]));
 }

@@ -30,22 +30,24 @@ fn three_intersections_nest(rt: HostRuntime) {
     assert!(rt; gives(outer, &[(5, 10), (80, 90)]));
 }
 
-/// Whether three intersections with two unions between have the ranges with these ends, and nothing
-/// else.
-fn three_intersections_give<T: Integer, I: SortedDisjoint<T>>(
+/// Three intersections nested, with two unions between.
+type ThreeTimes<T, I> = Both<T, Union<T, Both<T, Union<T, Both<T, I, I>, I>, I>, I>, I>;
+
+/// What the first two streams both have or the third has, and the fourth has, or the fifth has, and
+/// the sixth has.
+fn three_intersections<T: Integer, I: SortedDisjoint<T>>(
     inner: (I, I),
     middle: (I, I),
     outer: (I, I),
-    wanted: &[(T, T)],
-) -> bool
+) -> ThreeTimes<T, I>
     requires inner { (I.can_draw inner.0) × (I.can_draw inner.1) }
     requires middle { (I.can_draw middle.0) × (I.can_draw middle.1) }
     requires outer { (I.can_draw outer.0) × (I.can_draw outer.1) }
+    ensures { ⟦<ThreeTimes<T, I> as Draw<T>>⟧.can_draw result }
 {
     let first = both(inner.0, inner.1);
     let second = both(first | middle.0, middle.1);
-    let third = both(second | outer.0, outer.1);
-    gives(third, wanted)
+    both(second | outer.0, outer.1)
 }
 
 #[test]
@@ -53,6 +55,5 @@ fn three_intersections_of_any_streams_nest(rt: HostRuntime) {
     let inner = (RangeOnce::new(0u8..=100), RangeOnce::new(50..=200));
     let middle = (RangeOnce::new(150..=160), RangeOnce::new(80..=155));
     let outer = (RangeOnce::new(0..=10), RangeOnce::new(5..=90));
-    let wanted = &[(5, 10), (80, 90)];
-    assert!(rt; three_intersections_give(inner, middle, outer, wanted));
+    assert!(rt; gives(three_intersections(inner, middle, outer), &[(5, 10), (80, 90)]));
 }
