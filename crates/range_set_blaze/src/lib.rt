@@ -8,8 +8,6 @@ mod operators;
 pub mod prelude;
 pub mod ranges_iter;
 pub mod set;
-#[cfg(test)]
-mod tests;
 
 pub use crate::prelude::{
     AnythingGoes, AssumeSortedStarts, CheckSortedDisjoint, Draw, DrawDisjoint, Integer, IntoRangeSetBlaze,

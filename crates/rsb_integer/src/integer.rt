@@ -17,7 +17,7 @@ use std::ops::{AddAssign, RangeInclusive, SubAssign};
 ///
 /// An own type says its `rank` and its `value_count`, and proves the five laws below.
 pub trait Integer: Copy + PartialEq + PartialOrd + Ord + Debug + Send + Sync {
-    /// The lengths of ranges of the type.
+    /// The lengths of ranges of the type. (`Integer::SafeLen`.)
     type SafeLen: SafeLength
         + Hash
         + Copy
@@ -35,48 +35,51 @@ pub trait Integer: Copy + PartialEq + PartialOrd + Ord + Debug + Send + Sync {
     // How many values there are.
     ghost value_count: { ℕ };
 
-    /// The value one rank higher, or `None` exactly at the greatest.
+    /// The value one rank higher, or `None` exactly at the greatest. (`Integer::checked_add_one`.)
     fn checked_add_one(self) -> Option<Self>
         ensures value { rank self < value_count }
         ensures none { IsNone result ↔ (rank self + 1 ≡ value_count) }
         ensures next { IfSome result (λ next. rank next ≡ rank self + 1) };
 
-    /// The value one rank higher, of a value below the greatest.
+    /// The value one rank higher, of a value below the greatest. (`Integer::add_one`.)
     fn add_one(self) -> Self
         requires { rank self + 1 < value_count }
         ensures { rank result ≡ rank self + 1 };
 
-    /// The value one rank lower, of a value above the least.
+    /// The value one rank lower, of a value above the least. (`Integer::sub_one`.)
     fn sub_one(self) -> Self
         requires { 0 < rank self }
         ensures { rank result + 1 ≡ rank self };
 
-    /// The least value, of rank 0.
+    /// The least value, of rank 0. (`Integer::min_value`.)
     fn min_value() -> Self
         ensures { rank result ≡ 0 };
 
-    /// The greatest value.
+    /// The greatest value, of the last rank. (`Integer::max_value`.)
     fn max_value() -> Self
         ensures { rank result + 1 ≡ value_count };
 
-    /// How many values a non-empty range has.
+    /// How many values a non-empty range has. (`Integer::safe_len`.)
     fn safe_len(range: &RangeInclusive<Self>) -> Self::SafeLen
         requires { IsNonEmpty (interval_of rank range.now) }
         ensures { Self.SafeLen.number result ≡ length_of (interval_of rank range.now) };
 
-    /// The end of the range of `b` values that starts here.
+    /// The end of the range of `b` values that starts here: at least one value, and at most as many
+    /// as there are from here to the greatest. (`Integer::inclusive_end_from_start`.)
     fn inclusive_end_from_start(self, b: Self::SafeLen) -> Self
         requires some { 1 ≤ Self.SafeLen.number b }
         requires room { rank self + Self.SafeLen.number b ≤ value_count }
         ensures { rank result + 1 ≡ rank self + Self.SafeLen.number b };
 
-    /// The start of the range of `b` values that ends here.
+    /// The start of the range of `b` values that ends here: at least one value, and at most as many
+    /// as there are from the least to here. (`Integer::start_from_inclusive_end`.)
     fn start_from_inclusive_end(self, b: Self::SafeLen) -> Self
         requires some { 1 ≤ Self.SafeLen.number b }
         requires room { Self.SafeLen.number b ≤ rank self + 1 }
         ensures { rank result + Self.SafeLen.number b ≡ rank self + 1 };
 
     /// Steps to the value one rank lower, from a value above the least.
+    /// (`Integer::assign_sub_one`.)
     fn assign_sub_one(&mut self)
         requires { 0 < rank self.old }
         ensures { rank self.new + 1 ≡ rank self.old }
@@ -85,6 +88,7 @@ pub trait Integer: Copy + PartialEq + PartialOrd + Ord + Debug + Send + Sync {
     }
 
     /// A range with no members: from the greatest value to the least.
+    /// (`Integer::exhausted_range`.)
     fn exhausted_range() -> RangeInclusive<Self>
         ensures start { rank (range_inclusive_start result) + 1 ≡ value_count }
         ensures end { rank (range_inclusive_end result) ≡ 0 }
@@ -94,7 +98,7 @@ pub trait Integer: Copy + PartialEq + PartialOrd + Ord + Debug + Send + Sync {
     }
 
     /// The first member of a range, which leaves the range, or `None` exactly where it has none.
-    /// Which ends an emptied range has is left open.
+    /// Which ends an emptied range has is left open. (`Integer::range_next`.)
     fn range_next(range: &mut RangeInclusive<Self>) -> Option<Self>
         ensures value { (interval_of rank range.old).last < value_count }
         ensures none { IsNone result ↔ IsEmpty (interval_of rank range.old) }
@@ -118,7 +122,7 @@ pub trait Integer: Copy + PartialEq + PartialOrd + Ord + Debug + Send + Sync {
     }
 
     /// The last member of a range, which leaves the range, or `None` exactly where it has none.
-    /// Which ends an emptied range has is left open.
+    /// Which ends an emptied range has is left open. (`Integer::range_next_back`.)
     fn range_next_back(range: &mut RangeInclusive<Self>) -> Option<Self>
         ensures value { (interval_of rank range.old).last < value_count }
         ensures none { IsNone result ↔ IsEmpty (interval_of rank range.old) }

@@ -8,7 +8,7 @@ ghost use Rattle.rsb_integer.specs.Selection.{Agree};
 
 use crate::integer::Integer;
 
-/// Two canonical lists of ranges with the same members are the same list.
+/// Two canonical lists of ranges with the same members are the same list. (Own.)
 pub fn equal_members_equal_lists<T: Integer>()
     ensures { (ranges others : List (RangeInclusive T))
         → IsCanonical (intervals_of T.rank ranges) → IsCanonical (intervals_of T.rank others)
@@ -20,14 +20,14 @@ pub fn equal_members_equal_lists<T: Integer>()
 {}
 
 /// A list of intervals is canonical, and lies in the type, exactly where it is the ascending list
-/// of all maximal runs of its members.
+/// of all maximal runs of its members. (Own.)
 pub fn canonical_lists_are_runs<T: Integer>()
     ensures { (runs : List Interval)
         → IsCanonicalIn T.value_count runs ↔ AreRuns T.value_count (members runs) runs }
 {}
 
 /// The length of a range leads from its start to its end, and from its end to its start: whatever
-/// `inclusive_end_from_start` and `start_from_inclusive_end` may answer by it is that value.
+/// `inclusive_end_from_start` and `start_from_inclusive_end` may answer by it is that value. (Own.)
 pub fn offsets_undo_length<T: Integer>()
     ensures end { (start end found : T) (length : ℕ)
         → T.rank start ≤ T.rank end → T.rank end < T.value_count

@@ -4,7 +4,5 @@
 mod impls;
 pub mod integer;
 pub mod laws;
-#[cfg(test)]
-mod tests;
 
 pub use integer::Integer;

@@ -2,8 +2,6 @@
 #![tactic(auto)]
 
 pub mod safe_length;
-#[cfg(test)]
-mod tests;
 pub mod uint;
 pub mod uint_plus_one;
 

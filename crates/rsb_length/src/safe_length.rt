@@ -18,7 +18,7 @@ pub trait SafeLength: Copy + PartialOrd + Zero + One + AddAssign + SubAssign {
     // The number of the greatest length.
     ghost limit: { ℕ };
 
-    /// The greatest length.
+    /// The greatest length. (Own.)
     fn greatest() -> Self
         ensures { number result ≡ limit };
 
@@ -41,8 +41,7 @@ pub trait SafeLength: Copy + PartialOrd + Zero + One + AddAssign + SubAssign {
         → number sum ≡ number a + number b };
 
     // A difference from 0 on may be formed, and is exact.
-    ghost difference_allowed: { (a b : Self) → number b ≤ number a → number a ≤ limit
-        → Self.can_sub_assign a b };
+    ghost difference_allowed: { (a b : Self) → number b ≤ number a → Self.can_sub_assign a b };
 
     ghost difference_exact: { (a b rest : Self) → number b ≤ number a
         → Self.sub_assign_gives a b rest → number rest + number b ≡ number a };
@@ -76,7 +75,7 @@ impl SafeLength for u16 {
 
     ghost sum_exact = { λ a b sum h. h };
 
-    ghost difference_allowed = { λ a b h _. h };
+    ghost difference_allowed = { λ a b h. h };
 
     ghost difference_exact = { unsigned-difference };
 
@@ -108,7 +107,7 @@ impl SafeLength for u32 {
 
     ghost sum_exact = { λ a b sum h. h };
 
-    ghost difference_allowed = { λ a b h _. h };
+    ghost difference_allowed = { λ a b h. h };
 
     ghost difference_exact = { unsigned-difference };
 
@@ -140,7 +139,7 @@ impl SafeLength for u64 {
 
     ghost sum_exact = { λ a b sum h. h };
 
-    ghost difference_allowed = { λ a b h _. h };
+    ghost difference_allowed = { λ a b h. h };
 
     ghost difference_exact = { unsigned-difference };
 
@@ -172,7 +171,7 @@ impl SafeLength for u128 {
 
     ghost sum_exact = { λ a b sum h. h };
 
-    ghost difference_allowed = { λ a b h _. h };
+    ghost difference_allowed = { λ a b h. h };
 
     ghost difference_exact = { unsigned-difference };
 

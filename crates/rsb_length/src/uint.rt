@@ -9,8 +9,8 @@ use num_traits::{One, Zero};
 use std::fmt::{Debug, Display};
 
 /// An unsigned type: the whole numbers from 0 to a greatest one, in order. Its calls are exact, and
-/// answer `None` where the result is none of them. (Own: the Rust crate asks num-traits alone, for
-/// `Unsigned`, `Bounded`, `OverflowingAdd` and the like.)
+/// answer `None` where the result is none of them. (`UInt` of the Rust crate, whose calls are those
+/// of `Unsigned`, `Bounded`, `OverflowingAdd` and the like. The five here are own.)
 pub trait UInt: Zero + One + PartialOrd + Copy + Display + Debug {
     // The whole number that a value means.
     ghost number: { Self → ℕ };
@@ -21,27 +21,28 @@ pub trait UInt: Zero + One + PartialOrd + Copy + Display + Debug {
     // The text of the number one past the limit.
     ghost past_text: { List ℕ };
 
-    /// The greatest value.
+    /// The greatest value. (Own.)
     fn greatest() -> Self
         ensures { number result ≡ limit };
 
-    /// The sum, if the type has it.
+    /// The sum, or `None` exactly where it is past the greatest value. (Own.)
     fn checked_sum(self, other: Self) -> Option<Self>
         ensures none { IsNone result ↔ (limit < number self + number other) }
         ensures sum { IfSome result (λ sum. number sum ≡ number self + number other) };
 
-    /// What is left of `self` without `other`, if the type has it.
+    /// What is left of `self` without `other`, or `None` exactly where `other` is more. (Own.)
     fn checked_difference(self, other: Self) -> Option<Self>
+        ensures value { number self ≤ limit }
         ensures none { IsNone result ↔ (number self < number other) }
         ensures rest { IfSome result (λ rest. number rest + number other ≡ number self) };
 
-    /// The product, if the type has it.
+    /// The product, or `None` exactly where it is past the greatest value. (Own.)
     fn checked_product(self, other: Self) -> Option<Self>
         ensures none { IsNone result ↔ (limit < number self * number other) }
         ensures product { IfSome result (λ product.
             number product ≡ number self * number other) };
 
-    /// The text of the number one past the greatest value.
+    /// The text of the number one past the greatest value. (Own.)
     fn one_past_text() -> &'static str
         ensures { result.now ≡ past_text };
 

@@ -15,7 +15,7 @@ use std::ops::{Add, AddAssign, Mul, SubAssign};
 
 /// The whole numbers from 0 to one past the greatest of `T`, in order: each length that a range of
 /// `T` can have. `+`, `+=`, `-=` and `*` are exact, and may be used where the result is one of
-/// them. (The Rust crate panics elsewhere.)
+/// them. (`UIntPlusOne` of the Rust crate, which panics elsewhere.)
 #[derive(Debug, Clone, Copy, PartialEq, Eq, Hash)]
 pub enum UIntPlusOne<T: UInt> {
     /// A number that `T` has.
@@ -108,12 +108,10 @@ impl<T: UInt> AddAssign for UIntPlusOne<T> {
     }
 }
 
-// A difference from 0 on may be formed, and is exact. That the greater number is one of the type
-// is known of each value.
+// A difference from 0 on may be formed, and is exact.
 impl<T: UInt> SubAssign for UIntPlusOne<T> {
     ghost can_sub_assign = { λ a b.
-        (number_of T.number T.limit b ≤ number_of T.number T.limit a)
-        × (number_of T.number T.limit a ≤ T.limit + 1) };
+        number_of T.number T.limit b ≤ number_of T.number T.limit a };
 
     ghost sub_assign_gives = { λ a b rest.
         number_of T.number T.limit rest + number_of T.number T.limit b
@@ -126,7 +124,11 @@ impl<T: UInt> SubAssign for UIntPlusOne<T> {
                 Self::UInt(T::greatest().checked_difference(b).unwrap()) + Self::one()
             }
             (Self::MaxPlusOne, Self::MaxPlusOne) => Self::zero(),
-            (Self::UInt(_), Self::MaxPlusOne) => unreachable!(),
+            (Self::UInt(a), Self::MaxPlusOne) => {
+                // That `a` is at most the greatest is known from here on.
+                a.checked_difference(a);
+                unreachable!()
+            }
         };
     }
 }
@@ -224,7 +226,7 @@ impl<T: UInt> SafeLength for UIntPlusOne<T> {
 
     ghost sum_exact = { λ a b sum h. h };
 
-    ghost difference_allowed = { λ a b within a_within. (within, a_within) };
+    ghost difference_allowed = { λ a b h. h };
 
     ghost difference_exact = { λ a b rest _ h. h };
 

@@ -6,8 +6,6 @@ pub mod check_sorted_disjoint;
 pub mod draw;
 mod fused;
 pub mod merge;
-#[cfg(test)]
-mod nested;
 pub mod not_iter;
 mod not_sorted_disjoint;
 pub mod operation_results;
@@ -15,8 +13,6 @@ mod operators;
 mod put_back;
 pub mod range_once;
 pub mod sorted_disjoint;
-#[cfg(test)]
-mod tests;
 pub mod union_iter;
 
 pub use assume_sorted_starts::AssumeSortedStarts;

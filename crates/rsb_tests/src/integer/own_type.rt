@@ -1,0 +1,83 @@
+//! An own element type.
+
+ghost use Rattle.std.specs.Prelude.{◌≡◌};
+ghost use Rattle.std.specs.Ordering.{nat_cmp};
+ghost use Rattle.std.proofs.Common.{arith, lit≤, refl};
+ghost use Rattle.rsb_tests.specs.declared.integer.own_type.Side.{Side};
+ghost use Rattle.rsb_tests.specs.declared.integer.own_type.Side.TheVariants.{Lo, Hi};
+
+use rsb_integer::Integer;
+use std::ops::RangeInclusive;
+
+/// A type of two values, as few as an element type may have.
+#[derive(Clone, Copy, Debug, PartialEq, Eq, PartialOrd, Ord)]
+pub(crate) enum Side {
+    Lo,
+    Hi,
+}
+
+impl Integer for Side {
+    type SafeLen = u16;
+
+    ghost rank = { λ side. elim side [ Lo ↦ 0 | Hi ↦ 1 ] };
+
+    ghost value_count = { 2 };
+
+    fn checked_add_one(self) -> Option<Side> {
+        match self {
+            Side::Lo => Some(Side::Hi),
+            Side::Hi => None,
+        }
+    }
+
+    fn add_one(self) -> Side {
+        Side::Hi
+    }
+
+    fn sub_one(self) -> Side {
+        Side::Lo
+    }
+
+    fn min_value() -> Side {
+        Side::Lo
+    }
+
+    fn max_value() -> Side {
+        Side::Hi
+    }
+
+    fn safe_len(range: &RangeInclusive<Side>) -> u16 {
+        if range.start() == range.end() { 1 } else { 2 }
+    }
+
+    fn inclusive_end_from_start(self, b: u16) -> Side {
+        if b == 1 { self } else { Side::Hi }
+    }
+
+    fn start_from_inclusive_end(self, b: u16) -> Side {
+        if b == 1 { self } else { Side::Lo }
+    }
+
+    ghost one_place = { λ x y value. elim x as (λ x. Self.rank x ≡ Self.rank y → x ≡ y) [
+      | Lo ↦ elim y as (λ y. 0 ≡ Self.rank y → Lo ≡ y) [
+        | Lo ↦ λ same. refl
+        | Hi ↦ λ same. absurd (omega arith)
+      ]
+      | Hi ↦ elim y as (λ y. 1 ≡ Self.rank y → Hi ≡ y) [
+        | Lo ↦ λ same. absurd (omega arith)
+        | Hi ↦ λ same. refl
+      ]
+    ] };
+
+    ghost in_order = { λ x y left right.
+        elim x as (λ x. Self.cmp x y ≡ nat_cmp (Self.rank x) (Self.rank y)) [
+          | Lo ↦ elim y as (λ y. Self.cmp Lo y ≡ nat_cmp 0 (Self.rank y)) [ Lo ↦ refl | Hi ↦ refl ]
+          | Hi ↦ elim y as (λ y. Self.cmp Hi y ≡ nat_cmp 1 (Self.rank y)) [ Lo ↦ refl | Hi ↦ refl ]
+        ] };
+
+    ghost some_values = { lit≤ tt };
+
+    ghost countable = { lit≤ tt };
+
+    ghost lengths_suffice = { lit≤ tt };
+}

@@ -1,0 +1,6 @@
+//! Lengths.
+
+mod recorder;
+mod safe_length;
+mod uint;
+mod uint_plus_one;

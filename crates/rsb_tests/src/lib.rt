@@ -1,0 +1,13 @@
+//! Tests of the libraries, over their public names alone.
+#![tactic(auto)]
+
+#[cfg(test)]
+mod integer;
+#[cfg(test)]
+mod length;
+#[cfg(test)]
+mod set;
+#[cfg(test)]
+mod streams;
+#[cfg(test)]
+mod tables;

@@ -1,0 +1,13 @@
+//! Sets.
+
+mod element_types;
+mod empty_sets;
+mod insertions;
+mod into_ranges_iter;
+mod laws;
+mod look_ups;
+mod many_runs;
+mod operators;
+mod ranges_iter;
+mod refusals;
+mod sets_of_streams;

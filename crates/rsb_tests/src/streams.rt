@@ -1,0 +1,22 @@
+//! Streams.
+
+mod anything_goes;
+mod clones;
+mod complements;
+mod deep_complements;
+mod deep_generic;
+mod deep_intersections;
+mod deep_operators;
+mod deep_unions;
+mod is_empty;
+mod is_universal;
+mod known_streams;
+mod lists;
+mod merge;
+mod nested;
+mod operators;
+mod own_stream;
+mod range_once;
+mod refused_lists;
+mod texts;
+mod unions;

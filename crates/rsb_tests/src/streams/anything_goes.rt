@@ -1,0 +1,24 @@
+//! Any stream of ranges, by the trait that asks nothing more.
+
+use crate::streams::own_stream::Tens;
+use rsb_integer::Integer;
+use rsb_streams::{AnythingGoes, Merge, RangeOnce};
+use std::ops::RangeInclusive;
+
+/// The first range of any stream of ranges.
+fn first<T: Integer, I: AnythingGoes<T>>(stream: I) -> Option<RangeInclusive<T>>
+    requires { I.can_next stream }
+{
+    let mut stream = stream;
+    stream.next()
+}
+
+#[test]
+fn a_stream_of_ones_own_goes(rt: HostRuntime) {
+    assert!(rt; first(Tens { value: 5, left: 3 }) == Some(5..=5));
+}
+
+#[test]
+fn a_merge_goes(rt: HostRuntime) {
+    assert!(rt; first(Merge::new(RangeOnce::new(3u8..=9), RangeOnce::new(1..=2))) == Some(1..=2));
+}

@@ -1,0 +1,23 @@
+//! Streams that are known to be sorted or canonical, taken as they are.
+
+use crate::streams::nested::{joined_again, known};
+use crate::streams::own_stream::Tens;
+use crate::tables::gives;
+use rsb_streams::{CheckSortedDisjoint, Merge, RangeOnce};
+
+#[test]
+fn what_is_known_to_be_sorted_is_joined(rt: HostRuntime) {
+    let merged = Merge::new(RangeOnce::new(3u8..=9), RangeOnce::new(1..=2));
+    assert!(rt; gives(joined_again(merged), &[(1, 9)]));
+}
+
+#[test]
+fn what_is_known_to_be_canonical_is_complemented(rt: HostRuntime) {
+    assert!(rt; gives(!known(Tens { value: 0, left: 2 }), &[(1, 9), (11, 255)]));
+}
+
+#[test]
+fn there_are_no_items_by_default(rt: HostRuntime) {
+    let nothing: CheckSortedDisjoint<u8, RangeOnce<u8>> = CheckSortedDisjoint::default();
+    assert!(rt; gives(nothing, &[]));
+}

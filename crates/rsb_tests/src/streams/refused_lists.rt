@@ -1,0 +1,43 @@
+//! The refusal of a list: when two are equal, and its text.
+
+use rsb_streams::NotSortedDisjoint;
+use std::alloc::{AllocError, Global};
+use std::test::Fail;
+
+/// A refusal of the ranges 1..=2 and 3..=`end`, by this position.
+fn refusal(alloc: Global, position: usize, end: u8) -> Result<NotSortedDisjoint<u8>, AllocError> {
+    let ranges = vec![in alloc; 1..=2, 3..=end]?;
+    Ok(NotSortedDisjoint { position, ranges })
+}
+
+#[test]
+fn refusals_are_equal_where_position_and_ranges_are(rt: HostRuntime) -> Result<(), Fail> {
+    let refused = refusal(rt.alloc(), 1, 4)?;
+    assert!(rt; refused == refusal(rt.alloc(), 1, 4)?);
+    Ok(())
+}
+
+#[test]
+fn refusals_differ_by_the_position_alone(rt: HostRuntime) -> Result<(), Fail> {
+    let refused = refusal(rt.alloc(), 1, 4)?;
+    assert!(rt; refused != refusal(rt.alloc(), 0, 4)?);
+    Ok(())
+}
+
+#[test]
+fn refusals_differ_by_the_ranges_alone(rt: HostRuntime) -> Result<(), Fail> {
+    let refused = refusal(rt.alloc(), 1, 4)?;
+    assert!(rt; refused != refusal(rt.alloc(), 1, 5)?);
+    Ok(())
+}
+
+// What the text is is left open.
+#[test]
+fn a_refusal_has_a_text_that_tells_positions_and_ranges(rt: HostRuntime) -> Result<(), Fail> {
+    let text = format!(in rt.alloc(); "{:?}", refusal(rt.alloc(), 1, 4)?)?;
+    let of_position = format!(in rt.alloc(); "{:?}", refusal(rt.alloc(), 0, 4)?)?;
+    let of_ranges = format!(in rt.alloc(); "{:?}", refusal(rt.alloc(), 1, 5)?)?;
+    assert!(rt; text.as_str() != of_position.as_str());
+    assert!(rt; text.as_str() != of_ranges.as_str());
+    Ok(())
+}
