@@ -1,6 +1,8 @@
 //! What no clause of the set says: rows worked by hand, and growths that are refused in turn.
 
 mod calls;
+mod growths;
+mod many_runs;
 mod refusals;
 mod streams;
 
