@@ -6,11 +6,11 @@ use linked_list_allocator::LocalHeap;
 use std::alloc::{AllocError, Global};
 use std::test::*;
 
-/// The set of the single values 0, 4, 8 and so on.
+/// The set of the single values 0, 8, 16 and so on.
 fn spaced(heap: &LocalHeap, count: u16) -> Result<RangeSetBlaze<u16, &LocalHeap>, AllocError> {
     let mut set = RangeSetBlaze::new(heap);
     for place in 0..count {
-        set.insert(place.saturating_mul(4))?;
+        set.insert(place.saturating_mul(8))?;
     }
     Ok(set)
 }
@@ -83,8 +83,12 @@ fn each_growth_of_an_insertion_is_refused_in_turn(rt: HostRuntime) -> Result<(),
             let heap = LocalHeap::new(rt.alloc(), 16384)?;
             let mut set = spaced(&heap, count)?;
             let mut refused = 0u8;
-            for place in 0..count.min(40) {
-                let value = place.saturating_mul(4).saturating_add(2);
+            // Three values between each two of the first runs.
+            for place in 0..4 * count.min(20) {
+                if place % 4 == 0 {
+                    continue;
+                }
+                let value = 2 * place;
                 match refusals_of_a_call(rt.alloc(), &heap, &mut set, call, value)? {
                     Some(more) => refused = refused.saturating_add(more),
                     None => assert!(rt; false, "of {count} runs, call {call}, at {value}"),
