@@ -137,17 +137,26 @@ pub covers-taken : (run last : Interval) (inner : List Interval) → run.first �
     → covers point (record { first = run.first; last = max run.last last.last })
     ≡ (covers point run || members (inner ++ last ∷ []) point)
 covers-taken run last inner ordered canonical near order point =
-    rw (members-append inner (last ∷ []) point, members-cons last [] point,
-    or-false (covers point last))
+    rw (
+      members-append inner (last ∷ []) point,
+      members-cons last [] point,
+      or-false (covers point last),
+    )
     (by (members inner point) refl)
   where
     -- the first of the last two
     starts : next_start (run.first + 1) inner ≤ last.first
     starts = (canonical-parts (run.first + 1) inner (last ∷ []) canonical).1.0
+
     -- so it starts past the run
     later : run.first + 1 ≤ last.first
-    later = omega (arith, starts, next_start-from (run.first + 1) inner
-        (canonical-parts (run.first + 1) inner (last ∷ []) canonical).0)
+    later = omega (
+      arith,
+      starts,
+      next_start-from (run.first + 1) inner
+          (canonical-parts (run.first + 1) inner (last ∷ []) canonical).0,
+    )
+
     -- the same, by whether one of the inner runs has the point
     by : (test : Bool) → members inner point ≡ test
         → covers point (record { first = run.first; last = max run.last last.last })

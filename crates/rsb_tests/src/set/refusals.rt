@@ -6,10 +6,10 @@ use range_set_blaze::{IntoRangeSetBlaze, RangeSetBlaze};
 use std::alloc::{AllocError, Allocator, Global};
 use std::test::*;
 
-type Filler<'a> = Vec<Vec<u8, &'a LocalHeap>>;
+pub(crate) type Filler<'a> = Vec<Vec<u8, &'a LocalHeap>>;
 
 /// Takes all that is left of a heap.
-fn filled<'a>(alloc: Global, heap: &'a LocalHeap) -> Result<Filler<'a>, AllocError> {
+pub(crate) fn filled<'a>(alloc: Global, heap: &'a LocalHeap) -> Result<Filler<'a>, AllocError> {
     let mut filler = Vec::new(alloc);
     for size in [4096, 2048, 1024, 512, 256, 128, 64, 32, 16] {
         for _ in 0..300u16 {
@@ -186,8 +186,8 @@ struct Rooms<'a> {
 fn rooms_in<'a>(alloc: Global, heap: &'a LocalHeap) -> Result<Rooms<'a>, AllocError> {
     let mut rooms = Vec::new(alloc);
     let mut walls = Vec::new(alloc);
-    for size in [32, 64, 128, 256, 512, 1024] {
-        rooms.push(Vec::<u8, &LocalHeap>::with_capacity(heap, size)?)?;
+    for _ in 0..12u8 {
+        rooms.push(Vec::<u8, &LocalHeap>::with_capacity(heap, 256)?)?;
         walls.push(Vec::<u8, &LocalHeap>::with_capacity(heap, 16)?)?;
     }
     let filler = filled(alloc, heap)?;

@@ -97,8 +97,10 @@ add_length-requires-clause-fits g c κs within =
     c.requires.value c.args.last c.requires.reaching c.requires.start
     c.requires.free c.greater-end.result c.greater-end.ensures c.insert.new.self.entries
     c.in_ok-insert.ensures.entries c.take_out-length.new.map.entries
-    (number c.take_out-length.result + length_of (record { first = rank c.args.run.start;
-    last = rank c.greater-end.result })) c.take_out-length.ensures.spared
+    (number c.take_out-length.result + length_of (record {
+      first = rank c.args.run.start;
+      last = rank c.greater-end.result;
+    })) c.take_out-length.ensures.spared
     (omega (arith, others)))
 
 -- the new run takes in the others
