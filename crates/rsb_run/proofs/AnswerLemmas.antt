@@ -1,32 +1,21 @@
 -- What was read of an input, and what was written of the replies.
-use Rattle.std.proofs.Common.{◌≡◌, ◌∙◌, ℕ, ℤ, ◌+◌, ◌^◌, ◌<◌, ◌≤◌, List, [], ◌∷◌, ◌++◌, get_or, length, take, drop, Option, Some, None, refl, sym, ap, subst}
+use Rattle.std.proofs.Common.{◌≡◌, ◌∙◌, ℕ, ℤ, ◌+◌, ◌^◌, ◌<◌, ◌≤◌, List, [], ◌∷◌, ◌++◌, get_or, length, take, drop, Option, refl, sym, ap, subst}
 use Rattle.std.proofs.lemmas.Grind.{flat_map-append}
 use Rattle.std.proofs.lemmas.List.{append-nil, take_all, take-append-drop}
 use Rattle.std.specs.Int.{w32}
-use Rattle.std.specs.Io.KnownBytes.{Appends, Consumes, IsAtEnd}
-use Rattle.std.specs.Prelude.{IfSome}
+use Rattle.std.specs.Io.KnownBytes.{Appends}
 use Rattle.rsb_integer.specs.Front.{IsFrontOf}
 use Rattle.rsb_integer.specs.Rank.{signed_rank}
 use Rattle.rsb_integer.specs.Runs.{Interval}
 use Rattle.rsb_run.specs.declared.command.Command.{Command}
-use Rattle.rsb_run.specs.Answer.{Answers, AnswersFront, AnswersShort, AreNumberReplies, Replies, RepliesFront, RepliesShort}
+use Rattle.rsb_run.specs.Answer.{AreNumberReplies, Replies, RepliesFront, RepliesShort}
 use Rattle.rsb_run.specs.Commands.{Content, IsReply, sets_of}
 use Rattle.rsb_run.specs.Commands.{after as after_command}
-use Rattle.rsb_run.specs.Spelling.{AreCommands}
 use Rattle.rsb_run.specs.Text.{line_text, text}
 use Rattle.rsb_run.specs.Transfer.{AppendsShortOf, Laid}
 use Rattle.rsb_run.proofs.RunLemmas.{HasRun, has_run_more}
 use Rattle.rsb_run.proofs.TransferLemmas.{Appends-nothing}
 use Rattle.rsb_run.proofs.WriteLemmas.{laid-all, laid-part, laid-short, laid-then}
-
--- what was read to the end is all that there was
-if_known : (known left : Option (List ℕ)) (bytes : List ℕ) (Fact : List ℕ → Type 0)
-    → Consumes known left bytes → IsAtEnd left → Fact bytes → IfSome known Fact
-if_known None left bytes Fact taken end fact = tt
-if_known (Some input) None bytes Fact taken end fact = absurd taken
-if_known (Some input) (Some none) bytes Fact taken end fact =
-    let same : input ≡ bytes = taken ∙ ap (λ v. bytes ++ v) end ∙ append-nil bytes in
-    subst Fact (sym same) fact
 
 -- the first items of a list are a front of it
 take-front : {X : Type 0} (at : ℕ) (whole : List X) → IsFrontOf (take at whole) whole
@@ -121,47 +110,3 @@ answered_none commands known = record {
   replied = tt;
   written = Appends-nothing known;
 }
-
--- ---- replies to the commands of an input
-
-module _ (known left : Option (List ℕ)) (bytes : List ℕ) (taken : Consumes known left bytes)
-    (end : IsAtEnd left) (commands : List (Command ℤ)) (old new : Option (List ℕ))
-    (spelled : AreCommands bytes commands) where
-  -- where the text of all replies was written, the input is answered
-  pub answers : Replies commands old new → IfSome known (λ input. Answers input old new)
-  answers all = if_known known left bytes (λ input. Answers input old new) taken end
-      (record {
-        commands = commands;
-        spelled = spelled;
-        replies = all.replies;
-        replied = all.replied;
-        written = all.written;
-      })
-
-  -- where that of the first replies was, a front of it is
-  pub answers_front : RepliesFront commands old new
-      → IfSome known (λ input. AnswersFront input old new)
-  answers_front first = if_known known left bytes (λ input. AnswersFront input old new) taken end
-      (record {
-        commands = commands;
-        spelled = spelled;
-        front = first.front;
-        is_front = first.is_front;
-        replies = first.replies;
-        replied = first.replied;
-        written = first.written;
-      })
-
-  -- and where less than that text was, a front is answered short
-  pub answers_short : RepliesShort commands old new
-      → IfSome known (λ input. AnswersShort input old new)
-  answers_short first = if_known known left bytes (λ input. AnswersShort input old new) taken end
-      (record {
-        commands = commands;
-        spelled = spelled;
-        front = first.front;
-        is_front = first.is_front;
-        replies = first.replies;
-        replied = first.replied;
-        written = first.written;
-      })

@@ -1,10 +1,9 @@
 -- Bytes cut at the first line feed, and at the first blank.
-use Rattle.std.proofs.Common.{◌≡◌, ◌∙◌, ℕ, zero, suc, ◌+◌, ◌<◌, ◌≤◌, Bool, true, false, cond, eqb, ltb, List, [], ◌∷◌, ◌++◌, length, get_or, take, drop, Some, None, refl, sym, ap, subst, arith, add-one, add-zero, drop-cons, get_or-drop}
+use Rattle.std.proofs.Common.{◌≡◌, ◌∙◌, ℕ, zero, suc, ◌+◌, ◌<◌, ◌≤◌, Bool, true, false, cond, eqb, ltb, List, [], ◌∷◌, ◌++◌, length, take, drop, Some, None, refl, ap, subst, arith}
 use Rattle.std.proofs.lemmas.Bool.{ltb-true, ltb-false, lt-ltb, ne_eqb}
-use Rattle.std.proofs.lemmas.List.{length-take, nil_from_length}
+use Rattle.std.proofs.lemmas.List.{length-take}
 use Rattle.std.proofs.lemmas.List.Elements.{All-from_get_or}
-use Rattle.std.proofs.lemmas.List.Quantifiers.{position-Some}
-use Rattle.std.proofs.lemmas.List.Splits.{slice_split-cons_yes, slice_split_first, slice_split_none, length-slice_split}
+use Rattle.std.proofs.lemmas.List.Splits.{slice_split_first, slice_split_none, length-slice_split}
 use Rattle.std.proofs.lemmas.List.Sums.{fails_before_first}
 use Rattle.std.specs.List.{slice_split, position, position_or_len, filter}
 use Rattle.std.specs.Str.Lines.{lines, lines_of_parts, strip_carriage_return}
@@ -86,23 +85,6 @@ words-Some line i is =
     ap (filter has_bytes) (slice_split-Some is_blank line i is)
     ∙ kept_first (has_bytes (take i line)) (take i line) (words (drop (i + 1) line))
 
--- the byte at a place is no word where it is a blank, so the words after it are those from it on
-pub words-skip : (line : List ℕ) (i : ℕ) → i < length line → is_blank (get_or line i 0) ≡ true
-    → words (drop (i + 1) line) ≡ words (drop i line)
-words-skip line i within is =
-    let cut : drop i line ≡ get_or line i 0 ∷ drop (i + 1) line = rw add-one (drop-cons line i 0 within) in
-    sym (ap words cut
-    ∙ ap (filter has_bytes) (slice_split-cons_yes is_blank (get_or line i 0) (drop (i + 1) line) is))
-
--- a line whose first byte is no blank has no blank in first place
-pub not_first : (line : List ℕ) (i : ℕ) → is_blank (get_or line i 0) ≡ false
-    → position is_blank (drop i line) ≡ Some 0 → ⊥
-not_first line i none is =
-    let at = position-Some is_blank (drop i line) 0 0 is in
-    let here : get_or (drop i line) 0 0 ≡ get_or line i 0 = rw (get_or-drop, add-zero) refl in
-    let blank : is_blank (get_or line i 0) ≡ true = ap is_blank (sym here) ∙ at.1 in
-    absurd cc
-
 -- where the first byte is no blank, the first blank comes after it
 pub some_before : (line : List ℕ) (i : ℕ) → (position is_blank line ≡ Some 0 → ⊥)
     → position is_blank line ≡ Some i → 0 < i
@@ -123,7 +105,3 @@ pub words-None : (line : List ℕ) → position is_blank line ≡ None → 0 < l
 words-None line is some =
     ap (filter has_bytes) (slice_split-None is_blank line is)
     ∙ ap (λ keeps. cond keeps (line ∷ []) []) (lt-ltb 0 (length line) some)
-
--- an empty line has no words
-pub words-empty : (line : List ℕ) → length line ≡ 0 → words line ≡ []
-words-empty line none = rw (nil_from_length line none) refl

@@ -1,15 +1,9 @@
 -- Numbers in digits, with a sign or without.
-use Rattle.std.proofs.Common.{◌≡◌, ◌∙◌, ℕ, ℤ, pos, neg_ℤ, ◌+ℤ◌, ◌-ℤ◌, ◌+◌, ◌*◌, ◌^◌, ◌<◌, ◌≤◌, Bool, true, false, cond, eqb, zero, suc, List, [], ◌∷◌, take, drop, get_or, length, refl, sym, ap, subst, arith, rules}
-use Rattle.std.proofs.lemmas.Bool.{eqb-true, ne_eqb}
-use Rattle.std.proofs.lemmas.Int.{ints}
+use Rattle.std.proofs.Common.{◌≡◌, ℕ, ◌+◌, ◌*◌, ◌<◌, ◌≤◌, zero, suc, List, [], ◌∷◌, take, get_or, length, sym, ap, subst, arith}
 use Rattle.std.proofs.lemmas.Int.Digits.{digits_more, digits_value_more}
-use Rattle.std.proofs.lemmas.List.{take_all}
 use Rattle.std.proofs.lemmas.Str.Parse.{digits_value-take-le}
 use Rattle.std.specs.Char.{digit_value}
-use Rattle.std.specs.Int.{w32}
-use Rattle.std.specs.Int.RustNames.{FitsSigned}
-use Rattle.std.specs.Str.Parse.{AllDigits, IsNumeral, digits_value, signed_digits_value, without_leading_sign}
-use Rattle.rsb_run.specs.Spelling.{IsNumber}
+use Rattle.std.specs.Str.Parse.{AllDigits, IsNumeral, digits_value}
 
 -- ---- digits, read one after the other
 
@@ -57,16 +51,3 @@ too_large ds i n byte most within before read large spelled =
       large,
       spelled.1,
     )
-
--- all of the digits
-pub all_digits : (ds : List ℕ) (i n : ℕ) → 0 < length ds → length ds ≤ i → HasDigits ds i n
-    → IsNumeral 10 ds × (n ≡ digits_value 10 ds)
-all_digits ds i n some end read =
-    let all = take_all i ds end in
-    ((some, subst (AllDigits 10) all read.digits), read.value ∙ ap (digits_value 10) all)
-
--- ---- a sign before digits
-
--- the value of a number, with its sign
-abbrev with_sign : Bool → ℕ → ℤ
-with_sign minus n = cond minus (pos 0 -ℤ pos n) (pos 0 +ℤ pos n)

@@ -1,9 +1,9 @@
 -- What words spell: one command at most, and none where the arguments are wrong.
-use Rattle.std.proofs.Common.{◌≡◌, ◌∙◌, ℕ, ℤ, ◌+◌, ◌*◌, Bool, true, false, List, [], ◌∷◌, get_or, length, map, arith, refl, sym, ap, subst}
+use Rattle.std.proofs.Common.{◌≡◌, ◌∙◌, ℕ, ℤ, ◌+◌, ◌*◌, Bool, true, false, List, [], ◌∷◌, get_or, map, arith, refl, sym, ap, subst}
 use Rattle.std.specs.List.{AllZip}
 use Rattle.rsb_run.specs.declared.command.Command.{Command}
 use Rattle.rsb_run.specs.declared.command.Command.TheVariants.{Add, Has, Count, Show}
-use Rattle.rsb_run.specs.Spelling.{Argument, slot, number, BeginsWith, IsArgument, IsNumber, IsSlot, LacksFirst, Spells, line_of, words}
+use Rattle.rsb_run.specs.Spelling.{Argument, slot, number, IsArgument, IsNumber, IsSlot, LacksFirst, Spells, line_of, words}
 
 -- ---- what a word stands for, by its kind
 

@@ -1,5 +1,5 @@
 -- A text laid down and written piece by piece.
-use Rattle.std.proofs.Common.{◌≡◌, ◌∙◌, ℕ, ◌+◌, ◌<◌, suc, add-one, List, [], ◌∷◌, ◌++◌, get_or, length, take, drop, Option, Result, Ok, Err, refl, sym, ap, subst, append_assoc, arith}
+use Rattle.std.proofs.Common.{◌≡◌, ◌∙◌, ℕ, ◌+◌, ◌<◌, suc, add-one, List, [], ◌∷◌, ◌++◌, get_or, length, take, drop, Option, Result, Ok, Err, sym, ap, subst, append_assoc, arith}
 use Rattle.std.proofs.lemmas.Grind.{flat_map-append}
 use Rattle.std.proofs.lemmas.List.{append-nil, length-append, take-append-drop}
 use Rattle.std.proofs.Math.Seq.{drop-cons, take-suc}
@@ -48,24 +48,6 @@ pub laid-begun : (known : Option (List ℕ)) (page : List ℕ) → page ≡ []
     → Laid known known [] page []
 laid-begun known page none =
     record { front = []; parts = sym none; written = Appends-nothing known }
-
--- all that waited was written
-pub laid-sent : (old new : Option (List ℕ)) (waiting after : List ℕ) → after ≡ []
-    → Appends old new waiting → Laid old new waiting after []
-laid-sent old new waiting after none written =
-    record { front = waiting; parts = ap (λ v. waiting ++ v) (sym none); written = written }
-
--- a piece more waits
-pub laid-more : (old new : Option (List ℕ)) (before mid after piece more text : List ℕ)
-    → text ≡ piece ++ more → Laid old new before mid piece → after ≡ mid ++ more
-    → Laid old new before after text
-laid-more old new before mid after piece more text whole laid grown = record {
-  front = laid.front;
-  parts = ap (λ v. before ++ v) whole ∙ sym (append_assoc before piece more)
-      ∙ ap (λ v. v ++ more) laid.parts ∙ append_assoc laid.front mid more
-      ∙ ap (λ v. laid.front ++ v) (sym grown);
-  written = laid.written;
-}
 
 -- one piece was laid, and then another
 pub laid-then : (old mid new : Option (List ℕ)) (before between after piece more text : List ℕ)

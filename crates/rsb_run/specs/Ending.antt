@@ -30,8 +30,8 @@ Leaves known left old new (Err Io) = WrotePartOfReplies known old new
 
 -- the program ended with this status, and left what belongs to one outcome
 pub record Ends (known left old new old_errors new_errors : Option (List ℕ)) (status : ℕ) : Type 0
-    where
-  pub outcome : Result (Unit {0}) Fault
-  pub status_is : status ≡ status_after outcome
-  pub told : TellsFault old_errors new_errors outcome
-  pub leaves : Leaves known left old new outcome
+  where
+    pub outcome : Result (Unit {0}) Fault
+    pub status_is : status ≡ status_after outcome
+    pub told : TellsFault old_errors new_errors outcome
+    pub leaves : Leaves known left old new outcome

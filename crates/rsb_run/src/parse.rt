@@ -188,7 +188,11 @@ fn one_slot(arguments: &[u8]) -> Option<SetNo>
 {
     let (word, rest) = first_word(arguments)?;
     let slot = slot(word)?;
-    if is_blank_line(rest) { Some(slot) } else { None }
+    if is_blank_line(rest) {
+        Some(slot)
+    } else {
+        None
+    }
 }
 
 // The number that the first word of a line spells, and what comes after it.

@@ -13,8 +13,8 @@ returns-in_err-word c =
 pub returns-in_err-slot : goal.returns-in_err-slot
 returns-in_err-slot c =
     rw c.from_residual-in_err-slot.ensures (λ x.
-      no_slot_first c.args.arguments.now c.in_ok-word.rest.now c.in_ok-word.word.now x []
-      c.in_ok-word.ensures c.in_err-slot.ensures)
+    no_slot_first c.args.arguments.now c.in_ok-word.rest.now c.in_ok-word.word.now x []
+    c.in_ok-word.ensures c.in_err-slot.ensures)
 
 -- a word is left over
 pub returns-else-is_blank_line : goal.returns-else-is_blank_line

@@ -13,16 +13,16 @@ returns-in_err-word c =
 pub returns-in_err-slot : goal.returns-in_err-slot
 returns-in_err-slot c =
     rw c.from_residual-in_err-slot.ensures (λ x.
-      no_slot_first c.args.arguments.now c.in_ok-word.rest.now c.in_ok-word.word.now x.0
-      (number x.1 ∷ []) c.in_ok-word.ensures c.in_err-slot.ensures)
+    no_slot_first c.args.arguments.now c.in_ok-word.rest.now c.in_ok-word.word.now x.0
+    (number x.1 ∷ []) c.in_ok-word.ensures c.in_err-slot.ensures)
 
 -- the next word is no number
 pub returns-in_err-value : goal.returns-in_err-value
 returns-in_err-value c =
     rw c.from_residual-in_err-value.ensures (λ x are.
-      no_number_first c.in_ok-word.rest.now x.1 [] c.in_err-value.ensures
-      (past_first c.args.arguments.now c.in_ok-word.rest.now _ (slot x.0) (number x.1 ∷ [])
-      c.in_ok-word.ensures are))
+    no_number_first c.in_ok-word.rest.now x.1 [] c.in_err-value.ensures
+    (past_first c.args.arguments.now c.in_ok-word.rest.now _ (slot x.0) (number x.1 ∷ [])
+    c.in_ok-word.ensures are))
 
 -- a word is left over
 pub returns-else-is_blank_line : goal.returns-else-is_blank_line

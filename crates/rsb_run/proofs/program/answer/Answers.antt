@@ -1,4 +1,4 @@
-use Rattle.std.proofs.Common.{[], arith, refl}
+use Rattle.std.proofs.Common.{[], arith}
 use Rattle.rsb_run.specs.Commands.{content_of}
 use Rattle.rsb_run.proofs.AnswerLemmas.{answered_all, answered_front, answered_more, answered_none, answered_part, answered_short}
 use Rattle.rsb_run.proofs.WriteLemmas.{laid-begun, sent_part, sent_whole}

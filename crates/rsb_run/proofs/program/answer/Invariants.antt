@@ -1,6 +1,4 @@
-use Rattle.std.proofs.Common.{◌≡◌, [], ◌^◌, vec_len}
-use Rattle.std.specs.Int.{w32}
-use Rattle.rsb_integer.specs.Rank.{signed_rank}
+use Rattle.std.proofs.Common.{◌≡◌, vec_len}
 use Rattle.rsb_run.proofs.AnswerLemmas.{HasAnswered}
 use Rattle.rsb_run.proofs.program.answer.Given as goal
 
