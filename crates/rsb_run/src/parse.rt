@@ -200,7 +200,12 @@ fn one_slot(arguments: &[u8]) -> Option<SetNo>
 fn first_number(line: &[u8]) -> Option<(i32, &[u8])>
     ensures { ReadsFirst result IsNumber line.now }
 {
-    let (word, rest) = first_word(line)?;
+    let rest = without_blanks(line);
+    // Most numbers end their line, and are then read in one pass.
+    if let Some(last) = number(rest) {
+        return Some((last, &[]));
+    }
+    let (word, rest) = first_word(rest)?;
     Some((number(word)?, rest))
 }
 
