@@ -46,7 +46,7 @@ same_arguments (word ∷ words) (number y ∷ xs) (number z ∷ ys) same left ri
 
 -- ---- the first word of a line, and the others
 
--- words that stand for arguments, of which there is one, have a first word that stands for the first
+-- words that stand for one argument or more have a first word, which stands for the first
 record First (words : List (List ℕ)) (x : Argument) (xs : List Argument) : Type 0 where
   word : List ℕ
   others : List (List ℕ)

@@ -33,8 +33,8 @@ pub fn start<A: Allocator + Copy, R: Read, W: Write, E: Write>(
     finish(errors, outcome)
 }
 
-/// The exit status, with a line for a fault. Where that line can't be written whole there is nowhere
-/// left to tell it.
+/// The exit status, with a line for a fault. Where that line can't be written whole there is
+/// nowhere left to tell it.
 pub fn finish<W: Write>(errors: &mut W, outcome: Result<(), Fault>) -> ExitCode
     ensures status { exit_status result ≡ status_after outcome }
     ensures line { TellsFault (W.contents errors.old) (W.contents errors.new) outcome }

@@ -32,9 +32,9 @@ pub fn read_all<A: Allocator, R: Read>(alloc: A, input: &mut R) -> Result<Vec<u8
     Err(Fault::Io)
 }
 
-/// Writes all of the text, in as many calls as it takes, and tells the patience that is left. A call
-/// that takes no byte of some has failed, and so has a writer whose interruption finds a patience of
-/// one or none.
+/// Writes all of the text, in as many calls as it takes, and tells the patience that is left. A
+/// call that takes no byte of some has failed, and so has a writer whose interruption finds a
+/// patience of one or none.
 pub fn write_all<W: Write>(output: &mut W, text: &[u8], patience: u64) -> Result<u64, Fault>
     ensures { Writes (W.contents output.old) (W.contents output.new) result text.now }
 {

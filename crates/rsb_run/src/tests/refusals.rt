@@ -110,8 +110,8 @@ fn refused_memory_ends_with_status_3(rt: HostRuntime) -> Result<(), Fail> {
     Ok(())
 }
 
-// Where the last command finds no memory, and then the replies before it can't be written, it is the
-// write that is told.
+// Where the last command finds no memory, and then the replies before it can't be written, it is
+// the write that is told.
 #[test]
 fn a_failed_write_is_told_before_refused_memory(rt: HostRuntime) -> Result<(), Fail> {
     let mut is_write_told = false;

@@ -28,13 +28,15 @@ returns-in_err-send-clause-io g c = λ is.
 -- they were
 pub returns-in_default-clause-no_memory : goal.returns-in_default-clause-no_memory
 returns-in_default-clause-no_memory g c = λ is.
-    answered_front c.args.commands.now c.loop-command.command-index c.loop-command.sets.items _ _ _ _
+    answered_front c.args.commands.now c.loop-command.command-index
+    c.loop-command.sets.items _ _ _ _
     c.loop-command.invariant.0 c.in_ok-send.ensures.written
 
 -- a reply was cut short
 pub returns-in_err-write_line-clause-io : goal.returns-in_err-write_line-clause-io
 returns-in_err-write_line-clause-io g c = λ is.
-    answered_short c.args.commands.now c.loop-command.command-index c.loop-command.sets.items _ _ _ _
+    answered_short c.args.commands.now c.loop-command.command-index
+    c.loop-command.sets.items _ _ _ _
     c.loop-command.invariant.0 c.command-item.result (content_of (λ length. length) c.in-Ok.reply)
     c.run_command.new.sets.items c.loop-command-test.true c.command-item.is c.in-Ok.ensures.reply
     c.in-Ok.ensures.after c.in_err-write_line.ensures.1
@@ -61,5 +63,6 @@ returns-clause-ok g c =
 pub returns-clause-io : goal.returns-clause-io
 returns-clause-io g c =
     sent_part _ _ c.send-2.result _ _ _ c.send-2.ensures.written
-    (answered_part c.args.commands.now c.loop-command.command-index c.loop-command.sets.items _ _ _ _
+    (answered_part c.args.commands.now c.loop-command.command-index
+    c.loop-command.sets.items _ _ _ _
     c.loop-command.invariant.0)
