@@ -3,12 +3,12 @@
 use crate::set::refusals::filled;
 use linked_list_allocator::LocalHeap;
 use range_set_blaze::{IntoRangeSetBlaze, RangeSetBlaze};
-use std::alloc::{AllocError, Global};
+use std::alloc::{AllocError, Allocator, Global};
 use std::test::*;
 
 /// The set of the single values 0, 8, 16 and so on.
-fn spaced(heap: &LocalHeap, count: u16) -> Result<RangeSetBlaze<u16, &LocalHeap>, AllocError> {
-    let mut set = RangeSetBlaze::new(heap);
+fn spaced<A: Allocator + Clone>(alloc: A, count: u16) -> Result<RangeSetBlaze<u16, A>, AllocError> {
+    let mut set = RangeSetBlaze::new(alloc);
     for place in 0..count {
         set.insert(place.saturating_mul(8))?;
     }
@@ -22,20 +22,6 @@ fn put(set: &mut RangeSetBlaze<u16, &LocalHeap>, call: u8, value: u16) -> Result
         1 => set.replace(value).map(|found| found.is_none()),
         _ => set.ranges_insert(value..=value),
     }
-}
-
-/// Whether two sets have the same runs.
-fn same_runs(
-    left: &RangeSetBlaze<u16, &LocalHeap>,
-    right: &RangeSetBlaze<u16, &LocalHeap>,
-) -> bool {
-    let mut others = right.ranges();
-    for range in left.ranges() {
-        if others.next() != Some(range) {
-            return false;
-        }
-    }
-    others.next().is_none() && left.len() == right.len()
 }
 
 /// How many growths are refused before a value is in: the heap has room for some bytes more a turn.
@@ -103,25 +89,30 @@ fn each_growth_of_an_insertion_is_refused_in_turn(rt: HostRuntime) -> Result<(),
     Ok(())
 }
 
-/// Makes a set of a stream by one of the calls.
-fn made<'a>(
-    heap: &'a LocalHeap,
-    from: &RangeSetBlaze<u16, &LocalHeap>,
+/// Whether a set made of the ranges of another has the same ones.
+fn made_alike<A: Allocator + Clone>(
+    alloc: A,
+    from: &RangeSetBlaze<u16>,
     call: u8,
-) -> Result<RangeSetBlaze<u16, &'a LocalHeap>, AllocError> {
-    if call == 0 {
-        RangeSetBlaze::from_sorted_disjoint(heap, from.ranges())
+) -> Result<bool, AllocError> {
+    let copy = if call == 0 {
+        RangeSetBlaze::from_sorted_disjoint(alloc, from.ranges())?
     } else {
-        from.ranges().into_range_set_blaze(heap)
+        from.ranges().into_range_set_blaze(alloc)?
+    };
+    for range in copy.ranges() {
+        if from.range_at(*range.start()) != Some(range) {
+            return Ok(false);
+        }
     }
+    Ok(copy.ranges_len() == from.ranges_len() && copy.len() == from.len())
 }
 
 #[test]
 fn each_growth_of_a_set_of_a_stream_is_refused_in_turn(rt: HostRuntime) -> Result<(), Fail> {
-    let other = LocalHeap::new(rt.alloc(), 16384)?;
     for count in [1, 3, 100u16] {
         for call in 0..2u8 {
-            let set = spaced(&other, count)?;
+            let set = spaced(rt.alloc(), count)?;
             let heap = LocalHeap::new(rt.alloc(), 16384)?;
             let free = heap.free();
             let mut refused = 0u8;
@@ -131,8 +122,8 @@ fn each_growth_of_a_set_of_a_stream_is_refused_in_turn(rt: HostRuntime) -> Resul
                 let wall = Vec::<u8, &LocalHeap>::with_capacity(&heap, 16)?;
                 let filler = filled(rt.alloc(), &heap)?;
                 drop(hole);
-                if let Ok(copy) = made(&heap, &set, call) {
-                    passed = same_runs(&copy, &set);
+                if let Ok(alike) = made_alike(&heap, &set, call) {
+                    passed = alike;
                     break;
                 }
                 refused = refused.saturating_add(1);
@@ -150,8 +141,9 @@ fn each_growth_of_a_set_of_a_stream_is_refused_in_turn(rt: HostRuntime) -> Resul
 fn a_hundred_runs_become_one_with_no_memory(rt: HostRuntime) -> Result<(), Fail> {
     let heap = LocalHeap::new(rt.alloc(), 8192)?;
     let mut set = RangeSetBlaze::<i32, &LocalHeap>::new(&heap);
-    for place in 0..100i32 {
-        set.ranges_insert(2 * place..=2 * place)?;
+    for place in 0..100u8 {
+        let value = i32::from(2 * place);
+        set.ranges_insert(value..=value)?;
     }
     let filler = filled(rt.alloc(), &heap)?;
     assert!(rt; set.ranges_insert(1..=197)?);

@@ -59,3 +59,15 @@ fn one_range_takes_thousands_in(rt: HostRuntime) -> Result<(), Fail> {
     assert!(rt; set.range_at(5000) == Some(9..=14991));
     Ok(())
 }
+
+#[test]
+fn hints_are_the_lengths_to_come(rt: HostRuntime) -> Result<(), Fail> {
+    let set = every_third(rt.alloc())?;
+    let mut ranges = set.ranges();
+    assert!(rt; ranges.next() == Some(0..=0) && ranges.next_back() == Some(14997..=14997));
+    assert_eq!(rt; ranges.size_hint(), (4998, Some(4998)));
+    let mut owned = set.into_ranges();
+    assert!(rt; owned.next() == Some(0..=0) && owned.next_back() == Some(14997..=14997));
+    assert_eq!(rt; owned.size_hint(), (4998, Some(4998)));
+    Ok(())
+}
