@@ -1,18 +1,17 @@
 -- What an insertion makes of a list of runs.
-use Rattle.std.proofs.Common.{◌≡◌, ℕ, Bool, true, false, ◌||◌, nat_le, ◌&&◌, ◌+◌, ◌-◌, ◌<◌, ◌≤◌, min, max, List, [], ◌∷◌, ◌++◌, refl, sym, ◌∙◌, ap, inl, inr, arith, subst}
+use Rattle.std.proofs.Common.{◌≡◌, ℕ, Bool, true, false, ◌||◌, ◌+◌, ◌<◌, ◌≤◌, max, List, [], ◌∷◌, ◌++◌, refl, sym, ◌∙◌, ap, inl, inr, arith}
 use Rattle.std.proofs.Math.Bool.{or-false, or_assoc, or_comm}
 use Rattle.std.proofs.lemmas.Bool.{cases_lt}
 use Rattle.std.proofs.lemmas.Bool.Decides.{nat_tests}
-use Rattle.std.proofs.lemmas.List.{map-append}
-use Rattle.std.proofs.lemmas.List.Elements.{All-append, All-cons, All-drop, All-head, All-tail}
+use Rattle.std.proofs.lemmas.List.Elements.{All-append, All-cons, All-tail}
 use Rattle.std.proofs.lemmas.List.Sums.{sum_by-append, sum_by-cons}
-use Rattle.std.specs.List.{All, sum_by}
+use Rattle.std.specs.List.{sum_by}
 use Rattle.rsb_integer.specs.Runs.{Interval, covers, length_of, members, AllEndBelow, IsCanonicalFrom, IsCanonicalIn}
 use Rattle.rsb_integer.specs.Selection.{count}
-use Rattle.rsb_integer.proofs.ListLemmas.{not_both, true_or_false, All-front}
-use Rattle.rsb_integer.proofs.CanonicalLemmas.{next_start, canonical-append, canonical-lower, canonical-parts}
-use Rattle.rsb_integer.proofs.MembersLemmas.{covers-bounds, covers-inside, covers-outside, members-append, members-below, members-cons, members-tail}
-use Rattle.range_set_blaze.specs.Set.{Adds, IsReached, LacksSomeOf}
+use Rattle.rsb_integer.proofs.ListLemmas.{not_both, All-front}
+use Rattle.rsb_integer.proofs.CanonicalLemmas.{next_start, canonical-append, canonical-parts}
+use Rattle.rsb_integer.proofs.MembersLemmas.{members-append, members-below, members-cons, members-tail}
+use Rattle.range_set_blaze.specs.Set.{Adds, IsReached}
 use Rattle.range_set_blaze.proofs.KeptLemmas.{sum_by-canonical}
 
 -- a canonical list goes on no lower than it starts

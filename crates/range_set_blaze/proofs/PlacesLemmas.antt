@@ -1,5 +1,5 @@
 -- What the calls of a map make of its runs in an insertion.
-use Rattle.std.proofs.Common.{◌≡◌, ℕ, ◌+◌, ◌-◌, ◌<◌, ◌≤◌, ◌||◌, true, false, min, max, List, [], ◌∷◌, ◌++◌, append_assoc, append-nil, refl, sym, ap, ◌∙◌, inl, inr, arith, subst}
+use Rattle.std.proofs.Common.{◌≡◌, ℕ, ◌+◌, ◌-◌, ◌<◌, ◌≤◌, ◌||◌, false, min, max, List, [], ◌∷◌, ◌++◌, append_assoc, append-nil, sym, ap, ◌∙◌, inl, inr, arith, subst}
 use Rattle.std.specs.List.{All, sum_by}
 use Rattle.std.specs.Map.{set_value}
 use Rattle.std.specs.Ordering.{nat_cmp}
@@ -17,8 +17,8 @@ use Rattle.rsb_integer.proofs.CountLemmas.{count-within}
 use Rattle.rsb_integer.proofs.ListLemmas.{All-front}
 use Rattle.rsb_integer.proofs.MembersLemmas.{covers-bounds, covers-inside, members-append, members-head}
 use Rattle.range_set_blaze.specs.Kept.{entry_of, entry_run, run_of, runs_of, IsAscendingFrom, IsKept}
-use Rattle.range_set_blaze.specs.Places.{past, spared, swallowed, up_to, EndsWith, Has, IsFree, IsInserted, IsReaching}
-use Rattle.range_set_blaze.specs.Set.{Adds, IsReached, LacksSomeOf}
+use Rattle.range_set_blaze.specs.Places.{past, spared, swallowed, up_to, Has, IsFree, IsInserted, IsReaching}
+use Rattle.range_set_blaze.specs.Set.{IsReached, LacksSomeOf}
 use Rattle.range_set_blaze.specs.declared.set.run.Run.{Run}
 use Rattle.range_set_blaze.proofs.EntriesLemmas.{ascending-middle, ascending-with, canonical-entries, canonical-past, insert_entry-between, past-all, past-none, past-starts, point-parts, set_value-at, up_to-all, up_to-none, up_to-starts}
 use Rattle.range_set_blaze.proofs.InsertLemmas.{covers-alone, covers-joined, covers-longer, covers-taken, ends-rest, lacks-between, next_start-from, none-reached, replaced}

@@ -1,8 +1,6 @@
-use Rattle.std.proofs.Common.{◌+◌, arith, refl}
-use Rattle.std.specs.List.{sum_by}
+use Rattle.std.proofs.Common.{◌+◌, arith}
 use Rattle.rsb_integer.specs.Runs.{length_of}
-use Rattle.range_set_blaze.specs.Kept.{run_of, runs_of}
-use Rattle.range_set_blaze.proofs.PlacesLemmas.{inserted-fits, kept-fits, last-order, put-ascending, put-joined, put-swallowed, taken, taken-runs}
+use Rattle.range_set_blaze.proofs.PlacesLemmas.{inserted-fits, kept-fits, last-order, put-ascending, put-joined, put-swallowed, taken-runs}
 use Rattle.range_set_blaze.proofs.set.insert.put_over.Goals as goal
 
 -- the last run is in order, and lies in the type
