@@ -1,5 +1,5 @@
 -- The ranks between two bounds, as those of a run.
-use Rattle.std.proofs.Common.{◌≡◌, ◌↔◌, ℕ, ◌+◌, ◌<◌, ◌&&◌, ◌||◌, nat_le, nat_lt, List, sym, ◌∙◌, ap, arith}
+use Rattle.std.proofs.Common.{◌≡◌, ◌↔◌, ℕ, ◌+◌, ◌&&◌, ◌||◌, nat_le, nat_lt, List, sym, ◌∙◌, ap, arith}
 use Rattle.std.proofs.lemmas.Bool.Decides.{nat_tests}
 use Rattle.rsb_integer.specs.Runs.{Interval, covers, members}
 use Rattle.range_set_blaze.specs.Set.{only, Adds, LacksSomeOf}

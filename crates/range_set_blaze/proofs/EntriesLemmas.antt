@@ -1,5 +1,5 @@
 -- The entries of a map of runs, by the ranks of their starts.
-use Rattle.std.proofs.Common.{◌≡◌, ℕ, ◌+◌, ◌<◌, ◌≤◌, Bool, true, false, not, cond, nat_le, nat_lt, List, [], ◌∷◌, ◌++◌, Some, None, Equal, Greater, eqb, refl, sym, ap, ◌∙◌, inl, inr, arith}
+use Rattle.std.proofs.Common.{◌≡◌, ℕ, ◌+◌, ◌<◌, ◌≤◌, Bool, true, false, not, cond, nat_le, nat_lt, List, [], ◌∷◌, ◌++◌, Some, None, Equal, Greater, eqb, refl, sym, ap, inl, inr, arith}
 use Rattle.std.specs.List.{All, filter}
 use Rattle.std.specs.Map.{lookup, remove_entry, set_value}
 use Rattle.std.specs.Ordering.{nat_cmp, is_lt}
@@ -31,13 +31,19 @@ module _ {T : Type 0} (rank : T → ℕ) (n : ℕ) where
   canonical-entries low [] canonical below = tt
   canonical-entries low (entry ∷ entries) canonical below =
       let ordered = canonical.1 in
-      let ends = All-head (λ (run : Interval). run.last < n) (record { first = rank entry.0;
-      last = rank entry.1 }) (runs_of rank entries) below in
-      let tail = All-tail (λ (run : Interval). run.last < n) (record { first = rank entry.0;
-      last = rank entry.1 }) (runs_of rank entries) below in
-      (canonical.0, omega (arith, ends),
-          ascending-lower (rank entry.1 + 2) (rank entry.0 + 1) entries (omega arith)
-          (canonical-entries (rank entry.1 + 2) entries canonical.2 tail))
+      let ends = All-head (λ (run : Interval). run.last < n) (record {
+        first = rank entry.0;
+        last = rank entry.1;
+      }) (runs_of rank entries) below in
+      let tail = All-tail (λ (run : Interval). run.last < n) (record {
+        first = rank entry.0;
+        last = rank entry.1;
+      }) (runs_of rank entries) below in (
+        canonical.0,
+        omega (arith, ends),
+        ascending-lower (rank entry.1 + 2) (rank entry.0 + 1) entries (omega arith)
+            (canonical-entries (rank entry.1 + 2) entries canonical.2 tail),
+      )
 
   -- an entry among them starts from the first rank on, and is a value
   pub ascending-at : (low : ℕ) (before : List (T × T)) (entry : T × T) (after : List (T × T))
@@ -93,10 +99,12 @@ module _ {T : Type 0} (rank : T → ℕ) (n : ℕ) where
       (from, value, (omega (arith, later), ascending.1, ascending.2))
   ascending-with low (first ∷ before) entry after ascending from value below above =
       let earlier = All-head (λ (other : T × T). rank other.0 < rank entry.0) first before below in
-      let others = All-tail (λ (other : T × T). rank other.0 < rank entry.0) first before below in
-      (ascending.0, ascending.1,
-          ascending-with (rank first.0 + 1) before entry after ascending.2 (omega (arith, earlier))
-          value others above)
+      let others = All-tail (λ (other : T × T). rank other.0 < rank entry.0) first before below in (
+        ascending.0,
+        ascending.1,
+        ascending-with (rank first.0 + 1) before entry after ascending.2 (omega (arith, earlier))
+            value others above,
+      )
 
   -- ---- the entries up to a point, and those past it
 
@@ -234,8 +242,12 @@ module _ {T : Type 0} (cmp : T → T → Ordering) (rank : T → ℕ) (n : ℕ)
             in rw (order, lt-ltb (rank value) (rank entry.0) above, none) refl
         | inr within ↦
             let some : nat_le (rank entry.0) (rank value) ≡ true = grind (arith, nat_tests, within)
-            in rw (order, le-ltb (rank value) (rank entry.0) within,
-            not_lt (eqb (rank value) (rank entry.0)), some) refl
+            in rw (
+              order,
+              le-ltb (rank value) (rank entry.0) within,
+              not_lt (eqb (rank value) (rank entry.0)),
+              some,
+            ) refl
       ] in
       let rest = between-up_to value known (rank entry.0 + 1) entries ascending.2 in
       λ i. cond (test i) (entry ∷ rest i) (rest i)
@@ -252,8 +264,11 @@ module _ {T : Type 0} (cmp : T → T → Ordering) (rank : T → ℕ) (n : ℕ)
       ≡ nat_lt (rank value) (rank entry.0) =
       elim (cases_lt (rank value) (rank entry.0)) [
         | inl above ↦ rw (order, lt-ltb (rank value) (rank entry.0) above) refl
-        | inr within ↦ rw (order, le-ltb (rank value) (rank entry.0) within,
-            not_lt (eqb (rank value) (rank entry.0))) refl
+        | inr within ↦ rw (
+          order,
+          le-ltb (rank value) (rank entry.0) within,
+          not_lt (eqb (rank value) (rank entry.0)),
+        ) refl
       ] in
       let rest = between-past value known (rank entry.0 + 1) entries ascending.2 in
       λ i. cond (test i) (entry ∷ rest i) (rest i)
@@ -332,6 +347,7 @@ set_value-absent {K} {X} test (entry ∷ entries) value absent =
     -- no value is none
     some_none : (found : X) → Some found ≡ None → ⊥
     some_none found same = cc
+
     -- the same, by whether the first entry is at the key
     by : (here : Bool) → test entry.0 ≡ here
         → (lookup test entries ≡ None → set_value test entries value ≡ entries)

@@ -1,18 +1,17 @@
 -- What an insertion makes of a list of runs.
-use Rattle.std.proofs.Common.{◌≡◌, ℕ, Bool, true, false, ◌||◌, nat_le, ◌&&◌, ◌+◌, ◌-◌, ◌<◌, ◌≤◌, min, max, List, [], ◌∷◌, ◌++◌, refl, sym, ◌∙◌, ap, inl, inr, arith, subst}
+use Rattle.std.proofs.Common.{◌≡◌, ℕ, Bool, true, false, ◌||◌, ◌+◌, ◌<◌, ◌≤◌, max, List, [], ◌∷◌, ◌++◌, refl, sym, ◌∙◌, ap, inl, inr, arith}
 use Rattle.std.proofs.Math.Bool.{or-false, or_assoc, or_comm}
 use Rattle.std.proofs.lemmas.Bool.{cases_lt}
 use Rattle.std.proofs.lemmas.Bool.Decides.{nat_tests}
-use Rattle.std.proofs.lemmas.List.{map-append}
-use Rattle.std.proofs.lemmas.List.Elements.{All-append, All-cons, All-drop, All-head, All-tail}
+use Rattle.std.proofs.lemmas.List.Elements.{All-append, All-cons, All-tail}
 use Rattle.std.proofs.lemmas.List.Sums.{sum_by-append, sum_by-cons}
-use Rattle.std.specs.List.{All, sum_by}
+use Rattle.std.specs.List.{sum_by}
 use Rattle.rsb_integer.specs.Runs.{Interval, covers, length_of, members, AllEndBelow, IsCanonicalFrom, IsCanonicalIn}
 use Rattle.rsb_integer.specs.Selection.{count}
-use Rattle.rsb_integer.proofs.ListLemmas.{not_both, true_or_false, All-front}
-use Rattle.rsb_integer.proofs.CanonicalLemmas.{next_start, canonical-append, canonical-lower, canonical-parts}
-use Rattle.rsb_integer.proofs.MembersLemmas.{covers-bounds, covers-inside, covers-outside, members-append, members-below, members-cons, members-tail}
-use Rattle.range_set_blaze.specs.Set.{Adds, IsReached, LacksSomeOf}
+use Rattle.rsb_integer.proofs.ListLemmas.{not_both, All-front}
+use Rattle.rsb_integer.proofs.CanonicalLemmas.{next_start, canonical-append, canonical-parts}
+use Rattle.rsb_integer.proofs.MembersLemmas.{members-append, members-below, members-cons, members-tail}
+use Rattle.range_set_blaze.specs.Set.{Adds, IsReached}
 use Rattle.range_set_blaze.proofs.KeptLemmas.{sum_by-canonical}
 
 -- a canonical list goes on no lower than it starts
@@ -137,17 +136,26 @@ pub covers-taken : (run last : Interval) (inner : List Interval) → run.first �
     → covers point (record { first = run.first; last = max run.last last.last })
     ≡ (covers point run || members (inner ++ last ∷ []) point)
 covers-taken run last inner ordered canonical near order point =
-    rw (members-append inner (last ∷ []) point, members-cons last [] point,
-    or-false (covers point last))
+    rw (
+      members-append inner (last ∷ []) point,
+      members-cons last [] point,
+      or-false (covers point last),
+    )
     (by (members inner point) refl)
   where
     -- the first of the last two
     starts : next_start (run.first + 1) inner ≤ last.first
     starts = (canonical-parts (run.first + 1) inner (last ∷ []) canonical).1.0
+
     -- so it starts past the run
     later : run.first + 1 ≤ last.first
-    later = omega (arith, starts, next_start-from (run.first + 1) inner
-        (canonical-parts (run.first + 1) inner (last ∷ []) canonical).0)
+    later = omega (
+      arith,
+      starts,
+      next_start-from (run.first + 1) inner
+          (canonical-parts (run.first + 1) inner (last ∷ []) canonical).0,
+    )
+
     -- the same, by whether one of the inner runs has the point
     by : (test : Bool) → members inner point ≡ test
         → covers point (record { first = run.first; last = max run.last last.last })

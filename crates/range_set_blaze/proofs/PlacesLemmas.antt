@@ -1,5 +1,5 @@
 -- What the calls of a map make of its runs in an insertion.
-use Rattle.std.proofs.Common.{◌≡◌, ℕ, ◌+◌, ◌-◌, ◌<◌, ◌≤◌, ◌||◌, true, false, min, max, List, [], ◌∷◌, ◌++◌, append_assoc, append-nil, refl, sym, ap, ◌∙◌, inl, inr, arith, subst}
+use Rattle.std.proofs.Common.{◌≡◌, ℕ, ◌+◌, ◌-◌, ◌<◌, ◌≤◌, ◌||◌, false, min, max, List, [], ◌∷◌, ◌++◌, append_assoc, append-nil, sym, ap, ◌∙◌, inl, inr, arith, subst}
 use Rattle.std.specs.List.{All, sum_by}
 use Rattle.std.specs.Map.{set_value}
 use Rattle.std.specs.Ordering.{nat_cmp}
@@ -17,8 +17,8 @@ use Rattle.rsb_integer.proofs.CountLemmas.{count-within}
 use Rattle.rsb_integer.proofs.ListLemmas.{All-front}
 use Rattle.rsb_integer.proofs.MembersLemmas.{covers-bounds, covers-inside, members-append, members-head}
 use Rattle.range_set_blaze.specs.Kept.{entry_of, entry_run, run_of, runs_of, IsAscendingFrom, IsKept}
-use Rattle.range_set_blaze.specs.Places.{past, spared, swallowed, up_to, EndsWith, Has, IsFree, IsInserted, IsReaching}
-use Rattle.range_set_blaze.specs.Set.{Adds, IsReached, LacksSomeOf}
+use Rattle.range_set_blaze.specs.Places.{past, spared, swallowed, up_to, Has, IsFree, IsInserted, IsReaching}
+use Rattle.range_set_blaze.specs.Set.{IsReached, LacksSomeOf}
 use Rattle.range_set_blaze.specs.declared.set.run.Run.{Run}
 use Rattle.range_set_blaze.proofs.EntriesLemmas.{ascending-middle, ascending-with, canonical-entries, canonical-past, insert_entry-between, past-all, past-none, past-starts, point-parts, set_value-at, up_to-all, up_to-none, up_to-starts}
 use Rattle.range_set_blaze.proofs.InsertLemmas.{covers-alone, covers-joined, covers-longer, covers-taken, ends-rest, lacks-between, next_start-from, none-reached, replaced}
@@ -286,12 +286,14 @@ module _ {T : Type 0} (cmp : T → T → Ordering) (rank : T → ℕ) (n : ℕ)
       inserted-at rank n entries total kept run before [] after (entry_of run) new parts
       (is ∙ ap (λ (all : List (T × T)). insert_entry cmp all run.start run.end) parts ∙ put)
       free order value (past-apart rank n entries kept.canonical (rank run.end) value)
-      (covers-alone (run_of rank run))
-      (rank run.start, covers-inside (rank run.start) (run_of rank run) (omega arith) order,
-      rw (point-runs rank n entries kept.canonical point)
-      (lacks-between (rank run.start) (runs_of rank before) (runs_of rank after) (rank run.start)
-      (point + 1) front free (omega arith)
-      (past-canonical rank n entries kept.canonical point) (omega arith)))
+      (covers-alone (run_of rank run)) (
+        rank run.start,
+        covers-inside (rank run.start) (run_of rank run) (omega arith) order,
+        rw (point-runs rank n entries kept.canonical point)
+            (lacks-between (rank run.start) (runs_of rank before) (runs_of rank after) (rank run.start)
+            (point + 1) front free (omega arith)
+            (past-canonical rank n entries kept.canonical point) (omega arith)),
+      )
       length (omega (arith, sum))
 
   module _ (last : Run T) (reaching : IsReaching rank (rank run.start) point entries last) where
@@ -369,9 +371,11 @@ module _ {T : Type 0} (cmp : T → T → Ordering) (rank : T → ℕ) (n : ℕ)
         (is ∙ ap (λ (all : List (T × T)). set_value (is_at (cmp last.start)) all run.end) last-parts
         ∙ put) low (omega arith) value
         (past-apart rank n entries kept.canonical (rank run.end) value)
-        (covers-longer (run_of rank run) (run_of rank last) order starts reaching.reaches longer)
-        (rank run.end, covers-inside (rank run.end) (run_of rank run) order (omega arith),
-        lengthened-lacks longer)
+        (covers-longer (run_of rank run) (run_of rank last) order starts reaching.reaches longer) (
+          rank run.end,
+          covers-inside (rank run.end) (run_of rank run) order (omega arith),
+          lengthened-lacks longer,
+        )
         length (omega (arith, sum, one, ordered))
       where
         -- the end of the run is no member
@@ -400,9 +404,9 @@ module _ {T : Type 0} (cmp : T → T → Ordering) (rank : T → ℕ) (n : ℕ)
             before,
             covers-inside before (run_of rank run) (omega arith) (omega (arith, last-near)),
             rw last-runs
-            (lacks-between before (runs_of rank front) (run_of rank last ∷ runs_of rank after)
-            (rank last.start) (rank last.start) parts.0 parts.1.0 (omega arith)
-            (omega arith, parts.1.1, parts.1.2) (omega arith)),
+                (lacks-between before (runs_of rank front) (run_of rank last ∷ runs_of rank after)
+                (rank last.start) (rank last.start) parts.0 parts.1.0 (omega arith)
+                (omega arith, parts.1.1, parts.1.2) (omega arith)),
           )
 
       -- the runs that are swallowed
@@ -607,8 +611,11 @@ module _ {T : Type 0} (cmp : T → T → Ordering) (rank : T → ℕ) (n : ℕ)
             ∙ append_assoc low ((run.start, end) ∷ []) after)
             free (omega (arith, to)) (omega (arith, to, ends-apart.0))
             (rw to ends-apart.1)
-            (λ other. rw (to, map-append (entry_run rank) (past rank (rank run.start) front)
-            (entry_of last ∷ []))
+            (λ other. rw (
+              to,
+              map-append (entry_run rank) (past rank (rank run.start) front)
+                  (entry_of last ∷ []),
+            )
             (covers-taken (run_of rank run) (run_of rank last)
             (runs_of rank (past rank (rank run.start) front)) order
             (subst (IsCanonicalFrom (rank run.start + 1))
@@ -642,6 +649,7 @@ module _ {T : Type 0} (cmp : T → T → Ordering) (rank : T → ℕ) (n : ℕ)
             first-runs =
                 ap (runs_of rank) found.last.parts
                 ∙ map-append (entry_run rank) before (entry_of first ∷ [])
+
             -- the swallowed ones go on from it
             first-next : rank first.end + 2 ≤ rank last.start
             first-next =
@@ -654,8 +662,12 @@ module _ {T : Type 0} (cmp : T → T → Ordering) (rank : T → ℕ) (n : ℕ)
                 (subst (IsCanonicalFrom (next_start 0 (runs_of rank low)))
                 (map-append (entry_run rank) (past rank (rank run.start) front)
                 (entry_of last ∷ [])) low-canonical) in
-                omega (arith, ends, next_start-from (next_start 0 (runs_of rank low)) inner parts.0,
-                parts.1.0)
+                omega (
+                  arith,
+                  ends,
+                  next_start-from (next_start 0 (runs_of rank low)) inner parts.0,
+                  parts.1.0,
+                )
 
         -- the runs up to the start go on from those before it
         first-parts : IsCanonicalFrom 0 (runs_of rank before)
@@ -705,8 +717,11 @@ module _ {T : Type 0} (cmp : T → T → Ordering) (rank : T → ℕ) (n : ℕ)
             ∙ set_value-at cmp rank n in_order 0 before (entry_of first) after end ascending)
             first-parts.1 (omega (arith, to, placed.0)) (omega (arith, to, ends-apart.0))
             (rw to ends-apart.1)
-            (λ other. rw (to, map-append (entry_run rank) (past rank (rank run.start) front)
-            (entry_of last ∷ []))
+            (λ other. rw (
+              to,
+              map-append (entry_run rank) (past rank (rank run.start) front)
+                  (entry_of last ∷ []),
+            )
             (covers-joined (run_of rank run) (run_of rank first) (run_of rank last)
             (runs_of rank (past rank (rank run.start) front)) order placed.0 placed.1 found.reaches
             (omega (arith, placed.2))

@@ -1,5 +1,5 @@
 -- Entries that are taken out of a map, one after the other, from the last on.
-use Rattle.std.proofs.Common.{◌≡◌, ℕ, ◌+◌, ◌<◌, ◌≤◌, List, [], ◌∷◌, ◌++◌, append_assoc, append-nil, length, length-append, sym, ap, ◌∙◌, arith, subst}
+use Rattle.std.proofs.Common.{◌≡◌, ℕ, ◌+◌, ◌<◌, ◌≤◌, List, [], ◌∷◌, ◌++◌, append_assoc, length, length-append, sym, ap, ◌∙◌, arith, subst}
 use Rattle.std.specs.List.{All, sum_by}
 use Rattle.std.specs.Map.{remove_entry}
 use Rattle.std.specs.Ordering.{nat_cmp}
@@ -8,7 +8,7 @@ use Rattle.std.specs.declared.cmp.Ordering.{Ordering}
 use Rattle.std.proofs.lemmas.List.{map-append}
 use Rattle.std.proofs.lemmas.List.Elements.{All-append, All-cons, All-filter, All-nil, All-weaker}
 use Rattle.std.proofs.lemmas.List.Sums.{sum_by-append, sum_by-cons}
-use Rattle.rsb_integer.specs.Runs.{Interval, length_of, IsNonEmpty}
+use Rattle.rsb_integer.specs.Runs.{length_of, IsNonEmpty}
 use Rattle.rsb_integer.proofs.ListLemmas.{All-front}
 use Rattle.range_set_blaze.specs.Kept.{entry_of, entry_run, run_of, runs_of, IsAscendingFrom}
 use Rattle.range_set_blaze.specs.Places.{past, spared, swallowed, up_to, EndsWith}

@@ -46,6 +46,10 @@ impl<T: Integer, A: Allocator> Iterator for IntoRangesIter<T, A> {
         let (start, end) = self.entries.next()?;
         Some(start..=end)
     }
+
+    fn size_hint(&self) -> (usize, Option<usize>) {
+        self.entries.size_hint()
+    }
 }
 
 impl<T: Integer, A: Allocator> FusedIterator for IntoRangesIter<T, A> {}

@@ -1,4 +1,4 @@
-//! All public items of this crate and of those below it.
+//! All public types and traits of this crate and of those below it. The laws are in `laws`.
 
 pub use crate::into_range_set_blaze::IntoRangeSetBlaze;
 pub use crate::into_ranges_iter::IntoRangesIter;

@@ -44,6 +44,10 @@ impl<'a, T: Integer> Iterator for RangesIter<'a, T> {
         let (start, end) = self.entries.next()?;
         Some(*start..=*end)
     }
+
+    fn size_hint(&self) -> (usize, Option<usize>) {
+        self.entries.size_hint()
+    }
 }
 
 impl<'a, T: Integer> FusedIterator for RangesIter<'a, T> {}

@@ -1,14 +1,13 @@
 -- Bytes cut at the first line feed, and at the first blank.
-use Rattle.std.proofs.Common.{◌≡◌, ◌∙◌, ℕ, ◌+◌, ◌<◌, ◌≤◌, Bool, true, false, cond, eqb, ltb, List, [], ◌∷◌, ◌++◌, length, take, drop, append_assoc, Some, None, refl, sym, ap, subst, arith}
+use Rattle.std.proofs.Common.{◌≡◌, ◌∙◌, ℕ, zero, suc, ◌+◌, ◌<◌, ◌≤◌, Bool, true, false, cond, eqb, ltb, List, [], ◌∷◌, ◌++◌, length, take, drop, Some, None, refl, ap, subst, arith}
 use Rattle.std.proofs.lemmas.Bool.{ltb-true, ltb-false, lt-ltb, ne_eqb}
-use Rattle.std.proofs.lemmas.List.{length-take, nil_from_length, map-append, append-nil}
+use Rattle.std.proofs.lemmas.List.{length-take}
 use Rattle.std.proofs.lemmas.List.Elements.{All-from_get_or}
 use Rattle.std.proofs.lemmas.List.Splits.{slice_split_first, slice_split_none, length-slice_split}
 use Rattle.std.proofs.lemmas.List.Sums.{fails_before_first}
-use Rattle.std.specs.Borrow.{Bor}
 use Rattle.std.specs.List.{slice_split, position, position_or_len, filter}
 use Rattle.std.specs.Str.Lines.{lines, lines_of_parts, strip_carriage_return}
-use Rattle.rsb_run.specs.Spelling.{is_blank, has_bytes, texts, words}
+use Rattle.rsb_run.specs.Spelling.{is_blank, has_bytes, words}
 
 -- ---- at the first element that passes a test
 
@@ -86,13 +85,14 @@ words-Some line i is =
     ap (filter has_bytes) (slice_split-Some is_blank line i is)
     ∙ kept_first (has_bytes (take i line)) (take i line) (words (drop (i + 1) line))
 
--- a blank at the start is passed
-words-after_blank : (line : List ℕ) → position is_blank line ≡ Some 0
-    → words line ≡ words (drop (0 + 1) line)
-words-after_blank line is = words-Some line 0 is
+-- where the first byte is no blank, the first blank comes after it
+pub some_before : (line : List ℕ) (i : ℕ) → (position is_blank line ≡ Some 0 → ⊥)
+    → position is_blank line ≡ Some i → 0 < i
+some_before line zero first is = absurd (first is)
+some_before line (suc i) first is = omega arith
 
 -- what stands before the first blank is the first word, where it is not empty
-words-after_word : (line : List ℕ) (i : ℕ) → position is_blank line ≡ Some i
+pub words-after_word : (line : List ℕ) (i : ℕ) → position is_blank line ≡ Some i
     → 0 < i → i < length line → words line ≡ take i line ∷ words (drop (i + 1) line)
 words-after_word line i is some within =
     let word = take i line in
@@ -100,61 +100,8 @@ words-after_word line i is some within =
     words-Some line i is ∙ ap (λ keeps. cond keeps (word ∷ []) [] ++ words (drop (i + 1) line)) kept
 
 -- a line without blanks is one word, where it is not empty
-words-None : (line : List ℕ) → position is_blank line ≡ None → 0 < length line
+pub words-None : (line : List ℕ) → position is_blank line ≡ None → 0 < length line
     → words line ≡ line ∷ []
 words-None line is some =
     ap (filter has_bytes) (slice_split-None is_blank line is)
     ∙ ap (λ keeps. cond keeps (line ∷ []) []) (lt-ltb 0 (length line) some)
-
--- an empty line has no words
-words-empty : (line : List ℕ) → length line ≡ 0 → words line ≡ []
-words-empty line none = rw (nil_from_length line none) refl
-
--- ---- one step over the parts of a line: the words found so far, then those of the rest
-
--- with one more slice, its bytes come last
-texts-push : (found more : List (Bor (List ℕ))) (word : Bor (List ℕ)) → more ≡ found ++ word ∷ []
-    → texts more ≡ texts found ++ word.now ∷ []
-texts-push found more word is = ap texts is ∙ map-append (λ w. w.now) found (word ∷ [])
-
--- the rest starts with a word, and a blank ends it
-pub found_word : (found more : List (Bor (List ℕ))) (word : Bor (List ℕ)) (rest line : List ℕ)
-    (i : ℕ) → position is_blank rest ≡ Some i → 0 < i → i < length rest
-    → more ≡ found ++ word ∷ [] → word.now ≡ take i rest
-    → texts found ++ words rest ≡ words line → texts more ++ words (drop (i + 1) rest) ≡ words line
-found_word found more word rest line i is some within grown taken so_far =
-    let later = words (drop (i + 1) rest) in
-    ap (λ v. v ++ later) (texts-push found more word grown)
-    ∙ append_assoc (texts found) (word.now ∷ []) later
-    ∙ ap (λ v. texts found ++ v ∷ later) taken
-    ∙ ap (λ v. texts found ++ v) (sym (words-after_word rest i is some within))
-    ∙ so_far
-
--- the rest starts with a blank
-pub found_blank : (found : List (Bor (List ℕ))) (rest line : List ℕ) (i : ℕ)
-    → position is_blank rest ≡ Some i → i ≤ 0
-    → texts found ++ words rest ≡ words line → texts found ++ words (drop (i + 1) rest) ≡ words line
-found_blank found rest line i is none so_far =
-    let first : i ≡ 0 = omega (arith, none) in
-    ap (λ n. texts found ++ words (drop (n + 1) rest)) first
-    ∙ ap (λ v. texts found ++ v) (sym (words-after_blank rest (is ∙ ap (λ n. Some n) first)))
-    ∙ so_far
-
--- the rest is one word
-pub found_last : (found more : List (Bor (List ℕ))) (word : Bor (List ℕ)) (rest line : List ℕ)
-    → position is_blank rest ≡ None → 0 < length rest
-    → more ≡ found ++ word ∷ [] → word.now ≡ rest
-    → texts found ++ words rest ≡ words line → texts more ≡ words line
-found_last found more word rest line is some grown taken so_far =
-    texts-push found more word grown
-    ∙ ap (λ v. texts found ++ v ∷ []) taken
-    ∙ ap (λ v. texts found ++ v) (sym (words-None rest is some))
-    ∙ so_far
-
--- nothing is left
-pub found_all : (found : List (Bor (List ℕ))) (rest line : List ℕ) → length rest ≡ 0
-    → texts found ++ words rest ≡ words line → texts found ≡ words line
-found_all found rest line none so_far =
-    sym (append-nil (texts found))
-    ∙ ap (λ v. texts found ++ v) (sym (words-empty rest none))
-    ∙ so_far

@@ -1,12 +1,9 @@
 -- What words spell: one command at most, and none where the arguments are wrong.
-use Rattle.std.proofs.Common.{◌≡◌, ◌∙◌, ℕ, ℤ, ◌+◌, ◌*◌, Bool, true, false, List, [], ◌∷◌, get_or, length, map, arith, refl, sym, ap, subst}
-use Rattle.std.proofs.lemmas.List.{length-map}
-use Rattle.std.proofs.lemmas.Slice.Zip.{AllZip-long}
-use Rattle.std.specs.Borrow.{Bor}
+use Rattle.std.proofs.Common.{◌≡◌, ◌∙◌, ℕ, ℤ, ◌+◌, ◌*◌, Bool, true, false, List, [], ◌∷◌, get_or, map, arith, refl, sym, ap, subst}
 use Rattle.std.specs.List.{AllZip}
 use Rattle.rsb_run.specs.declared.command.Command.{Command}
 use Rattle.rsb_run.specs.declared.command.Command.TheVariants.{Add, Has, Count, Show}
-use Rattle.rsb_run.specs.Spelling.{Argument, slot, number, IsArgument, IsNumber, IsSlot, Spells, line_of, texts}
+use Rattle.rsb_run.specs.Spelling.{Argument, slot, number, IsArgument, IsNumber, IsSlot, LacksFirst, Spells, line_of, words}
 
 -- ---- what a word stands for, by its kind
 
@@ -47,12 +44,58 @@ same_arguments (word ∷ words) (number y ∷ xs) (number z ∷ ys) same left ri
     let rest : kinds xs ≡ kinds ys = cc in
     cc (same_number word y z left.0 right.0, same_arguments words xs ys rest left.1 right.1)
 
--- words stand for no more arguments than there are words, and for no fewer
-pub wrong_count : (arguments : List (Bor (List ℕ))) (xs : List Argument)
-    → (length arguments ≡ length xs → ⊥) → AllZip IsArgument (texts arguments) xs → ⊥
-wrong_count arguments xs other are =
-    let long = AllZip-long IsArgument (texts arguments) xs are in
-    other (omega (arith, long, length-map arguments (λ word. word.now)))
+-- ---- the first word of a line, and the others
+
+-- words that stand for one argument or more have a first word, which stands for the first
+record First (words : List (List ℕ)) (x : Argument) (xs : List Argument) : Type 0 where
+  word : List ℕ
+  others : List (List ℕ)
+  parts : words ≡ word ∷ others
+  stands : IsArgument word x
+  stand : AllZip IsArgument others xs
+
+-- the first of words that stand for arguments
+first_of : (words : List (List ℕ)) (x : Argument) (xs : List Argument)
+    → AllZip IsArgument words (x ∷ xs) → First words x xs
+first_of [] x xs are = absurd are
+first_of (word ∷ others) x xs are =
+    record { word = word; others = others; parts = refl; stands = are.0; stand = are.1 }
+
+-- a line without words stands for no argument
+pub no_words : (line : List ℕ) (x : Argument) (xs : List Argument) → words line ≡ []
+    → AllZip IsArgument (words line) (x ∷ xs) → ⊥
+no_words line x xs none are =
+    absurd (subst (λ (all : List (List ℕ)). AllZip IsArgument all (x ∷ xs)) none are)
+
+-- a line whose first word is no set stands for no arguments that begin with one
+pub no_slot_first : (line rest word : List ℕ) (n : ℕ) (xs : List Argument)
+    → words line ≡ word ∷ words rest → ((n : ℕ) → IsSlot word n → ⊥)
+    → AllZip IsArgument (words line) (slot n ∷ xs) → ⊥
+no_slot_first line rest word n xs parts none are =
+    none n (subst (λ (all : List (List ℕ)). AllZip IsArgument all (slot n ∷ xs)) parts are).0
+
+-- a line whose first word is no number stands for no arguments that begin with one
+pub no_number_first : (line : List ℕ) (z : ℤ) (xs : List Argument) → LacksFirst IsNumber line
+    → AllZip IsArgument (words line) (number z ∷ xs) → ⊥
+no_number_first line z xs none are =
+    let first = first_of (words line) (number z) xs are in
+    none first.word first.others first.parts z first.stands
+
+-- a line with words left stands for no empty list of arguments
+pub no_more : (line : List ℕ) → (words line ≡ [] → ⊥) → AllZip IsArgument (words line) [] → ⊥
+no_more line some are = go (words line) some are
+  where
+    -- the same, of any words
+    go : (all : List (List ℕ)) → (all ≡ [] → ⊥) → AllZip IsArgument all [] → ⊥
+    go [] some are = some refl
+    go (word ∷ others) some are = absurd are
+
+-- what stands for arguments less the first is what comes after the first word
+pub past_first : (line rest word : List ℕ) (x : Argument) (xs : List Argument)
+    → words line ≡ word ∷ words rest
+    → AllZip IsArgument (words line) (x ∷ xs) → AllZip IsArgument (words rest) xs
+past_first line rest word x xs parts are =
+    (subst (λ (all : List (List ℕ)). AllZip IsArgument all (x ∷ xs)) parts are).1
 
 -- ---- commands, by their keywords
 

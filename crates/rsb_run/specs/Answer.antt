@@ -1,7 +1,7 @@
 -- What the program writes for the input that it reads.
-use Rattle.std.specs.Prelude.{ℕ, ℤ, ◌^◌, List, Option}
+use Rattle.std.specs.Prelude.{ℕ, ℤ, ◌^◌, ◌⊎◌, IfSome, List, Option}
 use Rattle.std.specs.Int.{w32}
-use Rattle.std.specs.Io.KnownBytes.{Appends}
+use Rattle.std.specs.Io.KnownBytes.{Appends, Keeps}
 use Rattle.rsb_integer.specs.Front.{IsFrontOf}
 use Rattle.rsb_integer.specs.Rank.{signed_rank}
 use Rattle.rsb_run.specs.declared.command.Command.{Command}
@@ -13,6 +13,28 @@ use Rattle.rsb_run.specs.Transfer.{AppendsShortOf}
 -- the replies to commands over sets of numbers of 32 bits
 abbrev pub AreNumberReplies : List (Command ℤ) → List (Content ℤ) → Type 0
 AreNumberReplies commands replies = AreReplies (signed_rank w32) (2 ^ 32) commands replies
+
+-- the text of the replies to the commands was written, and nothing else
+pub record Replies (commands : List (Command ℤ)) (old new : Option (List ℕ)) : Type 0 where
+  pub replies : List (Content ℤ)
+  pub replied : AreNumberReplies commands replies
+  pub written : Appends old new (text replies)
+
+-- the text of the replies to the first of the commands was
+pub record RepliesFront (commands : List (Command ℤ)) (old new : Option (List ℕ)) : Type 0 where
+  pub front : List (Command ℤ)
+  pub is_front : IsFrontOf front commands
+  pub replies : List (Content ℤ)
+  pub replied : AreNumberReplies front replies
+  pub written : Appends old new (text replies)
+
+-- and less than the text of the replies to the first of the commands was
+pub record RepliesShort (commands : List (Command ℤ)) (old new : Option (List ℕ)) : Type 0 where
+  pub front : List (Command ℤ)
+  pub is_front : IsFrontOf front commands
+  pub replies : List (Content ℤ)
+  pub replied : AreNumberReplies front replies
+  pub written : AppendsShortOf old new (text replies)
 
 -- the text of the replies to the commands that the input spells was written, and nothing else
 pub record Answers (input : List ℕ) (old new : Option (List ℕ)) : Type 0 where
@@ -41,3 +63,12 @@ pub record AnswersShort (input : List ℕ) (old new : Option (List ℕ)) : Type 
   pub replies : List (Content ℤ)
   pub replied : AreNumberReplies front replies
   pub written : AppendsShortOf old new (text replies)
+
+-- nothing was written, or the replies to the first commands that the known input spells
+abbrev pub WroteFirstReplies : Option (List ℕ) → Option (List ℕ) → Option (List ℕ) → Type 0
+WroteFirstReplies known old new = Keeps old new ⊎ IfSome known (λ input. AnswersFront input old new)
+
+-- nothing was written, or not even all of the replies to the first commands
+abbrev pub WrotePartOfReplies : Option (List ℕ) → Option (List ℕ) → Option (List ℕ) → Type 0
+WrotePartOfReplies known old new =
+    Keeps old new ⊎ IfSome known (λ input. AnswersShort input old new)

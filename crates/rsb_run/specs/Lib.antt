@@ -1,5 +1,6 @@
 pub mod Answer
 pub mod Commands
+pub mod Ending
 pub mod Fault
 pub mod Spelling
 pub mod Text

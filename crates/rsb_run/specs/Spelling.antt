@@ -98,10 +98,24 @@ pub record IsFirstBadLine (input : List ℕ) (number : ℕ) : Type 0 where
 
 -- ---- reading
 
--- the bytes of words that are slices of a line
-abbrev pub texts : List (Bor (List ℕ)) → List (List ℕ)
-texts slices = map (λ slice. slice.now) slices
-
 -- a value that the fact holds of, or None where it holds of none
 abbrev pub Reads : {X : Type 0} → Option X → (X → Type 0) → Type 0
 Reads {X} result Holds = MatchOption result ((x : X) → ¬ Holds x) Holds
+
+-- the line has a first word that the fact holds of, and the words of the rest come after it
+pub record BeginsWith (Holds : List ℕ → Type 0) (line rest : List ℕ) : Type 0 where
+  pub word : List ℕ
+  pub parts : words line ≡ word ∷ words rest
+  pub holds : Holds word
+
+-- the fact holds of no value and the first word of the line
+abbrev pub LacksFirst : {X : Type 0} → (List ℕ → X → Type 0) → List ℕ → Type 0
+LacksFirst {X} Holds line =
+    (word : List ℕ) (others : List (List ℕ)) → words line ≡ word ∷ others
+    → (x : X) → ¬ Holds word x
+
+-- a value that the fact holds of at the first word of the line, with the rest of the line
+abbrev pub ReadsFirst : {X : Type 0} → Option (X × Bor (List ℕ)) → (List ℕ → X → Type 0) → List ℕ
+    → Type 0
+ReadsFirst result Holds line = MatchOption result (LacksFirst Holds line)
+    (λ read. BeginsWith (λ word. Holds word read.0) line read.1.now)

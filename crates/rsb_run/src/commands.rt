@@ -35,7 +35,8 @@ pub struct Stopped<T: Integer, A: Allocator = Global> {
 }
 
 /// Runs the commands in order, over ten sets that are empty at first. Room for all replies is made
-/// first, and for no commands none.
+/// first, and for no commands none. `Stopped` is answered where a growth was refused: it keeps the
+/// replies to the commands before.
 pub fn run_commands<T: Integer, A: Allocator + Copy>(
     alloc: A,
     commands: &[Command<T>],
@@ -74,8 +75,8 @@ pub fn run_commands<T: Integer, A: Allocator + Copy>(
     Ok(replies)
 }
 
-// Ten sets with no members.
-fn empty_sets<T: Integer, A: Allocator + Copy>(
+/// Ten sets with no members.
+pub(crate) fn empty_sets<T: Integer, A: Allocator + Copy>(
     alloc: A,
 ) -> Result<Vec<RangeSetBlaze<T, A>, A>, AllocError>
     ensures ten { IfOk result (λ sets. vec_len sets ≡ 10) }
@@ -88,8 +89,8 @@ fn empty_sets<T: Integer, A: Allocator + Copy>(
     Ok(sets)
 }
 
-// Runs one command, and gives its reply.
-fn run_command<T: Integer, A: Allocator + Copy>(
+/// Runs one command, and gives its reply.
+pub(crate) fn run_command<T: Integer, A: Allocator + Copy>(
     alloc: A,
     sets: &mut Vec<RangeSetBlaze<T, A>, A>,
     command: &Command<T>,

@@ -5,6 +5,7 @@ pub mod command;
 pub mod commands;
 pub mod fault;
 pub mod laws;
+mod page;
 pub mod parse;
 pub mod program;
 pub mod set_no;
@@ -14,16 +15,12 @@ mod transfer;
 use std::process::ExitCode;
 
 fn main(rt: HostRuntime) -> ExitCode {
-    let mut input = rt.stdin();
-    let mut output = rt.stdout();
-    match program::run(rt.alloc(), &mut input, &mut output) {
-        Ok(()) => ExitCode::SUCCESS,
-        Err(fault) => {
-            // There is nowhere left to tell that this failed.
-            let _ = eprintln!(rt; "{fault}");
-            ExitCode::from(fault.status())
-        }
-    }
+    program::start(
+        rt.alloc(),
+        &mut rt.stdin(),
+        &mut rt.stdout(),
+        &mut rt.stderr(),
+    )
 }
 
 #[cfg(test)]

@@ -1,17 +1,20 @@
-//! Lines, words and commands in bytes.
+//! Lines, words and commands in bytes. A line is read in place, with no memory of its own.
 
-ghost use Rattle.std.specs.Prelude.{◌≡◌, ◌≢◌, ℕ, ℤ, ◌<◌, ◌==◌, [], ◌∷◌, Err, IfOk, IfSome, List, length, position};
+ghost use Rattle.std.specs.Prelude.{◌≡◌, ◌≢◌, ◌↔◌, ℕ, ℤ, ◌^◌, ◌<◌, ◌≤◌, ◌==◌, [], ◌∷◌, Err, IfOk, IfSome, IsTrue, List, MatchOption, Some, SomeIff, length, position};
+ghost use Rattle.std.specs.Char.{digit_value};
 ghost use Rattle.std.specs.List.{AllZip};
 ghost use Rattle.std.specs.Str.Lines.{lines, strip_carriage_return};
+ghost use Rattle.std.specs.Str.Parse.{IsNumeral, digits_value};
 ghost use Rattle.rsb_run.specs.declared.command.Command.{Command};
-ghost use Rattle.rsb_run.specs.Spelling.{AreCommands, IsArgument, IsFirstBadLine, IsNumber, IsSlot, Reads, Spells, is_blank, number, slot, texts, words};
+ghost use Rattle.rsb_run.specs.Spelling.{AreCommands, IsArgument, IsFirstBadLine, IsNumber, IsSlot, Reads, ReadsFirst, Spells, is_blank, number, slot, words};
 
 use crate::command::Command;
 use crate::fault::Fault;
 use crate::set_no::SetNo;
-use std::alloc::{AllocError, Allocator};
+use std::alloc::Allocator;
 
-/// The commands that the lines spell, or the number of the first line that spells none.
+/// The commands that the lines spell, or the number of the first line that spells none. The list of
+/// commands alone takes memory: `NoMemory` is answered where a growth of it was refused.
 pub fn parse_commands<A: Allocator + Copy>(
     alloc: A,
     input: &[u8],
@@ -29,9 +32,8 @@ pub fn parse_commands<A: Allocator + Copy>(
     while !rest.is_empty() {
         let (line, later) = first_line(rest);
         number += 1;
-        let words = words(alloc, line)?;
-        if !words.is_empty() {
-            let Some(command) = command_of(&words) else {
+        if let Some((keyword, arguments)) = first_word(line) {
+            let Some(command) = command_of(keyword, arguments) else {
                 return Err(Fault::BadLine(number));
             };
             commands.push(command)?;
@@ -74,25 +76,38 @@ fn without_return(line: &[u8]) -> &[u8]
     }
 }
 
-// The words of a line.
-fn words<A: Allocator>(alloc: A, line: &[u8]) -> Result<Vec<&[u8], A>, AllocError>
-    ensures { IfOk result (λ found. texts found.items ≡ words line.now) }
+// The first word of a line, and what comes after it.
+#[inline(always)]
+fn first_word(line: &[u8]) -> Option<(&[u8], &[u8])>
+    ensures { MatchOption result (words line.now ≡ [])
+        (λ cut. words line.now ≡ cut.0.now ∷ words cut.1.now) }
 {
-    let mut words = Vec::new(alloc);
-    let mut rest = line;
-    while let Some(i) = blank(rest) {
-        if i > 0 {
-            words.push(&rest[..i])?;
+    let rest = without_blanks(line);
+    if rest.is_empty() {
+        return None;
+    }
+    match blank(rest) {
+        None => Some((rest, &[])),
+        Some(i) => Some((&rest[..i], &rest[i + 1..])),
+    }
+}
+
+// The line from its first byte on that is no blank.
+#[inline(always)]
+fn without_blanks(line: &[u8]) -> &[u8]
+    ensures words { words result.now ≡ words line.now }
+    ensures first { position is_blank result.now ≢ Some 0 }
+{
+    for (i, byte) in line.iter().enumerate() {
+        if *byte != b' ' && *byte != b'\t' {
+            return &line[i..];
         }
-        rest = &rest[i + 1..];
     }
-    if !rest.is_empty() {
-        words.push(rest)?;
-    }
-    Ok(words)
+    &[]
 }
 
 // The place of the first space or tab.
+#[inline(always)]
 fn blank(line: &[u8]) -> Option<usize>
     ensures place { result ≡ position is_blank line.now }
     ensures within { IfSome result (λ i. i < length line.now) }
@@ -100,12 +115,18 @@ fn blank(line: &[u8]) -> Option<usize>
     line.iter().position(|byte| *byte == b' ' || *byte == b'\t')
 }
 
-// The command that the words of a line spell.
-fn command_of(words: &[&[u8]]) -> Option<Command<i32>>
-    ensures { Reads result (Spells (texts words.now)) }
+// Whether the line has no word.
+fn is_blank_line(line: &[u8]) -> bool
+    ensures { IsTrue result ↔ (words line.now ≡ []) }
 {
-    let (keyword, arguments) = words.split_first()?;
-    match *keyword {
+    first_word(line).is_none()
+}
+
+// The command that a keyword and the words of its arguments spell.
+fn command_of(keyword: &[u8], arguments: &[u8]) -> Option<Command<i32>>
+    ensures { Reads result (Spells (keyword.now ∷ words arguments.now)) }
+{
+    match keyword {
         b"add" => {
             let (slot, first, last) = slot_and_range(arguments)?;
             Some(Command::Add { slot, first, last })
@@ -126,37 +147,70 @@ fn command_of(words: &[&[u8]]) -> Option<Command<i32>>
     }
 }
 
-fn slot_and_range(arguments: &[&[u8]]) -> Option<(SetNo, i32, i32)>
-    ensures { Reads result (λ read. AllZip IsArgument (texts arguments.now)
+// A set and two numbers, and nothing after them.
+#[inline(always)]
+fn slot_and_range(arguments: &[u8]) -> Option<(SetNo, i32, i32)>
+    ensures { Reads result (λ read. AllZip IsArgument (words arguments.now)
         (slot read.0 ∷ number read.1 ∷ number read.2 ∷ [])) }
 {
-    match arguments {
-        [set, first, last] => Some((slot(set)?, number(first)?, number(last)?)),
-        _ => None,
+    let (word, rest) = first_word(arguments)?;
+    let slot = slot(word)?;
+    let (first, rest) = first_number(rest)?;
+    let (last, rest) = first_number(rest)?;
+    if is_blank_line(rest) {
+        Some((slot, first, last))
+    } else {
+        None
     }
 }
 
-fn slot_and_value(arguments: &[&[u8]]) -> Option<(SetNo, i32)>
-    ensures { Reads result (λ read. AllZip IsArgument (texts arguments.now)
+// A set and a number, and nothing after them.
+#[inline(always)]
+fn slot_and_value(arguments: &[u8]) -> Option<(SetNo, i32)>
+    ensures { Reads result (λ read. AllZip IsArgument (words arguments.now)
         (slot read.0 ∷ number read.1 ∷ [])) }
 {
-    match arguments {
-        [set, value] => Some((slot(set)?, number(value)?)),
-        _ => None,
+    let (word, rest) = first_word(arguments)?;
+    let slot = slot(word)?;
+    let (value, rest) = first_number(rest)?;
+    if is_blank_line(rest) {
+        Some((slot, value))
+    } else {
+        None
     }
 }
 
-fn one_slot(arguments: &[&[u8]]) -> Option<SetNo>
-    ensures { Reads result (λ set. AllZip IsArgument (texts arguments.now)
+// A set, and nothing after it.
+#[inline(always)]
+fn one_slot(arguments: &[u8]) -> Option<SetNo>
+    ensures { Reads result (λ set. AllZip IsArgument (words arguments.now)
         (slot set ∷ [])) }
 {
-    match arguments {
-        [set] => slot(set),
-        _ => None,
+    let (word, rest) = first_word(arguments)?;
+    let slot = slot(word)?;
+    if is_blank_line(rest) {
+        Some(slot)
+    } else {
+        None
     }
+}
+
+// The number that the first word of a line spells, and what comes after it.
+#[inline(always)]
+fn first_number(line: &[u8]) -> Option<(i32, &[u8])>
+    ensures { ReadsFirst result IsNumber line.now }
+{
+    let rest = without_blanks(line);
+    // Most numbers end their line, and are then read in one pass.
+    if let Some(last) = number(rest) {
+        return Some((last, &[]));
+    }
+    let (word, rest) = first_word(rest)?;
+    Some((number(word)?, rest))
 }
 
 // The set that a word names.
+#[inline(always)]
 fn slot(word: &[u8]) -> Option<SetNo>
     ensures { Reads result (IsSlot word.now) }
 {
@@ -167,11 +221,46 @@ fn slot(word: &[u8]) -> Option<SetNo>
 }
 
 // The number that a word spells.
+#[inline(always)]
 fn number(word: &[u8]) -> Option<i32>
     ensures { Reads result (IsNumber word.now) }
 {
-    let Ok(text) = str::from_utf8(word) else {
+    let (first, others) = word.split_first()?;
+    match *first {
+        b'-' => 0i32.checked_sub_unsigned(digits(others)?),
+        b'+' => 0i32.checked_add_unsigned(digits(others)?),
+        _ => 0i32.checked_add_unsigned(digits(word)?),
+    }
+}
+
+// The number that digits write, where it has 32 bits.
+#[inline(always)]
+fn digits(digits: &[u8]) -> Option<u32>
+    ensures { SomeIff result (IsNumeral 10 digits.now × (digits_value 10 digits.now < 2 ^ 32))
+        (digits_value 10 digits.now) }
+{
+    if digits.is_empty() {
         return None;
-    };
-    text.parse::<i32>().ok()
+    }
+    let mut value = 0u32;
+    for digit in digits {
+        let next = u64::from(value) * 10 + u64::from(value_of(*digit)?);
+        if next > u64::from(u32::MAX) {
+            return None;
+        }
+        value = next as u32;
+    }
+    Some(value)
+}
+
+// What a decimal digit counts.
+#[inline(always)]
+fn value_of(byte: u8) -> Option<u8>
+    ensures { SomeIff result (digit_value byte < 10) (digit_value byte) }
+{
+    if byte.is_ascii_digit() {
+        Some(byte - b'0')
+    } else {
+        None
+    }
 }

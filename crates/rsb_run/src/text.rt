@@ -1,87 +1,179 @@
-//! Replies as lines of text. Writing them takes no memory.
+//! Replies and faults as lines of text. Writing them takes no memory.
 
+ghost use Rattle.std.specs.Prelude.{◌≡◌, ◌+◌, ◌≤◌, ◌++◌, codes, decimal, flat_map, length};
 ghost use Rattle.std.specs.Fmt.{signed_decimal};
-ghost use Rattle.rsb_run.specs.Commands.{content_of, contents_of};
-ghost use Rattle.rsb_run.specs.Text.{line_text, next_range_text, range_text, ranges_text, reply_text, text};
-ghost use Rattle.rsb_run.specs.Transfer.{Writes};
+ghost use Rattle.rsb_run.specs.Commands.{content_of, flag as flag_content, number as number_content, ranges as ranges_content};
+ghost use Rattle.rsb_run.specs.Fault.{line_of};
+ghost use Rattle.rsb_run.specs.Text.{line_text, next_range_text, range_text, ranges_text};
+ghost use Rattle.rsb_run.specs.Transfer.{Lays, Writes};
 
 use crate::commands::Reply;
 use crate::fault::Fault;
-use crate::transfer::write_all;
+use crate::page::{PAGE, PIECE, Page};
 use itoa::Buffer;
 use std::alloc::Allocator;
 use std::io::Write;
 use std::ops::RangeInclusive;
 
-/// Writes a line for each reply.
-pub fn write_replies<A: Allocator, W: Write>(
+/// Writes a reply and a line feed, by way of the page.
+#[inline(always)]
+pub fn write_line<A: Allocator, W: Write>(
     output: &mut W,
-    replies: &[Reply<i32, A>],
+    page: &mut Page,
+    reply: &Reply<i32, A>,
 ) -> Result<(), Fault>
-    ensures { Writes (W.contents output.old) (W.contents output.new) result
-        (text (contents_of (λ length. length) replies.now)) }
+    ensures { Lays (W.contents output.old) (W.contents output.new) page.old page.new result
+        (line_text (content_of (λ length. length) reply.now)) }
 {
-    for reply in replies {
-        write_line(output, reply)?;
+    match reply {
+        Reply::Flag(flag) => write_flag(output, page, *flag),
+        Reply::Count(length) => write_count(output, page, *length),
+        Reply::Ranges(ranges) => write_ranges(output, page, ranges),
+    }
+}
+
+// Writes whether something was so, and a line feed.
+#[inline(always)]
+fn write_flag<W: Write>(output: &mut W, page: &mut Page, flag: bool) -> Result<(), Fault>
+    ensures { Lays (W.contents output.old) (W.contents output.new) page.old page.new result
+        (line_text (flag_content flag)) }
+{
+    page.make_room(output)?;
+    if flag {
+        page.lay(b"true\n");
+    } else {
+        page.lay(b"false\n");
     }
     Ok(())
 }
 
-// Writes a reply and a line feed.
-fn write_line<A: Allocator, W: Write>(output: &mut W, reply: &Reply<i32, A>) -> Result<(), Fault>
-    ensures { Writes (W.contents output.old) (W.contents output.new) result
-        (line_text (content_of (λ length. length) reply.now)) }
+// Writes a number, and a line feed.
+fn write_count<W: Write>(output: &mut W, page: &mut Page, count: u64) -> Result<(), Fault>
+    ensures { Lays (W.contents output.old) (W.contents output.new) page.old page.new result
+        (line_text (number_content count)) }
 {
-    write_reply(output, reply)?;
-    write_all(output, b"\n")
+    page.make_room(output)?;
+    page.lay(Buffer::new().format(count).as_bytes());
+    page.lay(b"\n");
+    Ok(())
 }
 
-fn write_reply<A: Allocator, W: Write>(output: &mut W, reply: &Reply<i32, A>) -> Result<(), Fault>
-    ensures { Writes (W.contents output.old) (W.contents output.new) result
-        (reply_text (content_of (λ length. length) reply.now)) }
+// Writes ranges with a comma and a space between, and a line feed.
+fn write_ranges<W: Write>(
+    output: &mut W,
+    page: &mut Page,
+    ranges: &[RangeInclusive<i32>],
+) -> Result<(), Fault>
+    ensures { Lays (W.contents output.old) (W.contents output.new) page.old page.new result
+        (line_text (ranges_content ranges.now)) }
 {
-    match reply {
-        Reply::Flag(true) => write_all(output, b"true"),
-        Reply::Flag(false) => write_all(output, b"false"),
-        Reply::Count(length) => write_all(output, Buffer::new().format(*length).as_bytes()),
-        Reply::Ranges(ranges) => write_ranges(output, ranges),
-    }
+    write_list(output, page, ranges)?;
+    write_line_feed(output, page)
 }
 
-fn write_ranges<W: Write>(output: &mut W, ranges: &[RangeInclusive<i32>]) -> Result<(), Fault>
-    ensures { Writes (W.contents output.old) (W.contents output.new) result
+// Writes a line feed.
+fn write_line_feed<W: Write>(output: &mut W, page: &mut Page) -> Result<(), Fault>
+    ensures { Lays (W.contents output.old) (W.contents output.new) page.old page.new result
+        (codes "\n") }
+{
+    page.make_room(output)?;
+    page.lay(b"\n");
+    Ok(())
+}
+
+// Writes ranges with a comma and a space between.
+fn write_list<W: Write>(
+    output: &mut W,
+    page: &mut Page,
+    ranges: &[RangeInclusive<i32>],
+) -> Result<(), Fault>
+    ensures { Lays (W.contents output.old) (W.contents output.new) page.old page.new result
         (ranges_text ranges.now) }
 {
     let Some((first, others)) = ranges.split_first() else {
         return Ok(());
     };
-    write_range(output, first)?;
-    for range in others {
-        write_next_range(output, range)?;
+    write_range(output, page, first)?;
+    write_others(output, page, others)
+}
+
+// Writes ranges, each after a comma and a space.
+fn write_others<W: Write>(
+    output: &mut W,
+    page: &mut Page,
+    ranges: &[RangeInclusive<i32>],
+) -> Result<(), Fault>
+    ensures { Lays (W.contents output.old) (W.contents output.new) page.old page.new result
+        (flat_map next_range_text ranges.now) }
+{
+    for range in ranges {
+        write_next_range(output, page, range)?;
     }
     Ok(())
 }
 
-fn write_next_range<W: Write>(output: &mut W, range: &RangeInclusive<i32>) -> Result<(), Fault>
-    ensures { Writes (W.contents output.old) (W.contents output.new) result
+// Writes a comma, a space and one range.
+fn write_next_range<W: Write>(
+    output: &mut W,
+    page: &mut Page,
+    range: &RangeInclusive<i32>,
+) -> Result<(), Fault>
+    ensures { Lays (W.contents output.old) (W.contents output.new) page.old page.new result
         (next_range_text range.now) }
 {
-    write_all(output, b", ")?;
-    write_range(output, range)
+    page.make_room(output)?;
+    page.lay(b", ");
+    lay_range(page, range);
+    Ok(())
 }
 
-fn write_range<W: Write>(output: &mut W, range: &RangeInclusive<i32>) -> Result<(), Fault>
-    ensures { Writes (W.contents output.old) (W.contents output.new) result
+// Writes one range.
+fn write_range<W: Write>(
+    output: &mut W,
+    page: &mut Page,
+    range: &RangeInclusive<i32>,
+) -> Result<(), Fault>
+    ensures { Lays (W.contents output.old) (W.contents output.new) page.old page.new result
         (range_text range.now) }
 {
-    write_number(output, range.start())?;
-    write_all(output, b"..=")?;
-    write_number(output, range.end())
+    page.make_room(output)?;
+    lay_range(page, range);
+    Ok(())
 }
 
-fn write_number<W: Write>(output: &mut W, number: &i32) -> Result<(), Fault>
-    ensures { Writes (W.contents output.old) (W.contents output.new) result
-        (signed_decimal number.now) }
+// Lays one range.
+fn lay_range(page: &mut Page, range: &RangeInclusive<i32>)
+    requires { length page.old + 25 ≤ PAGE }
+    ensures { page.new ≡ page.old ++ range_text range.now }
 {
-    write_all(output, Buffer::new().format(*number).as_bytes())
+    lay_number(page, range.start());
+    page.lay(b"..=");
+    lay_number(page, range.end());
+}
+
+// Lays one number.
+fn lay_number(page: &mut Page, number: &i32)
+    requires { length page.old + 11 ≤ PAGE }
+    ensures laid { page.new ≡ page.old ++ signed_decimal number.now }
+    ensures within { length page.new ≤ length page.old + 11 }
+{
+    page.lay(Buffer::new().format(*number).as_bytes());
+}
+
+/// Writes the line that tells a fault.
+pub fn write_fault<W: Write>(output: &mut W, fault: Fault) -> Result<(), Fault>
+    ensures { Writes (W.contents output.old) (W.contents output.new) result
+        (line_of fault ++ codes "\n") }
+{
+    let mut page = Page::new();
+    match fault {
+        Fault::BadLine(number) => {
+            page.lay(b"bad line ");
+            page.lay(Buffer::new().format(number).as_bytes());
+        }
+        Fault::NoMemory => page.lay(b"no memory"),
+        Fault::Io => page.lay(b"read or write failed"),
+    }
+    page.lay(b"\n");
+    page.send(output)
 }

@@ -17,7 +17,7 @@ pub fn read_all<A: Allocator, R: Read>(alloc: A, input: &mut R) -> Result<Vec<u8
     ensures no_bad_line { (number : ℕ) → result ≢ Err (Fault.BadLine number) }
 {
     let mut bytes = Vec::new(alloc);
-    let mut buffer = [0; 4096];
+    let mut buffer = [0; 65_536];
     for _ in 0..u64::MAX {
         match input.read(&mut buffer) {
             Ok(0) => return Ok(bytes),
@@ -32,27 +32,25 @@ pub fn read_all<A: Allocator, R: Read>(alloc: A, input: &mut R) -> Result<Vec<u8
     Err(Fault::Io)
 }
 
-/// Writes all of the text, in as many calls as it takes. A call that takes no byte of some has
-/// failed, and so has a writer that was interrupted 2^64 - 1 times.
-pub fn write_all<W: Write>(output: &mut W, text: &[u8]) -> Result<(), Fault>
+/// Writes all of the text, in as many calls as it takes, and tells the patience that is left. A
+/// call that takes no byte of some has failed, and so has a writer whose interruption finds a
+/// patience of one or none.
+pub fn write_all<W: Write>(output: &mut W, text: &[u8], patience: u64) -> Result<u64, Fault>
     ensures { Writes (W.contents output.old) (W.contents output.new) result text.now }
 {
     let mut rest = text;
-    let mut interruptions = 0u64;
+    let mut left = patience;
     while !rest.is_empty() {
         match output.write(rest) {
             Ok(0) => return Err(Fault::Io),
             Ok(count) => rest = &rest[count..],
             Err(error) => {
-                if error.kind() != ErrorKind::Interrupted {
+                if error.kind() != ErrorKind::Interrupted || left <= 1 {
                     return Err(Fault::Io);
                 }
-                interruptions += 1;
-                if interruptions == u64::MAX {
-                    return Err(Fault::Io);
-                }
+                left -= 1;
             }
         }
     }
-    Ok(())
+    Ok(left)
 }

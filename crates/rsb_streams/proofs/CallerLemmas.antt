@@ -1,9 +1,9 @@
 -- What a caller of operations on streams needs: their results composed, and the members of a list
 -- that an operation gives.
-use Rattle.std.proofs.Common.{◌≡◌, ℕ, Bool, true, false, ◌<◌, ◌∙◌, List, not, refl, ap, arith}
+use Rattle.std.proofs.Common.{◌≡◌, ℕ, Bool, true, false, ◌∙◌, List, not, refl, ap}
 use Rattle.std.proofs.Math.Bool.{not-not}
 use Rattle.rsb_integer.specs.Runs.{Interval, members}
-use Rattle.rsb_integer.specs.Selection.{Selection, Agree, complement, union}
+use Rattle.rsb_integer.specs.Selection.{Selection, Agree, complement}
 use Rattle.rsb_integer.proofs.RunsLemmas.{runs-along, runs-members}
 use Rattle.rsb_streams.specs.Stream.{Outcomes, ◌⊆◌, joined, just, runs_by, runs_by_two}
 

@@ -1,3 +1,4 @@
+pub mod ArraySources
 pub mod CallerLemmas
 pub mod CheckLemmas
 pub mod Compare

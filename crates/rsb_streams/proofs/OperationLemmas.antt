@@ -1,11 +1,11 @@
 -- What operations on streams may give, composed.
-use Rattle.std.proofs.Common.{◌≡◌, ℕ, Bool, ◌||◌, not, List, [], ◌∷◌, refl, sym, ap, ◌∙◌, inl, inr}
-use Rattle.std.proofs.Math.Bool.{not-not, or_assoc, or_comm}
+use Rattle.std.proofs.Common.{◌≡◌, ℕ, Bool, ◌||◌, List, [], ◌∷◌, refl, sym, ap, ◌∙◌, inl, inr}
+use Rattle.std.proofs.Math.Bool.{or_assoc, or_comm}
 use Rattle.rsb_integer.specs.Runs.{Interval, covers, members}
-use Rattle.rsb_integer.specs.Selection.{complement, union}
+use Rattle.rsb_integer.specs.Selection.{union}
 use Rattle.rsb_integer.proofs.MembersLemmas.{members-cons}
-use Rattle.rsb_integer.proofs.RunsLemmas.{runs-along, runs-members}
-use Rattle.rsb_streams.specs.Stream.{Outcomes, ◌⊆◌, IsMergeOf, joined, merges, runs_by, runs_by_two}
+use Rattle.rsb_integer.proofs.RunsLemmas.{runs-along}
+use Rattle.rsb_streams.specs.Stream.{Outcomes, ◌⊆◌, IsMergeOf, joined, merges, runs_by_two}
 
 -- the first two of three in an `or` may change places
 or-swap : (head left right : Bool) → (head || (left || right)) ≡ (left || (head || right))

@@ -109,3 +109,10 @@ module _ {S T : Type 0} (rank : T → ℕ) (can_next : S → Type 0)
       → Yields steps s ranges t
   calls-steps [] s t all = all
   calls-steps (range ∷ ranges) s t all = (all.0, all.1.gives, calls-steps ranges all.0 t all.2)
+
+-- whatever a value becomes as an iterator may be called, ends, and gives what keeps the law
+abbrev pub GivesOnly : {J I T : Type 0} → (J → I → Type 0) → (T → ℕ) → (I → Type 0)
+    → (I → Option (RangeInclusive T) → I → Type 0) → (I → Count) → (List Interval → Type 0) → J
+    → Type 0
+GivesOnly {I = I} becomes rank can_next steps remaining law value = (iter : I) → becomes value iter
+    → IsSource rank can_next steps remaining law iter

@@ -1,6 +1,6 @@
 //! Streams of ranges whose starts are known not to fall.
 
-ghost use Rattle.rsb_streams.specs.Calls.{calls_give};
+ghost use Rattle.rsb_streams.specs.Calls.{calls_give, GivesOnly};
 ghost use Rattle.rsb_streams.specs.AssumeSortedStarts.{
   assume-answers,
   assume-keeps,
@@ -8,10 +8,9 @@ ghost use Rattle.rsb_streams.specs.AssumeSortedStarts.{
   assume_may_give,
   assume_remaining,
   assume_steps,
-  IsSortedSource,
 };
 ghost use Rattle.rsb_streams.specs.CheckSortedDisjoint.{gives_as};
-ghost use Rattle.rsb_streams.specs.Stream.{◌⊆◌, drawn-itself};
+ghost use Rattle.rsb_streams.specs.Stream.{◌⊆◌, drawn-itself, HasSortedStarts};
 
 use crate::draw::Draw;
 use crate::sorted_disjoint::SortedStarts;
@@ -29,11 +28,11 @@ pub struct AssumeSortedStarts<T, I> {
 }
 
 impl<T: Integer, I: Iterator> AssumeSortedStarts<T, I> {
-    /// The items of an iterator, which are finite, non-empty, and by their starts. It takes no
-    /// memory.
+    /// The items of what becomes an iterator that may be called and gives finitely many ranges, which
+    /// are non-empty, and by their starts. It takes no memory. (`AssumeSortedStarts::new`.)
     pub fn new<J: IntoIterator<Item = RangeInclusive<T>, IntoIter = I>>(iter: J) -> Self
-        requires { (source : I) → J.into_iter_gives iter source
-            → IsSortedSource T.rank T.value_count I.can_next I.next_gives I.remaining source }
+        requires { GivesOnly J.into_iter_gives T.rank I.can_next I.next_gives I.remaining
+            (HasSortedStarts T.value_count) iter }
         ensures ready { ⟦<AssumeSortedStarts<T, I> as Draw<T>>⟧.can_draw result }
         ensures gives { ⟦<AssumeSortedStarts<T, I> as Draw<T>>⟧.may_give result
             ⊆ gives_as J.into_iter_gives

@@ -3,7 +3,7 @@
 ghost use Rattle.std.specs.Prelude.{◌≡◌, ◌↔◌, [], IfErr, IfOk, IsOk};
 ghost use Rattle.rsb_integer.specs.Rank.{intervals_of};
 ghost use Rattle.rsb_integer.specs.Runs.{IsCanonicalIn};
-ghost use Rattle.rsb_streams.specs.Calls.{calls_give};
+ghost use Rattle.rsb_streams.specs.Calls.{calls_give, GivesOnly};
 ghost use Rattle.rsb_streams.specs.CheckSortedDisjoint.{
   check-answers,
   check-keeps,
@@ -12,7 +12,6 @@ ghost use Rattle.rsb_streams.specs.CheckSortedDisjoint.{
   check_remaining,
   check_steps,
   gives_as,
-  IsCanonicalSource,
 };
 ghost use Rattle.rsb_streams.specs.NotSortedDisjoint.{IsFirstBad};
 ghost use Rattle.rsb_streams.specs.Outcomes.{canonical-starts};
@@ -38,10 +37,11 @@ pub struct CheckSortedDisjoint<T, I> {
 }
 
 impl<T: Integer, I: Iterator> CheckSortedDisjoint<T, I> {
-    /// The items of an iterator, which are finite and canonical. It takes no memory.
+    /// The items of what becomes an iterator that may be called and gives finitely many ranges,
+    /// which are canonical. It takes no memory. (`CheckSortedDisjoint::new`.)
     pub fn new<J: IntoIterator<Item = RangeInclusive<T>, IntoIter = I>>(iter: J) -> Self
-        requires { (source : I) → J.into_iter_gives iter source
-            → IsCanonicalSource T.rank T.value_count I.can_next I.next_gives I.remaining source }
+        requires { GivesOnly J.into_iter_gives T.rank I.can_next I.next_gives I.remaining
+            (IsCanonicalIn T.value_count) iter }
         ensures ready { ⟦<CheckSortedDisjoint<T, I> as Draw<T>>⟧.can_draw result }
         ensures gives { ⟦<CheckSortedDisjoint<T, I> as Draw<T>>⟧.may_give result
             ⊆ gives_as J.into_iter_gives
@@ -56,7 +56,7 @@ impl<T: Integer, I: Iterator> CheckSortedDisjoint<T, I> {
 
 impl<T: Integer, A: Allocator> CheckSortedDisjoint<T, IntoIter<RangeInclusive<T>, A>> {
     /// The ranges of a list, or its first bad position where it is not canonical, and the list. It
-    /// takes no memory.
+    /// takes no memory. (Own: the Rust crate panics.)
     pub fn try_new(ranges: Vec<RangeInclusive<T>, A>) -> Result<Self, NotSortedDisjoint<T, A>>
         ensures ok { IsOk result ↔ IsCanonicalIn T.value_count (intervals_of T.rank ranges.items) }
         ensures ready { IfOk result

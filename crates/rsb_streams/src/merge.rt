@@ -39,7 +39,7 @@ impl<T, L, R> Merge<T, L, R> {
 }
 
 impl<T: Integer, L: Draw<T>, R: Draw<T>> Merge<T, L, R> {
-    /// The merge of two streams, of which nothing is drawn yet.
+    /// The merge of two sources that may be drawn from; nothing is drawn yet. (`Merge::new`.)
     pub fn new(left: L, right: R) -> Self
         requires left { L.can_draw left }
         requires right { R.can_draw right }

@@ -19,7 +19,7 @@ pub struct NotIter<T, I> {
 }
 
 impl<T: Integer, I: DrawDisjoint<T>> NotIter<T, I> {
-    /// The complement of a stream, of which nothing is drawn yet.
+    /// The complement of a stream that may be drawn from; nothing is drawn yet. (`NotIter::new`.)
     pub fn new(iter: I) -> Self
         requires { I.can_draw iter }
         ensures ready { ⟦<NotIter<T, I> as Draw<T>>⟧.can_draw result }

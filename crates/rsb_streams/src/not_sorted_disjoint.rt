@@ -7,10 +7,13 @@ ghost use Rattle.rsb_streams.specs.NotSortedDisjoint.{start_after, IsFirstBad};
 
 use rsb_integer::Integer;
 use std::alloc::{Allocator, Global};
+use std::error::Error;
+use std::fmt;
 use std::ops::RangeInclusive;
 
 /// A list of ranges that is not canonical, and its first bad position, counted from 0: there stands
-/// an empty range, or one that does not start more than one past the end of the range before.
+/// an empty range, or one that does not start more than one past the end of the range before. (Own:
+/// the Rust crate panics.)
 #[derive(Debug, Drop, PartialEq, Eq)]
 pub struct NotSortedDisjoint<T, A: Allocator = Global> {
     /// The first bad position.
@@ -18,6 +21,18 @@ pub struct NotSortedDisjoint<T, A: Allocator = Global> {
     /// The list.
     pub ranges: Vec<RangeInclusive<T>, A>,
 }
+
+impl<T, A: Allocator> fmt::Display for NotSortedDisjoint<T, A> {
+    fn fmt<W: fmt::Write>(&self, f: &mut fmt::Formatter<W>) -> fmt::Result {
+        write!(
+            f,
+            "the range at position {} is empty, or does not lie past the one before it with a gap",
+            self.position
+        )
+    }
+}
+
+impl<T: fmt::Debug + Drop, A: Allocator + fmt::Debug> Error for NotSortedDisjoint<T, A> {}
 
 // Whether a range is non-empty, and starts more than one past the end of the one before.
 fn follows<T: Integer>(previous: Option<T>, range: &RangeInclusive<T>) -> bool

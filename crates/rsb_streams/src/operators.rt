@@ -78,8 +78,7 @@ impl<T: Integer, I: Draw<T>> Not for UnionIter<T, I> {
     }
 }
 
-impl<T: Integer, A: Draw<T>, B: Draw<T>, R: DrawDisjoint<T>> BitOr<R>
-    for Union<T, A, B> {
+impl<T: Integer, A: Draw<T>, B: Draw<T>, R: DrawDisjoint<T>> BitOr<R> for Union<T, A, B> {
     type Output = Union<T, Union<T, A, B>, R>;
 
     ghost can_bitor = { λ left right.

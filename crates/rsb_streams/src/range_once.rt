@@ -70,6 +70,11 @@ impl<T: Integer> Iterator for RangeOnce<T> {
     fn next(&mut self) -> Option<RangeInclusive<T>> {
         self.range.take()
     }
+
+    fn size_hint(&self) -> (usize, Option<usize>) {
+        let len = self.len();
+        (len, Some(len))
+    }
 }
 
 impl<T: Integer> DoubleEndedIterator for RangeOnce<T> {

@@ -13,6 +13,10 @@ use std::iter::FusedIterator;
 use std::ops::RangeInclusive;
 
 /// A stream of non-empty ranges whose starts do not fall. (`SortedStarts` of the Rust crate.)
+///
+/// A stream of one's own says what it may give in its `Draw`, whose `draw` is its `next`, and gives
+/// `drawn-itself` here. After `None` the streams of this crate give `None` again; of others that is
+/// no law, so each is held in such a way that it is not asked again.
 pub trait SortedStarts<T: Integer>: Iterator<Item = RangeInclusive<T>> + FusedIterator + Draw<T> {
     // `next` is `draw`.
     ghost drawn: { IsDrawn Self.can_draw Self.draw_gives Self.draws_left
@@ -23,7 +27,8 @@ pub trait SortedStarts<T: Integer>: Iterator<Item = RangeInclusive<T>> + FusedIt
 /// (Own: every `SortedDisjoint` is one. What is passed for a call of an operation is what this asks,
 /// so it has no supertrait but `Draw`.)
 pub trait DrawDisjoint<T: Integer>: Draw<T> {
-    /// The gaps, to both ends of the type. It takes no memory. (`complement` of the Rust crate.)
+    /// The gaps of a stream that may be drawn from, to both ends of the type. It takes no memory.
+    /// (`SortedDisjoint::complement`.)
     final fn complement(self) -> NotIter<T, Self>
     where
         Self: Sized,
@@ -35,7 +40,8 @@ pub trait DrawDisjoint<T: Integer>: Draw<T> {
         NotIter::new(self)
     }
 
-    /// What lies in either of two streams. It takes no memory. (`union` of the Rust crate.)
+    /// What lies in either of two streams that may be drawn from. It takes no memory.
+    /// (`SortedDisjoint::union`.)
     final fn union<R: DrawDisjoint<T>>(self, other: R) -> Union<T, Self, R>
     where
         Self: Sized,
@@ -48,7 +54,8 @@ pub trait DrawDisjoint<T: Integer>: Draw<T> {
         Union::from((self, other))
     }
 
-    /// Whether there is no member. It takes no memory. (`is_empty` of the Rust crate.)
+    /// Whether a stream that may be drawn from has no member. It draws one range, and takes no
+    /// memory. (`SortedDisjoint::is_empty`.)
     final fn is_empty(self) -> bool
     where
         Self: Sized,
@@ -60,7 +67,8 @@ pub trait DrawDisjoint<T: Integer>: Draw<T> {
         stream.draw().is_none()
     }
 
-    /// Whether every value is a member. It takes no memory. (`is_universal` of the Rust crate.)
+    /// Whether every value is a member of a stream that may be drawn from. It draws one range, and
+    /// takes no memory. (`SortedDisjoint::is_universal`.)
     final fn is_universal(self) -> bool
     where
         Self: Sized,
@@ -88,7 +96,7 @@ pub trait DrawDisjoint<T: Integer>: Draw<T> {
 /// Rust crate, whose operations stand in `DrawDisjoint`.)
 pub trait SortedDisjoint<T: Integer>: SortedStarts<T> + DrawDisjoint<T> {}
 
-/// Any stream of ranges: nothing is said of them.
+/// Any stream of ranges: nothing is said of them. (`AnythingGoes` of the Rust crate.)
 pub trait AnythingGoes<T: Integer>: Iterator<Item = RangeInclusive<T>> + FusedIterator {}
 
 impl<T: Integer, I: Iterator<Item = RangeInclusive<T>> + FusedIterator> AnythingGoes<T> for I {}

@@ -36,7 +36,8 @@ impl<T, SS> UnionIter<T, SS> {
 }
 
 impl<T: Integer, SS: Draw<T>> UnionIter<T, SS> {
-    /// The union of the ranges of a stream, of which nothing is drawn yet.
+    /// The union of the ranges of a source that may be drawn from; nothing is drawn yet.
+    /// (`UnionIter::new`.)
     pub fn new(iter: SS) -> Self
         requires { SS.can_draw iter }
         ensures ready { ⟦<UnionIter<T, SS> as Draw<T>>⟧.can_draw result }

@@ -2,6 +2,7 @@
 
 mod element_types;
 mod empty_sets;
+mod growths;
 mod insertions;
 mod into_ranges_iter;
 mod laws;

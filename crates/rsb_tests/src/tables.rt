@@ -17,7 +17,7 @@ pub(crate) fn set_of(
 }
 
 /// The runs of a set as a table.
-pub(crate) fn runs_of<A: Allocator>(
+pub(crate) fn runs_of<A: Allocator + Clone>(
     alloc: Global,
     set: &RangeSetBlaze<i32, A>,
 ) -> Result<Vec<(i32, i32)>, AllocError> {

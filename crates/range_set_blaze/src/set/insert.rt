@@ -278,7 +278,8 @@ fn put_over<T: Integer, A: Allocator + Clone>(
     // The new entry comes before any other is taken out, since it may find no memory.
     map.insert(run.start, end)?;
     let mut length = take_out(map, run.start, last.start, total);
-    add_length(&mut length, Run { start: run.start, end });
+    let start = run.start;
+    add_length(&mut length, Run { start, end });
     Ok(length)
 }
 

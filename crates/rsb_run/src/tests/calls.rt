@@ -79,6 +79,7 @@ fn commands_run_over_another_element_type(rt: HostRuntime) -> Result<(), Fail> {
 #[test]
 fn each_fault_has_a_status_and_a_line(rt: HostRuntime) -> Result<(), Fail> {
     for (fault, status, line) in [
+        (Fault::BadLine(2), 2, "bad line 2"),
         (Fault::BadLine(12), 2, "bad line 12"),
         (Fault::NoMemory, 3, "no memory"),
         (Fault::Io, 4, "read or write failed"),
@@ -87,4 +88,19 @@ fn each_fault_has_a_status_and_a_line(rt: HostRuntime) -> Result<(), Fail> {
         assert_eq!(rt; format!(in rt.alloc(); "{fault}")?.as_str(), line);
     }
     Ok(())
+}
+
+#[test]
+fn unlike_faults_differ(rt: HostRuntime) {
+    let faults = [
+        Fault::BadLine(1),
+        Fault::BadLine(2),
+        Fault::NoMemory,
+        Fault::Io,
+    ];
+    for (i, left) in faults.iter().enumerate() {
+        for (j, right) in faults.iter().enumerate() {
+            assert_eq!(rt; *left == *right, i == j, "{i} and {j}");
+        }
+    }
 }

@@ -1,8 +1,9 @@
 //! The program from bytes to bytes.
 
 use crate::fault::Fault;
-use crate::program::run;
+use crate::program::{finish, run, start};
 use crate::tests::ends::{Dripping, Filling};
+use std::process::ExitCode;
 use std::test::*;
 
 const SESSION: &[u8] = b"add 0 1 2\nadd 0 4 5\nadd 0 3 3\nadd 0 2 4\nhas 0 3\nlen 0\nshow 0\n";
@@ -158,5 +159,102 @@ fn a_failed_write_is_told_where_it_stopped(rt: HostRuntime) {
             &REPLIES[..room],
             "room for {room} bytes"
         );
+    }
+}
+
+// Ten thousand lines, and one that is longer than a page, a byte a call.
+#[test]
+fn many_lines_and_a_long_one_are_answered(rt: HostRuntime) -> Result<(), Fail> {
+    let mut lines = Vec::new(rt.alloc());
+    let mut wanted = Vec::new(rt.alloc());
+    for _ in 0..5_000u16 {
+        lines.extend_from_slice(b"has 7 12\nlen 3\n")?;
+        wanted.extend_from_slice(b"false\n0\n")?;
+    }
+    lines.extend_from_slice(b"len ")?;
+    lines.resize(lines.len() + 5_000, b' ')?;
+    lines.extend_from_slice(b"3\n")?;
+    wanted.extend_from_slice(b"0\n")?;
+    let mut input = Dripping {
+        bytes: &lines,
+        fails: false,
+        is_interrupted: false,
+    };
+    let mut output = Filling {
+        taken: Vec::new(rt.alloc()),
+        room: wanted.len(),
+        fails: true,
+        is_interrupted: false,
+    };
+    assert_eq!(rt; run(rt.alloc(), &mut input, &mut output), Ok(()));
+    assert!(rt; output.taken.as_slice() == wanted.as_slice());
+    Ok(())
+}
+
+// The text of one reply is longer than a page.
+#[test]
+fn many_ranges_are_shown(rt: HostRuntime) -> Result<(), Fail> {
+    let mut lines = Vec::new(rt.alloc());
+    let mut wanted = Vec::new(rt.alloc());
+    let mut shown = Vec::new(rt.alloc());
+    for i in 1_000..2_000u16 {
+        let n = 2 * u32::from(i);
+        let line = format!(in rt.alloc(); "add 0 {n} {n}\n")?;
+        lines.extend_from_slice(line.as_bytes())?;
+        wanted.extend_from_slice(b"true\n")?;
+        if i > 1_000 {
+            shown.extend_from_slice(b", ")?;
+        }
+        let range = format!(in rt.alloc(); "{n}..={n}")?;
+        shown.extend_from_slice(range.as_bytes())?;
+    }
+    lines.extend_from_slice(b"show 0\n")?;
+    wanted.extend_from_slice(&shown)?;
+    wanted.extend_from_slice(b"\n")?;
+    let mut rest = lines.as_slice();
+    let mut output = Vec::new(rt.alloc());
+    assert_eq!(rt; run(rt.alloc(), &mut rest, &mut output), Ok(()));
+    assert!(rt; output.as_slice() == wanted.as_slice());
+    Ok(())
+}
+
+#[test]
+fn each_outcome_has_its_status_and_line(rt: HostRuntime) {
+    let mut errors = Vec::new(rt.alloc());
+    assert_eq!(rt; finish(&mut errors, Ok(())), ExitCode::SUCCESS);
+    assert!(rt; errors.is_empty());
+    let rows: [(Fault, u8, &[u8]); 3] = [
+        (Fault::BadLine(2), 2, b"bad line 2\n"),
+        (Fault::NoMemory, 3, b"no memory\n"),
+        (Fault::Io, 4, b"read or write failed\n"),
+    ];
+    for (fault, status, line) in rows {
+        let mut errors = Vec::new(rt.alloc());
+        let code = finish(&mut errors, Err(fault));
+        assert_eq!(rt; code, ExitCode::from(status), "status {status}");
+        assert_eq!(rt; errors.as_slice(), line, "status {status}");
+    }
+}
+
+#[test]
+fn the_program_ends_by_its_outcome(rt: HostRuntime) {
+    let rows: [(&[u8], usize, u8, &[u8], &[u8]); 3] = [
+        (SESSION, 35, 0, REPLIES, b""),
+        (b"len 0\nlen 10\n", 35, 2, b"", b"bad line 2\n"),
+        (SESSION, 3, 4, b"tru", b"read or write failed\n"),
+    ];
+    for (lines, room, status, wanted, line) in rows {
+        let mut rest = lines;
+        let mut errors = Vec::new(rt.alloc());
+        let mut output = Filling {
+            taken: Vec::new(rt.alloc()),
+            room,
+            fails: true,
+            is_interrupted: false,
+        };
+        let code = start(rt.alloc(), &mut rest, &mut output, &mut errors);
+        assert_eq!(rt; code, ExitCode::from(status), "status {status}");
+        assert_eq!(rt; output.taken.as_slice(), wanted, "status {status}");
+        assert_eq!(rt; errors.as_slice(), line, "status {status}");
     }
 }

@@ -1,19 +1,25 @@
 //! Memory that is refused.
 
+use crate::command::Command;
+use crate::commands::{Reply, run_commands};
 use crate::fault::Fault;
-use crate::program::run;
+use crate::program::{run, start};
+use crate::set_no::SetNo;
 use crate::tests::ends::Filling;
 use linked_list_allocator::LocalHeap;
+use std::process::ExitCode;
 use std::test::*;
 
-const COMMANDS: &[u8] = b"add 0 1 5\nshow 0\n";
+const COMMANDS: &[u8] = b"add 0 1 5\nhas 0 9\nshow 0\n";
+
+const FIRST: &[u8] = b"true\nfalse\n";
 
 // Over heaps of growing size the growth that is refused comes later and later. What was written is
 // the replies before the command that it stopped.
 #[test]
 fn each_growth_is_refused_in_turn(rt: HostRuntime) -> Result<(), Fail> {
     let mut is_stopped_early = false;
-    let mut is_stopped_at_second = false;
+    let mut is_stopped_at_last = false;
     let mut is_done = false;
     for size in 4..200usize {
         let heap = LocalHeap::new(rt.alloc(), 16 * size)?;
@@ -23,7 +29,7 @@ fn each_growth_is_refused_in_turn(rt: HostRuntime) -> Result<(), Fail> {
             Ok(()) => {
                 assert_eq!(rt;
                     output.as_slice(),
-                    b"true\n1..=5\n".as_slice(),
+                    b"true\nfalse\n1..=5\n".as_slice(),
                     "size {size}"
                 );
                 is_done = true;
@@ -32,21 +38,80 @@ fn each_growth_is_refused_in_turn(rt: HostRuntime) -> Result<(), Fail> {
                 assert_eq!(rt; fault, Fault::NoMemory, "size {size}");
                 assert!(rt; !is_done, "size {size}");
                 if output.is_empty() {
-                    assert!(rt; !is_stopped_at_second, "size {size}");
+                    assert!(rt; !is_stopped_at_last, "size {size}");
                     is_stopped_early = true;
                 } else {
-                    assert_eq!(rt; output.as_slice(), b"true\n".as_slice(), "size {size}");
-                    is_stopped_at_second = true;
+                    assert_eq!(rt; output.as_slice(), FIRST, "size {size}");
+                    is_stopped_at_last = true;
                 }
             }
         }
     }
-    assert!(rt; is_stopped_early && is_stopped_at_second && is_done);
+    assert!(rt; is_stopped_early && is_stopped_at_last && is_done);
     Ok(())
 }
 
-// Where the second command finds no memory, and then the first reply can't be written, it is the
-// write that is told.
+// Commands that are stopped keep the replies to those before.
+#[test]
+fn stopped_commands_keep_their_replies(rt: HostRuntime) -> Result<(), Fail> {
+    let set = SetNo::new(0).expect(&rt, "a set number");
+    let commands = [
+        Command::Add {
+            slot: set,
+            first: 1,
+            last: 5,
+        },
+        Command::Has {
+            slot: set,
+            value: 9,
+        },
+        Command::Show { slot: set },
+    ];
+    let mut is_stopped_at_last = false;
+    let mut is_done = false;
+    for size in 4..200usize {
+        let heap = LocalHeap::new(rt.alloc(), 16 * size)?;
+        match run_commands(&heap, &commands) {
+            Ok(replies) => {
+                assert_eq!(rt; replies.len(), 3, "size {size}");
+                is_done = true;
+            }
+            Err(stopped) => {
+                if stopped.at == 0 {
+                    assert!(rt;
+                        stopped.replies.is_empty() && !is_stopped_at_last,
+                        "size {size}"
+                    );
+                } else {
+                    let are_kept = matches!(
+                        stopped.replies.as_slice(),
+                        [Reply::Flag(true), Reply::Flag(false)]
+                    );
+                    assert!(rt; stopped.at == 2 && are_kept, "size {size}");
+                    is_stopped_at_last = true;
+                }
+            }
+        }
+    }
+    assert!(rt; is_stopped_at_last && is_done);
+    Ok(())
+}
+
+#[test]
+fn refused_memory_ends_with_status_3(rt: HostRuntime) -> Result<(), Fail> {
+    let heap = LocalHeap::new(rt.alloc(), 64)?;
+    let mut input = COMMANDS;
+    let mut output = Vec::new(rt.alloc());
+    let mut errors = Vec::new(rt.alloc());
+    let code = start(&heap, &mut input, &mut output, &mut errors);
+    assert_eq!(rt; code, ExitCode::from(3));
+    assert_eq!(rt; errors.as_slice(), b"no memory\n".as_slice());
+    assert!(rt; output.is_empty());
+    Ok(())
+}
+
+// Where the last command finds no memory, and then the replies before it can't be written, it is
+// the write that is told.
 #[test]
 fn a_failed_write_is_told_before_refused_memory(rt: HostRuntime) -> Result<(), Fail> {
     let mut is_write_told = false;
@@ -55,13 +120,13 @@ fn a_failed_write_is_told_before_refused_memory(rt: HostRuntime) -> Result<(), F
         let mut input = COMMANDS;
         let mut output = Filling {
             taken: Vec::new(rt.alloc()),
-            room: 5,
+            room: 11,
             fails: true,
             is_interrupted: false,
         };
-        let is_first_written = run(&heap, &mut input, &mut output) == Err(Fault::NoMemory)
-            && output.taken.len() == 5;
-        if is_first_written {
+        let are_first_written = run(&heap, &mut input, &mut output) == Err(Fault::NoMemory)
+            && output.taken.len() == 11;
+        if are_first_written {
             let heap = LocalHeap::new(rt.alloc(), 16 * size)?;
             let mut input = COMMANDS;
             let mut output = Filling {

@@ -1,52 +1,73 @@
-//! Sets of thousands of runs.
+//! Sets of some thousand runs.
 
-use range_set_blaze::{IntoRangeSetBlaze, RangeSetBlaze};
-use std::alloc::{AllocError, Allocator, Global};
+use range_set_blaze::{DrawDisjoint, IntoRangeSetBlaze, RangeSetBlaze};
+use std::alloc::{AllocError, Global};
 use std::test::*;
 
-/// The set of thousands of even numbers from 0 on: more runs than a body might have room for.
-fn evens(alloc: Global) -> Result<RangeSetBlaze<i32>, AllocError> {
+/// The five thousand values 0, 3, 6 and so on, put in in an order that jumps.
+fn every_third(alloc: Global) -> Result<RangeSetBlaze<u32>, AllocError> {
     let mut set = RangeSetBlaze::new(alloc);
-    for place in 0..4_000_u16 {
-        set.insert(2 * i32::from(place))?;
+    for place in 0..5000u32 {
+        set.insert(3 * (place * 1237 % 5000))?;
     }
     Ok(set)
 }
 
-/// Whether a set has thousands of runs, each of one value.
-fn has_many<A: Allocator>(set: &RangeSetBlaze<i32, A>) -> bool {
-    set.ranges_len() == 4_000 && set.len() == 4_000 && set.last() == Some(7_998)
-}
-
 #[test]
-fn thousands_of_values_are_inserted(rt: HostRuntime) -> Result<(), Fail> {
-    let set = evens(rt.alloc())?;
-    assert!(rt; has_many(&set));
+fn thousands_of_insertions_are_kept(rt: HostRuntime) -> Result<(), Fail> {
+    let mut set = every_third(rt.alloc())?;
+    assert_eq!(rt; set.ranges_len(), 5000);
+    assert_eq!(rt; set.len(), 5000);
+    assert_eq!(rt; set.last(), Some(14997));
+    for place in 0..5000u32 {
+        assert!(rt;
+            set.contains(3 * place) && !set.contains(3 * place + 1),
+            "at {place}"
+        );
+    }
+    for place in 0..5000u32 {
+        assert!(rt;
+            set.ranges_insert(3 * place + 1..=3 * place + 2)?,
+            "at {place}"
+        );
+    }
+    assert_eq!(rt; set.ranges_len(), 1);
+    assert_eq!(rt; set.len(), 15000);
     Ok(())
 }
 
 #[test]
-fn thousands_of_runs_are_joined_by_one_range(rt: HostRuntime) -> Result<(), Fail> {
-    let mut set = evens(rt.alloc())?;
-    assert!(rt; set.ranges_insert(1..=7_997)?);
-    assert!(rt; set.ranges_len() == 1);
-    assert!(rt; set.len() == 7_999);
-    Ok(())
-}
-
-#[test]
-fn a_stream_of_thousands_of_runs_makes_a_set(rt: HostRuntime) -> Result<(), Fail> {
-    let set = evens(rt.alloc())?;
+fn thousands_of_runs_of_a_stream_make_a_set(rt: HostRuntime) -> Result<(), Fail> {
+    let set = every_third(rt.alloc())?;
+    let gaps = set.ranges().complement().into_range_set_blaze(rt.alloc())?;
+    assert_eq!(rt; gaps.ranges_len(), 5000);
+    assert_eq!(rt; gaps.len(), 4294962296);
+    assert!(rt; gaps.range_or_gap_at(7499) == (7498..=7499, true));
+    assert!(rt; gaps.range_or_gap_at(7500) == (7500..=7500, false));
     let copy = RangeSetBlaze::from_sorted_disjoint(rt.alloc(), set.ranges())?;
-    assert!(rt; has_many(&copy));
+    assert_eq!(rt; copy.ranges_len(), 5000);
+    assert!(rt; copy.ranges().union(gaps.ranges()).is_universal());
     Ok(())
 }
 
 #[test]
-fn thousands_of_runs_are_made_a_set(rt: HostRuntime) -> Result<(), Fail> {
-    let set = evens(rt.alloc())?;
-    let copy = set.ranges().into_range_set_blaze(rt.alloc())?;
-    assert!(rt; has_many(&copy));
-    assert!(rt; copy.range_at(4_000) == Some(4_000..=4_000));
+fn one_range_takes_thousands_in(rt: HostRuntime) -> Result<(), Fail> {
+    let mut set = every_third(rt.alloc())?;
+    assert!(rt; set.ranges_insert(10..=14990)?);
+    assert_eq!(rt; set.ranges_len(), 6);
+    assert_eq!(rt; set.len(), 14988);
+    assert!(rt; set.range_at(5000) == Some(9..=14991));
+    Ok(())
+}
+
+#[test]
+fn hints_are_the_lengths_to_come(rt: HostRuntime) -> Result<(), Fail> {
+    let set = every_third(rt.alloc())?;
+    let mut ranges = set.ranges();
+    assert!(rt; ranges.next() == Some(0..=0) && ranges.next_back() == Some(14997..=14997));
+    assert_eq!(rt; ranges.size_hint(), (4998, Some(4998)));
+    let mut owned = set.into_ranges();
+    assert!(rt; owned.next() == Some(0..=0) && owned.next_back() == Some(14997..=14997));
+    assert_eq!(rt; owned.size_hint(), (4998, Some(4998)));
     Ok(())
 }

@@ -1,7 +1,7 @@
 //! The operators `|` and `!` on the runs of a set.
 
 use crate::tables::{gives, set_of};
-use range_set_blaze::{RangeSetBlaze, SortedDisjoint};
+use range_set_blaze::{DrawDisjoint, RangeSetBlaze, SortedDisjoint};
 use rsb_integer::Integer;
 use std::ops::RangeInclusive;
 use std::test::*;

@@ -6,10 +6,10 @@ use range_set_blaze::{IntoRangeSetBlaze, RangeSetBlaze};
 use std::alloc::{AllocError, Allocator, Global};
 use std::test::*;
 
-type Filler<'a> = Vec<Vec<u8, &'a LocalHeap>>;
+pub(crate) type Filler<'a> = Vec<Vec<u8, &'a LocalHeap>>;
 
 /// Takes all that is left of a heap.
-fn filled<'a>(alloc: Global, heap: &'a LocalHeap) -> Result<Filler<'a>, AllocError> {
+pub(crate) fn filled<'a>(alloc: Global, heap: &'a LocalHeap) -> Result<Filler<'a>, AllocError> {
     let mut filler = Vec::new(alloc);
     for size in [4096, 2048, 1024, 512, 256, 128, 64, 32, 16] {
         for _ in 0..300u16 {
@@ -23,7 +23,7 @@ fn filled<'a>(alloc: Global, heap: &'a LocalHeap) -> Result<Filler<'a>, AllocErr
 }
 
 /// Adds a value by one of the three calls that do, and tells whether it was new.
-fn added_by_a_call<A: Allocator>(
+fn added_by_a_call<A: Allocator + Clone>(
     set: &mut RangeSetBlaze<u8, A>,
     call: u8,
     value: u8,
@@ -36,7 +36,7 @@ fn added_by_a_call<A: Allocator>(
 }
 
 /// Whether a set has the length that it had, and takes the value that it could not take before.
-fn is_as_before<A: Allocator>(
+fn is_as_before<A: Allocator + Clone>(
     set: &mut RangeSetBlaze<u8, A>,
     length: u16,
     value: u8,
@@ -93,7 +93,7 @@ fn a_refused_growth_makes_no_set_of_a_range(rt: HostRuntime) -> Result<(), Fail>
 }
 
 /// Whether the runs of the set of 1..=3 make that set.
-fn is_copied<A: Allocator>(alloc: A, set: &RangeSetBlaze<u8>) -> Result<bool, AllocError> {
+fn is_copied<A: Allocator + Clone>(alloc: A, set: &RangeSetBlaze<u8>) -> Result<bool, AllocError> {
     let copy = set.ranges().into_range_set_blaze(alloc)?;
     Ok(copy.len() == 3 && copy.range_at(1) == Some(1..=3))
 }
@@ -110,7 +110,7 @@ fn a_refused_growth_makes_no_set_of_a_stream(rt: HostRuntime) -> Result<(), Fail
 }
 
 /// Adds a hundred even numbers.
-fn add_hundred<A: Allocator>(set: &mut RangeSetBlaze<u8, A>) -> Result<(), AllocError> {
+fn add_hundred<A: Allocator + Clone>(set: &mut RangeSetBlaze<u8, A>) -> Result<(), AllocError> {
     for place in 0..100u8 {
         set.insert(2 * place)?;
     }
@@ -118,7 +118,7 @@ fn add_hundred<A: Allocator>(set: &mut RangeSetBlaze<u8, A>) -> Result<(), Alloc
 }
 
 /// Whether each insertion between the first hundred even numbers succeeds.
-fn gaps_are_filled<A: Allocator>(set: &mut RangeSetBlaze<u8, A>) -> Result<bool, AllocError> {
+fn gaps_are_filled<A: Allocator + Clone>(set: &mut RangeSetBlaze<u8, A>) -> Result<bool, AllocError> {
     let is_added = set.insert(1)? && set.replace(3)? == None;
     let is_reversed_added = set.ranges_insert(7..=5)?;
     let is_rest_added = set.ranges_insert(1..=197)?;
@@ -153,7 +153,7 @@ fn first_refused<A: Allocator + Copy>(
 }
 
 /// Whether a set of 0 and more is made of its runs.
-fn is_copied_whole<A: Allocator>(
+fn is_copied_whole<A: Allocator + Clone>(
     alloc: Global,
     small: A,
     set: &RangeSetBlaze<i32>,
@@ -186,8 +186,8 @@ struct Rooms<'a> {
 fn rooms_in<'a>(alloc: Global, heap: &'a LocalHeap) -> Result<Rooms<'a>, AllocError> {
     let mut rooms = Vec::new(alloc);
     let mut walls = Vec::new(alloc);
-    for size in [32, 64, 128, 256, 512, 1024] {
-        rooms.push(Vec::<u8, &LocalHeap>::with_capacity(heap, size)?)?;
+    for _ in 0..12u8 {
+        rooms.push(Vec::<u8, &LocalHeap>::with_capacity(heap, 256)?)?;
         walls.push(Vec::<u8, &LocalHeap>::with_capacity(heap, 16)?)?;
     }
     let filler = filled(alloc, heap)?;

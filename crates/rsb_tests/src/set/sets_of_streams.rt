@@ -1,7 +1,7 @@
 //! Sets made of streams, of a range and of every value.
 
 use crate::tables::{runs_of, set_of};
-use range_set_blaze::{IntoRangeSetBlaze, RangeSetBlaze, SortedDisjoint, UIntPlusOne};
+use range_set_blaze::{DrawDisjoint, IntoRangeSetBlaze, RangeSetBlaze, UIntPlusOne};
 use std::test::*;
 
 #[test]

@@ -1,4 +1,4 @@
-use Rattle.std.proofs.Common.{◌≡◌, arith, rules, pos}
+use Rattle.std.proofs.Common.{◌≡◌, arith, pos, refl}
 use Rattle.std.proofs.lemmas.Grind.{common_steps}
 use Rattle.std.specs.Prelude.{codes}
 use Rattle.rsb_run.specs.declared.command.Command.TheVariants.{Add, Has}
@@ -7,14 +7,14 @@ use Rattle.rsb_run.proofs.parse.command_of.Goals as goal
 
 pub returns-in_err-slot-in-add : goal.returns-in_err-slot-in-add
 returns-in_err-slot-in-add c =
-    let is_add : c.in_ok-keyword.keyword.now.now ≡ codes "add" = grind (arith, common_steps) in
-    rw c.from_residual-in_err-slot-in-add.ensures
-    (no_arguments _ _ _ (Add 0 (pos 0) (pos 0)) (search rules) is_add
+    let is_add : c.args.keyword.now ≡ codes "add" = grind (arith, common_steps) in
+    rw c.from_residual.ensures
+    (no_arguments _ _ _ (Add 0 (pos 0) (pos 0)) refl is_add
     (slot_range_none _ c.in_err-slot-in-add.ensures))
 
 pub returns-in_err-slot-in-has : goal.returns-in_err-slot-in-has
 returns-in_err-slot-in-has c =
-    let is_has : c.in_ok-keyword.keyword.now.now ≡ codes "has" = grind (arith, common_steps) in
+    let is_has : c.args.keyword.now ≡ codes "has" = grind (arith, common_steps) in
     rw c.from_residual-in_err-slot-in-has.ensures
-    (no_arguments _ _ _ (Has 0 (pos 0)) (search rules) is_has
+    (no_arguments _ _ _ (Has 0 (pos 0)) refl is_has
     (slot_value_none _ c.in_err-slot-in-has.ensures))

@@ -6,5 +6,5 @@ use Rattle.rsb_run.proofs.transfer.write_all.Goals as goal
 pub loop-rest-preserved-in-Ok : goal.loop-rest-preserved-in-Ok
 loop-rest-preserved-in-Ok g c =
     let more = has_written_more _ _ _ c.args.text.now c.loop-rest.rest.now c.in-Ok.count
-    c.loop-rest.invariant.0 c.in-Ok.ensures.bytes in
-    rw take_rest (more, c.loop-rest.invariant.1)
+    c.loop-rest.invariant c.in-Ok.ensures.bytes in
+    rw take_rest more

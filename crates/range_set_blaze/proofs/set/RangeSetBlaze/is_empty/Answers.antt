@@ -1,4 +1,3 @@
-use Rattle.std.proofs.Common.{◌∙◌}
 use Rattle.range_set_blaze.proofs.EndLemmas.{nothing-kept}
 use Rattle.range_set_blaze.proofs.set.RangeSetBlaze.is_empty.Goals as goal
 

@@ -29,8 +29,13 @@ returns-then-not-is_below-clause-found g c =
 
 pub returns-then-not-is_below-clause-run : goal.returns-then-not-is_below-clause-run
 returns-then-not-is_below-clause-run g c present =
-    rw (c.new.ensures.start, c.new.ensures.end, c.new.ensures.exhausted,
-    ← c.known-value.ensures.same, ← c.self.view_is)
+    rw (
+      c.new.ensures.start,
+      c.new.ensures.end,
+      c.new.ensures.exhausted,
+      ← c.known-value.ensures.same,
+      ← c.self.view_is,
+    )
     (found-around g.T.Integer.rank g.T.Integer.value_count c.self.inside.map.entries
     c.self.invariant.canonical (g.T.Integer.rank c.known-value.result)
     c.in-Some.run' c.in-Some.ensures
@@ -42,10 +47,10 @@ returns-clause-found g c =
     rw (← c.known-value.ensures.same, ← c.self.view_is)
     (sym (elim c.match-run_up_to.branch [
       | in-Some+else-not-is_below w ↦ found-absent g.T.Integer.rank g.T.Integer.value_count c.self.inside.map.entries
-    c.self.invariant.canonical (g.T.Integer.rank c.known-value.result)
+          c.self.invariant.canonical (g.T.Integer.rank c.known-value.result)
           w.in-Some.run' w.in-Some.ensures (w.is_below.ensures.0 w.if-not-is_below.false)
       | in-None w ↦ none-absent g.T.Integer.rank g.T.Integer.value_count c.self.inside.map.entries
-    c.self.invariant.canonical (g.T.Integer.rank c.known-value.result)
+          c.self.invariant.canonical (g.T.Integer.rank c.known-value.result)
           w.in-None.ensures
     ]))
 
@@ -53,8 +58,13 @@ pub returns-clause-gap : goal.returns-clause-gap
 returns-clause-gap g c absent =
     let rank = g.T.Integer.rank in
     let ends = c.gap_end-end.ensures in
-    rw (c.new-2.ensures.start, c.new-2.ensures.end, c.new-2.ensures.exhausted,
-    ← c.known-value.ensures.same, ← c.self.view_is)
+    rw (
+      c.new-2.ensures.start,
+      c.new-2.ensures.end,
+      c.new-2.ensures.exhausted,
+      ← c.known-value.ensures.same,
+      ← c.self.view_is,
+    )
     (elim c.match-run_up_to.branch [
       | in-Some+else-not-is_below w ↦
           let before = w.is_below.ensures.0 w.if-not-is_below.false in
@@ -62,19 +72,19 @@ returns-clause-gap g c absent =
           (gap-around g.T.Integer.value_count (rank c.known-value.result) _
           (rank c.gap_end-end.result) _ _
           (ahead-found g.T.Integer.rank g.T.Integer.value_count c.self.inside.map.entries
-    c.self.invariant.canonical (g.T.Integer.rank c.known-value.result)
+          c.self.invariant.canonical (g.T.Integer.rank c.known-value.result)
           w.in-Some.run' w.in-Some.ensures)
           (ahead-canonical g.T.Integer.rank g.T.Integer.value_count c.self.inside.map.entries
-    c.self.invariant.canonical (g.T.Integer.rank c.known-value.result))
+          c.self.invariant.canonical (g.T.Integer.rank c.known-value.result))
           (omega (arith, before)) ends.from ends.value ends.free ends.ends)
       | in-None w ↦
           rw (w.start-is, w.min_value-start.ensures)
           (gap-around g.T.Integer.value_count (rank c.known-value.result) _
           (rank c.gap_end-end.result) _ _
           (ahead-none g.T.Integer.rank g.T.Integer.value_count c.self.inside.map.entries
-    c.self.invariant.canonical (g.T.Integer.rank c.known-value.result)
+          c.self.invariant.canonical (g.T.Integer.rank c.known-value.result)
           w.in-None.ensures)
           (ahead-canonical g.T.Integer.rank g.T.Integer.value_count c.self.inside.map.entries
-    c.self.invariant.canonical (g.T.Integer.rank c.known-value.result))
+          c.self.invariant.canonical (g.T.Integer.rank c.known-value.result))
           (omega arith) ends.from ends.value ends.free ends.ends)
     ])

@@ -158,5 +158,12 @@ returns g c =
     first c.requires.first c.greater-end.result c.greater-end.ensures
     c.take_out-length.new.map.entries c.move_end.new.map.entries (number c.add_length.new.length)
     c.take_out-length.ensures.spared c.move_end.ensures
-    (omega (arith, others, c.add_length.ensures, placed.2, order.0, c.add_one.ensures,
-    c.greater-end.ensures))
+    (omega (
+      arith,
+      others,
+      c.add_length.ensures,
+      placed.2,
+      order.0,
+      c.add_one.ensures,
+      c.greater-end.ensures,
+    ))

@@ -1,8 +1,6 @@
-use Rattle.std.proofs.Common.{◌+◌, arith, refl}
-use Rattle.std.specs.List.{sum_by}
+use Rattle.std.proofs.Common.{◌+◌, arith}
 use Rattle.rsb_integer.specs.Runs.{length_of}
-use Rattle.range_set_blaze.specs.Kept.{run_of, runs_of}
-use Rattle.range_set_blaze.proofs.PlacesLemmas.{inserted-fits, kept-fits, last-order, put-ascending, put-joined, put-swallowed, taken, taken-runs}
+use Rattle.range_set_blaze.proofs.PlacesLemmas.{inserted-fits, kept-fits, last-order, put-ascending, put-joined, put-swallowed, taken-runs}
 use Rattle.range_set_blaze.proofs.set.insert.put_over.Goals as goal
 
 -- the last run is in order, and lies in the type
@@ -97,8 +95,10 @@ add_length-requires-clause-fits g c κs within =
     c.requires.value c.args.last c.requires.reaching c.requires.start
     c.requires.free c.greater-end.result c.greater-end.ensures c.insert.new.self.entries
     c.in_ok-insert.ensures.entries c.take_out-length.new.map.entries
-    (number c.take_out-length.result + length_of (record { first = rank c.args.run.start;
-    last = rank c.greater-end.result })) c.take_out-length.ensures.spared
+    (number c.take_out-length.result + length_of (record {
+      first = rank c.args.run.start;
+      last = rank c.greater-end.result;
+    })) c.take_out-length.ensures.spared
     (omega (arith, others)))
 
 -- the new run takes in the others

@@ -3,7 +3,7 @@ use Rattle.rsb_integer.proofs.ListLemmas.{not_both}
 use Rattle.range_set_blaze.proofs.LookUpLemmas.{found-absent, found-around, found-order, found-present, none-absent}
 use Rattle.range_set_blaze.proofs.PlacesLemmas.{kept-ascending}
 use Rattle.range_set_blaze.proofs.set.look_up.run_at.Goals as goal
-use Rattle.std.proofs.Common.{arith, refl}
+use Rattle.std.proofs.Common.{refl}
 
 -- the starts of a set ascend
 pub run_up_to-requires-clause-ascending : goal.run_up_to-requires-clause-ascending
