@@ -1,10 +1,11 @@
 -- What a caller of operations on streams needs: their results composed, and the members of a list
 -- that an operation gives.
-use Rattle.std.proofs.Common.{◌≡◌, ℕ, Bool, true, false, ◌∙◌, List, not, refl, ap}
+use Rattle.std.proofs.Common.{◌≡◌, ℕ, Bool, true, false, ◌&&◌, ◌||◌, sym, ◌∙◌, List, not, refl, ap}
 use Rattle.std.proofs.Math.Bool.{not-not}
 use Rattle.rsb_integer.specs.Runs.{Interval, members}
 use Rattle.rsb_integer.specs.Selection.{Selection, Agree, complement}
 use Rattle.rsb_integer.proofs.RunsLemmas.{runs-along, runs-members}
+use Rattle.rsb_streams.specs.Outcomes.{runs-exist}
 use Rattle.rsb_streams.specs.Stream.{Outcomes, ◌⊆◌, joined, just, runs_by, runs_by_two}
 
 -- ---- less given gives less
@@ -96,3 +97,50 @@ complement-twice n P Gaps gaps runs may = λ nothing. may (λ given at all.
     (λ rank below. ap not (runs-members n (complement (members first)) given complement_runs rank
     below)
     ∙ not-not (members first rank)) all)))
+
+-- ---- intersections by complements
+
+-- what is not in both of two is not in the one or not in the other
+not-both : (left right : Bool) → (not left || not right) ≡ not (left && right)
+not-both true right = refl
+not-both false right = refl
+
+-- the union of two complements is the complement of the intersection
+pub union-of_complements : (n : ℕ) (P Q Gaps Others : Outcomes) → Gaps ⊆ runs_by n complement P
+    → Others ⊆ runs_by n complement Q
+    → runs_by_two n union Gaps Others ⊆ runs_by n complement (runs_by_two n intersection P Q)
+union-of_complements n P Q Gaps Others gaps others runs may = λ nothing.
+    may (λ left right at also all.
+    gaps left at (λ one might left_runs.
+    others right also (λ other too right_runs.
+    let both = runs-exist n (intersection (members one) (members other)) in
+    nothing both.0 (λ none. none one other might too both.1)
+    (runs-along n (union (members left) (members right)) (complement (members both.0)) runs
+    (λ rank below.
+    ap (λ test. test || members right rank)
+    (runs-members n (complement (members one)) left left_runs rank below)
+    ∙ ap (λ test. not (members one rank) || test)
+    (runs-members n (complement (members other)) right right_runs rank below)
+    ∙ not-both (members one rank) (members other rank)
+    ∙ ap not (sym (runs-members n (intersection (members one) (members other)) both.0 both.1 rank
+    below)))
+    all))))
+
+-- the runs of a list that an operation on two gives are such a list
+pub joined-runs_by_two : (n : ℕ) (operation : Selection → Selection → Selection) (P Q : Outcomes)
+    → joined n (runs_by_two n operation P Q) ⊆ runs_by_two n operation P Q
+joined-runs_by_two n operation P Q runs may = λ nothing. may (λ given at all.
+    at (λ left right might also given_runs.
+    nothing left right might also
+    (runs-along n (members given) (operation (members left) (members right)) runs
+    (runs-members n (operation (members left) (members right)) given given_runs) all)))
+
+-- the complement of the union of two complements is the intersection
+pub intersection-by_complements : (n : ℕ) (P Q Gaps Others Union : Outcomes)
+    → Gaps ⊆ runs_by n complement P → Others ⊆ runs_by n complement Q
+    → Union ⊆ runs_by_two n union Gaps Others
+    → runs_by n complement Union ⊆ runs_by_two n intersection P Q
+intersection-by_complements n P Q Gaps Others Union gaps others union runs may =
+    joined-runs_by_two n intersection P Q runs
+    (complement-twice n (runs_by_two n intersection P Q) Union
+    (λ each at. union-of_complements n P Q Gaps Others gaps others each (union each at)) runs may)

@@ -5,6 +5,7 @@ mod empty_sets;
 mod growths;
 mod insertions;
 mod into_ranges_iter;
+mod lacking;
 mod laws;
 mod look_ups;
 mod many_runs;

@@ -18,5 +18,6 @@ mod operators;
 mod own_stream;
 mod range_once;
 mod refused_lists;
+mod six_operations;
 mod texts;
 mod unions;

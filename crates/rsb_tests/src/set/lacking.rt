@@ -1,0 +1,33 @@
+//! A set of what another one lacks, proved of public contracts alone.
+
+ghost use Rattle.std.specs.Prelude.{IfOk};
+ghost use Rattle.rsb_integer.specs.Runs.{members};
+ghost use Rattle.rsb_integer.specs.Selection.{complement, Agree};
+
+use range_set_blaze::{DrawDisjoint, Integer, RangeSetBlaze};
+use std::alloc::{AllocError, Global};
+use std::test::*;
+
+/// The set of the values that a set lacks.
+fn lacking<T: Integer>(
+    alloc: Global,
+    set: &RangeSetBlaze<T>,
+) -> Result<RangeSetBlaze<T>, AllocError>
+    ensures { IfOk result (λ others.
+        Agree T.value_count (members others) (complement (members set.now))) }
+{
+    let gaps = set.ranges().complement();
+    RangeSetBlaze::from_sorted_disjoint(alloc, gaps)
+}
+
+#[test]
+fn a_set_and_what_it_lacks_are_everything(rt: HostRuntime) -> Result<(), Fail> {
+    let mut set = RangeSetBlaze::<u8>::new(rt.alloc());
+    set.ranges_insert(3..=200)?;
+    let others = lacking(rt.alloc(), &set)?;
+    assert!(rt; others.len() == 58);
+    assert!(rt; others.contains(2));
+    assert!(rt; !others.contains(3));
+    assert!(rt; others.range_at(255) == Some(201..=255));
+    Ok(())
+}
