@@ -13,5 +13,5 @@ returns g c =
     IfOk-weaker c.from_sorted_disjoint.result _ _
     (λ others may. members-runs_by n complement c.args.set.now others
     (subst (λ (runs : List Interval). runs_by n complement (just runs) others)
-    c.ranges.ensures.ranges (c.complement-gaps.ensures.gives others may)))
+    c.ranges-2.ensures.ranges (c.complement-gaps.ensures.gives others may)))
     c.from_sorted_disjoint.ensures.runs
