@@ -25,3 +25,11 @@ fn single_range_comes_from_both_ends(rt: HostRuntime) {
     assert!(rt; once.next() == None);
     assert!(rt; once.next_back() == None);
 }
+
+#[test]
+fn single_range_tells_how_many_are_left(rt: HostRuntime) {
+    let mut once = RangeOnce::new(3u8..=5);
+    assert!(rt; once.size_hint() == (1, Some(1)));
+    assert!(rt; once.next() == Some(3..=5));
+    assert!(rt; once.size_hint() == (0, Some(0)));
+}

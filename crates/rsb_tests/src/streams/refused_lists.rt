@@ -31,9 +31,17 @@ fn refusals_differ_by_the_ranges_alone(rt: HostRuntime) -> Result<(), Fail> {
     Ok(())
 }
 
-// What the text is is left open.
 #[test]
-fn a_refusal_has_a_text_that_tells_positions_and_ranges(rt: HostRuntime) -> Result<(), Fail> {
+fn a_refusal_tells_the_position(rt: HostRuntime) -> Result<(), Fail> {
+    let text = format!(in rt.alloc(); "{}", refusal(rt.alloc(), 1, 4)?)?;
+    let wanted = "the range at position 1 is empty, or does not lie past the one before it with a gap";
+    assert!(rt; text.as_str() == wanted);
+    Ok(())
+}
+
+// What the text for those who debug is is left open.
+#[test]
+fn unlike_refusals_have_unlike_texts_for_debugging(rt: HostRuntime) -> Result<(), Fail> {
     let text = format!(in rt.alloc(); "{:?}", refusal(rt.alloc(), 1, 4)?)?;
     let of_position = format!(in rt.alloc(); "{:?}", refusal(rt.alloc(), 0, 4)?)?;
     let of_ranges = format!(in rt.alloc(); "{:?}", refusal(rt.alloc(), 1, 5)?)?;

@@ -1,8 +1,9 @@
+use Rattle.rsb_integer.specs.Selection.{union}
 use Rattle.rsb_streams.proofs.CallerLemmas.{runs_by_two-within}
 use Rattle.rsb_tests.proofs.streams.nested.union_with_complement.Goals as goal
 
 pub returns-clause-gives : goal.returns-clause-gives
 returns-clause-gives g c = λ runs may.
-    runs_by_two-within g.T.Integer.value_count _ _ _ _ _ (λ each at. at)
+    runs_by_two-within g.T.Integer.value_count union _ _ _ _ (λ each at. at)
     c.complement.ensures.gives runs
     (c.union.ensures.gives runs may)
