@@ -13,7 +13,7 @@ fn both<T: Integer, L: SortedDisjoint<T>, R: SortedDisjoint<T>>(left: L, right: 
     requires right { R.can_draw right }
     ensures { ⟦<Both<T, L, R> as Draw<T>>⟧.can_draw result }
 {
-    !(left.complement() | right.complement())
+    left.complement().union(right.complement()).complement()
 }
 
 #[test]
@@ -46,8 +46,8 @@ fn three_intersections<T: Integer, I: SortedDisjoint<T>>(
     ensures { ⟦<ThreeTimes<T, I> as Draw<T>>⟧.can_draw result }
 {
     let first = both(inner.0, inner.1);
-    let second = both(first | middle.0, middle.1);
-    both(second | outer.0, outer.1)
+    let second = both(first.union(middle.0), middle.1);
+    both(second.union(outer.0), outer.1)
 }
 
 #[test]
