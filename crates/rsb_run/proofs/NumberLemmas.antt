@@ -63,8 +63,10 @@ too_large ds i n byte most within before read large spelled =
 digit_no_blank : (c : ℕ) → digit_value c < 10 → is_blank c ≡ false
 digit_no_blank c digit =
     let range = digit_from_value c digit in
-    rw (ne_eqb c 32 (λ is. absurd (omega (arith, range.0, is))),
-    ne_eqb c 9 (λ is. absurd (omega (arith, range.0, is)))) refl
+    rw (
+      ne_eqb c 32 (λ is. absurd (omega (arith, range.0, is))),
+      ne_eqb c 9 (λ is. absurd (omega (arith, range.0, is))),
+    ) refl
 
 -- digits have no blank
 digits_no_blank : (ds : List ℕ) → AllDigits 10 ds → (k : ℕ) → k < length ds

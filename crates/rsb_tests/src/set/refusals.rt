@@ -118,7 +118,9 @@ fn add_hundred<A: Allocator + Clone>(set: &mut RangeSetBlaze<u8, A>) -> Result<(
 }
 
 /// Whether each insertion between the first hundred even numbers succeeds.
-fn gaps_are_filled<A: Allocator + Clone>(set: &mut RangeSetBlaze<u8, A>) -> Result<bool, AllocError> {
+fn gaps_are_filled<A: Allocator + Clone>(
+    set: &mut RangeSetBlaze<u8, A>,
+) -> Result<bool, AllocError> {
     let is_added = set.insert(1)? && set.replace(3)? == None;
     let is_reversed_added = set.ranges_insert(7..=5)?;
     let is_rest_added = set.ranges_insert(1..=197)?;

@@ -17,9 +17,7 @@ fn four_complements<T: Integer, I: SortedDisjoint<T>>(stream: I) -> FourTimes<T,
 }
 
 /// Eight complements of a stream.
-fn eight_complements<T: Integer, I: SortedDisjoint<T>>(
-    stream: I,
-) -> FourTimes<T, FourTimes<T, I>>
+fn eight_complements<T: Integer, I: SortedDisjoint<T>>(stream: I) -> FourTimes<T, FourTimes<T, I>>
     requires { I.can_draw stream }
     ensures { ⟦<FourTimes<T, FourTimes<T, I>> as Draw<T>>⟧.can_draw result }
 {

@@ -25,7 +25,10 @@ fn intersection_is_what_neither_leaves_out(rt: HostRuntime) {
 #[test]
 fn three_intersections_nest(rt: HostRuntime) {
     let inner = both(RangeOnce::new(0u8..=100), RangeOnce::new(50..=200));
-    let middle = both(inner.union(RangeOnce::new(150..=160)), RangeOnce::new(80..=155));
+    let middle = both(
+        inner.union(RangeOnce::new(150..=160)),
+        RangeOnce::new(80..=155),
+    );
     let outer = both(middle | RangeOnce::new(0..=10), RangeOnce::new(5..=90));
     assert!(rt; gives(outer, &[(5, 10), (80, 90)]));
 }
@@ -55,5 +58,10 @@ fn three_intersections_of_any_streams_nest(rt: HostRuntime) {
     let inner = (RangeOnce::new(0u8..=100), RangeOnce::new(50..=200));
     let middle = (RangeOnce::new(150..=160), RangeOnce::new(80..=155));
     let outer = (RangeOnce::new(0..=10), RangeOnce::new(5..=90));
-    assert!(rt; gives(three_intersections(inner, middle, outer), &[(5, 10), (80, 90)]));
+    assert!(rt;
+        gives(
+            three_intersections(inner, middle, outer),
+            &[(5, 10), (80, 90)]
+        )
+    );
 }

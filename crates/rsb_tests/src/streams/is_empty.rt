@@ -12,7 +12,11 @@ fn a_stream_is_empty_where_it_has_no_member(rt: HostRuntime) {
 #[test]
 fn a_result_is_empty_where_it_has_no_member(rt: HostRuntime) {
     assert!(rt; RangeOnce::new(0u8..=255).complement().is_empty());
-    assert!(rt; !RangeOnce::new(1u8..=0).union(RangeOnce::new(7..=7)).is_empty());
+    assert!(rt;
+        !RangeOnce::new(1u8..=0)
+            .union(RangeOnce::new(7..=7))
+            .is_empty()
+    );
 }
 
 #[test]

@@ -12,6 +12,14 @@ fn a_stream_is_universal_where_it_has_every_value(rt: HostRuntime) {
 
 #[test]
 fn a_union_is_universal_where_no_value_is_left_out(rt: HostRuntime) {
-    assert!(rt; RangeOnce::new(0u8..=4).union(RangeOnce::new(5..=255)).is_universal());
-    assert!(rt; !RangeOnce::new(0u8..=4).union(RangeOnce::new(6..=255)).is_universal());
+    assert!(rt;
+        RangeOnce::new(0u8..=4)
+            .union(RangeOnce::new(5..=255))
+            .is_universal()
+    );
+    assert!(rt;
+        !RangeOnce::new(0u8..=4)
+            .union(RangeOnce::new(6..=255))
+            .is_universal()
+    );
 }

@@ -6,8 +6,8 @@ ghost use Rattle.rsb_streams.specs.Stream.{◌⊆◌, joined, runs_by, runs_by_t
 use crate::tables::gives;
 use rsb_integer::Integer;
 use rsb_streams::{
-    AssumeSortedStarts, CheckSortedDisjoint, Draw, DrawDisjoint, NotIter, RangeOnce, SortedDisjoint,
-    SortedStarts, Union, UnionIter,
+    AssumeSortedStarts, CheckSortedDisjoint, Draw, DrawDisjoint, NotIter, RangeOnce,
+    SortedDisjoint, SortedStarts, Union, UnionIter,
 };
 
 /// The complement of the complement has the members of the stream.

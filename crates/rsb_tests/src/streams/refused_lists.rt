@@ -34,7 +34,8 @@ fn refusals_differ_by_the_ranges_alone(rt: HostRuntime) -> Result<(), Fail> {
 #[test]
 fn a_refusal_tells_the_position(rt: HostRuntime) -> Result<(), Fail> {
     let text = format!(in rt.alloc(); "{}", refusal(rt.alloc(), 1, 4)?)?;
-    let wanted = "the range at position 1 is empty, or does not lie past the one before it with a gap";
+    let wanted =
+        "the range at position 1 is empty, or does not lie past the one before it with a gap";
     assert!(rt; text.as_str() == wanted);
     Ok(())
 }

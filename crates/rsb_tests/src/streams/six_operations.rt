@@ -11,12 +11,7 @@ use rsb_streams::{Draw, DrawDisjoint, NotIter, RangeOnce, SortedDisjoint, Union}
 type LeftOut<T, A, B, C> = Union<T, Union<T, NotIter<T, A>, NotIter<T, B>>, NotIter<T, C>>;
 
 /// What lies in all of three streams: no gap of one of them.
-fn in_all_three<
-    T: Integer,
-    A: SortedDisjoint<T>,
-    B: SortedDisjoint<T>,
-    C: SortedDisjoint<T>,
->(
+fn in_all_three<T: Integer, A: SortedDisjoint<T>, B: SortedDisjoint<T>, C: SortedDisjoint<T>>(
     first: A,
     second: B,
     third: C,
