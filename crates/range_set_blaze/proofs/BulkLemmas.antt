@@ -17,7 +17,7 @@ use Rattle.rsb_integer.proofs.RangeLemmas.{interval_of-some}
 use Rattle.rsb_integer.proofs.CanonicalLemmas.{canonical-front, canonical-parts}
 use Rattle.rsb_integer.proofs.MembersLemmas.{members-cons}
 use Rattle.rsb_streams.specs.Outcomes.{settled_canonical_in}
-use Rattle.rsb_streams.specs.Stream.{Outcomes, ◌⊆◌, just, run_if_any, HasOutcome, SomeOutcome}
+use Rattle.rsb_streams.specs.Stream.{Outcomes, ◌⊆◌, run_if_any, HasOutcome}
 use Rattle.range_set_blaze.specs.Kept.{entry_run, runs_of, IsAscendingFrom}
 use Rattle.range_set_blaze.proofs.EntriesLemmas.{insert_entry-between}
 use Rattle.range_set_blaze.proofs.KeptLemmas.{sum_by-within}
@@ -76,20 +76,6 @@ runs_of-taken {T} rank runs new run range is starts ends ordered =
     ∙ sym (interval_of-some rank range ordered) in
     ap (runs_of rank) is ∙ map-append (entry_run rank) runs (run ∷ [])
     ∙ ap (λ (last : Interval). runs_of rank runs ++ last ∷ []) same
-
--- two tests that do not differ are the same
-settled-same : (left right : Bool) → ¬ (¬ (left ≡ right)) → left ≡ right
-settled-same true true holds = refl
-settled-same true false holds = absurd (holds (λ same. absurd (cc)))
-settled-same false true holds = absurd (holds (λ same. absurd (cc)))
-settled-same false false holds = refl
-
--- what comes of a stream of one list has its members
-pub members-just : (P : Outcomes) (set runs : List Interval) → P ⊆ just runs
-    → SomeOutcome P (λ given. set ≡ given) → (rank : ℕ) → members set rank ≡ members runs rank
-members-just P set runs only some rank = settled-same (members set rank) (members runs rank)
-    (λ fails. some (λ given may same.
-    fails (ap (λ list. members list rank) (same ∙ only given may))))
 
 -- the members of one interval are its ranks
 pub members-run_if_any : (run : Interval) (rank : ℕ) → members (run_if_any run) rank
