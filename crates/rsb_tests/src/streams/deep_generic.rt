@@ -1,5 +1,4 @@
-//! Nests over any lawful stream, each made of smaller ones by functions that say that they may be
-//! drawn from.
+//! Nests of eight operations over any lawful stream.
 
 use crate::tables::gives;
 use rsb_integer::Integer;
@@ -8,20 +7,20 @@ use rsb_streams::{Draw, DrawDisjoint, NotIter, RangeOnce, SortedDisjoint, Union}
 /// A stream complemented four times.
 type FourTimes<T, I> = NotIter<T, NotIter<T, NotIter<T, NotIter<T, I>>>>;
 
-/// Four complements of a stream.
-fn four_complements<T: Integer, I: SortedDisjoint<T>>(stream: I) -> FourTimes<T, I>
-    requires { I.can_draw stream }
-    ensures { ⟦<FourTimes<T, I> as Draw<T>>⟧.can_draw result }
-{
-    stream.complement().complement().complement().complement()
-}
-
 /// Eight complements of a stream.
 fn eight_complements<T: Integer, I: SortedDisjoint<T>>(stream: I) -> FourTimes<T, FourTimes<T, I>>
     requires { I.can_draw stream }
     ensures { ⟦<FourTimes<T, FourTimes<T, I>> as Draw<T>>⟧.can_draw result }
 {
-    four_complements(four_complements(stream))
+    stream
+        .complement()
+        .complement()
+        .complement()
+        .complement()
+        .complement()
+        .complement()
+        .complement()
+        .complement()
 }
 
 #[test]
@@ -31,22 +30,6 @@ fn eight_complements_of_any_stream_give_it_back(rt: HostRuntime) {
 
 /// A stream, and four others.
 type FourMore<T, L, I> = Union<T, Union<T, Union<T, Union<T, L, I>, I>, I>, I>;
-
-/// What lies in a stream or in one of four others.
-fn four_unions<T: Integer, L: SortedDisjoint<T>, I: SortedDisjoint<T>>(
-    stream: L,
-    others: (I, I, I, I),
-) -> FourMore<T, L, I>
-    requires stream { L.can_draw stream }
-    requires first { I.can_draw others.0 }
-    requires second { I.can_draw others.1 }
-    requires third { I.can_draw others.2 }
-    requires fourth { I.can_draw others.3 }
-    ensures { ⟦<FourMore<T, L, I> as Draw<T>>⟧.can_draw result }
-{
-    let (first, second, third, fourth) = others;
-    stream.union(first).union(second) | third | fourth
-}
 
 /// What lies in one of nine streams.
 fn eight_unions<T: Integer, I: SortedDisjoint<T>>(
@@ -61,7 +44,8 @@ fn eight_unions<T: Integer, I: SortedDisjoint<T>>(
         × (I.can_draw others.3) }
     ensures { ⟦<FourMore<T, FourMore<T, I, I>, I> as Draw<T>>⟧.can_draw result }
 {
-    four_unions(four_unions(stream, some), others)
+    let four = stream.union(some.0).union(some.1).union(some.2).union(some.3);
+    four | others.0 | others.1 | others.2 | others.3
 }
 
 #[test]
