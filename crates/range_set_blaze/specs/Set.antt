@@ -29,6 +29,10 @@ abbrev pub between : {T : Type 0} → (T → ℕ) → ℕ → Bound T → Bound 
 between rank n start end other = nat_le (first_rank rank start) other && nat_lt other
     (past_rank rank n end)
 
+-- the ranks that lie between the bounds of a range, in a type of n values
+abbrev pub ranks_in : {T R : Type 0} → (T → ℕ) → ℕ → (R → Bound T) → (R → Bound T) → R → Selection
+ranks_in rank n start_bound end_bound range = between rank n (start_bound range) (end_bound range)
+
 -- ---- sets before and after a call
 
 -- the new set has the members of the old one and the added ranks, and no others

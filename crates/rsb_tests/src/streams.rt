@@ -1,6 +1,7 @@
 //! Streams.
 
 mod anything_goes;
+mod arrays;
 mod clones;
 mod complements;
 mod deep_complements;

@@ -1,5 +1,7 @@
 //! Tables of ranges, each by its two ends: what tests write, and compare with.
 
+ghost use Rattle.std.specs.Prelude.{◌≡◌};
+
 use range_set_blaze::{RangeSetBlaze, SortedStarts};
 use rsb_integer::Integer;
 use std::alloc::{AllocError, Allocator, Global};
@@ -42,4 +44,16 @@ pub(crate) fn gives<T: Integer, I: SortedStarts<T>>(stream: I, wanted: &[(T, T)]
         }
     }
     stream.next().is_none()
+}
+
+/// Whether a stream and a copy of it give the ranges with these ends, and then nothing.
+pub(crate) fn both_give<T: Integer, I: SortedStarts<T> + Clone>(
+    stream: I,
+    wanted: &[(T, T)],
+) -> Result<bool, AllocError>
+    requires ready { I.can_next stream }
+    requires copies { (stream copy : I) → I.is_clone stream copy → copy ≡ stream }
+{
+    let copy = stream.clone()?;
+    Ok(gives(stream, wanted) && gives(copy, wanted))
 }

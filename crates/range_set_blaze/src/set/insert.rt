@@ -6,7 +6,7 @@ ghost use Rattle.rsb_integer.specs.Runs.{covers, length_of, members, IsCanonical
 ghost use Rattle.rsb_integer.specs.Selection.{IsNothing};
 ghost use Rattle.range_set_blaze.specs.Kept.{run_of, runs_of, IsAscendingFrom, IsKept};
 ghost use Rattle.range_set_blaze.specs.Places.{spared, swallowed, Has, IsFree, IsInserted, IsReaching};
-ghost use Rattle.range_set_blaze.specs.Set.{between, first_rank, only, past_rank, Adds, IsReached, LacksSomeOf};
+ghost use Rattle.range_set_blaze.specs.Set.{first_rank, only, past_rank, ranks_in, Adds, IsReached, LacksSomeOf};
 
 use crate::set::RangeSetBlaze;
 use crate::set::entries::{move_end, run_up_to};
@@ -24,15 +24,15 @@ impl<T: Integer, A: Allocator + Clone> RangeSetBlaze<T, A> {
     /// Nothing is said of a `RangeInclusive` that was iterated to its end.
     pub fn ranges_insert<R: RangeBounds<T>>(&mut self, range: R) -> Result<bool, AllocError>
         ensures members { R.has_bounds range → OnOk result (Adds self.old self.new
-            (between T.rank T.value_count (R.start_bound range) (R.end_bound range))) }
+            (ranks_in T.rank T.value_count R.start_bound R.end_bound range)) }
         ensures added { R.has_bounds range → IfOk result (λ added. IsTrue added ↔
             LacksSomeOf self.old
-            (between T.rank T.value_count (R.start_bound range) (R.end_bound range))) }
+            (ranks_in T.rank T.value_count R.start_bound R.end_bound range)) }
         ensures err { OnErr result (self.new ≡ self.old) }
 
         // No memory is taken where nothing is to be added, nor where a run can be made longer.
-        ensures nothing { R.has_bounds range → IsNothing
-            (between T.rank T.value_count (R.start_bound range) (R.end_bound range))
+        ensures nothing { R.has_bounds range
+            → IsNothing (ranks_in T.rank T.value_count R.start_bound R.end_bound range)
             → IsOk result }
         ensures succeeds { R.has_bounds range
             → IsReached self.old (first_rank T.rank (R.start_bound range)) → IsOk result }
