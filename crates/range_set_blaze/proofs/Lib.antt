@@ -1,3 +1,4 @@
+pub mod AloneLemmas
 pub mod BoundsLemmas
 pub mod BulkLemmas
 pub mod EndLemmas

@@ -17,7 +17,7 @@ use Rattle.rsb_integer.proofs.CountLemmas.{count-within}
 use Rattle.rsb_integer.proofs.ListLemmas.{All-front}
 use Rattle.rsb_integer.proofs.MembersLemmas.{covers-bounds, covers-inside, members-append, members-head}
 use Rattle.range_set_blaze.specs.Kept.{entry_of, entry_run, run_of, runs_of, IsAscendingFrom, IsKept}
-use Rattle.range_set_blaze.specs.Places.{past, spared, swallowed, up_to, Has, IsFree, IsInserted, IsReaching}
+use Rattle.range_set_blaze.specs.Places.{past, spared, swallowed, up_to, EndsWith, Has, IsFree, IsInserted, IsReaching}
 use Rattle.range_set_blaze.specs.Set.{IsReached, LacksSomeOf}
 use Rattle.range_set_blaze.specs.declared.set.run.Run.{Run}
 use Rattle.range_set_blaze.proofs.EntriesLemmas.{ascending-middle, ascending-with, canonical-entries, canonical-past, insert_entry-between, past-all, past-none, past-starts, point-parts, set_value-at, up_to-all, up_to-none, up_to-starts}
@@ -93,7 +93,7 @@ module _ {T : Type 0} (rank : T → ℕ) (n : ℕ) where
       (to : All (λ (entry : T × T). rank entry.0 ≤ last) middle)
       (later : All (λ (entry : T × T). last < rank entry.0) high) where
     -- the entries up to the last
-    up_to-parts : up_to rank last (low ++ (middle ++ high)) ≡ low ++ middle
+    pub up_to-parts : up_to rank last (low ++ (middle ++ high)) ≡ low ++ middle
     up_to-parts =
         filter-append _ low (middle ++ high)
         ∙ ap (λ (rest : List (T × T)). up_to rank last low ++ rest)
@@ -533,6 +533,27 @@ module _ {T : Type 0} (cmp : T → T → Ordering) (rank : T → ℕ) (n : ℕ)
       taken-spared before up = spared-parts rank n (rank run.start) (rank last.start) before
           taken after (omega arith) up taken-past taken-up_to after-past
 
+      -- the last of them is the last up to its start
+      pub taken-last : (before : List (T × T))
+          → All (λ (entry : T × T). rank entry.0 ≤ rank run.start) before
+          → EndsWith (up_to rank (rank last.start) (before ++ (taken ++ after))) (entry_of last)
+      taken-last before up = record {
+        front = before ++ past rank (rank run.start) front;
+        parts = up_to-parts rank n (rank run.start) (rank last.start) before taken after
+            (omega arith) up taken-past taken-up_to after-past
+            ∙ sym (append_assoc before (past rank (rank run.start) front) (entry_of last ∷ []));
+      }
+
+      -- among all entries
+      pub all-last : EndsWith (up_to rank (rank last.start) entries) (entry_of last)
+      all-last = rw taken-parts (taken-last low (up_to-starts rank n (rank run.start) entries))
+
+      -- what is swallowed of them
+      pub all-swallowed : swallowed rank (rank run.start) (rank last.start) entries ≡ taken
+      all-swallowed =
+          ap (swallowed rank (rank run.start) (rank last.start)) taken-parts
+          ∙ taken-swallowed low (up_to-starts rank n (rank run.start) entries)
+
       -- the joined run ends in the type, and those after it start more than one rank past it
       ends-apart : (max (rank run.end) (rank last.end) < n)
           × IsCanonicalFrom (max (rank run.end) (rank last.end) + 2) (runs_of rank after)
@@ -595,6 +616,10 @@ module _ {T : Type 0} (cmp : T → T → Ordering) (rank : T → ℕ) (n : ℕ)
         put-swallowed =
             ap (swallowed rank (rank run.start) (rank last.start)) put-parts
             ∙ taken-swallowed (low ++ (run.start, end) ∷ []) put-up_to
+
+        -- the last run is the last up to its start
+        pub put-last : EndsWith (up_to rank (rank last.start) put) (entry_of last)
+        put-last = rw put-parts (taken-last (low ++ (run.start, end) ∷ []) put-up_to)
 
         -- and what stays makes the set with the run
         pub put-joined : (new : List (T × T)) (length : ℕ)
@@ -678,12 +703,6 @@ module _ {T : Type 0} (cmp : T → T → Ordering) (rank : T → ℕ) (n : ℕ)
             ∙ map-append (entry_run rank) before (entry_of first ∷ []))
             (up_to-canonical rank n entries kept.canonical (rank run.start))) in
             (parts.0, parts.1.0)
-
-        -- what is swallowed
-        pub first-swallowed : swallowed rank (rank run.start) (rank last.start) entries ≡ taken
-        first-swallowed =
-            ap (swallowed rank (rank run.start) (rank last.start)) taken-parts
-            ∙ taken-swallowed low (up_to-starts rank n (rank run.start) entries)
 
         -- and what stays, where that run is made longer, makes the set with the run
         pub first-joined : (end : T) → rank end ≡ max (rank run.end) (rank last.end)

@@ -1,5 +1,5 @@
 -- Entries that are taken out of a map, one after the other, from the last on.
-use Rattle.std.proofs.Common.{◌≡◌, ℕ, ◌+◌, ◌<◌, ◌≤◌, List, [], ◌∷◌, ◌++◌, append_assoc, length, length-append, sym, ap, ◌∙◌, arith, subst}
+use Rattle.std.proofs.Common.{◌≡◌, ℕ, ◌+◌, ◌<◌, ◌≤◌, List, [], ◌∷◌, ◌++◌, append_assoc, length, length-append, refl, sym, ap, ◌∙◌, arith, subst}
 use Rattle.std.specs.List.{All, sum_by}
 use Rattle.std.specs.Map.{remove_entry}
 use Rattle.std.specs.Ordering.{nat_cmp}
@@ -182,6 +182,12 @@ module _ {T : Type 0} (cmp : T → T → Ordering) (rank : T → ℕ) (n : ℕ)
             stays = stays ∙ sym now-spared ∙ taking.stays;
             counted = omega (arith, one, counted, taking.counted);
           }
+
+      -- it was taken out before the others
+      pub taking-removed : (fewer : ℕ) (counted : fewer + length_of (run_of rank run) ≡ others)
+          → (taking-next fewer counted).removed ≡ entry_of run ∷ taking.removed
+      unfolding taking-next
+      taking-removed fewer counted = refl
 
   -- ---- no more
 

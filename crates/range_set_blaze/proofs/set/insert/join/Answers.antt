@@ -1,7 +1,7 @@
 use Rattle.std.proofs.Common.{◌+◌, ◌-◌, arith, refl}
 use Rattle.std.specs.BTreeMap.{is_at}
 use Rattle.std.specs.Map.{set_value}
-use Rattle.range_set_blaze.proofs.PlacesLemmas.{first-joined, first-order, first-swallowed, inserted-fits, kept-ascending, kept-fits, last-order, taken-runs}
+use Rattle.range_set_blaze.proofs.PlacesLemmas.{all-last, first-joined, first-order, all-swallowed, inserted-fits, kept-ascending, kept-fits, last-order, taken-runs}
 use Rattle.range_set_blaze.proofs.set.insert.join.Goals as goal
 
 -- the last run is in order, and lies in the type
@@ -21,8 +21,17 @@ take_out-length-requires-clause-ascending g c κs within =
     kept-ascending g.T.Integer.rank g.T.Integer.value_count c.args.map.now.entries
     c.requires.kept.canonical
 
+-- the last run is the last up to its start, and a value
 pub take_out-length-requires-clause-last : goal.take_out-length-requires-clause-last
 take_out-length-requires-clause-last g c κs within =
+    let laws = g.met.T.Integer g.world.𝓛 g.world.𝓜 g.world.𝓡
+    ((λ s x. x), (λ x. x), (λ x. x), λ x. x) in
+    all-last g.T.Ord.cmp g.T.Integer.rank g.T.Integer.value_count laws.in_order
+    c.args.map.now.entries (g.T.SafeLen.SafeLength.number c.args.total) c.requires.kept c.args.run
+    c.requires.order c.requires.value c.args.last c.requires.reaching c.requires.start
+
+pub take_out-length-requires-clause-value : goal.take_out-length-requires-clause-value
+take_out-length-requires-clause-value g c κs within =
     let laws = g.met.T.Integer g.world.𝓛 g.world.𝓜 g.world.𝓡
     ((λ s x. x), (λ x. x), (λ x. x), λ x. x) in
     let rank = g.T.Integer.rank in
@@ -43,10 +52,9 @@ take_out-length-requires-clause-runs g c κs within =
     (g.T.SafeLen.SafeLength.number c.args.total) c.requires.kept c.args.run c.requires.order
     c.requires.value c.args.last c.requires.reaching c.requires.start
     c.args.map.now.entries
-    (first-swallowed g.T.Ord.cmp rank n laws.in_order c.args.map.now.entries
+    (all-swallowed g.T.Ord.cmp rank n laws.in_order c.args.map.now.entries
     (g.T.SafeLen.SafeLength.number c.args.total) c.requires.kept c.args.run c.requires.order
-    c.requires.value c.args.last c.requires.reaching c.requires.start
-    c.args.first c.requires.first)).0
+    c.requires.value c.args.last c.requires.reaching c.requires.start)).0
 
 pub take_out-length-requires-clause-counted : goal.take_out-length-requires-clause-counted
 take_out-length-requires-clause-counted g c κs within =
@@ -58,10 +66,9 @@ take_out-length-requires-clause-counted g c κs within =
     (g.T.SafeLen.SafeLength.number c.args.total) c.requires.kept c.args.run c.requires.order
     c.requires.value c.args.last c.requires.reaching c.requires.start
     c.args.map.now.entries
-    (first-swallowed g.T.Ord.cmp rank n laws.in_order c.args.map.now.entries
+    (all-swallowed g.T.Ord.cmp rank n laws.in_order c.args.map.now.entries
     (g.T.SafeLen.SafeLength.number c.args.total) c.requires.kept c.args.run c.requires.order
-    c.requires.value c.args.last c.requires.reaching c.requires.start
-    c.args.first c.requires.first)).1
+    c.requires.value c.args.last c.requires.reaching c.requires.start)).1
 
 pub take_out-length-requires-clause-fits : goal.take_out-length-requires-clause-fits
 take_out-length-requires-clause-fits g c κs within =
@@ -114,10 +121,9 @@ add_length-requires-clause-fits g c κs within =
     let order = last-order g.T.Ord.cmp rank n laws.in_order c.args.map.now.entries
     (g.T.SafeLen.SafeLength.number c.args.total) c.requires.kept c.args.run c.requires.order
     c.requires.value c.args.last c.requires.reaching in
-    let swallows = first-swallowed g.T.Ord.cmp rank n laws.in_order c.args.map.now.entries
+    let swallows = all-swallowed g.T.Ord.cmp rank n laws.in_order c.args.map.now.entries
     (g.T.SafeLen.SafeLength.number c.args.total) c.requires.kept c.args.run c.requires.order
-    c.requires.value c.args.last c.requires.reaching c.requires.start
-    first c.requires.first in
+    c.requires.value c.args.last c.requires.reaching c.requires.start in
     let others = rw swallows at c.take_out-length.ensures.others in
     let left = c.take_out-length.new.map.entries in
     let fits = inserted-fits rank n c.args.map.now.entries
@@ -147,10 +153,9 @@ returns g c =
     let order = last-order g.T.Ord.cmp rank n laws.in_order c.args.map.now.entries
     (g.T.SafeLen.SafeLength.number c.args.total) c.requires.kept c.args.run c.requires.order
     c.requires.value c.args.last c.requires.reaching in
-    let swallows = first-swallowed g.T.Ord.cmp rank n laws.in_order c.args.map.now.entries
+    let swallows = all-swallowed g.T.Ord.cmp rank n laws.in_order c.args.map.now.entries
     (g.T.SafeLen.SafeLength.number c.args.total) c.requires.kept c.args.run c.requires.order
-    c.requires.value c.args.last c.requires.reaching c.requires.start
-    first c.requires.first in
+    c.requires.value c.args.last c.requires.reaching c.requires.start in
     let others = rw swallows at c.take_out-length.ensures.others in
     first-joined g.T.Ord.cmp rank n laws.in_order c.args.map.now.entries
     (g.T.SafeLen.SafeLength.number c.args.total) c.requires.kept c.args.run c.requires.order

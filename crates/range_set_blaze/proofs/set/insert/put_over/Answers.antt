@@ -1,6 +1,6 @@
-use Rattle.std.proofs.Common.{◌+◌, arith}
+use Rattle.std.proofs.Common.{◌+◌, ◌∙◌, arith, sym}
 use Rattle.rsb_integer.specs.Runs.{length_of}
-use Rattle.range_set_blaze.proofs.PlacesLemmas.{inserted-fits, kept-fits, last-order, put-ascending, put-joined, put-swallowed, taken-runs}
+use Rattle.range_set_blaze.proofs.PlacesLemmas.{all-swallowed, inserted-fits, kept-fits, last-order, put-ascending, put-joined, put-last, put-swallowed, taken-runs}
 use Rattle.range_set_blaze.proofs.set.insert.put_over.Goals as goal
 
 -- the last run is in order, and lies in the type
@@ -27,8 +27,34 @@ take_out-length-requires-clause-ascending g c κs within =
     c.requires.free c.greater-end.result c.greater-end.ensures c.insert.new.self.entries
     c.in_ok-insert.ensures.entries
 
+-- the last run is the last up to its start, and a value
 pub take_out-length-requires-clause-last : goal.take_out-length-requires-clause-last
 take_out-length-requires-clause-last g c κs within =
+    let laws = g.met.T.Integer g.world.𝓛 g.world.𝓜 g.world.𝓡
+    ((λ s x. x), (λ x. x), (λ x. x), λ x. x) in
+    put-last g.T.Ord.cmp g.T.Integer.rank g.T.Integer.value_count laws.in_order
+    c.args.map.now.entries (g.T.SafeLen.SafeLength.number c.args.total) c.requires.kept c.args.run
+    c.requires.order c.requires.value c.args.last c.requires.reaching c.requires.start
+    c.requires.free c.greater-end.result c.greater-end.ensures c.insert.new.self.entries
+    c.in_ok-insert.ensures.entries
+
+-- where it is the only one that is swallowed, it is so with the new run
+pub take_out-length-requires-clause-alone : goal.take_out-length-requires-clause-alone
+take_out-length-requires-clause-alone g c κs within alone =
+    let laws = g.met.T.Integer g.world.𝓛 g.world.𝓜 g.world.𝓡
+    ((λ s x. x), (λ x. x), (λ x. x), λ x. x) in
+    put-swallowed g.T.Ord.cmp g.T.Integer.rank g.T.Integer.value_count laws.in_order
+    c.args.map.now.entries (g.T.SafeLen.SafeLength.number c.args.total) c.requires.kept c.args.run
+    c.requires.order c.requires.value c.args.last c.requires.reaching c.requires.start
+    c.requires.free c.greater-end.result c.greater-end.ensures c.insert.new.self.entries
+    c.in_ok-insert.ensures.entries
+    ∙ sym (all-swallowed g.T.Ord.cmp g.T.Integer.rank g.T.Integer.value_count laws.in_order
+    c.args.map.now.entries (g.T.SafeLen.SafeLength.number c.args.total) c.requires.kept c.args.run
+    c.requires.order c.requires.value c.args.last c.requires.reaching c.requires.start)
+    ∙ c.requires.alone alone
+
+pub take_out-length-requires-clause-value : goal.take_out-length-requires-clause-value
+take_out-length-requires-clause-value g c κs within =
     let laws = g.met.T.Integer g.world.𝓛 g.world.𝓜 g.world.𝓡
     ((λ s x. x), (λ x. x), (λ x. x), λ x. x) in
     let rank = g.T.Integer.rank in
