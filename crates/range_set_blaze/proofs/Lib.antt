@@ -4,8 +4,14 @@ pub mod BulkLemmas
 pub mod EndLemmas
 pub mod EntriesLemmas
 pub mod InsertLemmas
+pub mod InsertedLemmas
+pub mod JoinLemmas
 pub mod KeptLemmas
 pub mod LookUpLemmas
-pub mod PlacesLemmas
+pub mod PartsLemmas
+pub mod PointLemmas
+pub mod PutOverLemmas
 pub mod RangesLemmas
+pub mod SwallowLemmas
+pub mod TakeLastLemmas
 pub mod TakeOutLemmas

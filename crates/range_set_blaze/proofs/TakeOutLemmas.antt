@@ -14,7 +14,7 @@ use Rattle.range_set_blaze.specs.Kept.{entry_of, entry_run, run_of, runs_of, IsA
 use Rattle.range_set_blaze.specs.Places.{past, spared, swallowed, up_to, EndsWith}
 use Rattle.range_set_blaze.specs.declared.set.run.Run.{Run}
 use Rattle.range_set_blaze.proofs.EntriesLemmas.{ascending-front, ascending-without, past-starts, point-parts, remove_entry-at, up_to-starts}
-use Rattle.range_set_blaze.proofs.PlacesLemmas.{ascending-before, spared-parts, swallowed-parts, All-at, All-last}
+use Rattle.range_set_blaze.proofs.PartsLemmas.{All-at, All-last, ascending-before, spared-parts, swallowed-parts}
 
 module _ {T : Type 0} (rank : T → ℕ) (n start last : ℕ) where
   -- some of the last entries that are to be taken out were taken out, and the others are counted

@@ -1,5 +1,5 @@
 use Rattle.std.proofs.Common.{arith, refl}
-use Rattle.range_set_blaze.proofs.PlacesLemmas.{free-reached}
+use Rattle.range_set_blaze.proofs.PointLemmas.{free-reached}
 use Rattle.range_set_blaze.proofs.set.insert.swallow_many.Goals as goal
 
 -- no run reaches the start

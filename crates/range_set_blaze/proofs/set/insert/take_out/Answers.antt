@@ -1,5 +1,5 @@
 use Rattle.std.proofs.Common.{◌∙◌, arith}
-use Rattle.range_set_blaze.proofs.AloneLemmas.{last-done, last-taken, left-counted, left-runs}
+use Rattle.range_set_blaze.proofs.TakeLastLemmas.{last-done, last-taken, left-counted, left-runs}
 use Rattle.range_set_blaze.proofs.set.insert.take_out.Goals as goal
 
 -- the only one is out

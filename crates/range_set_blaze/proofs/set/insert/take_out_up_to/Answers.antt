@@ -2,7 +2,7 @@ use Rattle.std.proofs.Common.{◌≤◌, [], append-nil, arith, refl, sym, subst
 use Rattle.std.specs.List.{All}
 use Rattle.std.proofs.lemmas.List.Elements.{All-nil}
 use Rattle.range_set_blaze.proofs.KeptLemmas.{lt-fails}
-use Rattle.range_set_blaze.proofs.PlacesLemmas.{All-last}
+use Rattle.range_set_blaze.proofs.PartsLemmas.{All-last}
 use Rattle.range_set_blaze.proofs.EntriesLemmas.{up_to-starts}
 use Rattle.range_set_blaze.specs.Kept.{entry_of}
 use Rattle.range_set_blaze.proofs.TakeOutLemmas.{taking-counted, taking-done, taking-next, taking-shorter, taking-stops}
