@@ -21,7 +21,8 @@ use Rattle.rsb_streams.specs.Stream.{Outcomes, ◌⊆◌, run_if_any, HasOutcome
 use Rattle.range_set_blaze.specs.Kept.{entry_run, runs_of, IsAscendingFrom}
 use Rattle.range_set_blaze.proofs.EntriesLemmas.{insert_entry-between}
 use Rattle.range_set_blaze.proofs.KeptLemmas.{sum_by-within}
-use Rattle.range_set_blaze.proofs.PlacesLemmas.{front-starts, kept-ascending, All-last}
+use Rattle.range_set_blaze.proofs.PartsLemmas.{All-last, front-starts}
+use Rattle.range_set_blaze.proofs.PointLemmas.{kept-ascending}
 
 -- the streams before and after a call that answered the run: what was taken before it is `taken`
 module _ (n : ℕ) (all after : Outcomes) (canonical : all ⊆ IsCanonicalIn n)

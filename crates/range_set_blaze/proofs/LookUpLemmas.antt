@@ -13,7 +13,8 @@ use Rattle.range_set_blaze.specs.Places.{past, up_to, EndsWith, StartsWith}
 use Rattle.range_set_blaze.specs.Set.{IsRunAround}
 use Rattle.range_set_blaze.specs.declared.set.run.Run.{Run}
 use Rattle.range_set_blaze.proofs.EntriesLemmas.{up_to-starts}
-use Rattle.range_set_blaze.proofs.PlacesLemmas.{past-below, past-canonical, point-runs, All-at, All-last}
+use Rattle.range_set_blaze.proofs.PartsLemmas.{All-at, All-last}
+use Rattle.range_set_blaze.proofs.PointLemmas.{past-below, past-canonical, point-runs}
 
 -- the runs before `start` are passed: `rest` are those ahead, and a gap begins at `start`
 pub record IsAhead (all rest : List Interval) (start : ℕ) : Type 0 where

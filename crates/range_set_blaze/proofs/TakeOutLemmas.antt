@@ -1,5 +1,5 @@
 -- Entries that are taken out of a map, one after the other, from the last on.
-use Rattle.std.proofs.Common.{◌≡◌, ℕ, ◌+◌, ◌<◌, ◌≤◌, List, [], ◌∷◌, ◌++◌, append_assoc, length, length-append, sym, ap, ◌∙◌, arith, subst}
+use Rattle.std.proofs.Common.{◌≡◌, ℕ, ◌+◌, ◌<◌, ◌≤◌, List, [], ◌∷◌, ◌++◌, append_assoc, length, length-append, refl, sym, ap, ◌∙◌, arith, subst}
 use Rattle.std.specs.List.{All, sum_by}
 use Rattle.std.specs.Map.{remove_entry}
 use Rattle.std.specs.Ordering.{nat_cmp}
@@ -14,7 +14,7 @@ use Rattle.range_set_blaze.specs.Kept.{entry_of, entry_run, run_of, runs_of, IsA
 use Rattle.range_set_blaze.specs.Places.{past, spared, swallowed, up_to, EndsWith}
 use Rattle.range_set_blaze.specs.declared.set.run.Run.{Run}
 use Rattle.range_set_blaze.proofs.EntriesLemmas.{ascending-front, ascending-without, past-starts, point-parts, remove_entry-at, up_to-starts}
-use Rattle.range_set_blaze.proofs.PlacesLemmas.{ascending-before, spared-parts, swallowed-parts, All-at, All-last}
+use Rattle.range_set_blaze.proofs.PartsLemmas.{All-at, All-last, ascending-before, spared-parts, swallowed-parts}
 
 module _ {T : Type 0} (rank : T → ℕ) (n start last : ℕ) where
   -- some of the last entries that are to be taken out were taken out, and the others are counted
@@ -182,6 +182,12 @@ module _ {T : Type 0} (cmp : T → T → Ordering) (rank : T → ℕ) (n : ℕ)
             stays = stays ∙ sym now-spared ∙ taking.stays;
             counted = omega (arith, one, counted, taking.counted);
           }
+
+      -- it was taken out before the others
+      pub taking-removed : (fewer : ℕ) (counted : fewer + length_of (run_of rank run) ≡ others)
+          → (taking-next fewer counted).removed ≡ entry_of run ∷ taking.removed
+      unfolding taking-next
+      taking-removed fewer counted = refl
 
   -- ---- no more
 

@@ -1,5 +1,5 @@
 -- Where a run lies among the entries of a map, and what an insertion makes of them.
-use Rattle.std.specs.Prelude.{◌≡◌, ℕ, nat_le, nat_lt, ◌+◌, ◌≤◌, IsTrue, List, [], ◌∷◌, ◌++◌}
+use Rattle.std.specs.Prelude.{◌≡◌, ℕ, nat_le, nat_lt, ◌+◌, ◌≤◌, IsTrue, List, [], ◌∷◌, ◌++◌, Option, MatchOption}
 use Rattle.std.specs.List.{filter}
 use Rattle.rsb_integer.specs.Runs.{Interval, covers, members}
 use Rattle.rsb_integer.specs.Selection.{Selection}
@@ -17,6 +17,13 @@ pub record EndsWith {X : Type 0} (items : List X) (last : X) : Type 0 where
 pub record StartsWith {X : Type 0} (items : List X) (first : X) : Type 0 where
   pub rest : List X
   pub parts : items ≡ first ∷ rest
+
+-- the entries have this run last, and the other right before it, if there is one
+pub record EndsWithTwo {T : Type 0} (entries : List (T × T)) (last : Run T)
+    (before : Option (Run T)) : Type 0 where
+  pub front : List (T × T)
+  pub parts : entries ≡ front ++ entry_of last ∷ []
+  pub earlier : MatchOption before (front ≡ []) (λ run. EndsWith front (entry_of run))
 
 module _ {T : Type 0} (rank : T → ℕ) where
   -- the entries that start at the point or below it

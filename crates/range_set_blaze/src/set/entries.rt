@@ -1,6 +1,6 @@
 //! Runs as entries of an ordered map, from starts to ends.
 
-ghost use Rattle.std.specs.Prelude.{◌≡◌, ◌<◌, [], MatchOption};
+ghost use Rattle.std.specs.Prelude.{◌≡◌, ◌<◌, [], ◌∷◌, ◌++◌, MatchOption};
 ghost use Rattle.std.specs.BTreeMap.{is_at};
 ghost use Rattle.std.specs.Map.{set_value};
 ghost use Rattle.range_set_blaze.specs.Kept.{entry_of, IsAscendingFrom};
@@ -10,7 +10,20 @@ use crate::set::run::Run;
 use rsb_integer::Integer;
 use std::alloc::Allocator;
 use std::collections::BTreeMap;
+use std::collections::btree_map::Range;
 use std::ops::Bound;
+
+/// Takes the last run off some entries.
+pub(crate) fn last_run<T: Integer>(entries: &mut Range<'_, T, T>) -> Option<Run<T>>
+    ensures { MatchOption result (entries.old ≡ [])
+        (λ run. entries.old ≡ entries.new ++ entry_of run ∷ []) }
+{
+    let (start, end) = entries.next_back()?;
+    Some(Run {
+        start: *start,
+        end: *end,
+    })
+}
 
 /// The last run that starts at a value or before it.
 pub(crate) fn run_up_to<T: Integer, A: Allocator>(
@@ -22,11 +35,8 @@ pub(crate) fn run_up_to<T: Integer, A: Allocator>(
     ensures { MatchOption result (up_to T.rank (T.rank value) map.now.entries ≡ [])
         (λ run. EndsWith (up_to T.rank (T.rank value) map.now.entries) (entry_of run)) }
 {
-    let (start, end) = map.range(..=value).next_back()?;
-    Some(Run {
-        start: *start,
-        end: *end,
-    })
+    let mut entries = map.range(..=value);
+    last_run(&mut entries)
 }
 
 /// The first run that starts after a value.

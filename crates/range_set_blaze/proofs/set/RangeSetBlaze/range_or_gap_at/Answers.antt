@@ -1,7 +1,7 @@
 use Rattle.std.proofs.Common.{arith, sym}
 use Rattle.range_set_blaze.proofs.KeptLemmas.{lt-fails}
 use Rattle.range_set_blaze.proofs.LookUpLemmas.{ahead-canonical, ahead-found, ahead-none, found-absent, found-around, found-order, found-present, gap-around, none-absent}
-use Rattle.range_set_blaze.proofs.PlacesLemmas.{kept-ascending}
+use Rattle.range_set_blaze.proofs.PointLemmas.{kept-ascending}
 use Rattle.range_set_blaze.proofs.set.RangeSetBlaze.range_or_gap_at.Goals as goal
 use Rattle.range_set_blaze.proofs.set.RangeSetBlaze.range_or_gap_at.Goals.{in-None, in-Some+else-not-is_below}
 

@@ -1,6 +1,7 @@
 use Rattle.std.proofs.Common.{arith, refl}
 use Rattle.range_set_blaze.proofs.KeptLemmas.{lt-fails}
-use Rattle.range_set_blaze.proofs.PlacesLemmas.{free-reached, last-has, last-order}
+use Rattle.range_set_blaze.proofs.InsertedLemmas.{last-has, last-order, over}
+use Rattle.range_set_blaze.proofs.PointLemmas.{free-reached}
 use Rattle.range_set_blaze.proofs.set.insert.add_run.Goals as goal
 
 -- no run reaches the start
@@ -15,37 +16,16 @@ returns-in_err-put_free-clause-succeeds g c reached =
 -- the last run is in order, and lies in the type
 pub is_below-requires-clause-right : goal.is_below-requires-clause-right
 is_below-requires-clause-right g c κs within =
-    let laws = g.met.T.Integer g.world.𝓛 g.world.𝓜 g.world.𝓡
-    ((λ s x. x), (λ x. x), (λ x. x), λ x. x) in
-    let rank = g.T.Integer.rank in
-    let n = g.T.Integer.value_count in
-    let order = last-order g.T.Ord.cmp rank n laws.in_order c.args.map.now.entries
-    (g.T.SafeLen.SafeLength.number c.args.total) c.requires.kept c.args.run c.requires.order
-    c.requires.value c.in-Some.last
-    (rw c.next_or_greatest.ensures at c.in-Some.ensures.found) in
+    let order = last-order (over c.args.run c.requires.kept c.requires.order c.requires.value (rw c.next_or_greatest.ensures at c.in-Some.ensures.found)) in
     omega (arith, order.0, order.1)
 
 pub is_below-requires-2-clause-left : goal.is_below-requires-2-clause-left
 is_below-requires-2-clause-left g c κs within =
-    let laws = g.met.T.Integer g.world.𝓛 g.world.𝓜 g.world.𝓡
-    ((λ s x. x), (λ x. x), (λ x. x), λ x. x) in
-    let rank = g.T.Integer.rank in
-    let n = g.T.Integer.value_count in
-    (last-order g.T.Ord.cmp rank n laws.in_order c.args.map.now.entries
-    (g.T.SafeLen.SafeLength.number c.args.total) c.requires.kept c.args.run c.requires.order
-    c.requires.value c.in-Some.last
-    (rw c.next_or_greatest.ensures at c.in-Some.ensures.found)).1
+    (last-order (over c.args.run c.requires.kept c.requires.order c.requires.value (rw c.next_or_greatest.ensures at c.in-Some.ensures.found))).1
 
 -- it has all values of the run
 pub returns-clause-within : goal.returns-clause-within
 returns-clause-within g c none =
-    let laws = g.met.T.Integer g.world.𝓛 g.world.𝓜 g.world.𝓡
-    ((λ s x. x), (λ x. x), (λ x. x), λ x. x) in
-    let rank = g.T.Integer.rank in
-    let n = g.T.Integer.value_count in
-    last-has g.T.Ord.cmp rank n laws.in_order c.args.map.now.entries
-    (g.T.SafeLen.SafeLength.number c.args.total) c.requires.kept c.args.run c.requires.order
-    c.requires.value c.in-Some.last
-    (rw c.next_or_greatest.ensures at c.in-Some.ensures.found)
+    last-has (over c.args.run c.requires.kept c.requires.order c.requires.value (rw c.next_or_greatest.ensures at c.in-Some.ensures.found))
     (lt-fails c.is_below.result _ _ c.is_below.ensures c.if-is_below.false)
     (lt-fails c.is_below-2.result _ _ c.is_below-2.ensures c.if-is_below-2.false)

@@ -1,28 +1,73 @@
-use Rattle.std.proofs.Common.{◌≡◌, ◌+◌, ◌∙◌, ◌∷◌, [], ap, arith}
-use Rattle.std.proofs.lemmas.List.{map-append}
-use Rattle.rsb_integer.proofs.CanonicalLemmas.{next_start, next_start-push}
-use Rattle.range_set_blaze.specs.Kept.{entry_of, entry_run, run_of, runs_of}
+use Rattle.std.proofs.Common.{◌≡◌, ◌∙◌, [], arith, sym}
 use Rattle.range_set_blaze.specs.Places.{up_to}
+use Rattle.range_set_blaze.proofs.AloneLemmas.{ends-at, ends-with}
+use Rattle.range_set_blaze.proofs.EntriesLemmas.{between-up_to}
 use Rattle.range_set_blaze.proofs.KeptLemmas.{le-fails}
-use Rattle.range_set_blaze.proofs.PlacesLemmas.{kept-ascending}
+use Rattle.range_set_blaze.proofs.PointLemmas.{kept-ascending}
 use Rattle.range_set_blaze.proofs.set.insert.last_reaching.Goals as goal
 
--- the starts of a set ascend
-pub run_up_to-requires-clause-ascending : goal.run_up_to-requires-clause-ascending
-run_up_to-requires-clause-ascending g c κs within =
-    kept-ascending g.T.Integer.rank g.T.Integer.value_count c.args.map.now.entries
-    c.requires.canonical
+-- none starts up to the point
+pub returns-in_err-last-clause-none : goal.returns-in_err-last-clause-none
+returns-in_err-last-clause-none g c none =
+    let laws = g.met.T.Integer g.world.𝓛 g.world.𝓜 g.world.𝓡
+    ((λ s x. x), (λ x. x), (λ x. x), λ x. x) in
+    let rank = g.T.Integer.rank in
+    let n = g.T.Integer.value_count in
+    let entries = c.args.map.now.entries in
+    let same = between-up_to g.T.Ord.cmp rank n laws.in_order c.args.point c.requires.point 0
+    entries (kept-ascending rank n entries c.requires.canonical) in
+    let empty : up_to rank (rank c.args.point) entries ≡ [] =
+    sym same ∙ sym (c.range-entries.ensures.between tt) ∙ c.in_err-last.ensures in
+    rw empty (omega arith)
 
 -- the runs go on from the last, which ends more than one rank below the start
 pub returns-then-not-reaches-clause-none : goal.returns-then-not-reaches-clause-none
 returns-then-not-reaches-clause-none g c none =
+    let laws = g.met.T.Integer g.world.𝓛 g.world.𝓜 g.world.𝓡
+    ((λ s x. x), (λ x. x), (λ x. x), λ x. x) in
     let rank = g.T.Integer.rank in
-    let run = c.in_ok-run.run' in
+    let n = g.T.Integer.value_count in
+    let entries = c.args.map.now.entries in
+    let same = between-up_to g.T.Ord.cmp rank n laws.in_order c.args.point c.requires.point 0
+    entries (kept-ascending rank n entries c.requires.canonical) in
     let far = le-fails c.reaches.result _ _ c.reaches.ensures c.if-not-reaches.true in
-    let last = c.in_ok-run.ensures in
-    let ends : next_start 0 (runs_of rank (up_to rank (rank c.args.point) c.args.map.now.entries))
-    ≡ rank run.end + 2 =
-    ap (next_start 0) (ap (runs_of rank) last.parts
-    ∙ map-append (entry_run rank) last.front (entry_of run ∷ []))
-    ∙ next_start-push 0 (runs_of rank last.front) (run_of rank run) in
+    let ends = ends-at rank (up_to rank (rank c.args.point) entries) c.in_ok-last.last record {
+      front = c.last_run.new.entries;
+      parts = sym same ∙ sym (c.range-entries.ensures.between tt) ∙ c.in_ok-last.ensures;
+    } in
     omega (arith, ends, far)
+
+-- it is the last up to the point
+pub returns-clause-found : goal.returns-clause-found
+returns-clause-found g c =
+    let laws = g.met.T.Integer g.world.𝓛 g.world.𝓜 g.world.𝓡
+    ((λ s x. x), (λ x. x), (λ x. x), λ x. x) in
+    let rank = g.T.Integer.rank in
+    let n = g.T.Integer.value_count in
+    let entries = c.args.map.now.entries in
+    let same = between-up_to g.T.Ord.cmp rank n laws.in_order c.args.point c.requires.point 0
+    entries (kept-ascending rank n entries c.requires.canonical) in
+    record {
+      last = record {
+        front = c.last_run.new.entries;
+        parts = sym same ∙ sym (c.range-entries.ensures.between tt) ∙ c.in_ok-last.ensures;
+      };
+      reaches = c.reaches.ensures.0 c.if-not-reaches.false;
+    }
+
+-- and what is taken next is the one before it
+pub returns-clause-before : goal.returns-clause-before
+returns-clause-before g c =
+    let laws = g.met.T.Integer g.world.𝓛 g.world.𝓜 g.world.𝓡
+    ((λ s x. x), (λ x. x), (λ x. x), λ x. x) in
+    let rank = g.T.Integer.rank in
+    let n = g.T.Integer.value_count in
+    let entries = c.args.map.now.entries in
+    let same = between-up_to g.T.Ord.cmp rank n laws.in_order c.args.point c.requires.point 0
+    entries (kept-ascending rank n entries c.requires.canonical) in
+    record {
+      front = c.last_run.new.entries;
+      parts = sym same ∙ sym (c.range-entries.ensures.between tt) ∙ c.in_ok-last.ensures;
+      earlier = ends-with c.last_run.new.entries c.last_run-2.new.entries c.last_run-2.result
+          c.last_run-2.ensures;
+    }

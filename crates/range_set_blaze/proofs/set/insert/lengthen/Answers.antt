@@ -1,7 +1,7 @@
 use Rattle.std.proofs.Common.{◌+◌, ◌-◌, arith, refl}
 use Rattle.std.specs.BTreeMap.{is_at}
 use Rattle.std.specs.Map.{set_value}
-use Rattle.range_set_blaze.proofs.PlacesLemmas.{inserted-fits, lengthened}
+use Rattle.range_set_blaze.proofs.InsertedLemmas.{inserted-fits, lengthened, over}
 use Rattle.range_set_blaze.proofs.set.insert.lengthen.Goals as goal
 
 -- the length with the fresh values is the number of members then
@@ -18,8 +18,7 @@ add_length-requires-clause-fits g c κs within =
     let fits = inserted-fits rank n entries
     (set_value (is_at (g.T.Ord.cmp last.start)) entries run.end) run
     (total + (rank run.end - rank last.end))
-    (lengthened g.T.Ord.cmp rank n laws.in_order entries total c.requires.kept run
-    c.requires.order c.requires.value last c.requires.reaching c.requires.start c.requires.end
+    (lengthened (over c.args.run c.requires.kept c.requires.order c.requires.value c.requires.reaching) g.T.Ord.cmp laws.in_order c.requires.start c.requires.end
     (set_value (is_at (g.T.Ord.cmp last.start)) entries run.end)
     (total + (rank run.end - rank last.end)) refl refl) in
     omega (arith, fits, c.add_one.ensures, c.requires.end)
@@ -29,9 +28,7 @@ pub returns : goal.returns
 returns g c =
     let laws = g.met.T.Integer g.world.𝓛 g.world.𝓜 g.world.𝓡
     ((λ s x. x), (λ x. x), (λ x. x), λ x. x) in
-    lengthened g.T.Ord.cmp g.T.Integer.rank g.T.Integer.value_count laws.in_order
-    c.args.map.now.entries (g.T.SafeLen.SafeLength.number c.args.total) c.requires.kept c.args.run
-    c.requires.order c.requires.value c.args.last c.requires.reaching c.requires.start
+    lengthened (over c.args.run c.requires.kept c.requires.order c.requires.value c.requires.reaching) g.T.Ord.cmp laws.in_order c.requires.start
     c.requires.end c.move_end.new.map.entries
     (g.T.SafeLen.SafeLength.number c.add_length.new.length) c.move_end.ensures
     (omega (arith, c.add_length.ensures, c.add_one.ensures, c.requires.end))

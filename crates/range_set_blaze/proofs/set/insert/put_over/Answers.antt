@@ -1,41 +1,48 @@
-use Rattle.std.proofs.Common.{◌+◌, arith}
+use Rattle.std.proofs.Common.{◌+◌, ◌∙◌, arith, sym}
 use Rattle.rsb_integer.specs.Runs.{length_of}
-use Rattle.range_set_blaze.proofs.PlacesLemmas.{inserted-fits, kept-fits, last-order, put-ascending, put-joined, put-swallowed, taken-runs}
+use Rattle.range_set_blaze.proofs.InsertedLemmas.{inserted-fits, last-order, over}
+use Rattle.range_set_blaze.proofs.PointLemmas.{kept-fits}
+use Rattle.range_set_blaze.proofs.PutOverLemmas.{put-ascending, put-joined, put-last, put-swallowed}
+use Rattle.range_set_blaze.proofs.SwallowLemmas.{all-swallowed, taken-runs}
 use Rattle.range_set_blaze.proofs.set.insert.put_over.Goals as goal
 
 -- the last run is in order, and lies in the type
 pub greater-end-requires-clause-right : goal.greater-end-requires-clause-right
 greater-end-requires-clause-right g c κs within =
-    let laws = g.met.T.Integer g.world.𝓛 g.world.𝓜 g.world.𝓡
-    ((λ s x. x), (λ x. x), (λ x. x), λ x. x) in
-    let rank = g.T.Integer.rank in
-    let n = g.T.Integer.value_count in
-    (last-order g.T.Ord.cmp rank n laws.in_order c.args.map.now.entries
-    (g.T.SafeLen.SafeLength.number c.args.total) c.requires.kept c.args.run c.requires.order
-    c.requires.value c.args.last c.requires.reaching).1
+    (last-order (over c.args.run c.requires.kept c.requires.order c.requires.value c.requires.reaching)).1
 
 -- the new entry comes before those that are swallowed
 pub take_out-length-requires-clause-ascending : goal.take_out-length-requires-clause-ascending
 take_out-length-requires-clause-ascending g c κs within =
     let laws = g.met.T.Integer g.world.𝓛 g.world.𝓜 g.world.𝓡
     ((λ s x. x), (λ x. x), (λ x. x), λ x. x) in
-    let rank = g.T.Integer.rank in
-    let n = g.T.Integer.value_count in
-    put-ascending g.T.Ord.cmp rank n laws.in_order c.args.map.now.entries
-    (g.T.SafeLen.SafeLength.number c.args.total) c.requires.kept c.args.run c.requires.order
-    c.requires.value c.args.last c.requires.reaching c.requires.start
+    put-ascending g.T.Ord.cmp laws.in_order (over c.args.run c.requires.kept c.requires.order c.requires.value c.requires.reaching) c.requires.start
     c.requires.free c.greater-end.result c.greater-end.ensures c.insert.new.self.entries
     c.in_ok-insert.ensures.entries
 
+-- the last run is the last up to its start, and a value
 pub take_out-length-requires-clause-last : goal.take_out-length-requires-clause-last
 take_out-length-requires-clause-last g c κs within =
     let laws = g.met.T.Integer g.world.𝓛 g.world.𝓜 g.world.𝓡
     ((λ s x. x), (λ x. x), (λ x. x), λ x. x) in
-    let rank = g.T.Integer.rank in
-    let n = g.T.Integer.value_count in
-    let order = last-order g.T.Ord.cmp rank n laws.in_order c.args.map.now.entries
-    (g.T.SafeLen.SafeLength.number c.args.total) c.requires.kept c.args.run c.requires.order
-    c.requires.value c.args.last c.requires.reaching in
+    put-last g.T.Ord.cmp laws.in_order (over c.args.run c.requires.kept c.requires.order c.requires.value c.requires.reaching) c.requires.start
+    c.requires.free c.greater-end.result c.greater-end.ensures c.insert.new.self.entries
+    c.in_ok-insert.ensures.entries
+
+-- where it is the only one that is swallowed, it is so with the new run
+pub take_out-length-requires-clause-alone : goal.take_out-length-requires-clause-alone
+take_out-length-requires-clause-alone g c κs within alone =
+    let laws = g.met.T.Integer g.world.𝓛 g.world.𝓜 g.world.𝓡
+    ((λ s x. x), (λ x. x), (λ x. x), λ x. x) in
+    put-swallowed g.T.Ord.cmp laws.in_order (over c.args.run c.requires.kept c.requires.order c.requires.value c.requires.reaching) c.requires.start
+    c.requires.free c.greater-end.result c.greater-end.ensures c.insert.new.self.entries
+    c.in_ok-insert.ensures.entries
+    ∙ sym (all-swallowed (over c.args.run c.requires.kept c.requires.order c.requires.value c.requires.reaching) c.requires.start)
+    ∙ c.requires.alone alone
+
+pub take_out-length-requires-clause-value : goal.take_out-length-requires-clause-value
+take_out-length-requires-clause-value g c κs within =
+    let order = last-order (over c.args.run c.requires.kept c.requires.order c.requires.value c.requires.reaching) in
     omega (arith, order.0, order.1)
 
 -- these have values, and no more than all
@@ -43,15 +50,9 @@ pub take_out-length-requires-clause-runs : goal.take_out-length-requires-clause-
 take_out-length-requires-clause-runs g c κs within =
     let laws = g.met.T.Integer g.world.𝓛 g.world.𝓜 g.world.𝓡
     ((λ s x. x), (λ x. x), (λ x. x), λ x. x) in
-    let rank = g.T.Integer.rank in
-    let n = g.T.Integer.value_count in
-    (taken-runs g.T.Ord.cmp rank n laws.in_order c.args.map.now.entries
-    (g.T.SafeLen.SafeLength.number c.args.total) c.requires.kept c.args.run c.requires.order
-    c.requires.value c.args.last c.requires.reaching c.requires.start
+    (taken-runs (over c.args.run c.requires.kept c.requires.order c.requires.value c.requires.reaching) c.requires.start
     c.insert.new.self.entries
-    (put-swallowed g.T.Ord.cmp rank n laws.in_order c.args.map.now.entries
-    (g.T.SafeLen.SafeLength.number c.args.total) c.requires.kept c.args.run c.requires.order
-    c.requires.value c.args.last c.requires.reaching c.requires.start
+    (put-swallowed g.T.Ord.cmp laws.in_order (over c.args.run c.requires.kept c.requires.order c.requires.value c.requires.reaching) c.requires.start
     c.requires.free c.greater-end.result c.greater-end.ensures c.insert.new.self.entries
     c.in_ok-insert.ensures.entries)).0
 
@@ -59,15 +60,9 @@ pub take_out-length-requires-clause-counted : goal.take_out-length-requires-clau
 take_out-length-requires-clause-counted g c κs within =
     let laws = g.met.T.Integer g.world.𝓛 g.world.𝓜 g.world.𝓡
     ((λ s x. x), (λ x. x), (λ x. x), λ x. x) in
-    let rank = g.T.Integer.rank in
-    let n = g.T.Integer.value_count in
-    (taken-runs g.T.Ord.cmp rank n laws.in_order c.args.map.now.entries
-    (g.T.SafeLen.SafeLength.number c.args.total) c.requires.kept c.args.run c.requires.order
-    c.requires.value c.args.last c.requires.reaching c.requires.start
+    (taken-runs (over c.args.run c.requires.kept c.requires.order c.requires.value c.requires.reaching) c.requires.start
     c.insert.new.self.entries
-    (put-swallowed g.T.Ord.cmp rank n laws.in_order c.args.map.now.entries
-    (g.T.SafeLen.SafeLength.number c.args.total) c.requires.kept c.args.run c.requires.order
-    c.requires.value c.args.last c.requires.reaching c.requires.start
+    (put-swallowed g.T.Ord.cmp laws.in_order (over c.args.run c.requires.kept c.requires.order c.requires.value c.requires.reaching) c.requires.start
     c.requires.free c.greater-end.result c.greater-end.ensures c.insert.new.self.entries
     c.in_ok-insert.ensures.entries)).1
 
@@ -83,16 +78,12 @@ add_length-requires-clause-fits g c κs within =
     let rank = g.T.Integer.rank in
     let n = g.T.Integer.value_count in
     let number = g.T.SafeLen.SafeLength.number in
-    let swallows = put-swallowed g.T.Ord.cmp rank n laws.in_order c.args.map.now.entries
-    (g.T.SafeLen.SafeLength.number c.args.total) c.requires.kept c.args.run c.requires.order
-    c.requires.value c.args.last c.requires.reaching c.requires.start
+    let swallows = put-swallowed g.T.Ord.cmp laws.in_order (over c.args.run c.requires.kept c.requires.order c.requires.value c.requires.reaching) c.requires.start
     c.requires.free c.greater-end.result c.greater-end.ensures c.insert.new.self.entries
     c.in_ok-insert.ensures.entries in
     let others = rw swallows at c.take_out-length.ensures.others in
     inserted-fits rank n c.args.map.now.entries c.take_out-length.new.map.entries c.args.run _
-    (put-joined g.T.Ord.cmp rank n laws.in_order c.args.map.now.entries
-    (g.T.SafeLen.SafeLength.number c.args.total) c.requires.kept c.args.run c.requires.order
-    c.requires.value c.args.last c.requires.reaching c.requires.start
+    (put-joined g.T.Ord.cmp laws.in_order (over c.args.run c.requires.kept c.requires.order c.requires.value c.requires.reaching) c.requires.start
     c.requires.free c.greater-end.result c.greater-end.ensures c.insert.new.self.entries
     c.in_ok-insert.ensures.entries c.take_out-length.new.map.entries
     (number c.take_out-length.result + length_of (record {
@@ -106,18 +97,12 @@ pub returns-clause-inserted : goal.returns-clause-inserted
 returns-clause-inserted g c =
     let laws = g.met.T.Integer g.world.𝓛 g.world.𝓜 g.world.𝓡
     ((λ s x. x), (λ x. x), (λ x. x), λ x. x) in
-    let rank = g.T.Integer.rank in
-    let n = g.T.Integer.value_count in
     let number = g.T.SafeLen.SafeLength.number in
-    let swallows = put-swallowed g.T.Ord.cmp rank n laws.in_order c.args.map.now.entries
-    (g.T.SafeLen.SafeLength.number c.args.total) c.requires.kept c.args.run c.requires.order
-    c.requires.value c.args.last c.requires.reaching c.requires.start
+    let swallows = put-swallowed g.T.Ord.cmp laws.in_order (over c.args.run c.requires.kept c.requires.order c.requires.value c.requires.reaching) c.requires.start
     c.requires.free c.greater-end.result c.greater-end.ensures c.insert.new.self.entries
     c.in_ok-insert.ensures.entries in
     let others = rw swallows at c.take_out-length.ensures.others in
-    put-joined g.T.Ord.cmp rank n laws.in_order c.args.map.now.entries
-    (g.T.SafeLen.SafeLength.number c.args.total) c.requires.kept c.args.run c.requires.order
-    c.requires.value c.args.last c.requires.reaching c.requires.start
+    put-joined g.T.Ord.cmp laws.in_order (over c.args.run c.requires.kept c.requires.order c.requires.value c.requires.reaching) c.requires.start
     c.requires.free c.greater-end.result c.greater-end.ensures c.insert.new.self.entries
     c.in_ok-insert.ensures.entries c.take_out-length.new.map.entries
     (number c.add_length.new.length) c.take_out-length.ensures.spared

@@ -3,7 +3,7 @@ use Rattle.rsb_integer.specs.Runs.{members}
 use Rattle.range_set_blaze.specs.Kept.{runs_of}
 use Rattle.range_set_blaze.specs.Places.{past}
 use Rattle.range_set_blaze.proofs.LookUpLemmas.{next-ends, next-free, next-order}
-use Rattle.range_set_blaze.proofs.PlacesLemmas.{kept-ascending}
+use Rattle.range_set_blaze.proofs.PointLemmas.{kept-ascending}
 use Rattle.range_set_blaze.proofs.set.look_up.gap_end.Goals as goal
 
 -- the starts of a set ascend

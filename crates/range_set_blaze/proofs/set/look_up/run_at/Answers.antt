@@ -1,7 +1,7 @@
 use Rattle.range_set_blaze.proofs.KeptLemmas.{lt-fails}
 use Rattle.rsb_integer.proofs.ListLemmas.{not_both}
 use Rattle.range_set_blaze.proofs.LookUpLemmas.{found-absent, found-around, found-order, found-present, none-absent}
-use Rattle.range_set_blaze.proofs.PlacesLemmas.{kept-ascending}
+use Rattle.range_set_blaze.proofs.PointLemmas.{kept-ascending}
 use Rattle.range_set_blaze.proofs.set.look_up.run_at.Goals as goal
 use Rattle.std.proofs.Common.{refl}
 
