@@ -3,11 +3,19 @@
 ghost use Rattle.std.specs.Prelude.{◌↔◌, IsTrue};
 ghost use Rattle.rsb_integer.specs.Runs.{members, IsCanonicalIn};
 ghost use Rattle.rsb_integer.specs.Selection.{IsEverything, IsNothing};
-ghost use Rattle.rsb_streams.specs.Stream.{◌⊆◌, GivesComplement, GivesUnion, IsDrawn, SomeOutcome};
+ghost use Rattle.rsb_streams.specs.Stream.{
+  ◌⊆◌,
+  GivesComplement,
+  GivesDifference,
+  GivesIntersection,
+  GivesUnion,
+  IsDrawn,
+  SomeOutcome,
+};
 
 use crate::draw::Draw;
 use crate::not_iter::NotIter;
-use crate::operation_results::Union;
+use crate::operation_results::{Difference, Intersection, Union};
 use rsb_integer::Integer;
 use std::iter::FusedIterator;
 use std::ops::RangeInclusive;
@@ -52,6 +60,34 @@ pub trait DrawDisjoint<T: Integer>: Draw<T> {
             (⟦<Union<T, Self, R> as Draw<T>>⟧.may_give result) }
     {
         Union::from((self, other))
+    }
+
+    /// What two streams that may be drawn from both have. It takes no memory.
+    /// (`SortedDisjoint::intersection`.)
+    final fn intersection<R: DrawDisjoint<T>>(self, other: R) -> Intersection<T, Self, R>
+    where
+        Self: Sized,
+        requires left { Self.can_draw self }
+        requires right { R.can_draw other }
+        ensures ready { ⟦<Intersection<T, Self, R> as Draw<T>>⟧.can_draw result }
+        ensures gives { GivesIntersection T.value_count (Self.may_give self) (R.may_give other)
+            (⟦<Intersection<T, Self, R> as Draw<T>>⟧.may_give result) }
+    {
+        Intersection::from((self, other))
+    }
+
+    /// What one of two streams that may be drawn from has and the other lacks. It takes no memory.
+    /// (`SortedDisjoint::difference`.)
+    final fn difference<R: DrawDisjoint<T>>(self, other: R) -> Difference<T, Self, R>
+    where
+        Self: Sized,
+        requires left { Self.can_draw self }
+        requires right { R.can_draw other }
+        ensures ready { ⟦<Difference<T, Self, R> as Draw<T>>⟧.can_draw result }
+        ensures gives { GivesDifference T.value_count (Self.may_give self) (R.may_give other)
+            (⟦<Difference<T, Self, R> as Draw<T>>⟧.may_give result) }
+    {
+        Difference::from((self, other))
     }
 
     /// Whether a stream that may be drawn from has no member. It draws one range, and takes no
