@@ -55,6 +55,14 @@ odd_of (set ∷ sets) rank = exclusive_or (set rank) (odd_of sets rank)
 abbrev pub Agree : ℕ → Selection → Selection → Type 0
 Agree n left right = (rank : ℕ) → rank < n → left rank ≡ right rank
 
+-- each rank below n that the left set has, the right one has
+abbrev pub IsSubset : ℕ → Selection → Selection → Type 0
+IsSubset n left right = (rank : ℕ) → rank < n → IsTrue (left rank) → IsTrue (right rank)
+
+-- no rank below n that the left set has, the right one has
+abbrev pub AreDisjoint : ℕ → Selection → Selection → Type 0
+AreDisjoint n left right = (rank : ℕ) → rank < n → IsTrue (left rank) → IsFalse (right rank)
+
 -- no rank is selected
 abbrev pub IsNothing : Selection → Type 0
 IsNothing selected = (rank : ℕ) → IsFalse (selected rank)

@@ -3,7 +3,7 @@
 use Rattle.std.proofs.Common.{◌≡◌, ℕ, Bool, true, false, ◌&&◌, ◌||◌, sym, ◌∙◌, List, not, refl, ap}
 use Rattle.std.proofs.Math.Bool.{not-not}
 use Rattle.rsb_integer.specs.Runs.{Interval, members}
-use Rattle.rsb_integer.specs.Selection.{Selection, Agree, complement, intersection, union}
+use Rattle.rsb_integer.specs.Selection.{Selection, Agree, complement, difference, intersection, union}
 use Rattle.rsb_integer.proofs.RunsLemmas.{runs-along, runs-members}
 use Rattle.rsb_streams.specs.Outcomes.{runs-exist}
 use Rattle.rsb_streams.specs.Stream.{Outcomes, ◌⊆◌, joined, just, runs_by, runs_by_two}
@@ -144,3 +144,25 @@ intersection-by_complements n P Q Gaps Others Union gaps others union runs may =
     joined-runs_by_two n intersection P Q runs
     (complement-twice n (runs_by_two n intersection P Q) Union
     (λ each at. union-of_complements n P Q Gaps Others gaps others each (union each at)) runs may)
+
+-- what is neither outside the one nor in the other is in the one and not in the other
+not-outside : (left right : Bool) → not (not left || right) ≡ (left && not right)
+not-outside true right = refl
+not-outside false right = refl
+
+-- the complement of the union of one's complement with another is the difference
+pub difference-by_complements : (n : ℕ) (P Q Gaps Union : Outcomes)
+    → Gaps ⊆ runs_by n complement P → Union ⊆ runs_by_two n union Gaps Q
+    → runs_by n complement Union ⊆ runs_by_two n difference P Q
+difference-by_complements n P Q Gaps Union gaps either runs may = λ nothing. may (λ given at all.
+    either given at (λ left right might also union_runs.
+    gaps left might (λ one may_one gaps_runs.
+    nothing one right may_one also
+    (runs-along n (complement (members given)) (difference (members one) (members right)) runs
+    (λ rank below.
+    ap not (runs-members n (union (members left) (members right)) given union_runs rank
+    below)
+    ∙ ap (λ test. not (test || members right rank))
+    (runs-members n (complement (members one)) left gaps_runs rank below)
+    ∙ not-outside (members one rank) (members right rank))
+    all))))

@@ -2,6 +2,7 @@ pub mod ArraySources
 pub mod CallerLemmas
 pub mod CheckLemmas
 pub mod Compare
+pub mod EqualTurns
 pub mod FirstItems
 pub mod LawfulSources
 pub mod ListedSources
@@ -11,6 +12,7 @@ pub mod NotTurns
 pub mod OperationLemmas
 pub mod SourceLemmas
 pub mod Sources
+pub mod TestLemmas
 pub mod TryNewLemmas
 pub mod UnionLemmas
 pub mod UnionTurns

@@ -2,7 +2,9 @@ pub mod Ascending
 pub mod AssumeSortedStarts
 pub mod Calls
 pub mod CheckSortedDisjoint
+pub mod Difference
 pub mod Fused
+pub mod Intersection
 pub mod Listed
 pub mod Merge
 pub mod NotIter

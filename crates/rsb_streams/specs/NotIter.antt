@@ -5,7 +5,7 @@ use Rattle.std.specs.Prelude.{Option, Some, None, IfSome, is_none}
 use Rattle.std.specs.Iterator.{Count, count_map, count_unless}
 use Rattle.rsb_integer.specs.Runs.{Interval, members, IsCanonicalFrom, IsCanonicalIn}
 use Rattle.rsb_integer.proofs.RunsLemmas.{runs-canonical}
-use Rattle.rsb_streams.specs.Outcomes.{runs-exist, settled_canonical_in}
+use Rattle.rsb_streams.specs.Outcomes.{canonical-starts, runs-exist, settled_canonical_in}
 use Rattle.rsb_streams.specs.Stream.{Outcomes, ◌⊆◌, gaps_from, runs_by, HasSortedStarts, Keeps}
 use Rattle.rsb_streams.specs.declared.not_iter.NotIter.{NotIter}
 
@@ -64,3 +64,8 @@ module _ {T I : Type 0} (rank : T → ℕ) (n : ℕ) (can_next : I → Type 0) (
       → Keeps (IsCanonicalIn n) (not_may_give rank n may_give s)
       (not_remaining remaining s)
   not-keeps s ready = keeps-by s.start s.iter ready
+
+  -- and so no start falls
+  pub not-starts : (s : NotIter T I) → not_can_next rank n can_next may_give s
+      → Keeps (HasSortedStarts n) (not_may_give rank n may_give s) (not_remaining remaining s)
+  not-starts s ready = canonical-starts n _ _ (not-keeps s ready)

@@ -5,7 +5,7 @@ use Rattle.std.specs.declared.ops.RangeInclusive.{RangeInclusive}
 use Rattle.std.specs.Iterator.{Count, IsFinite}
 use Rattle.rsb_integer.specs.Rank.{interval_of}
 use Rattle.rsb_integer.specs.Runs.{Interval, members, AreRuns}
-use Rattle.rsb_integer.specs.Selection.{Selection, complement, union}
+use Rattle.rsb_integer.specs.Selection.{Selection, complement, difference, intersection, union}
 
 -- ---- lists of intervals
 
@@ -131,6 +131,14 @@ GivesComplement n of given = given ⊆ runs_by n complement of
 -- a stream made of two others gives nothing but runs of their union
 abbrev pub GivesUnion : ℕ → Outcomes → Outcomes → Outcomes → Type 0
 GivesUnion n left right given = given ⊆ runs_by_two n union left right
+
+-- a stream made of two others gives nothing but runs of what both have
+abbrev pub GivesIntersection : ℕ → Outcomes → Outcomes → Outcomes → Type 0
+GivesIntersection n left right given = given ⊆ runs_by_two n intersection left right
+
+-- a stream made of two others gives nothing but runs of what the left has and the right lacks
+abbrev pub GivesDifference : ℕ → Outcomes → Outcomes → Outcomes → Type 0
+GivesDifference n left right given = given ⊆ runs_by_two n difference left right
 
 -- a stream may be called, and the fact holds of what it gives
 pub record IsReadyAnd {S : Type 0} (can_next : S → Type 0) (s : S) (Gives : Type 0) : Type 0 where

@@ -21,7 +21,7 @@ pub use draw::Draw;
 pub use merge::Merge;
 pub use not_iter::NotIter;
 pub use not_sorted_disjoint::NotSortedDisjoint;
-pub use operation_results::Union;
+pub use operation_results::{Difference, Intersection, Union};
 pub use range_once::RangeOnce;
 pub use sorted_disjoint::{AnythingGoes, DrawDisjoint, SortedDisjoint, SortedStarts};
 pub use union_iter::UnionIter;

@@ -2,12 +2,21 @@
 
 ghost use Rattle.std.specs.Prelude.{◌↔◌, IsTrue};
 ghost use Rattle.rsb_integer.specs.Runs.{members, IsCanonicalIn};
-ghost use Rattle.rsb_integer.specs.Selection.{IsEverything, IsNothing};
-ghost use Rattle.rsb_streams.specs.Stream.{◌⊆◌, GivesComplement, GivesUnion, IsDrawn, SomeOutcome};
+ghost use Rattle.rsb_integer.specs.Selection.{Agree, AreDisjoint, IsEverything, IsNothing, IsSubset};
+ghost use Rattle.rsb_streams.specs.Stream.{
+  ◌⊆◌,
+  GivesComplement,
+  GivesDifference,
+  GivesIntersection,
+  GivesUnion,
+  IsDrawn,
+  SomeOutcome,
+  SomeOutcomes,
+};
 
 use crate::draw::Draw;
 use crate::not_iter::NotIter;
-use crate::operation_results::Union;
+use crate::operation_results::{Difference, Intersection, Union};
 use rsb_integer::Integer;
 use std::iter::FusedIterator;
 use std::ops::RangeInclusive;
@@ -54,6 +63,34 @@ pub trait DrawDisjoint<T: Integer>: Draw<T> {
         Union::from((self, other))
     }
 
+    /// What two streams that may be drawn from both have. It takes no memory.
+    /// (`SortedDisjoint::intersection`.)
+    final fn intersection<R: DrawDisjoint<T>>(self, other: R) -> Intersection<T, Self, R>
+    where
+        Self: Sized,
+        requires left { Self.can_draw self }
+        requires right { R.can_draw other }
+        ensures ready { ⟦<Intersection<T, Self, R> as Draw<T>>⟧.can_draw result }
+        ensures gives { GivesIntersection T.value_count (Self.may_give self) (R.may_give other)
+            (⟦<Intersection<T, Self, R> as Draw<T>>⟧.may_give result) }
+    {
+        Intersection::from((self, other))
+    }
+
+    /// What one of two streams that may be drawn from has and the other lacks. It takes no memory.
+    /// (`SortedDisjoint::difference`.)
+    final fn difference<R: DrawDisjoint<T>>(self, other: R) -> Difference<T, Self, R>
+    where
+        Self: Sized,
+        requires left { Self.can_draw self }
+        requires right { R.can_draw other }
+        ensures ready { ⟦<Difference<T, Self, R> as Draw<T>>⟧.can_draw result }
+        ensures gives { GivesDifference T.value_count (Self.may_give self) (R.may_give other)
+            (⟦<Difference<T, Self, R> as Draw<T>>⟧.may_give result) }
+    {
+        Difference::from((self, other))
+    }
+
     /// Whether a stream that may be drawn from has no member. It draws one range, and takes no
     /// memory. (`SortedDisjoint::is_empty`.)
     final fn is_empty(self) -> bool
@@ -85,6 +122,71 @@ pub trait DrawDisjoint<T: Integer>: Draw<T> {
             return false;
         }
         T::max_value() <= end
+    }
+
+    /// Whether two streams that may be drawn from have the same members. It draws from both in
+    /// turn, up to the first range that is not the other's or to both ends, and takes no memory.
+    /// (`SortedDisjoint::equal`.)
+    final fn equal<R: DrawDisjoint<T>>(self, other: R) -> bool
+    where
+        Self: Sized,
+        requires left { Self.can_draw self }
+        requires right { R.can_draw other }
+        ensures { SomeOutcomes (Self.may_give self) (R.may_give other) (λ left right.
+            IsTrue result ↔ Agree T.value_count (members left) (members right)) }
+    {
+        let mut left = self;
+        let mut right = other;
+        while let Some(range) = left.draw() {
+            let Some(counterpart) = right.draw() else {
+                return false;
+            };
+            if range != counterpart {
+                return false;
+            }
+        }
+        right.draw().is_none()
+    }
+
+    /// Whether each member of a stream that may be drawn from is one of another. Where some are not,
+    /// it draws from both no further than to the second run of those, and one range more of each;
+    /// else to both ends. It takes no memory. (`SortedDisjoint::is_subset`.)
+    final fn is_subset<R: DrawDisjoint<T>>(self, other: R) -> bool
+    where
+        Self: Sized,
+        requires left { Self.can_draw self }
+        requires right { R.can_draw other }
+        ensures { SomeOutcomes (Self.may_give self) (R.may_give other) (λ left right.
+            IsTrue result ↔ IsSubset T.value_count (members left) (members right)) }
+    {
+        self.difference(other).is_empty()
+    }
+
+    /// Whether each member of another stream is one of this one, both of which may be drawn from. It
+    /// draws as `is_subset` of the other does. (`SortedDisjoint::is_superset`.)
+    final fn is_superset<R: DrawDisjoint<T>>(self, other: R) -> bool
+    where
+        Self: Sized,
+        requires left { Self.can_draw self }
+        requires right { R.can_draw other }
+        ensures { SomeOutcomes (Self.may_give self) (R.may_give other) (λ left right.
+            IsTrue result ↔ IsSubset T.value_count (members right) (members left)) }
+    {
+        other.is_subset(self)
+    }
+
+    /// Whether two streams that may be drawn from have no member in common. Where they have some, it
+    /// draws from both no further than to the second run of those, and one range more of each; else
+    /// to both ends. It takes no memory. (`SortedDisjoint::is_disjoint`.)
+    final fn is_disjoint<R: DrawDisjoint<T>>(self, other: R) -> bool
+    where
+        Self: Sized,
+        requires left { Self.can_draw self }
+        requires right { R.can_draw other }
+        ensures { SomeOutcomes (Self.may_give self) (R.may_give other) (λ left right.
+            IsTrue result ↔ AreDisjoint T.value_count (members left) (members right)) }
+    {
+        self.intersection(other).is_empty()
     }
 
     // What may come of a stream that may be drawn from is canonical.

@@ -2,7 +2,14 @@
 
 ghost use Rattle.rsb_streams.specs.Outcomes.{canonical-starts};
 ghost use Rattle.rsb_streams.specs.PutBack.{IsFresh};
-ghost use Rattle.rsb_streams.specs.Stream.{◌⊆◌, drawn-itself, joined, AnswersAndRests};
+ghost use Rattle.rsb_streams.specs.Stream.{
+  ◌⊆◌,
+  drawn-itself,
+  joined,
+  AnswersAndRests,
+  GivesUnion,
+  IsReadyAnd,
+};
 ghost use Rattle.rsb_streams.specs.UnionIter.{
   union-keeps,
   union_can_next,
@@ -11,6 +18,7 @@ ghost use Rattle.rsb_streams.specs.UnionIter.{
 };
 
 use crate::draw::Draw;
+use crate::merge::Merge;
 use crate::put_back::PutBack;
 use crate::sorted_disjoint::{DrawDisjoint, SortedDisjoint, SortedStarts};
 use rsb_integer::Integer;
@@ -45,6 +53,20 @@ impl<T: Integer, SS: Draw<T>> UnionIter<T, SS> {
             ⊆ joined T.value_count (SS.may_give iter) }
     {
         UnionIter::over(iter)
+    }
+}
+
+impl<T: Integer, L: Draw<T>, R: Draw<T>> From<(L, R)> for UnionIter<T, Merge<T, L, R>> {
+    // The union of two streams that may be called, of which nothing is drawn yet.
+    ghost from_gives = { λ streams result. L.can_draw streams.0 → R.can_draw streams.1
+        → IsReadyAnd ⟦<UnionIter<T, Merge<T, L, R>> as Draw<T>>⟧.can_draw result
+        (GivesUnion T.value_count (L.may_give streams.0) (R.may_give streams.1)
+        (⟦<UnionIter<T, Merge<T, L, R>> as Draw<T>>⟧.may_give result)) };
+
+    fn from(streams: (L, R)) -> Self {
+        let (left, right) = streams;
+        let merge = Merge::of(left, right);
+        UnionIter::over(merge)
     }
 }
 

@@ -3,8 +3,8 @@ use Rattle.rsb_streams.specs.Stream.{AnswersAndRests}
 use Rattle.rsb_streams.specs.declared.merge.Merge.{Merge}
 use Rattle.rsb_streams.proofs.OperationLemmas.{union-of_merge}
 use Rattle.rsb_streams.proofs.Sources.{Source, fresh-may, fresh-ready}
-use Rattle.rsb_streams.proofs.operation_results.UnionFromTuple2.from.Given.{Over}
-use Rattle.rsb_streams.proofs.operation_results.UnionFromTuple2.from.Goals as goal
+use Rattle.rsb_streams.proofs.union_iter.UnionIterMergeFromTuple2.from.Given.{Over}
+use Rattle.rsb_streams.proofs.union_iter.UnionIterMergeFromTuple2.from.Goals as goal
 
 abbrev left : (g : Over) → Source g.row.L.Denot g.row.T.Denot
 left g = record {

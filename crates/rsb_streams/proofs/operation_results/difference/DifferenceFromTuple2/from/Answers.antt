@@ -1,0 +1,14 @@
+use Rattle.rsb_streams.proofs.CallerLemmas.{difference-by_complements}
+use Rattle.rsb_streams.proofs.operation_results.difference.DifferenceFromTuple2.from.Goals as goal
+
+-- the gaps of what lies outside the left or in the right
+pub returns : goal.returns
+returns g c = λ left_can right_can.
+    let gaps = c.from-gaps.ensures left_can in
+    let outside = c.from-outside.ensures gaps.ready right_can in
+    let inside = c.from.ensures outside.ready in
+    record {
+      ready = inside.ready;
+      gives = λ runs may. difference-by_complements g.T.Integer.value_count _ _ _ _
+          gaps.gives outside.gives runs (inside.gives runs may);
+    }
