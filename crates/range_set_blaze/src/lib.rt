@@ -10,7 +10,8 @@ pub mod ranges_iter;
 pub mod set;
 
 pub use crate::prelude::{
-    AnythingGoes, AssumeSortedStarts, CheckSortedDisjoint, Draw, DrawDisjoint, Integer,
-    IntoRangeSetBlaze, IntoRangesIter, Merge, NotIter, NotSortedDisjoint, RangeOnce, RangeSetBlaze,
-    RangesIter, SafeLength, SortedDisjoint, SortedStarts, UInt, UIntPlusOne, Union, UnionIter,
+    AnythingGoes, AssumeSortedStarts, CheckSortedDisjoint, Difference, Draw, DrawDisjoint, Integer,
+    Intersection, IntoRangeSetBlaze, IntoRangesIter, Merge, NotIter, NotSortedDisjoint, RangeOnce,
+    RangeSetBlaze, RangesIter, SafeLength, SortedDisjoint, SortedStarts, UInt, UIntPlusOne, Union,
+    UnionIter,
 };

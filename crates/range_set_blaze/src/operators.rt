@@ -1,13 +1,19 @@
-//! The operators `|` and `!` on the runs of a set.
+//! The operators on the runs of a set.
 
-ghost use Rattle.rsb_streams.specs.Stream.{GivesComplement, GivesUnion, IsReadyAnd};
+ghost use Rattle.rsb_streams.specs.Stream.{
+  GivesComplement,
+  GivesDifference,
+  GivesIntersection,
+  GivesUnion,
+  IsReadyAnd,
+};
 
 use crate::into_ranges_iter::IntoRangesIter;
 use crate::ranges_iter::RangesIter;
 use rsb_integer::Integer;
-use rsb_streams::{Draw, DrawDisjoint, NotIter, Union};
+use rsb_streams::{Difference, Draw, DrawDisjoint, Intersection, NotIter, Union};
 use std::alloc::Allocator;
-use std::ops::{BitOr, Not};
+use std::ops::{BitAnd, BitOr, Not, Sub};
 
 impl<'a, T: Integer, R: DrawDisjoint<T>> BitOr<R> for RangesIter<'a, T> {
     type Output = Union<T, RangesIter<'a, T>, R>;
@@ -23,6 +29,40 @@ impl<'a, T: Integer, R: DrawDisjoint<T>> BitOr<R> for RangesIter<'a, T> {
 
     fn bitor(self, other: R) -> Self::Output {
         Union::from((self, other))
+    }
+}
+
+impl<'a, T: Integer, R: DrawDisjoint<T>> BitAnd<R> for RangesIter<'a, T> {
+    type Output = Intersection<T, RangesIter<'a, T>, R>;
+
+    ghost can_bitand = { λ left right.
+        (⟦<RangesIter<'a, T> as Draw<T>>⟧.can_draw left) × (R.can_draw right) };
+
+    ghost bitand_gives = { λ left right result.
+        IsReadyAnd ⟦<Intersection<T, RangesIter<'a, T>, R> as Draw<T>>⟧.can_draw result
+        (GivesIntersection T.value_count
+        (⟦<RangesIter<'a, T> as Draw<T>>⟧.may_give left) (R.may_give right)
+        (⟦<Intersection<T, RangesIter<'a, T>, R> as Draw<T>>⟧.may_give result)) };
+
+    fn bitand(self, other: R) -> Self::Output {
+        Intersection::from((self, other))
+    }
+}
+
+impl<'a, T: Integer, R: DrawDisjoint<T>> Sub<R> for RangesIter<'a, T> {
+    type Output = Difference<T, RangesIter<'a, T>, R>;
+
+    ghost can_sub = { λ left right.
+        (⟦<RangesIter<'a, T> as Draw<T>>⟧.can_draw left) × (R.can_draw right) };
+
+    ghost sub_gives = { λ left right result.
+        IsReadyAnd ⟦<Difference<T, RangesIter<'a, T>, R> as Draw<T>>⟧.can_draw result
+        (GivesDifference T.value_count
+        (⟦<RangesIter<'a, T> as Draw<T>>⟧.may_give left) (R.may_give right)
+        (⟦<Difference<T, RangesIter<'a, T>, R> as Draw<T>>⟧.may_give result)) };
+
+    fn sub(self, other: R) -> Self::Output {
+        Difference::from((self, other))
     }
 }
 
@@ -56,6 +96,40 @@ impl<T: Integer, A: Allocator, R: DrawDisjoint<T>> BitOr<R> for IntoRangesIter<T
 
     fn bitor(self, other: R) -> Self::Output {
         Union::from((self, other))
+    }
+}
+
+impl<T: Integer, A: Allocator, R: DrawDisjoint<T>> BitAnd<R> for IntoRangesIter<T, A> {
+    type Output = Intersection<T, IntoRangesIter<T, A>, R>;
+
+    ghost can_bitand = { λ left right.
+        (⟦<IntoRangesIter<T, A> as Draw<T>>⟧.can_draw left) × (R.can_draw right) };
+
+    ghost bitand_gives = { λ left right result.
+        IsReadyAnd ⟦<Intersection<T, IntoRangesIter<T, A>, R> as Draw<T>>⟧.can_draw result
+        (GivesIntersection T.value_count
+        (⟦<IntoRangesIter<T, A> as Draw<T>>⟧.may_give left) (R.may_give right)
+        (⟦<Intersection<T, IntoRangesIter<T, A>, R> as Draw<T>>⟧.may_give result)) };
+
+    fn bitand(self, other: R) -> Self::Output {
+        Intersection::from((self, other))
+    }
+}
+
+impl<T: Integer, A: Allocator, R: DrawDisjoint<T>> Sub<R> for IntoRangesIter<T, A> {
+    type Output = Difference<T, IntoRangesIter<T, A>, R>;
+
+    ghost can_sub = { λ left right.
+        (⟦<IntoRangesIter<T, A> as Draw<T>>⟧.can_draw left) × (R.can_draw right) };
+
+    ghost sub_gives = { λ left right result.
+        IsReadyAnd ⟦<Difference<T, IntoRangesIter<T, A>, R> as Draw<T>>⟧.can_draw result
+        (GivesDifference T.value_count
+        (⟦<IntoRangesIter<T, A> as Draw<T>>⟧.may_give left) (R.may_give right)
+        (⟦<Difference<T, IntoRangesIter<T, A>, R> as Draw<T>>⟧.may_give result)) };
+
+    fn sub(self, other: R) -> Self::Output {
+        Difference::from((self, other))
     }
 }
 

@@ -7,6 +7,7 @@ pub use crate::set::RangeSetBlaze;
 pub use rsb_integer::Integer;
 pub use rsb_length::{SafeLength, UInt, UIntPlusOne};
 pub use rsb_streams::{
-    AnythingGoes, AssumeSortedStarts, CheckSortedDisjoint, Draw, DrawDisjoint, Merge, NotIter,
-    NotSortedDisjoint, RangeOnce, SortedDisjoint, SortedStarts, Union, UnionIter,
+    AnythingGoes, AssumeSortedStarts, CheckSortedDisjoint, Difference, Draw, DrawDisjoint,
+    Intersection, Merge, NotIter, NotSortedDisjoint, RangeOnce, SortedDisjoint, SortedStarts,
+    Union, UnionIter,
 };

@@ -5,6 +5,7 @@ pub mod Compare
 pub mod EqualTurns
 pub mod FirstItems
 pub mod LawfulSources
+pub mod ListedCallers
 pub mod ListedSources
 pub mod MergeTurns
 pub mod NotLemmas

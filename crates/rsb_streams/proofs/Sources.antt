@@ -7,10 +7,9 @@ use Rattle.std.specs.declared.ops.RangeInclusive.{RangeInclusive}
 use Rattle.rsb_integer.specs.Rank.{interval_of}
 use Rattle.rsb_integer.specs.Runs.{Interval}
 use Rattle.rsb_integer.proofs.RangeLemmas.{interval_of-some}
-use Rattle.rsb_streams.specs.Fused.{fused_can, fused_may_give}
-use Rattle.rsb_streams.specs.PutBack.{HasRoom, IsFresh, IsPutBack, PutBackReady, PutBackSteps, put_back_may_give, put_back_remaining, put_back-answers, put_back-keeps}
+use Rattle.rsb_streams.specs.Fused.{Fused, fused_can, fused_left, fused_may_give}
+use Rattle.rsb_streams.specs.PutBack.{HasRoom, IsFresh, IsPutBack, PutBackReady, PutBackSteps, fused_of, put_back_may_give, put_back_remaining, put_back-answers, put_back-keeps}
 use Rattle.rsb_streams.specs.Stream.{Outcomes, ◌⊆◌, after, unless, HasSortedStarts, Answers, IsDrawn, Keeps}
-use Rattle.rsb_streams.specs.declared.fused.Fused.{Fused}
 use Rattle.rsb_streams.specs.declared.put_back.PutBack.{PutBack}
 
 -- the members of `SortedStarts`
@@ -104,7 +103,7 @@ module _ {S T : Type 0} (rank : T → ℕ) (n : ℕ) (source : Source S T) where
       → (rest : List Interval) × held_source.may_give s rest
       × (runs ≡ interval_of rank range ∷ rest)
   put_back-may range s t runs room put may =
-      may-by range s.held t.held s.iter t.iter runs room put.held put.iter may
+      may-by range s.held t.held (fused_of s) (fused_of t) runs room put.held put.iter may
 
   -- the stream may be called where no start falls of the range and what was still to come
   pub put_back-ready : (range : RangeInclusive T) (s t : PutBack T S) → HasRoom s
@@ -124,7 +123,9 @@ module _ {S T : Type 0} (rank : T → ℕ) (n : ℕ) (source : Source S T) where
   pub put_back-size : (range : RangeInclusive T) (s t : PutBack T S) → HasRoom s
       → IsPutBack range s t
       → size (held_source.remaining t) ≡ size (held_source.remaining s) + 1
-  put_back-size range s t room put = rw (put.iter, put.held, room) (omega arith)
+  put_back-size range s t room put =
+      let left = ap (λ (each : Fused S). size (fused_left source.remaining each)) put.iter in
+      rw (put.held, room) (omega (arith, left))
 
   -- ---- a stream of which nothing is drawn yet
   fresh-by : (held : Option (RangeInclusive T)) (done : Bool) (iter s : S) → held ≡ None → done
@@ -138,7 +139,7 @@ module _ {S T : Type 0} (rank : T → ℕ) (n : ℕ) (source : Source S T) where
   -- it gives what the stream gives
   pub fresh-may : (iter : S) (s : PutBack T S) → IsFresh iter s
       → held_source.may_give s ⊆ source.may_give iter
-  fresh-may iter s fresh = fresh-by s.held s.iter.done s.iter.iter iter fresh.room
+  fresh-may iter s fresh = fresh-by s.held s.done s.iter iter fresh.room
       fresh.undone fresh.source
 
   -- and may be called where the stream may

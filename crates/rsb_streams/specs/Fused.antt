@@ -1,4 +1,4 @@
--- Streams in a `Fuse` of std or in a `Fused`, which may be called after `None`.
+-- Streams that are not asked again once they have ended: in a `Fuse` of std, or with a flag.
 use Rattle.std.proofs.Common.{◌≡◌, ℕ, Bool, true, false, List, [], ◌∷◌, refl}
 use Rattle.std.specs.Prelude.{Option, Some, None, MatchBool, MatchOption}
 use Rattle.std.specs.declared.iter.Fuse.{Fuse}
@@ -8,7 +8,6 @@ use Rattle.std.specs.Iterator.Adapters.{fuse_done, fuse_source, fuse_steps}
 use Rattle.rsb_integer.specs.Rank.{interval_of}
 use Rattle.rsb_integer.specs.Runs.{Interval}
 use Rattle.rsb_streams.specs.Stream.{Outcomes, ◌⊆◌, just, unless, Answers, Rests, Keeps}
-use Rattle.rsb_streams.specs.declared.fused.Fused.{Fused}
 
 -- what a stream in a `Fuse` may give: nothing once it has ended
 abbrev pub fuse_may_give : {S : Type 0} → (S → Outcomes) → Fuse S → Outcomes
@@ -22,7 +21,12 @@ fuse_can_next can_next s = fuse_done s ≡ false → can_next (fuse_source s)
 abbrev pub fuse_remaining : {S : Type 0} → (S → Count) → Fuse S → Count
 fuse_remaining remaining s = count_unless (fuse_done s) (remaining (fuse_source s))
 
--- what a stream in a `Fused` may give: nothing once it has ended
+-- a stream, and whether it has ended
+pub record Fused (S : Type 0) : Type 0 where
+  pub iter : S
+  pub done : Bool
+
+-- what such a stream may give: nothing once it has ended
 abbrev pub fused_may_give : {S : Type 0} → (S → Outcomes) → Fused S → Outcomes
 fused_may_give may_give s = unless s.done (may_give s.iter)
 
@@ -63,7 +67,7 @@ module _ {S T : Type 0} (rank : T → ℕ) (may_give : S → Outcomes)
   fuse-answers s t item call =
       answers-by (fuse_done s) (fuse_done t) (fuse_source s) (fuse_source t) item call.0 call.1
 
-  -- the same of a `Fused`
+  -- the same with a flag
   pub fused-answers : (s t : Fused S) (item : Option (RangeInclusive T)) → fused_steps steps s item t
       → Answers rank (fused_may_give may_give) s item t
   fused-answers s t item call = answers-by s.done t.done s.iter t.iter item call.0 call.1
@@ -82,7 +86,7 @@ module _ {S T : Type 0} (may_give : S → Outcomes) (can_next : S → Type 0)
   fuse-rests s t None call = rests-by (fuse_done t) (fuse_source t) call.1
   fuse-rests s t (Some range) call = tt
 
-  -- the same of a `Fused`
+  -- the same with a flag
   pub fused-rests : (s t : Fused S) → fused_steps steps s None t
       → fused_can can_next t × (fused_may_give may_give t ⊆ just [])
   fused-rests s t call = rests-by t.done t.iter call.1
@@ -107,7 +111,7 @@ module _ {S : Type 0} (may_give : S → Outcomes) (can_next : S → Type 0) (rem
       → Keeps law (fuse_may_give may_give s) (fuse_remaining remaining s)
   fuse-keeps s can = keeps-by (fuse_done s) (fuse_source s) can
 
-  -- the same of a `Fused`
+  -- the same with a flag
   pub fused-keeps : (s : Fused S) → fused_can can_next s
       → Keeps law (fused_may_give may_give s) (fused_left remaining s)
   fused-keeps s can = keeps-by s.done s.iter can

@@ -4,7 +4,6 @@
 pub mod assume_sorted_starts;
 pub mod check_sorted_disjoint;
 pub mod draw;
-mod fused;
 pub mod merge;
 pub mod not_iter;
 mod not_sorted_disjoint;

@@ -13,7 +13,6 @@ ghost use Rattle.rsb_streams.specs.PutBack.{
 };
 
 use crate::draw::Draw;
-use crate::fused::Fused;
 use rsb_integer::Integer;
 use std::ops::RangeInclusive;
 
@@ -21,7 +20,9 @@ use std::ops::RangeInclusive;
 #[derive(Clone, Debug, Drop)]
 pub(crate) struct PutBack<T, I> {
     held: Option<RangeInclusive<T>>,
-    iter: Fused<I>,
+    iter: I,
+    // Whether the source has ended: it is not asked again then.
+    done: bool,
 }
 
 impl<T, I> PutBack<T, I> {
@@ -31,7 +32,8 @@ impl<T, I> PutBack<T, I> {
     {
         PutBack {
             held: None,
-            iter: Fused::new(iter),
+            iter,
+            done: false,
         }
     }
 }
@@ -56,10 +58,15 @@ impl<T: Integer, I: Draw<T>> Draw<T> for PutBack<T, I> {
     ghost may_give = { put_back_may_give T.rank I.may_give };
 
     fn draw(&mut self) -> Option<RangeInclusive<T>> {
-        match self.held.take() {
-            Some(range) => Some(range),
-            None => self.iter.draw(),
+        if let Some(range) = self.held.take() {
+            return Some(range);
         }
+        if self.done {
+            return None;
+        }
+        let range = self.iter.draw();
+        self.done = range.is_none();
+        range
     }
 
     ghost answers = { put_back-answers T.rank T.value_count I.can_draw I.may_give I.draw_gives
