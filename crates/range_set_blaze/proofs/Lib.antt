@@ -1,6 +1,7 @@
 pub mod AloneLemmas
 pub mod BoundsLemmas
 pub mod BulkLemmas
+pub mod CutLemmas
 pub mod EndLemmas
 pub mod EntriesLemmas
 pub mod InsertLemmas
@@ -12,6 +13,7 @@ pub mod PartsLemmas
 pub mod PointLemmas
 pub mod PutOverLemmas
 pub mod RangesLemmas
+pub mod RemoveLemmas
 pub mod SwallowLemmas
 pub mod TakeLastLemmas
 pub mod TakeOutLemmas

@@ -1,11 +1,11 @@
 -- Where a run lies among the entries of a map, and what an insertion makes of them.
 use Rattle.std.specs.Prelude.{◌≡◌, ℕ, nat_le, nat_lt, ◌+◌, ◌≤◌, IsTrue, List, [], ◌∷◌, ◌++◌, Option, MatchOption}
 use Rattle.std.specs.List.{filter}
-use Rattle.rsb_integer.specs.Runs.{Interval, covers, members}
-use Rattle.rsb_integer.specs.Selection.{Selection}
+use Rattle.rsb_integer.specs.Runs.{Interval, covers, members, IsCanonicalIn}
+use Rattle.rsb_integer.specs.Selection.{Selection, count}
 use Rattle.rsb_integer.proofs.CanonicalLemmas.{next_start}
 use Rattle.range_set_blaze.specs.Kept.{entry_of, run_of, runs_of, IsKept}
-use Rattle.range_set_blaze.specs.Set.{Adds, LacksSomeOf}
+use Rattle.range_set_blaze.specs.Set.{only, Adds, LacksSomeOf, Removes}
 use Rattle.range_set_blaze.specs.declared.set.run.Run.{Run}
 
 -- the list has this item last
@@ -62,3 +62,10 @@ pub record IsInserted {T : Type 0} (rank : T → ℕ) (n : ℕ) (old new : List 
   pub kept : IsKept rank n new length
   pub adds : Adds (runs_of rank old) (runs_of rank new) (λ point. covers point (run_of rank run))
   pub lacks : LacksSomeOf (runs_of rank old) (λ point. covers point (run_of rank run))
+
+-- the new entries are canonical, and have the members of the old ones but one, which those have
+pub record IsRemoved {T : Type 0} (rank : T → ℕ) (n : ℕ) (old new : List (T × T)) (point : ℕ)
+    : Type 0 where
+  pub canonical : IsCanonicalIn n (runs_of rank new)
+  pub removes : Removes (runs_of rank old) (runs_of rank new) (only point)
+  pub counted : count n (members (runs_of rank new)) + 1 ≡ count n (members (runs_of rank old))

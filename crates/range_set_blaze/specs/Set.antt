@@ -4,7 +4,7 @@ use Rattle.std.specs.Prelude.{◌≡◌, ℕ, ◌&&◌, ◌==◌, ◌+◌, ◌<�
 use Rattle.std.specs.declared.ops.Bound.{Bound}
 use Rattle.std.specs.declared.ops.Bound.TheVariants.{Included, Excluded, Unbounded}
 use Rattle.rsb_integer.specs.Runs.{Interval, covers, members, IsMaximalRun}
-use Rattle.rsb_integer.specs.Selection.{Selection, union}
+use Rattle.rsb_integer.specs.Selection.{Selection, difference, union}
 
 -- ---- selections of ranks
 
@@ -38,6 +38,10 @@ ranks_in rank n start_bound end_bound range = between rank n (start_bound range)
 -- the new set has the members of the old one and the added ranks, and no others
 abbrev pub Adds : List Interval → List Interval → Selection → Type 0
 Adds old new added = (rank : ℕ) → members new rank ≡ union (members old) added rank
+
+-- the new set has the members of the old one but the removed ranks, and no others
+abbrev pub Removes : List Interval → List Interval → Selection → Type 0
+Removes old new removed = (rank : ℕ) → members new rank ≡ difference (members old) removed rank
 
 -- the set has the ranks of the interval, and no others
 abbrev pub HasExactly : List Interval → Interval → Type 0

@@ -9,7 +9,9 @@ ghost use Rattle.range_set_blaze.specs.Set.{IsGreatest, IsLeast};
 mod bulk;
 mod entries;
 mod insert;
+mod lengths;
 mod look_up;
+mod remove;
 pub(crate) mod run;
 
 use crate::ranges_iter::RangesIter;

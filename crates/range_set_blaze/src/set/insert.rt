@@ -10,6 +10,7 @@ ghost use Rattle.range_set_blaze.specs.Set.{first_rank, only, past_rank, ranks_i
 
 use crate::set::RangeSetBlaze;
 use crate::set::entries::{last_run, move_end, run_up_to};
+use crate::set::lengths::{add_length, take_off_length};
 use crate::set::run::{Run, greater, is_below, known, next_or_greatest, reaches};
 use rsb_integer::Integer;
 use std::alloc::{AllocError, Allocator};
@@ -427,25 +428,4 @@ fn take_out_up_to<T: Integer, A: Allocator>(
         map.remove(&run.start);
     }
     others
-}
-
-// Takes the number of values of a run off a length.
-fn take_off_length<T: Integer>(length: &mut T::SafeLen, run: Run<T>)
-    requires some { IsNonEmpty (run_of T.rank run) }
-    requires fits { T.SafeLen.number length.old ≤ T.value_count }
-    requires counted { length_of (run_of T.rank run) ≤ T.SafeLen.number length.old }
-    ensures { T.SafeLen.number length.new + length_of (run_of T.rank run)
-        ≡ T.SafeLen.number length.old }
-{
-    *length -= T::safe_len(&(run.start..=run.end));
-}
-
-// Adds the number of values of a run to a length.
-fn add_length<T: Integer>(length: &mut T::SafeLen, run: Run<T>)
-    requires some { IsNonEmpty (run_of T.rank run) }
-    requires fits { T.SafeLen.number length.old + length_of (run_of T.rank run) ≤ T.value_count }
-    ensures { T.SafeLen.number length.new
-        ≡ T.SafeLen.number length.old + length_of (run_of T.rank run) }
-{
-    *length += T::safe_len(&(run.start..=run.end));
 }

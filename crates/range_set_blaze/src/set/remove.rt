@@ -1,0 +1,164 @@
+//! Removals.
+
+ghost use Rattle.std.specs.Prelude.{◌≡◌, ◌↔◌, ◌+◌, ◌<◌, ◌≤◌, ℕ, [], IfOk, IfSome, IsFalse, IsNone, IsOk, IsSome, IsTrue, OnErr, OnOk};
+ghost use Rattle.rsb_integer.specs.Runs.{members, IsCanonicalIn};
+ghost use Rattle.range_set_blaze.specs.Kept.{entry_of, runs_of, IsKept};
+ghost use Rattle.range_set_blaze.specs.Places.{up_to, EndsWith, IsRemoved};
+ghost use Rattle.range_set_blaze.specs.Set.{only, IsGreatest, IsLeast, Removes};
+
+use crate::set::RangeSetBlaze;
+use crate::set::entries::{move_end, run_up_to};
+use crate::set::lengths::take_off_length;
+use crate::set::run::{Run, is_below, known};
+use rsb_integer::Integer;
+use std::alloc::{AllocError, Allocator};
+use std::collections::BTreeMap;
+
+impl<T: Integer, A: Allocator + Clone> RangeSetBlaze<T, A> {
+    /// Takes a value out, and says whether it was a member. Without memory the set is as it was.
+    /// (`RangeSetBlaze::remove`.)
+    pub fn remove(&mut self, value: T) -> Result<bool, AllocError>
+        ensures members { OnOk result (Removes self.old self.new (only (T.rank value))) }
+        ensures found { IfOk result (λ found.
+            IsTrue found ↔ IsTrue (members self.old (T.rank value))) }
+        ensures err { OnErr result (self.new ≡ self.old) }
+
+        // No memory is taken where the value is no member, nor where it is the last of its run.
+        ensures absent { IsFalse (members self.old (T.rank value)) → IsOk result }
+        ensures succeeds { IsFalse (members self.old (T.rank value + 1)) → IsOk result }
+    {
+        let length = self.length;
+        let Some(length) = take_value(&mut self.map, known(value), length)? else {
+            return Ok(false);
+        };
+        self.length = length;
+        Ok(true)
+    }
+
+    /// Takes a value out, and gives it back exactly where it was a member. Without memory the set is
+    /// as it was. (`RangeSetBlaze::take`.)
+    pub fn take(&mut self, value: T) -> Result<Option<T>, AllocError>
+        ensures members { OnOk result (Removes self.old self.new (only (T.rank value))) }
+        ensures found { IfOk result (λ found.
+            IsSome found ↔ IsTrue (members self.old (T.rank value))) }
+        ensures value { IfOk result (λ found. IfSome found (λ member. member ≡ value)) }
+        ensures err { OnErr result (self.new ≡ self.old) }
+
+        // No memory is taken where the value is no member, nor where it is the last of its run.
+        ensures absent { IsFalse (members self.old (T.rank value)) → IsOk result }
+        ensures succeeds { IsFalse (members self.old (T.rank value + 1)) → IsOk result }
+    {
+        if self.remove(value)? {
+            Ok(Some(value))
+        } else {
+            Ok(None)
+        }
+    }
+
+    /// Takes the least member out and gives it, or `None` of the empty set. Without memory the set
+    /// is as it was. (`RangeSetBlaze::pop_first`.)
+    pub fn pop_first(&mut self) -> Result<Option<T>, AllocError>
+        ensures none { IfOk result (λ found. IsNone found ↔ (self.old ≡ [])) }
+        ensures unchanged { IfOk result (λ found. IsNone found → self.new ≡ self.old) }
+        ensures found { IfOk result (λ found. IfSome found (λ first.
+            IsLeast T.value_count (members self.old) (T.rank first))) }
+        ensures members { IfOk result (λ found. IfSome found (λ first.
+            Removes self.old self.new (only (T.rank first)))) }
+        ensures err { OnErr result (self.new ≡ self.old) }
+
+        // No memory is taken of the empty set, nor where the first run has one member.
+        ensures empty { self.old ≡ [] → IsOk result }
+        ensures succeeds { (rank : ℕ) → IsLeast T.value_count (members self.old) rank
+            → IsFalse (members self.old (rank + 1)) → IsOk result }
+    {
+        let Some(first) = self.first() else {
+            return Ok(None);
+        };
+        self.remove(first)?;
+        Ok(Some(first))
+    }
+
+    /// Takes the greatest member out and gives it, or `None` of the empty set. It takes no memory.
+    /// (`RangeSetBlaze::pop_last`.)
+    pub fn pop_last(&mut self) -> Option<T>
+        ensures none { IsNone result ↔ (self.old ≡ []) }
+        ensures unchanged { IsNone result → self.new ≡ self.old }
+        ensures found { IfSome result (λ last.
+            IsGreatest T.value_count (members self.old) (T.rank last)) }
+        ensures members { IfSome result (λ last.
+            Removes self.old self.new (only (T.rank last))) }
+    {
+        let last = self.last()?;
+        // No run goes on past the last value, so no memory is wanted.
+        self.remove(last).unwrap();
+        Some(last)
+    }
+}
+
+// Takes a value out of the run that has it, and says how many members are left; `None` where it is
+// no member. `total` is how many there were.
+fn take_value<T: Integer, A: Allocator + Clone>(
+    map: &mut BTreeMap<T, T, A>,
+    value: T,
+    total: T::SafeLen,
+) -> Result<Option<T::SafeLen>, AllocError>
+    requires kept { IsKept T.rank T.value_count map.old.entries (T.SafeLen.number total) }
+    requires value { T.rank value < T.value_count }
+    ensures unchanged { IfOk result (λ found. IsNone found → map.new.entries ≡ map.old.entries) }
+    ensures none { IfOk result (λ found. IsNone found
+        → IsFalse (members (runs_of T.rank map.old.entries) (T.rank value))) }
+    ensures some { IfOk result (λ found. IsSome found
+        → IsTrue (members (runs_of T.rank map.old.entries) (T.rank value))) }
+    ensures kept { IfOk result (λ found. IfSome found (λ length.
+        IsKept T.rank T.value_count map.new.entries (T.SafeLen.number length))) }
+    ensures removed { IfOk result (λ found. IsSome found →
+        IsRemoved T.rank T.value_count map.old.entries map.new.entries (T.rank value)) }
+    ensures err { OnErr result (map.new.entries ≡ map.old.entries) }
+    ensures absent { IsFalse (members (runs_of T.rank map.old.entries) (T.rank value))
+        → IsOk result }
+    ensures succeeds { IsFalse (members (runs_of T.rank map.old.entries) (T.rank value + 1))
+        → IsOk result }
+{
+    let Some(run) = run_up_to(map, value) else {
+        return Ok(None);
+    };
+    if is_below(run.end, value) {
+        return Ok(None);
+    }
+    cut(map, run, value)?;
+    let mut length = total;
+    take_off_length(
+        &mut length,
+        Run {
+            start: value,
+            end: value,
+        },
+    );
+    Ok(Some(length))
+}
+
+// Takes a value out of the run that has it.
+fn cut<T: Integer, A: Allocator + Clone>(
+    map: &mut BTreeMap<T, T, A>,
+    run: Run<T>,
+    value: T,
+) -> Result<(), AllocError>
+    requires canonical { IsCanonicalIn T.value_count (runs_of T.rank map.old.entries) }
+    requires last { EndsWith (up_to T.rank (T.rank value) map.old.entries) (entry_of run) }
+    requires within { T.rank value ≤ T.rank run.end }
+    ensures removed { OnOk result
+        (IsRemoved T.rank T.value_count map.old.entries map.new.entries (T.rank value)) }
+    ensures err { OnErr result (map.new.entries ≡ map.old.entries) }
+    ensures succeeds { T.rank run.end ≤ T.rank value → IsOk result }
+{
+    if is_below(value, run.end) {
+        // The new entry comes first, since it may find no memory.
+        map.insert(value.add_one(), run.end)?;
+    }
+    if is_below(run.start, value) {
+        move_end(map, run.start, value.sub_one());
+    } else {
+        map.remove(&run.start);
+    }
+    Ok(())
+}
