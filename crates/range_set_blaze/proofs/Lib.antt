@@ -14,6 +14,7 @@ pub mod PointLemmas
 pub mod PutOverLemmas
 pub mod RangesLemmas
 pub mod RemoveLemmas
+pub mod SubsetLemmas
 pub mod SwallowLemmas
 pub mod TakeLastLemmas
 pub mod TakeOutLemmas

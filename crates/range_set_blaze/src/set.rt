@@ -13,6 +13,7 @@ mod lengths;
 mod look_up;
 mod remove;
 pub(crate) mod run;
+mod subsets;
 
 use crate::ranges_iter::RangesIter;
 use num_traits::Zero;

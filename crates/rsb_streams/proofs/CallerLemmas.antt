@@ -61,7 +61,7 @@ runs_by-after_two n outer inner P Q respects runs may = λ nothing. may (λ give
 -- ---- the members of what an operation gives
 
 -- two tests that do not differ are the same
-settled-same : (left right : Bool) → ¬ (¬ (left ≡ right)) → left ≡ right
+pub settled-same : (left right : Bool) → ¬ (¬ (left ≡ right)) → left ≡ right
 settled-same true true holds = refl
 settled-same true false holds = absurd (holds (λ same. absurd (cc)))
 settled-same false true holds = absurd (holds (λ same. absurd (cc)))
