@@ -13,3 +13,4 @@ mod operators;
 mod ranges_iter;
 mod refusals;
 mod sets_of_streams;
+mod subsets;
