@@ -1,4 +1,5 @@
 pub mod AloneLemmas
+pub mod AnswerLemmas
 pub mod BoundsLemmas
 pub mod BulkLemmas
 pub mod CutLemmas
@@ -14,6 +15,8 @@ pub mod PointLemmas
 pub mod PutOverLemmas
 pub mod RangesLemmas
 pub mod RemoveLemmas
+pub mod RetainLemmas
+pub mod SublistLemmas
 pub mod SubsetLemmas
 pub mod SwallowLemmas
 pub mod TakeLastLemmas

@@ -12,6 +12,7 @@ mod insert;
 mod lengths;
 mod look_up;
 mod remove;
+mod retain;
 pub(crate) mod run;
 mod subsets;
 

@@ -12,5 +12,8 @@ mod many_runs;
 mod operators;
 mod ranges_iter;
 mod refusals;
+mod refused_removals;
+mod removals;
+mod retained_runs;
 mod sets_of_streams;
 mod subsets;

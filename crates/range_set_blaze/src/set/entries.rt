@@ -25,6 +25,19 @@ pub(crate) fn last_run<T: Integer>(entries: &mut Range<'_, T, T>) -> Option<Run<
     })
 }
 
+/// The first of all runs.
+pub(crate) fn first_run<T: Integer, A: Allocator>(map: &BTreeMap<T, T, A>) -> Option<Run<T>>
+    ensures { MatchOption result (map.now.entries ≡ [])
+        (λ run. StartsWith map.now.entries (entry_of run)) }
+{
+    let mut entries = map.iter();
+    let (start, end) = entries.next()?;
+    Some(Run {
+        start: *start,
+        end: *end,
+    })
+}
+
 /// The last run that starts at a value or before it.
 pub(crate) fn run_up_to<T: Integer, A: Allocator>(
     map: &BTreeMap<T, T, A>,

@@ -1,0 +1,151 @@
+use Rattle.std.proofs.Common.{◌∙◌, [], ap, length, arith, refl, sym}
+use denote.Param.Always.{mut_next}
+use Rattle.range_set_blaze.proofs.PointLemmas.{kept-ascending, kept-fits}
+use Rattle.range_set_blaze.proofs.AnswerLemmas.{computes-next, exact-drop, exact-keep, fewer-coming, range-run, retained-exact, retained-kept, retained-runs}
+use Rattle.range_set_blaze.proofs.RetainLemmas.{asked-counted, asked-order, drop-ascending, retaining-drop, retaining-keep}
+use Rattle.range_set_blaze.proofs.set.retain.retain_runs.Goals as goal
+use Rattle.range_set_blaze.proofs.set.retain.retain_runs.Goals.{then-not-f, else-not-f}
+
+-- none was asked about at first
+pub loop-next-init : goal.loop-next-init
+loop-next-init g c =
+    let rank = g.T.Integer.rank in
+    let n = g.T.Integer.value_count in
+    let entries = c.args.map.now.entries in (
+      (λ always. always),
+      (
+        record {
+          done = [];
+          kept = [];
+          todo = entries;
+          old_parts = refl;
+          new_parts = refl;
+          ascending = kept-ascending rank n entries c.requires.kept.canonical;
+          sub = refl;
+          counted = omega arith;
+          fits = kept-fits rank n entries _ c.requires.kept;
+          next_is = c.first_run-next.ensures;
+        },
+        (λ keeps computes. (computes, refl)),
+      ),
+    )
+
+-- it has no more values than are counted
+pub take_off_length-requires-clause-some : goal.take_off_length-requires-clause-some
+take_off_length-requires-clause-some g c κs within =
+    (asked-order g.T.Integer.rank g.T.Integer.value_count _ _ _ _ c.in-Some.run'
+    c.requires.kept.canonical
+    (rw c.in-Some.is at c.loop-next.invariant.1.0)).0
+
+pub take_off_length-requires-clause-counted : goal.take_off_length-requires-clause-counted
+take_off_length-requires-clause-counted g c κs within =
+    asked-counted g.T.Integer.rank g.T.Integer.value_count _ _ _ _ c.in-Some.run'
+    c.requires.kept.canonical
+    (rw c.in-Some.is at c.loop-next.invariant.1.0) c.requires.kept.length
+
+pub run_after-next-requires-clause-ascending : goal.run_after-next-requires-clause-ascending
+run_after-next-requires-clause-ascending g c κs within =
+    let laws = g.met.T.Integer g.world.𝓛 g.world.𝓜 g.world.𝓡
+    ((λ s x. x), (λ x. x), (λ x. x), λ x. x) in
+    elim c.if-not-f.branch [
+      | then-not-f w ↦ rw w.map-is
+          (drop-ascending g.T.Integer.rank g.T.Integer.value_count _ _ _ _ c.in-Some.run'
+          c.requires.kept.canonical
+          (rw c.in-Some.is at c.loop-next.invariant.1.0) g.T.Ord.cmp laws.in_order
+          w.remove.new.self.entries w.remove.ensures.entries)
+      | else-not-f w ↦ rw w.map-is c.loop-next.invariant.1.0.ascending
+    ]
+
+pub run_after-next-requires-clause-value : goal.run_after-next-requires-clause-value
+run_after-next-requires-clause-value g c κs within =
+    (asked-order g.T.Integer.rank g.T.Integer.value_count _ _ _ _ c.in-Some.run'
+    c.requires.kept.canonical
+    (rw c.in-Some.is at c.loop-next.invariant.1.0)).1
+
+-- none is to come
+pub returns-clause-kept : goal.returns-clause-kept
+returns-clause-kept g c =
+    retained-kept g.T.Integer.rank g.T.Integer.value_count _ _ _ _ c.requires.kept
+    (rw c.in_default.is at c.loop-next.invariant.1.0)
+
+pub returns-clause-runs : goal.returns-clause-runs
+returns-clause-runs g c =
+    retained-runs g.T.Integer.rank g.T.Integer.value_count _ _ _ _ c.requires.kept
+    (rw c.in_default.is at c.loop-next.invariant.1.0)
+
+-- one more was asked about
+pub loop-next-smaller : goal.loop-next-smaller
+loop-next-smaller g c =
+    let laws = g.met.T.Integer g.world.𝓛 g.world.𝓜 g.world.𝓡
+    ((λ s x. x), (λ x. x), (λ x. x), λ x. x) in
+    let rank = g.T.Integer.rank in
+    let n = g.T.Integer.value_count in
+    let before = rw c.in-Some.is at c.loop-next.invariant.1.0 in
+    let todo = ap length before.next_is.parts in
+    elim c.if-not-f.branch [
+      | then-not-f w ↦ rw (w.map-is, c.in-Some.is)
+          (fewer-coming rank n _ c.requires.kept.canonical _ _ _ _ _ _ _ before
+          (retaining-drop rank n _ _ _ _ c.in-Some.run' c.requires.kept.canonical before
+          g.T.Ord.cmp laws.in_order w.remove.new.self.entries w.remove.ensures.entries
+          c.run_after-next.result (rw w.map-is at c.run_after-next.ensures) _
+          w.take_off_length.ensures) (omega (arith, todo)))
+      | else-not-f w ↦ rw (w.map-is, c.in-Some.is)
+          (fewer-coming rank n _ c.requires.kept.canonical _ _ _ _ _ _ _ before
+          (retaining-keep rank n _ _ _ _ c.in-Some.run' c.requires.kept.canonical before
+          c.run_after-next.result (rw w.map-is at c.run_after-next.ensures)) (omega (arith, todo)))
+    ]
+
+pub loop-next-preserved : goal.loop-next-preserved
+loop-next-preserved g c =
+    let laws = g.met.T.Integer g.world.𝓛 g.world.𝓜 g.world.𝓡
+    ((λ s x. x), (λ x. x), (λ x. x), λ x. x) in
+    let rank = g.T.Integer.rank in
+    let n = g.T.Integer.value_count in
+    let asked = rw c.in-Some.is at c.loop-next.invariant.1 in
+    let before = asked.0 in
+    let exact = asked.1 in
+    let run = c.in-Some.run' in
+    let ranks = range-run rank c.new.result run c.new.ensures.start c.new.ensures.end
+    c.new.ensures.exhausted in
+    elim c.if-not-f.branch [
+      | then-not-f w ↦ rw (w.map-is, w.length-is) (
+        (λ always. mut_next g.F.FnMut _ _ _ _ _ c.f.ensures refl
+            (c.loop-next.invariant.0 always)),
+        (
+          retaining-drop rank n _ _ _ _ run c.requires.kept.canonical before
+              g.T.Ord.cmp laws.in_order w.remove.new.self.entries w.remove.ensures.entries
+              c.run_after-next.result (rw w.map-is at c.run_after-next.ensures) _
+              w.take_off_length.ensures,
+          (λ keeps computes.
+              let answers = computes-next g.F.FnMut _ _ _ _ _ c.f.ensures
+              (exact keeps computes).0 in (
+                answers.1,
+                exact-drop rank n _ _ _ _ run before keeps
+                    (exact keeps computes).1
+                    (ap keeps (sym ranks) ∙ sym answers.0 ∙ w.if-not-f.true),
+              )),
+        ),
+      )
+      | else-not-f w ↦ rw (w.map-is, w.length-is) (
+        (λ always. mut_next g.F.FnMut _ _ _ _ _ c.f.ensures refl
+            (c.loop-next.invariant.0 always)),
+        (
+          retaining-keep rank n _ _ _ _ run c.requires.kept.canonical before
+              c.run_after-next.result (rw w.map-is at c.run_after-next.ensures),
+          (λ keeps computes.
+              let answers = computes-next g.F.FnMut _ _ _ _ _ c.f.ensures
+              (exact keeps computes).0 in (
+                answers.1,
+                exact-keep rank n _ _ _ _ run before keeps
+                    (exact keeps computes).1
+                    (ap keeps (sym ranks) ∙ sym answers.0 ∙ w.if-not-f.false),
+              )),
+        ),
+      )
+    ]
+
+pub returns-clause-exact : goal.returns-clause-exact
+returns-clause-exact g c keeps computes =
+    let asked = rw c.in_default.is at c.loop-next.invariant.1 in
+    retained-exact g.T.Integer.rank g.T.Integer.value_count _ _ _ _ c.requires.kept asked.0 keeps
+    (asked.1 keeps computes).1
