@@ -14,6 +14,8 @@ const COMMANDS: &[u8] = b"add 0 1 5\nhas 0 9\nshow 0\n";
 
 const FIRST: &[u8] = b"true\nfalse\n";
 
+const ALL: &[u8] = b"true\nfalse\n1..=5\n";
+
 // Over heaps of growing size the growth that is refused comes later and later. What was written is
 // the replies before the command that it stopped.
 #[test]
@@ -27,21 +29,17 @@ fn each_growth_is_refused_in_turn(rt: HostRuntime) -> Result<(), Fail> {
         let mut output = Vec::new(rt.alloc());
         match run(&heap, &mut input, &mut output) {
             Ok(()) => {
-                assert_eq!(rt;
-                    output.as_slice(),
-                    b"true\nfalse\n1..=5\n".as_slice(),
-                    "size {size}"
-                );
+                assert!(rt; output.as_slice() == ALL, "size {size}");
                 is_done = true;
             }
             Err(fault) => {
-                assert_eq!(rt; fault, Fault::NoMemory, "size {size}");
+                assert!(rt; fault == Fault::NoMemory, "size {size}");
                 assert!(rt; !is_done, "size {size}");
                 if output.is_empty() {
                     assert!(rt; !is_stopped_at_last, "size {size}");
                     is_stopped_early = true;
                 } else {
-                    assert_eq!(rt; output.as_slice(), FIRST, "size {size}");
+                    assert!(rt; output.as_slice() == FIRST, "size {size}");
                     is_stopped_at_last = true;
                 }
             }
@@ -73,7 +71,7 @@ fn stopped_commands_keep_their_replies(rt: HostRuntime) -> Result<(), Fail> {
         let heap = LocalHeap::new(rt.alloc(), 16 * size)?;
         match run_commands(&heap, &commands) {
             Ok(replies) => {
-                assert_eq!(rt; replies.len(), 3, "size {size}");
+                assert!(rt; replies.len() == 3, "size {size}");
                 is_done = true;
             }
             Err(stopped) => {
