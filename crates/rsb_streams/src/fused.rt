@@ -30,6 +30,13 @@ impl<I> Fused<I> {
     {
         Fused { iter, done: false }
     }
+
+    /// What it draws from.
+    pub(crate) fn source(&self) -> &I
+        ensures { result.now ≡ self.now.iter }
+    {
+        &self.iter
+    }
 }
 
 impl<T: Integer, I: Draw<T>> Draw<T> for Fused<I> {

@@ -13,6 +13,7 @@ ghost use Rattle.rsb_streams.specs.Union.{
 use crate::draw::Draw;
 use crate::merge::Merge;
 use crate::sorted_disjoint::{DrawDisjoint, SortedDisjoint, SortedStarts};
+use crate::sym_diff_iter::SymDiffIter;
 use crate::union_iter::UnionIter;
 use rsb_integer::Integer;
 use std::iter::FusedIterator;
@@ -89,3 +90,7 @@ impl<T: Integer, L: Draw<T>, R: Draw<T>> DrawDisjoint<T> for Union<T, L, R> {
 }
 
 impl<T: Integer, L: Draw<T>, R: Draw<T>> SortedDisjoint<T> for Union<T, L, R> {}
+
+/// What lies in one of two streams alone. (`SymmetricDifference` of the Rust crate, and here the name
+/// of what it is made by.)
+pub type SymmetricDifference<T, L, R> = SymDiffIter<T, L, R>;

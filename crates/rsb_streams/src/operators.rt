@@ -2,6 +2,8 @@
 
 ghost use Rattle.rsb_streams.specs.Stream.{GivesComplement, GivesUnion, IsReadyAnd};
 
+mod symmetric_difference;
+
 use crate::check_sorted_disjoint::CheckSortedDisjoint;
 use crate::draw::Draw;
 use crate::not_iter::NotIter;

@@ -1,5 +1,6 @@
 //! A source of which one range may be put back.
 
+ghost use Rattle.std.specs.Prelude.{◌≡◌};
 ghost use Rattle.rsb_streams.specs.PutBack.{
   put_back-answers,
   put_back-keeps,
@@ -33,6 +34,13 @@ impl<T, I> PutBack<T, I> {
             held: None,
             iter: Fused::new(iter),
         }
+    }
+
+    /// What it draws from.
+    pub(crate) fn source(&self) -> &I
+        ensures { result.now ≡ self.now.iter.iter }
+    {
+        self.iter.source()
     }
 }
 

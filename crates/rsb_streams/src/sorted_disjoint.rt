@@ -3,11 +3,18 @@
 ghost use Rattle.std.specs.Prelude.{◌↔◌, IsTrue};
 ghost use Rattle.rsb_integer.specs.Runs.{members, IsCanonicalIn};
 ghost use Rattle.rsb_integer.specs.Selection.{IsEverything, IsNothing};
-ghost use Rattle.rsb_streams.specs.Stream.{◌⊆◌, GivesComplement, GivesUnion, IsDrawn, SomeOutcome};
+ghost use Rattle.rsb_streams.specs.Stream.{
+  ◌⊆◌,
+  GivesComplement,
+  GivesSymmetricDifference,
+  GivesUnion,
+  IsDrawn,
+  SomeOutcome,
+};
 
 use crate::draw::Draw;
 use crate::not_iter::NotIter;
-use crate::operation_results::Union;
+use crate::operation_results::{SymmetricDifference, Union};
 use rsb_integer::Integer;
 use std::iter::FusedIterator;
 use std::ops::RangeInclusive;
@@ -52,6 +59,23 @@ pub trait DrawDisjoint<T: Integer>: Draw<T> {
             (⟦<Union<T, Self, R> as Draw<T>>⟧.may_give result) }
     {
         Union::from((self, other))
+    }
+
+    /// What lies in one of two streams alone, both of which may be drawn from. It takes no memory.
+    /// (`SortedDisjoint::symmetric_difference`.)
+    final fn symmetric_difference<R: DrawDisjoint<T>>(
+        self,
+        other: R,
+    ) -> SymmetricDifference<T, Self, R>
+    where
+        Self: Sized,
+        requires left { Self.can_draw self }
+        requires right { R.can_draw other }
+        ensures ready { ⟦<SymmetricDifference<T, Self, R> as Draw<T>>⟧.can_draw result }
+        ensures gives { GivesSymmetricDifference T.value_count (Self.may_give self)
+            (R.may_give other) (⟦<SymmetricDifference<T, Self, R> as Draw<T>>⟧.may_give result) }
+    {
+        SymmetricDifference::from((self, other))
     }
 
     /// Whether a stream that may be drawn from has no member. It draws one range, and takes no
