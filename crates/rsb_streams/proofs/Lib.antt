@@ -10,9 +10,12 @@ pub mod ListedSources
 pub mod MergeTurns
 pub mod NotLemmas
 pub mod NotTurns
+pub mod OddLemmas
+pub mod OddTurns
 pub mod OperationLemmas
 pub mod SourceLemmas
 pub mod Sources
+pub mod SymDiffLemmas
 pub mod TestLemmas
 pub mod TryNewLemmas
 pub mod UnionLemmas

@@ -9,8 +9,10 @@ pub mod Listed
 pub mod Merge
 pub mod NotIter
 pub mod NotSortedDisjoint
+pub mod OddPieces
 pub mod Outcomes
 pub mod PutBack
 pub mod Stream
+pub mod SymDiffIter
 pub mod Union
 pub mod UnionIter

@@ -5,7 +5,7 @@ use Rattle.std.specs.declared.ops.RangeInclusive.{RangeInclusive}
 use Rattle.std.specs.Iterator.{Count, IsFinite}
 use Rattle.rsb_integer.specs.Rank.{interval_of}
 use Rattle.rsb_integer.specs.Runs.{Interval, members, AreRuns}
-use Rattle.rsb_integer.specs.Selection.{Selection, complement, difference, intersection, union}
+use Rattle.rsb_integer.specs.Selection.{Selection, complement, difference, intersection, symmetric_difference, union}
 
 -- ---- lists of intervals
 
@@ -139,6 +139,11 @@ GivesIntersection n left right given = given ⊆ runs_by_two n intersection left
 -- a stream made of two others gives nothing but runs of what the left has and the right lacks
 abbrev pub GivesDifference : ℕ → Outcomes → Outcomes → Outcomes → Type 0
 GivesDifference n left right given = given ⊆ runs_by_two n difference left right
+
+-- a stream made of two others gives nothing but runs of what lies in one of them alone
+abbrev pub GivesSymmetricDifference : ℕ → Outcomes → Outcomes → Outcomes → Type 0
+GivesSymmetricDifference n left right given =
+    given ⊆ runs_by_two n symmetric_difference left right
 
 -- a stream may be called, and the fact holds of what it gives
 pub record IsReadyAnd {S : Type 0} (can_next : S → Type 0) (s : S) (Gives : Type 0) : Type 0 where

@@ -2,5 +2,6 @@
 
 mod bit_and;
 mod bit_or;
+mod bit_xor;
 mod not;
 mod sub;

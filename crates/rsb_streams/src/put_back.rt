@@ -1,5 +1,6 @@
 //! A source of which one range may be put back.
 
+ghost use Rattle.std.specs.Prelude.{◌≡◌};
 ghost use Rattle.rsb_streams.specs.PutBack.{
   put_back-answers,
   put_back-keeps,
@@ -35,6 +36,13 @@ impl<T, I> PutBack<T, I> {
             iter,
             done: false,
         }
+    }
+
+    /// What it draws from.
+    pub(crate) fn source(&self) -> &I
+        ensures { result.now ≡ self.now.iter }
+    {
+        &self.iter
     }
 }
 

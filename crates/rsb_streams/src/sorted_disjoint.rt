@@ -8,6 +8,7 @@ ghost use Rattle.rsb_streams.specs.Stream.{
   GivesComplement,
   GivesDifference,
   GivesIntersection,
+  GivesSymmetricDifference,
   GivesUnion,
   IsDrawn,
   SomeOutcome,
@@ -16,7 +17,7 @@ ghost use Rattle.rsb_streams.specs.Stream.{
 
 use crate::draw::Draw;
 use crate::not_iter::NotIter;
-use crate::operation_results::{Difference, Intersection, Union};
+use crate::operation_results::{Difference, Intersection, SymmetricDifference, Union};
 use rsb_integer::Integer;
 use std::iter::FusedIterator;
 use std::ops::RangeInclusive;
@@ -89,6 +90,23 @@ pub trait DrawDisjoint<T: Integer>: Draw<T> {
             (⟦<Difference<T, Self, R> as Draw<T>>⟧.may_give result) }
     {
         Difference::from((self, other))
+    }
+
+    /// What lies in one of two streams alone, both of which may be drawn from. It takes no memory.
+    /// (`SortedDisjoint::symmetric_difference`.)
+    final fn symmetric_difference<R: DrawDisjoint<T>>(
+        self,
+        other: R,
+    ) -> SymmetricDifference<T, Self, R>
+    where
+        Self: Sized,
+        requires left { Self.can_draw self }
+        requires right { R.can_draw other }
+        ensures ready { ⟦<SymmetricDifference<T, Self, R> as Draw<T>>⟧.can_draw result }
+        ensures gives { GivesSymmetricDifference T.value_count (Self.may_give self)
+            (R.may_give other) (⟦<SymmetricDifference<T, Self, R> as Draw<T>>⟧.may_give result) }
+    {
+        SymmetricDifference::from((self, other))
     }
 
     /// Whether a stream that may be drawn from has no member. It draws one range, and takes no

@@ -1,5 +1,6 @@
 //! The union of ranges that come by their starts.
 
+ghost use Rattle.std.specs.Prelude.{◌≡◌};
 ghost use Rattle.rsb_streams.specs.Outcomes.{canonical-starts};
 ghost use Rattle.rsb_streams.specs.PutBack.{IsFresh};
 ghost use Rattle.rsb_streams.specs.Stream.{
@@ -40,6 +41,13 @@ impl<T, SS> UnionIter<T, SS> {
         UnionIter {
             iter: PutBack::new(iter),
         }
+    }
+
+    /// What it draws from.
+    pub(crate) fn source(&self) -> &SS
+        ensures { result.now ≡ self.now.iter.iter }
+    {
+        self.iter.source()
     }
 }
 

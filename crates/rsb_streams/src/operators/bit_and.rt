@@ -8,6 +8,7 @@ use crate::not_iter::NotIter;
 use crate::operation_results::{Difference, Intersection, Union};
 use crate::range_once::RangeOnce;
 use crate::sorted_disjoint::DrawDisjoint;
+use crate::sym_diff_iter::SymDiffIter;
 use crate::union_iter::UnionIter;
 use rsb_integer::Integer;
 use std::ops::{BitAnd, RangeInclusive};
@@ -91,6 +92,23 @@ impl<T: Integer, A: Draw<T>, B: Draw<T>, R: DrawDisjoint<T>> BitAnd<R> for Diffe
         (GivesIntersection T.value_count
         (⟦<Difference<T, A, B> as Draw<T>>⟧.may_give left) (R.may_give right)
         (⟦<Intersection<T, Difference<T, A, B>, R> as Draw<T>>⟧.may_give result)) };
+
+    fn bitand(self, other: R) -> Self::Output {
+        Intersection::from((self, other))
+    }
+}
+
+impl<T: Integer, A: Draw<T>, B: Draw<T>, R: DrawDisjoint<T>> BitAnd<R> for SymDiffIter<T, A, B> {
+    type Output = Intersection<T, SymDiffIter<T, A, B>, R>;
+
+    ghost can_bitand = { λ left right.
+        (⟦<SymDiffIter<T, A, B> as Draw<T>>⟧.can_draw left) × (R.can_draw right) };
+
+    ghost bitand_gives = { λ left right result.
+        IsReadyAnd ⟦<Intersection<T, SymDiffIter<T, A, B>, R> as Draw<T>>⟧.can_draw result
+        (GivesIntersection T.value_count
+        (⟦<SymDiffIter<T, A, B> as Draw<T>>⟧.may_give left) (R.may_give right)
+        (⟦<Intersection<T, SymDiffIter<T, A, B>, R> as Draw<T>>⟧.may_give result)) };
 
     fn bitand(self, other: R) -> Self::Output {
         Intersection::from((self, other))

@@ -7,6 +7,7 @@ use crate::draw::Draw;
 use crate::not_iter::NotIter;
 use crate::operation_results::{Difference, Intersection, Union};
 use crate::range_once::RangeOnce;
+use crate::sym_diff_iter::SymDiffIter;
 use crate::union_iter::UnionIter;
 use rsb_integer::Integer;
 use std::ops::{Not, RangeInclusive};
@@ -85,6 +86,22 @@ impl<T: Integer, A: Draw<T>, B: Draw<T>> Not for Difference<T, A, B> {
         (GivesComplement T.value_count
         (⟦<Difference<T, A, B> as Draw<T>>⟧.may_give stream)
         (⟦<NotIter<T, Difference<T, A, B>> as Draw<T>>⟧.may_give result)) };
+
+    fn not(self) -> Self::Output {
+        NotIter::from(self)
+    }
+}
+
+impl<T: Integer, A: Draw<T>, B: Draw<T>> Not for SymDiffIter<T, A, B> {
+    type Output = NotIter<T, SymDiffIter<T, A, B>>;
+
+    ghost can_not = { λ stream. ⟦<SymDiffIter<T, A, B> as Draw<T>>⟧.can_draw stream };
+
+    ghost not_gives = { λ stream result.
+        IsReadyAnd ⟦<NotIter<T, SymDiffIter<T, A, B>> as Draw<T>>⟧.can_draw result
+        (GivesComplement T.value_count
+        (⟦<SymDiffIter<T, A, B> as Draw<T>>⟧.may_give stream)
+        (⟦<NotIter<T, SymDiffIter<T, A, B>> as Draw<T>>⟧.may_give result)) };
 
     fn not(self) -> Self::Output {
         NotIter::from(self)

@@ -8,6 +8,7 @@ use crate::not_iter::NotIter;
 use crate::operation_results::{Difference, Intersection, Union};
 use crate::range_once::RangeOnce;
 use crate::sorted_disjoint::DrawDisjoint;
+use crate::sym_diff_iter::SymDiffIter;
 use crate::union_iter::UnionIter;
 use rsb_integer::Integer;
 use std::ops::{RangeInclusive, Sub};
@@ -91,6 +92,23 @@ impl<T: Integer, A: Draw<T>, B: Draw<T>, R: DrawDisjoint<T>> Sub<R> for Differen
         (GivesDifference T.value_count
         (⟦<Difference<T, A, B> as Draw<T>>⟧.may_give left) (R.may_give right)
         (⟦<Difference<T, Difference<T, A, B>, R> as Draw<T>>⟧.may_give result)) };
+
+    fn sub(self, other: R) -> Self::Output {
+        Difference::from((self, other))
+    }
+}
+
+impl<T: Integer, A: Draw<T>, B: Draw<T>, R: DrawDisjoint<T>> Sub<R> for SymDiffIter<T, A, B> {
+    type Output = Difference<T, SymDiffIter<T, A, B>, R>;
+
+    ghost can_sub = { λ left right.
+        (⟦<SymDiffIter<T, A, B> as Draw<T>>⟧.can_draw left) × (R.can_draw right) };
+
+    ghost sub_gives = { λ left right result.
+        IsReadyAnd ⟦<Difference<T, SymDiffIter<T, A, B>, R> as Draw<T>>⟧.can_draw result
+        (GivesDifference T.value_count
+        (⟦<SymDiffIter<T, A, B> as Draw<T>>⟧.may_give left) (R.may_give right)
+        (⟦<Difference<T, SymDiffIter<T, A, B>, R> as Draw<T>>⟧.may_give result)) };
 
     fn sub(self, other: R) -> Self::Output {
         Difference::from((self, other))

@@ -1,0 +1,505 @@
+-- The loop of the pieces of ranges that an odd number of them covers.
+use Rattle.std.proofs.Common.{◌≡◌, ◌⊎◌, ℕ, ◌+◌, ◌<◌, ◌≤◌, Bool, true, false, cond, max, min, nat_le, List, [], ◌∷◌, ◌++◌, length, refl, sym, ap, ◌∙◌, subst, inl, inr, arith}
+use Rattle.std.proofs.lemmas.Bool.Decides.{nat_tests}
+use Rattle.std.specs.Prelude.{Option, Some, None}
+use Rattle.std.specs.Ordering.{partial_lt}
+use Rattle.std.specs.declared.cmp.Ordering.{Ordering}
+use Rattle.std.specs.Iterator.{Count, IsFinite, MakesProgress, size}
+use Rattle.std.specs.Range.{range_inclusive_start, range_inclusive_end, range_inclusive_exhausted}
+use Rattle.std.specs.declared.ops.RangeInclusive.{RangeInclusive}
+use Rattle.rsb_integer.specs.Rank.{interval_of}
+use Rattle.rsb_integer.specs.Runs.{Interval}
+use Rattle.rsb_integer.proofs.MembersLemmas.{same_interval}
+use Rattle.rsb_streams.specs.OddPieces.{odd_may_give, odd_remaining, oddly_covered, begun_from, pieces_of, pending, ArePieces, HasOneEndAtMost, IsGoing, IsTwofold, OddAnswers, OddReady, OddSoFar}
+use Rattle.rsb_streams.specs.Stream.{Outcomes, ◌⊆◌, run_if_any, unless, HasOutcome}
+use Rattle.rsb_streams.specs.declared.odd_pieces.OddPieces.{OddPieces}
+use Rattle.rsb_streams.proofs.Compare.{IsRanked, less-rank, not_less-rank}
+use Rattle.rsb_streams.proofs.NotTurns.{answered}
+use Rattle.rsb_streams.proofs.OddLemmas.{no-pieces, past-twofold, pieces-before, pieces-first, pieces-past, twofold-tail}
+use Rattle.rsb_streams.proofs.Sources.{Source, IsLawful, range-start, range-end}
+use Rattle.rsb_streams.proofs.UnionLemmas.{head-sorted}
+
+-- a state of the pieces that is not at its end
+abbrev state : {T I : Type 0} → I → T → List (Option T) → OddPieces T I
+state iter start items =
+    record { iter = iter; done = false; start = start; ends = record { items = items } }
+
+-- by its parts
+pub state-is : {T I : Type 0} (s : OddPieces T I) (iter : I) (start : T)
+    (items : List (Option T)) → s.iter ≡ iter → s.done ≡ false → s.start ≡ start
+    → s.ends.items ≡ items → state iter start items ≡ s
+state-is s iter start items iters undone starts ends = sym (λ k.
+    record { iter = iters k; done = undone k; start = starts k; ends = record { items = ends k } })
+
+-- the ranks from a value to another
+abbrev between : {T : Type 0} → (T → ℕ) → T → T → Interval
+between rank start end = record { first = rank start; last = rank end }
+
+-- what lies past the lesser of two ends, to the greater
+abbrev past_both : {T : Type 0} → (T → ℕ) → T → T → Interval
+past_both rank end other =
+    record { first = min (rank end) (rank other) + 1; last = max (rank end) (rank other) }
+
+-- what lies past the lesser of two ends is pending
+pub record HasPassed {T I : Type 0} (rank : T → ℕ) (j : I) (end other : T)
+    (s : OddPieces T I) : Type 0 where
+  pub iter : s.iter ≡ j
+  pub undone : s.done ≡ false
+  pub ends : HasOneEndAtMost s
+  pub short : length s.ends.items ≤ 1
+  pub left : pending rank s ≡ run_if_any (past_both rank end other)
+
+-- an interval with members stands
+one-run : (run other : Interval) → run.first ≤ run.last → run.first ≡ other.first
+    → run.last ≡ other.last → run ∷ [] ≡ run_if_any other
+one-run run other ordered first last =
+    let test : nat_le other.first other.last ≡ true = grind (arith, nat_tests) in
+    ap (λ each. each ∷ []) (same_interval run other first last)
+    ∙ sym (ap (λ each. cond each (other ∷ []) []) test)
+
+-- the first one ends first
+pub passed-first : {T I : Type 0} (rank : T → ℕ) (j : I) (end other : T) (s : OddPieces T I)
+    → s.iter ≡ j → s.done ≡ false → s.ends.items ≡ Some other ∷ [] → rank s.start ≡ rank end + 1
+    → rank end < rank other → HasPassed rank j end other s
+passed-first rank j end other s same undone items start less = record {
+  iter = same;
+  undone = undone;
+  ends = inr (other, items);
+  short = rw items (omega arith);
+  left = ap (begun_from rank s.start) items
+      ∙ one-run (between rank s.start other) (past_both rank end other) (omega arith) (omega arith)
+      (omega arith);
+}
+
+-- the second one does
+pub passed-second : {T I : Type 0} (rank : T → ℕ) (j : I) (end other : T) (s : OddPieces T I)
+    → s.iter ≡ j → s.done ≡ false → s.ends.items ≡ Some end ∷ [] → rank s.start ≡ rank other + 1
+    → rank other < rank end → HasPassed rank j end other s
+passed-second rank j end other s same undone items start less = record {
+  iter = same;
+  undone = undone;
+  ends = inr (end, items);
+  short = rw items (omega arith);
+  left = ap (begun_from rank s.start) items
+      ∙ one-run (between rank s.start end) (past_both rank end other) (omega arith) (omega arith)
+      (omega arith);
+}
+
+-- both end at once
+pub passed-both : {T I : Type 0} (rank : T → ℕ) (j : I) (end other : T) (s : OddPieces T I)
+    → s.iter ≡ j → s.done ≡ false → s.ends.items ≡ [] → rank end ≤ rank other → rank other ≤ rank end
+    → HasPassed rank j end other s
+passed-both rank j end other s same undone items most least =
+    let past = past_both rank end other in
+    let test : nat_le past.first past.last ≡ false = grind (arith, nat_tests) in
+    record {
+      iter = same;
+      undone = undone;
+      ends = inl items;
+      short = rw items (omega arith);
+      left = ap (begun_from rank s.start) items ∙ sym (ap (λ each. cond each (past ∷ []) []) test);
+    }
+
+-- the end that is answered is pending, alone
+pub is-pending : {T : Type 0} (items : List (Option T)) (found : Option T) (end : T)
+    → (items ≡ []) ⊎ ((last : T) × (items ≡ Some last ∷ []))
+    → (items ≡ [] → found ≡ None) → ((last : T) → items ≡ Some last ∷ [] → found ≡ Some last)
+    → found ≡ Some end → items ≡ Some end ∷ []
+is-pending items found end ends none some is = elim ends [
+  | inl empty ↦ let no = none empty in absurd (cc)
+  | inr one ↦
+      let same = some one.0 one.1 in
+      let end_is : one.0 ≡ end = cc in
+      one.1 ∙ ap (λ each. Some each ∷ []) end_is
+]
+
+-- where none is answered, none is pending
+pub none-pending : {T : Type 0} (items : List (Option T)) (found : Option T)
+    → (items ≡ []) ⊎ ((last : T) × (items ≡ Some last ∷ []))
+    → ((last : T) → items ≡ Some last ∷ [] → found ≡ Some last) → found ≡ None → items ≡ []
+none-pending items found ends some is = elim ends [
+  | inl empty ↦ empty
+  | inr one ↦ let same = some one.0 one.1 in absurd (cc)
+]
+
+module _ {I T : Type 0} (rank : T → ℕ) (n : ℕ) (source : Source I T) where
+  -- the pieces may be drawn
+  abbrev can : OddPieces T I → Type 0
+  can = OddReady rank n source.can_next source.may_give
+
+  -- what they may be
+  abbrev may : OddPieces T I → Outcomes
+  may = odd_may_give rank n source.may_give
+
+  -- how many are left at most
+  abbrev left_of : OddPieces T I → Count
+  left_of = odd_remaining source.remaining
+
+  -- what may come now might come at the entry
+  abbrev SoFar : OddPieces T I → OddPieces T I → Type 0
+  SoFar = OddSoFar rank n source.can_next source.may_give source.remaining
+
+  -- what is known of a call
+  abbrev Answered : OddPieces T I → Option (RangeInclusive T) → OddPieces T I → Type 0
+  Answered = OddAnswers rank n source.can_next source.may_give
+
+  -- at the entry it is so
+  pub begun : (entry : OddPieces T I) → entry.done ≡ false → can entry → SoFar entry entry
+  begun entry undone ready = record {
+    undone = undone;
+    going = ready undone;
+    same = λ runs at. at;
+    nearer = omega arith;
+  }
+
+  -- where all was told, nothing comes
+  pub over : (entry : OddPieces T I) → entry.done ≡ true → can entry → Answered entry None entry
+  over entry done ready = record {
+    answers = subst (λ each. unless each (pieces_of n (pending rank entry)
+        (source.may_give entry.iter)) []) (sym done) refl;
+    rests = (
+      ready,
+      λ pieces at. subst (λ each. unless each (pieces_of n (pending rank entry)
+          (source.may_give entry.iter)) pieces) done at,
+    );
+  }
+
+  -- what the entry has, by the parts of a state that is not at its end
+  so-by : (entry : OddPieces T I) (i : I) (done : Bool) (start : T) (items others : List (Option T))
+      → SoFar entry (record { iter = i; done = done; start = start; ends = record { items = items } })
+      → items ≡ others → SoFar entry (state i start others)
+  so-by entry i done start items others so is =
+      subst (λ each. SoFar entry (state i start each)) is
+      (subst (λ each. SoFar entry
+      (record { iter = i; done = each; start = start; ends = record { items = items } })) so.undone so)
+
+  -- ---- pieces of which nothing is drawn yet
+  module _ (iter : I) (s : OddPieces T I) (same_source : s.iter ≡ iter)
+      (none : s.ends.items ≡ []) where
+    -- they may be drawn where the source may, and no rank lies in more than two of its ranges
+    pub fresh-going : source.can_next iter
+        → ((given : List Interval) → source.may_give iter given → IsTwofold n given) → can s
+    fresh-going ready twofold = λ undone. record {
+      callable = subst source.can_next (sym same_source) ready;
+      ends = inl none;
+      twofold = λ given at. subst (λ items. IsTwofold n (begun_from rank s.start items ++ given))
+          (sym none) (twofold given (subst (λ each. source.may_give each given) same_source at));
+    }
+
+    -- they are pieces of what the source gives
+    pub fresh-pieces : s.done ≡ false → may s ⊆ pieces_of n [] (source.may_give iter)
+    fresh-pieces undone pieces at = λ nothing.
+        subst (λ each. unless each (pieces_of n (pending rank s) (source.may_give s.iter)) pieces)
+        undone at (λ given might all.
+        nothing given (subst (λ each. source.may_give each given) same_source might)
+        (subst (λ items. ArePieces n (oddly_covered (begun_from rank s.start items ++ given)) pieces)
+        none all))
+
+  module _ (laws : IsLawful rank n source) where
+    -- ---- the source has ended
+    module _ (entry : OddPieces T I) (i j : I) (done : Bool) (start : T) (items : List (Option T))
+        (so_now : SoFar entry
+        (record { iter = i; done = done; start = start; ends = record { items = items } }))
+        (call : source.steps i None j) where
+      -- the state at the end
+      abbrev final : List (Option T) → OddPieces T I
+      final left =
+          record { iter = j; done = true; start = start; ends = record { items = left } }
+
+      -- nothing is left to ask for
+      ready-end : (left : List (Option T)) → can (final left)
+      ready-end left = λ no. absurd (cc)
+
+      -- nothing comes
+      pub rests : items ≡ [] → Answered entry None (final items)
+      rests is =
+          let so = so-by entry i done start items [] so_now is in
+          record {
+            answers = so.same [] (λ nothing.
+                nothing [] (laws.answers i j None call) (no-pieces n));
+            rests = (ready-end items, λ pieces at. at);
+          }
+
+      -- what is pending comes last
+      pub last-answers : (end : T) (answer : RangeInclusive T) → items ≡ Some end ∷ []
+          → range_inclusive_exhausted answer ≡ false → range_inclusive_start answer ≡ start
+          → range_inclusive_end answer ≡ end → (left : List (Option T))
+          → Answered entry (Some answer) (final left)
+      last-answers end answer is fresh from to left =
+          let so = so-by entry i done start items (Some end ∷ []) so_now is in
+          let none = laws.answers i j None call in
+          let sorted = (so.going.twofold [] none).sorted in
+          let gap = answered rank n source start end answer fresh from to in
+          record {
+            answers = λ rest at. so.same (interval_of rank answer ∷ rest) (λ nothing.
+                nothing [] none
+                (subst (λ first. ArePieces n (oddly_covered (between rank start end ∷ []))
+                (first ∷ rest)) (sym gap)
+                (pieces-first n (between rank start end) [] rest sorted.1 sorted.2 tt
+                (subst (ArePieces n (oddly_covered [])) (sym at) (no-pieces n)))));
+            rests = tt;
+          }
+
+      -- and none is left
+      pub last-goes : (end : T) (answer : RangeInclusive T) → items ≡ Some end ∷ []
+          → (left : List (Option T)) → MakesProgress can left_of entry (Some answer) (final left)
+      last-goes end answer is left =
+          let so = so-by entry i done start items (Some end ∷ []) so_now is in
+          let nearer = so.nearer in
+          record {
+            on = λ ends. (ready-end left, tt, omega (arith, nearer));
+            keeps = ready-end left;
+            rests = λ ends. tt;
+          }
+
+    -- ---- one more range
+    module _ (entry : OddPieces T I) (i j : I) (done : Bool) (start : T) (items : List (Option T))
+        (next next_end : T) (range : RangeInclusive T)
+        (so_now : SoFar entry
+        (record { iter = i; done = done; start = start; ends = record { items = items } }))
+        (call : source.steps i (Some range) j)
+        (goes : MakesProgress source.can_next source.remaining i (Some range) j)
+        (from : next ≡ range_inclusive_start range) (to : next_end ≡ range_inclusive_end range)
+      where
+        -- something may come after it
+        some : HasOutcome (source.may_give j)
+        some = (laws.sorted j goes.keeps).some
+
+        -- it comes first
+        before : (given : List Interval) → source.may_give j given
+            → source.may_give i (interval_of rank range ∷ given)
+        before given at = laws.answers i j (Some range) call given at
+
+        -- it is non-empty, and lies in the type
+        facts : (0 ≤ (interval_of rank range).first)
+            × ((interval_of rank range).first ≤ (interval_of rank range).last)
+            × ((interval_of rank range).last < n)
+        facts = head-sorted n 0 (interval_of rank range) (source.may_give j) some
+            (λ given at. (laws.sorted i so_now.going.callable).all
+            (interval_of rank range ∷ given) (before given at))
+
+        -- its ranks
+        is_run : interval_of rank range ≡ between rank next next_end
+        is_run = same_interval (interval_of rank range) (between rank next next_end)
+            (range-start rank range facts.1 ∙ sym (ap rank from))
+            (range-end rank range facts.1 ∙ sym (ap rank to))
+
+        -- so it comes first by its ends
+        comes : (given : List Interval) → source.may_give j given
+            → source.may_give i (between rank next next_end ∷ given)
+        comes given at =
+            subst (λ run. source.may_give i (run ∷ given)) is_run (before given at)
+
+        -- fewer are to come
+        pub fewer : IsFinite (source.remaining j) × (size (source.remaining j) < size (source.remaining i))
+        fewer =
+            let on = goes.on (laws.sorted i so_now.going.callable).ends in
+            (on.1, on.2)
+
+        -- its ends are values
+        pub next-values : (rank next < n) × (rank next_end < n)
+        next-values =
+            let all = facts in
+            let low = ap (λ run. run.first) is_run in
+            let high = ap (λ run. run.last) is_run in
+            (omega (arith, all.1, all.2, low, high), omega (arith, all.2, high))
+
+        -- where it alone is pending, the pieces may be drawn
+        going-next : ((given : List Interval) → source.may_give j given
+            → IsTwofold n (between rank next next_end ∷ given))
+            → IsGoing rank n source.can_next source.may_give (state j next (Some next_end ∷ []))
+        going-next twofold = record {
+          callable = goes.keeps;
+          ends = inr (next_end, refl);
+          twofold = twofold;
+        }
+
+        -- it begins where none is pending
+        pub so-begins : items ≡ [] → SoFar entry (state j next (Some next_end ∷ []))
+        so-begins is =
+            let so = so-by entry i done start items [] so_now is in
+            let less = fewer in
+            let nearer = so.nearer in
+            record {
+              undone = refl;
+              going = going-next (λ given at.
+                  so.going.twofold (between rank next next_end ∷ given) (comes given at));
+              same = λ pieces at. so.same pieces (λ nothing. at (λ given might all.
+                  nothing (between rank next next_end ∷ given) (comes given might) all));
+              nearer = omega (arith, less.1, nearer);
+            }
+
+        -- one is pending
+        module _ (end : T) (is : items ≡ Some end ∷ []) where
+          -- so it was before
+          so : SoFar entry (state i start (Some end ∷ []))
+          so = so-by entry i done start items (Some end ∷ []) so_now is
+
+          -- both, and what comes after them
+          twofold : (given : List Interval) → source.may_give j given
+              → IsTwofold n (between rank start end ∷ between rank next next_end ∷ given)
+          twofold given at = so.going.twofold (between rank next next_end ∷ given) (comes given at)
+
+          -- the pending one is non-empty and lies in the type
+          pending-facts : (0 ≤ rank start) × (rank start ≤ rank end) × (rank end < n)
+          pending-facts = head-sorted n 0 (between rank start end)
+              (λ given. (rest : List Interval) × source.may_give j rest
+              × (given ≡ between rank next next_end ∷ rest))
+              (λ never. some (λ given at. never (between rank next next_end ∷ given)
+              (given, at, refl)))
+              (λ given at. rw at.2 (twofold at.0 at.1).sorted)
+
+          -- all four ends are values
+          pub both-values : (rank start < n) × (rank end < n) × (rank next < n) × (rank next_end < n)
+          both-values =
+              let all = pending-facts in
+              let low = all.1 in
+              let high = all.2 in
+              (omega (arith, low, high), high, next-values.0, next-values.1)
+
+          -- the values are told apart by their ranks
+          module _ (partial_cmp : T → T → Option Ordering) (cmp : T → T → Ordering)
+              (ranked : IsRanked rank n partial_cmp cmp) where
+            -- where the pending end is less than the next start, so is its rank
+            pub end-less : true ≡ partial_lt partial_cmp end next → rank end < rank next
+            end-less test = less-rank rank n partial_cmp cmp ranked end next pending-facts.2
+                next-values.0 test
+
+            -- and else it is not
+            pub end-most : false ≡ partial_lt partial_cmp end next → rank next ≤ rank end
+            end-most test = not_less-rank rank n partial_cmp cmp ranked end next pending-facts.2
+                next-values.0 test
+
+          -- the pending one comes first where the other starts past it
+          pub apart-answers : rank end < rank next → (answer : RangeInclusive T)
+              → range_inclusive_exhausted answer ≡ false → range_inclusive_start answer ≡ start
+              → range_inclusive_end answer ≡ end
+              → Answered entry (Some answer) (state j next (Some next_end ∷ []))
+          apart-answers apart answer fresh at_start at_end =
+              let first = between rank start end in
+              let run = between rank next next_end in
+              let gap = answered rank n source start end answer fresh at_start at_end in
+              record {
+                answers = λ rest at. so.same (interval_of rank answer ∷ rest) (λ nothing.
+                    at (λ given might all.
+                    let both = (twofold given might).sorted in
+                    nothing (run ∷ given) (comes given might)
+                    (subst (λ each. ArePieces n (oddly_covered (first ∷ run ∷ given)) (each ∷ rest))
+                    (sym gap)
+                    (pieces-first n first (run ∷ given) rest both.1 both.2
+                    (omega arith, both.3.1, both.3.2, both.3.3) all))));
+                rests = tt;
+              }
+
+          -- and fewer are left
+          pub apart-goes : (answer : RangeInclusive T)
+              → MakesProgress can left_of entry (Some answer) (state j next (Some next_end ∷ []))
+          apart-goes answer =
+              let going = going-next (λ given at.
+              twofold-tail n (between rank start end) (between rank next next_end ∷ given)
+              (twofold given at)) in
+              let less = fewer in
+              let nearer = so.nearer in
+              record {
+                on = λ finite. ((λ undone. going), less.0, omega (arith, less.1, nearer));
+                keeps = λ undone. going;
+                rests = λ finite. tt;
+              }
+
+          -- they overlap, and what lies past the lesser end is pending
+          module _ (meets : rank next ≤ rank end) (now : OddPieces T I)
+              (passed : HasPassed rank j end next_end now) where
+            -- what is still to come comes of the source as it is then
+            same-source : (given : List Interval) → source.may_give now.iter given
+                → source.may_give j given
+            same-source given at = subst (λ iter. source.may_give iter given) passed.iter at
+
+            -- what is pending and to come
+            twofold-now : (given : List Interval) → source.may_give now.iter given
+                → IsTwofold n (pending rank now ++ given)
+            twofold-now given at = subst (λ each. IsTwofold n (each ++ given)) (sym passed.left)
+                (past-twofold n (between rank start end) (between rank next next_end)
+                (past_both rank end next_end) given (twofold given (same-source given at)) meets refl
+                refl)
+
+            -- more pieces may be drawn
+            going-now : IsGoing rank n source.can_next source.may_give now
+            going-now = record {
+              callable = subst source.can_next (sym passed.iter) goes.keeps;
+              ends = passed.ends;
+              twofold = twofold-now;
+            }
+
+            -- what comes then, as pieces
+            then-pieces : (given rest : List Interval)
+                → ArePieces n (oddly_covered (pending rank now ++ given)) rest
+                → ArePieces n (oddly_covered (run_if_any (past_both rank end next_end) ++ given)) rest
+            then-pieces given rest all =
+                subst (λ each. ArePieces n (oddly_covered (each ++ given)) rest) passed.left all
+
+            -- so what may come then are pieces of what is pending and to come
+            now-may : may now ⊆ pieces_of n (pending rank now) (source.may_give now.iter)
+            now-may pieces at = subst (λ each. unless each
+                (pieces_of n (pending rank now) (source.may_give now.iter)) pieces) passed.undone at
+
+            -- fewer are left
+            now-less : size (left_of now) < size (left_of entry)
+            now-less =
+                let less = fewer in
+                let short = passed.short in
+                let nearer = so.nearer in
+                let same : size (source.remaining now.iter) ≡ size (source.remaining j) =
+                ap (λ iter. size (source.remaining iter)) passed.iter in
+                let all : size (left_of now) ≡ size (source.remaining now.iter) + length now.ends.items =
+                rw passed.undone refl in
+                omega (arith, less.1, short, nearer, same, all)
+
+            -- what lies before the second comes first
+            pub gap-answers : rank start < rank next → (last : T) (answer : RangeInclusive T)
+                → rank last + 1 ≡ rank next
+                → range_inclusive_exhausted answer ≡ false → range_inclusive_start answer ≡ start
+                → range_inclusive_end answer ≡ last → Answered entry (Some answer) now
+            gap-answers less last answer one fresh at_start at_end =
+                let gap = answered rank n source start last answer fresh at_start at_end in
+                let first = between rank start end in
+                let run = between rank next next_end in
+                record {
+                  answers = λ rest at. so.same (interval_of rank answer ∷ rest) (λ nothing.
+                      now-may rest at (λ given might all. nothing (run ∷ given) (comes given (same-source given might))
+                      (subst (λ each. ArePieces n (oddly_covered (first ∷ run ∷ given)) (each ∷ rest))
+                      (sym gap)
+                      (pieces-before n first run (past_both rank end next_end) given
+                      (twofold given (same-source given might)) meets refl refl (between rank start last) rest less refl
+                      one (then-pieces given rest all)))));
+                  rests = tt;
+                }
+
+            -- and fewer are left
+            pub gap-goes : (answer : RangeInclusive T) → MakesProgress can left_of entry (Some answer) now
+            gap-goes answer =
+                let less = fewer in
+                record {
+                  on = λ finite. (
+                    (λ undone. going-now),
+                    rw (passed.undone, passed.iter) less.0,
+                    now-less,
+                  );
+                  keeps = λ undone. going-now;
+                  rests = λ finite. tt;
+                }
+
+            -- nothing lies before it, and the loop goes on
+            pub so-passed : rank next ≤ rank start → SoFar entry now
+            so-passed most =
+                let less = now-less in
+                record {
+                  undone = passed.undone;
+                  going = going-now;
+                  same = λ pieces at. so.same pieces (λ nothing. now-may pieces at (λ given might all.
+                      nothing (between rank next next_end ∷ given)
+                      (comes given (same-source given might))
+                      (pieces-past n (between rank start end) (between rank next next_end)
+                      (past_both rank end next_end) given (twofold given (same-source given might)) meets refl refl
+                      pieces most (then-pieces given pieces all))));
+                  nearer = omega (arith, less);
+                }

@@ -1,0 +1,106 @@
+//! What lies in one of two streams alone.
+
+ghost use Rattle.std.specs.Prelude.{◌≡◌, ◌≤◌, length};
+ghost use Rattle.rsb_streams.specs.Outcomes.{canonical-starts};
+ghost use Rattle.rsb_streams.specs.Stream.{drawn-itself, GivesSymmetricDifference, IsReadyAnd};
+ghost use Rattle.rsb_streams.specs.SymDiffIter.{
+  ends_held,
+  one-keeps,
+  one_can_next,
+  one_may_give,
+  one_remaining,
+  one_steps,
+};
+
+use crate::draw::Draw;
+use crate::merge::Merge;
+use crate::odd_pieces::OddPieces;
+use crate::sorted_disjoint::{DrawDisjoint, SortedDisjoint, SortedStarts};
+use crate::union_iter::UnionIter;
+use rsb_integer::Integer;
+use std::iter::FusedIterator;
+use std::ops::RangeInclusive;
+
+/// What lies in one of two streams alone: of their merge, what an odd number of ranges has. Two
+/// ranges at most have begun and not ended at any moment. (`SymDiffIter` of the Rust crate.)
+#[derive(Clone, Debug, Drop)]
+pub struct SymDiffIter<T, L, R> {
+    iter: UnionIter<T, OddPieces<T, Merge<T, L, R>>>,
+}
+
+impl<T, L, R> SymDiffIter<T, L, R> {
+    /// How many ends it holds of ranges that have begun and not ended: two at most, at every moment.
+    /// (Own.)
+    pub fn pending_ends(&self) -> usize
+        ensures ends { result ≡ length (ends_held self.now) }
+        ensures bound { result ≤ 2 }
+    {
+        self.iter.source().pending_ends()
+    }
+}
+
+impl<T: Integer, L: DrawDisjoint<T>, R: DrawDisjoint<T>> From<(L, R)> for SymDiffIter<T, L, R> {
+    // Of two streams that may be called, of which nothing is drawn yet.
+    ghost from_gives = { λ streams result. L.can_draw streams.0 → R.can_draw streams.1
+        → IsReadyAnd ⟦<SymDiffIter<T, L, R> as Draw<T>>⟧.can_draw result
+        (GivesSymmetricDifference T.value_count (L.may_give streams.0) (R.may_give streams.1)
+        (⟦<SymDiffIter<T, L, R> as Draw<T>>⟧.may_give result)) };
+
+    fn from(streams: (L, R)) -> Self {
+        let (left, right) = streams;
+        let merge: Merge<T, L, R> = Merge::of(left, right);
+        SymDiffIter {
+            iter: UnionIter::over(OddPieces::over(merge, T::min_value())),
+        }
+    }
+}
+
+impl<T: Integer, L: Draw<T>, R: Draw<T>> Iterator for SymDiffIter<T, L, R> {
+    type Item = RangeInclusive<T>;
+
+    ghost can_next = { one_can_next T.rank T.value_count L.can_draw L.may_give
+        R.can_draw R.may_give };
+
+    ghost next_gives = { one_steps T.rank T.value_count L.can_draw L.may_give
+        R.can_draw R.may_give };
+
+    ghost remaining = { one_remaining L.draws_left R.draws_left };
+
+    fn next(&mut self) -> Option<RangeInclusive<T>> {
+        self.iter.next()
+    }
+}
+
+impl<T: Integer, L: Draw<T>, R: Draw<T>> FusedIterator for SymDiffIter<T, L, R> {}
+
+impl<T: Integer, L: Draw<T>, R: Draw<T>> Draw<T> for SymDiffIter<T, L, R> {
+    ghost can_draw = { ⟦<SymDiffIter<T, L, R> as Iterator>⟧.can_next };
+
+    ghost draw_gives = { ⟦<SymDiffIter<T, L, R> as Iterator>⟧.next_gives };
+
+    ghost draws_left = { ⟦<SymDiffIter<T, L, R> as Iterator>⟧.remaining };
+
+    ghost may_give = { one_may_give T.rank T.value_count L.may_give R.may_give };
+
+    fn draw(&mut self) -> Option<RangeInclusive<T>> {
+        self.next()
+    }
+
+    ghost answers = { λ s t item gives. gives.answers };
+
+    ghost sorted = { λ s ready. canonical-starts T.value_count _ _
+        (one-keeps T.rank T.value_count L.can_draw L.may_give R.can_draw R.may_give
+        L.draws_left L.sorted R.draws_left R.sorted s ready) };
+}
+
+impl<T: Integer, L: Draw<T>, R: Draw<T>> SortedStarts<T> for SymDiffIter<T, L, R> {
+    ghost drawn = { drawn-itself };
+}
+
+impl<T: Integer, L: Draw<T>, R: Draw<T>> DrawDisjoint<T> for SymDiffIter<T, L, R> {
+    ghost canonical = { λ s ready.
+        (one-keeps T.rank T.value_count L.can_draw L.may_give R.can_draw R.may_give
+        L.draws_left L.sorted R.draws_left R.sorted s ready).all };
+}
+
+impl<T: Integer, L: Draw<T>, R: Draw<T>> SortedDisjoint<T> for SymDiffIter<T, L, R> {}
