@@ -12,6 +12,6 @@ pub mod set;
 pub use crate::prelude::{
     AnythingGoes, AssumeSortedStarts, CheckSortedDisjoint, Difference, Draw, DrawDisjoint, Integer,
     Intersection, IntoRangeSetBlaze, IntoRangesIter, Merge, NotIter, NotSortedDisjoint, RangeOnce,
-    RangeSetBlaze, RangesIter, SafeLength, SortedDisjoint, SortedStarts, UInt, UIntPlusOne, Union,
-    UnionIter,
+    RangeSetBlaze, RangesIter, SafeLength, SortedDisjoint, SortedStarts, SymDiffIter,
+    SymmetricDifference, UInt, UIntPlusOne, Union, UnionIter,
 };

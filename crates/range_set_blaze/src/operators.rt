@@ -4,6 +4,7 @@ ghost use Rattle.rsb_streams.specs.Stream.{
   GivesComplement,
   GivesDifference,
   GivesIntersection,
+  GivesSymmetricDifference,
   GivesUnion,
   IsReadyAnd,
 };
@@ -11,9 +12,11 @@ ghost use Rattle.rsb_streams.specs.Stream.{
 use crate::into_ranges_iter::IntoRangesIter;
 use crate::ranges_iter::RangesIter;
 use rsb_integer::Integer;
-use rsb_streams::{Difference, Draw, DrawDisjoint, Intersection, NotIter, Union};
+use rsb_streams::{
+    Difference, Draw, DrawDisjoint, Intersection, NotIter, SymmetricDifference, Union,
+};
 use std::alloc::Allocator;
-use std::ops::{BitAnd, BitOr, Not, Sub};
+use std::ops::{BitAnd, BitOr, BitXor, Not, Sub};
 
 impl<'a, T: Integer, R: DrawDisjoint<T>> BitOr<R> for RangesIter<'a, T> {
     type Output = Union<T, RangesIter<'a, T>, R>;
@@ -63,6 +66,23 @@ impl<'a, T: Integer, R: DrawDisjoint<T>> Sub<R> for RangesIter<'a, T> {
 
     fn sub(self, other: R) -> Self::Output {
         Difference::from((self, other))
+    }
+}
+
+impl<'a, T: Integer, R: DrawDisjoint<T>> BitXor<R> for RangesIter<'a, T> {
+    type Output = SymmetricDifference<T, RangesIter<'a, T>, R>;
+
+    ghost can_bitxor = { λ left right.
+        (⟦<RangesIter<'a, T> as Draw<T>>⟧.can_draw left) × (R.can_draw right) };
+
+    ghost bitxor_gives = { λ left right result.
+        IsReadyAnd ⟦<SymmetricDifference<T, RangesIter<'a, T>, R> as Draw<T>>⟧.can_draw result
+        (GivesSymmetricDifference T.value_count
+        (⟦<RangesIter<'a, T> as Draw<T>>⟧.may_give left) (R.may_give right)
+        (⟦<SymmetricDifference<T, RangesIter<'a, T>, R> as Draw<T>>⟧.may_give result)) };
+
+    fn bitxor(self, other: R) -> Self::Output {
+        SymmetricDifference::from((self, other))
     }
 }
 
@@ -130,6 +150,23 @@ impl<T: Integer, A: Allocator, R: DrawDisjoint<T>> Sub<R> for IntoRangesIter<T, 
 
     fn sub(self, other: R) -> Self::Output {
         Difference::from((self, other))
+    }
+}
+
+impl<T: Integer, A: Allocator, R: DrawDisjoint<T>> BitXor<R> for IntoRangesIter<T, A> {
+    type Output = SymmetricDifference<T, IntoRangesIter<T, A>, R>;
+
+    ghost can_bitxor = { λ left right.
+        (⟦<IntoRangesIter<T, A> as Draw<T>>⟧.can_draw left) × (R.can_draw right) };
+
+    ghost bitxor_gives = { λ left right result.
+        IsReadyAnd ⟦<SymmetricDifference<T, IntoRangesIter<T, A>, R> as Draw<T>>⟧.can_draw result
+        (GivesSymmetricDifference T.value_count
+        (⟦<IntoRangesIter<T, A> as Draw<T>>⟧.may_give left) (R.may_give right)
+        (⟦<SymmetricDifference<T, IntoRangesIter<T, A>, R> as Draw<T>>⟧.may_give result)) };
+
+    fn bitxor(self, other: R) -> Self::Output {
+        SymmetricDifference::from((self, other))
     }
 }
 

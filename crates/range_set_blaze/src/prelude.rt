@@ -9,5 +9,5 @@ pub use rsb_length::{SafeLength, UInt, UIntPlusOne};
 pub use rsb_streams::{
     AnythingGoes, AssumeSortedStarts, CheckSortedDisjoint, Difference, Draw, DrawDisjoint,
     Intersection, Merge, NotIter, NotSortedDisjoint, RangeOnce, SortedDisjoint, SortedStarts,
-    Union, UnionIter,
+    SymDiffIter, SymmetricDifference, Union, UnionIter,
 };
