@@ -7,7 +7,7 @@ use Rattle.rsb_integer.specs.Selection.{Selection, Agree, difference, intersecti
 use Rattle.rsb_integer.proofs.ListLemmas.{not_both, true_or_false}
 use Rattle.rsb_integer.proofs.RunsLemmas.{runs-along, runs-members}
 use Rattle.rsb_streams.specs.Stream.{Outcomes, ◌⊆◌, joined, just, runs_by, runs_by_two, SomeOutcomes}
-use Rattle.rsb_streams.proofs.CallerLemmas.{Respects, members-runs_by_two}
+use Rattle.rsb_streams.proofs.CallerLemmas.{members-runs_by_two}
 
 -- the operation gives the same of sets that agree in a type of n values
 abbrev pub RespectsTwo : ℕ → (Selection → Selection → Selection) → Type 0
@@ -68,16 +68,6 @@ module _ (n : ℕ) (left right : List Interval) where
   both-of operation P Q Given these those given runs at = λ nothing.
       given runs at (λ one other may might all. nothing one other (these one may) (those other might)
       all)
-
-  -- an operation on such a result
-  pub one-of_both : (outer : Selection → Selection) (inner : Selection → Selection → Selection)
-      (Inner : Outcomes) → Respects n outer → Inner ⊆ of_both inner
-      → runs_by n outer Inner ⊆ of_both (λ these those. outer (inner these those))
-  one-of_both outer inner Inner respects within runs may = λ nothing. may (λ given at all.
-      nothing left right refl refl
-      (runs-along n (outer (members given)) (outer (inner (members left) (members right))) runs
-      (respects (members given) (inner (members left) (members right))
-      (members-runs_by_two n inner left right given (within given at))) all))
 
   -- an operation on two such results
   pub two-of_both : (outer one two : Selection → Selection → Selection) (Ones Twos : Outcomes)
