@@ -5,9 +5,9 @@ pub mod Compare
 pub mod EqualTurns
 pub mod FirstItems
 pub mod LawfulSources
-pub mod ListedCallers
 pub mod ListedSources
 pub mod MergeTurns
+pub mod NestedLemmas
 pub mod NotLemmas
 pub mod NotTurns
 pub mod OddLemmas

@@ -1,4 +1,4 @@
-//! The operators `|` and `!` on the runs of a set.
+//! The operators on the runs of a set.
 
 use crate::tables::{gives, set_of};
 use range_set_blaze::{DrawDisjoint, RangeSetBlaze, SortedDisjoint};
@@ -20,6 +20,32 @@ fn ranges_are_complemented(rt: HostRuntime) -> Result<(), Fail> {
     let mut gaps = !set.ranges();
     assert!(rt; gaps.next() == Some(i32::MIN..=0));
     assert!(rt; gives(gaps, &[(4, 6), (11, i32::MAX)]));
+    Ok(())
+}
+
+#[test]
+fn ranges_are_intersected(rt: HostRuntime) -> Result<(), Fail> {
+    let left = set_of(rt.alloc(), &[(1, 3), (7, 10)])?;
+    let right = set_of(rt.alloc(), &[(4, 4), (9, 20)])?;
+    assert!(rt; gives(left.ranges() & right.ranges(), &[(9, 10)]));
+    Ok(())
+}
+
+#[test]
+fn ranges_are_subtracted(rt: HostRuntime) -> Result<(), Fail> {
+    let left = set_of(rt.alloc(), &[(1, 3), (7, 10)])?;
+    let right = set_of(rt.alloc(), &[(4, 4), (9, 20)])?;
+    assert!(rt; gives(left.ranges() - right.ranges(), &[(1, 3), (7, 8)]));
+    Ok(())
+}
+
+#[test]
+fn owned_ranges_are_intersected_and_subtracted(rt: HostRuntime) -> Result<(), Fail> {
+    let left = set_of(rt.alloc(), &[(1, 3), (7, 10)])?;
+    let right = set_of(rt.alloc(), &[(4, 4), (9, 20)])?;
+    assert!(rt; gives(left.into_ranges() & right.ranges(), &[(9, 10)]));
+    let left = set_of(rt.alloc(), &[(1, 3), (7, 10)])?;
+    assert!(rt; gives(left.into_ranges() - right.ranges(), &[(1, 3), (7, 8)]));
     Ok(())
 }
 

@@ -1,4 +1,4 @@
-//! The operators `|` and `!` of each stream type.
+//! The operators of each stream type.
 
 use crate::streams::nested::known;
 use crate::tables::gives;
@@ -22,6 +22,12 @@ fn high() -> RangeOnce<u8>
 fn operators_of_a_range(rt: HostRuntime) {
     assert!(rt; gives(low() | high(), &[(0, 9), (200, 255)]));
     assert!(rt; gives(!low(), &[(10, 255)]));
+}
+
+#[test]
+fn operators_of_two_ranges(rt: HostRuntime) {
+    assert!(rt; gives(low() & RangeOnce::new(5..=20), &[(5, 9)]));
+    assert!(rt; gives(low() - RangeOnce::new(5..=20), &[(0, 4)]));
 }
 
 #[test]
@@ -53,6 +59,100 @@ fn complement_operator_of_a_joined_stream(rt: HostRuntime) {
 fn operators_of_a_known_stream(rt: HostRuntime) {
     assert!(rt; gives(known(low()) | high(), &[(0, 9), (200, 255)]));
     assert!(rt; gives(!known(low()), &[(10, 255)]));
+}
+
+#[test]
+fn operators_of_a_complement_and_a_range(rt: HostRuntime) {
+    assert!(rt; gives(!low() & RangeOnce::new(5..=20), &[(10, 20)]));
+    assert!(rt; gives(!low() - RangeOnce::new(5..=20), &[(21, 255)]));
+}
+
+#[test]
+fn operators_of_a_union_and_a_range(rt: HostRuntime) {
+    assert!(rt;
+        gives(
+            (low() | high()) & RangeOnce::new(5..=220),
+            &[(5, 9), (200, 220)]
+        )
+    );
+    assert!(rt;
+        gives(
+            (low() | high()) - RangeOnce::new(5..=220),
+            &[(0, 4), (221, 255)]
+        )
+    );
+}
+
+#[test]
+fn operators_of_an_intersection(rt: HostRuntime) {
+    assert!(rt;
+        gives(
+            (low() & RangeOnce::new(5..=20)) & RangeOnce::new(0..=6),
+            &[(5, 6)]
+        )
+    );
+    assert!(rt;
+        gives(
+            (low() & RangeOnce::new(5..=20)) - RangeOnce::new(0..=6),
+            &[(7, 9)]
+        )
+    );
+}
+
+#[test]
+fn union_and_complement_of_an_intersection(rt: HostRuntime) {
+    assert!(rt;
+        gives(
+            (low() & RangeOnce::new(5..=20)) | high(),
+            &[(5, 9), (200, 255)]
+        )
+    );
+    assert!(rt; gives(!(low() & RangeOnce::new(5..=20)), &[(0, 4), (10, 255)]));
+}
+
+#[test]
+fn operators_of_a_difference(rt: HostRuntime) {
+    assert!(rt;
+        gives(
+            (low() - RangeOnce::new(5..=20)) & RangeOnce::new(2..=6),
+            &[(2, 4)]
+        )
+    );
+    assert!(rt;
+        gives(
+            (low() - RangeOnce::new(5..=20)) - RangeOnce::new(2..=6),
+            &[(0, 1)]
+        )
+    );
+}
+
+#[test]
+fn union_and_complement_of_a_difference(rt: HostRuntime) {
+    assert!(rt;
+        gives(
+            (low() - RangeOnce::new(5..=20)) | high(),
+            &[(0, 4), (200, 255)]
+        )
+    );
+    assert!(rt; gives(!(low() - RangeOnce::new(5..=20)), &[(5, 255)]));
+}
+
+#[test]
+fn intersection_operator_of_a_joined_stream(rt: HostRuntime) {
+    let joined = UnionIter::new(Merge::new(low(), high()));
+    assert!(rt; gives(joined & RangeOnce::new(5..=220), &[(5, 9), (200, 220)]));
+}
+
+#[test]
+fn difference_operator_of_a_joined_stream(rt: HostRuntime) {
+    let joined = UnionIter::new(Merge::new(low(), high()));
+    assert!(rt; gives(joined - RangeOnce::new(5..=220), &[(0, 4), (221, 255)]));
+}
+
+#[test]
+fn operators_of_a_known_stream_and_a_range(rt: HostRuntime) {
+    assert!(rt; gives(known(low()) & RangeOnce::new(5..=20), &[(5, 9)]));
+    assert!(rt; gives(known(low()) - RangeOnce::new(5..=20), &[(0, 4)]));
 }
 
 #[test]

@@ -24,6 +24,8 @@ fn tens() -> Tens
 fn results_of_operations_have_a_text(rt: HostRuntime) -> Result<(), Fail> {
     assert!(rt; is_shown(rt.alloc(), &tens().complement())?);
     assert!(rt; is_shown(rt.alloc(), &tens().union(tens()))?);
+    assert!(rt; is_shown(rt.alloc(), &tens().intersection(tens()))?);
+    assert!(rt; is_shown(rt.alloc(), &tens().difference(tens()))?);
     assert!(rt; is_shown(rt.alloc(), &Merge::new(tens(), tens()))?);
     Ok(())
 }

@@ -1,12 +1,13 @@
--- What a caller needs of several results of operations on the same two lists.
+-- What a caller needs of results of results: operations on two results, of any two streams and of
+-- two lists that are known.
 use Rattle.std.proofs.Common.{◌≡◌, ◌↔◌, ℕ, Bool, true, false, ◌&&◌, ◌||◌, not, refl, sym, ◌∙◌, inl, inr, List}
 use Rattle.std.specs.Prelude.{IsTrue}
 use Rattle.rsb_integer.specs.Runs.{Interval, members}
 use Rattle.rsb_integer.specs.Selection.{Selection, Agree, difference, intersection, union}
 use Rattle.rsb_integer.proofs.ListLemmas.{not_both, true_or_false}
-use Rattle.rsb_integer.proofs.RunsLemmas.{runs-along}
+use Rattle.rsb_integer.proofs.RunsLemmas.{runs-along, runs-members}
 use Rattle.rsb_streams.specs.Stream.{Outcomes, ◌⊆◌, joined, just, runs_by, runs_by_two, SomeOutcomes}
-use Rattle.rsb_streams.proofs.CallerLemmas.{Respects, members-runs_by_two}
+use Rattle.rsb_streams.proofs.CallerLemmas.{members-runs_by_two}
 
 -- the operation gives the same of sets that agree in a type of n values
 abbrev pub RespectsTwo : ℕ → (Selection → Selection → Selection) → Type 0
@@ -28,6 +29,33 @@ pub difference-respects : (n : ℕ) → RespectsTwo n difference
 difference-respects n these others those more same also_same rank below =
     rw (same rank below, also_same rank below) refl
 
+-- an operation on two results of operations on one
+pub runs_by_two-after : (n : ℕ) (outer : Selection → Selection → Selection)
+    (one two : Selection → Selection) (P Q Ones Twos : Outcomes) → RespectsTwo n outer
+    → Ones ⊆ runs_by n one P → Twos ⊆ runs_by n two Q
+    → runs_by_two n outer Ones Twos ⊆ runs_by_two n (λ left right. outer (one left) (two right)) P Q
+runs_by_two-after n outer one two P Q Ones Twos respects ones twos runs may = λ nothing.
+    may (λ first second at also all.
+    ones first at (λ left might one_runs.
+    twos second also (λ right too two_runs.
+    nothing left right might too
+    (runs-along n (outer (members first) (members second))
+    (outer (one (members left)) (two (members right))) runs
+    (respects (members first) (one (members left)) (members second) (two (members right))
+    (runs-members n (one (members left)) first one_runs)
+    (runs-members n (two (members right)) second two_runs)) all))))
+
+-- operations that are the same rank by rank give the same
+pub runs_by_two-same : (n : ℕ) (one two : Selection → Selection → Selection) (P Q : Outcomes)
+    → ((these those : Selection) (rank : ℕ) → one these those rank ≡ two these those rank)
+    → runs_by_two n one P Q ⊆ runs_by_two n two P Q
+runs_by_two-same n one two P Q same runs may = λ nothing. may (λ left right at also all.
+    nothing left right at also
+    (runs-along n (one (members left) (members right)) (two (members left) (members right))
+    runs (λ rank below. same (members left) (members right) rank) all))
+
+-- ---- results on two lists
+
 module _ (n : ℕ) (left right : List Interval) where
   -- the runs of a set made of the two lists
   abbrev pub of_both : (Selection → Selection → Selection) → Outcomes
@@ -40,16 +68,6 @@ module _ (n : ℕ) (left right : List Interval) where
   both-of operation P Q Given these those given runs at = λ nothing.
       given runs at (λ one other may might all. nothing one other (these one may) (those other might)
       all)
-
-  -- an operation on such a result
-  pub one-of_both : (outer : Selection → Selection) (inner : Selection → Selection → Selection)
-      (Inner : Outcomes) → Respects n outer → Inner ⊆ of_both inner
-      → runs_by n outer Inner ⊆ of_both (λ these those. outer (inner these those))
-  one-of_both outer inner Inner respects within runs may = λ nothing. may (λ given at all.
-      nothing left right refl refl
-      (runs-along n (outer (members given)) (outer (inner (members left) (members right))) runs
-      (respects (members given) (inner (members left) (members right))
-      (members-runs_by_two n inner left right given (within given at))) all))
 
   -- an operation on two such results
   pub two-of_both : (outer one two : Selection → Selection → Selection) (Ones Twos : Outcomes)
@@ -65,15 +83,6 @@ module _ (n : ℕ) (left right : List Interval) where
       (members second) (two (members left) (members right))
       (members-runs_by_two n one left right first (ones first at))
       (members-runs_by_two n two left right second (twos second also))) all))
-
-  -- operations that are the same rank by rank give the same
-  pub same-of_both : (one two : Selection → Selection → Selection)
-      → ((these those : Selection) (rank : ℕ) → one these those rank ≡ two these those rank)
-      → of_both one ⊆ of_both two
-  same-of_both one two same runs may = λ nothing. may (λ first second at also all.
-      nothing first second at also
-      (runs-along n (one (members first) (members second)) (two (members first) (members second))
-      runs (λ rank below. same (members first) (members second) rank) all))
 
   -- the left list alone
   pub left-of_both : of_both (λ these those. these) ⊆ joined n (just left)

@@ -1,0 +1,175 @@
+//! Operations on all pairs of lists of two ranges near the ends of `u8`, each against the plain
+//! answer, member by member.
+
+use rsb_streams::{Draw, DrawDisjoint, RangeOnce, SortedDisjoint, Union};
+use std::alloc::{AllocError, Global};
+use std::test::Fail;
+
+/// All ranges with ends among 0, 1, 2, 3, 254 and 255, and one without members.
+const RANGES: [(u8, u8); 22] = [
+    (1, 0),
+    (0, 0),
+    (0, 1),
+    (0, 2),
+    (0, 3),
+    (0, 254),
+    (0, 255),
+    (1, 1),
+    (1, 2),
+    (1, 3),
+    (1, 254),
+    (1, 255),
+    (2, 2),
+    (2, 3),
+    (2, 254),
+    (2, 255),
+    (3, 3),
+    (3, 254),
+    (3, 255),
+    (254, 254),
+    (254, 255),
+    (255, 255),
+];
+
+/// Two ranges, which may overlap, and of which one or both may have no members.
+type Ranges = [(u8, u8); 2];
+
+/// All lists of two ranges, in one order each.
+fn lists(alloc: Global) -> Result<Vec<Ranges>, AllocError> {
+    let mut lists = Vec::new(alloc);
+    for first in RANGES {
+        for second in RANGES {
+            if first <= second {
+                lists.push([first, second])?;
+            }
+        }
+    }
+    Ok(lists)
+}
+
+/// Whether one of two ranges has the value.
+fn has(ranges: &Ranges, value: u8) -> bool {
+    for range in ranges {
+        if range.0 <= value && value <= range.1 {
+            return true;
+        }
+    }
+    false
+}
+
+/// The values of two ranges as a stream.
+fn stream_of(ranges: &Ranges) -> Union<u8, RangeOnce<u8>, RangeOnce<u8>>
+    ensures { ⟦<Union<u8, RangeOnce<u8>, RangeOnce<u8>> as Draw<u8>>⟧.can_draw result }
+{
+    let [first, second] = *ranges;
+    RangeOnce::new(first.0..=first.1).union(RangeOnce::new(second.0..=second.1))
+}
+
+/// Which values the first eight ranges of a stream have: more than it is to give.
+fn marks<I: SortedDisjoint<u8>>(stream: I) -> [bool; 256]
+    requires { I.can_next stream }
+{
+    let mut stream = stream;
+    let mut marks = [false; 256];
+    for _ in 0..8 {
+        let Some(range) = stream.next() else {
+            break;
+        };
+        for value in range {
+            marks[value as usize] = true;
+        }
+    }
+    marks
+}
+
+/// Whether the intersection of two streams has the members that both have.
+fn intersection_is_right(left: &Ranges, right: &Ranges) -> bool {
+    let marks = marks(stream_of(left) & stream_of(right));
+    for value in 0..=255u8 {
+        if marks[value as usize] != (has(left, value) && has(right, value)) {
+            return false;
+        }
+    }
+    true
+}
+
+/// Whether the difference of two streams has the members that the left has and the right lacks.
+fn difference_is_right(left: &Ranges, right: &Ranges) -> bool {
+    let marks = marks(stream_of(left) - stream_of(right));
+    for value in 0..=255u8 {
+        if marks[value as usize] != (has(left, value) && !has(right, value)) {
+            return false;
+        }
+    }
+    true
+}
+
+/// Whether two lists have the same members, all members of the left are in the right, and they have
+/// none in common.
+fn plain_answers(left: &Ranges, right: &Ranges) -> (bool, bool, bool) {
+    let mut equal = true;
+    let mut subset = true;
+    let mut disjoint = true;
+    for value in 0..=255u8 {
+        match (has(left, value), has(right, value)) {
+            (true, true) => disjoint = false,
+            (true, false) => {
+                equal = false;
+                subset = false;
+            }
+            (false, true) => equal = false,
+            (false, false) => {}
+        }
+    }
+    (equal, subset, disjoint)
+}
+
+/// Whether the tests between two streams tell the same.
+fn tests_are_right(left: &Ranges, right: &Ranges) -> bool {
+    let (equal, subset, disjoint) = plain_answers(left, right);
+    stream_of(left).equal(stream_of(right)) == equal
+        && stream_of(left).is_subset(stream_of(right)) == subset
+        && stream_of(left).is_disjoint(stream_of(right)) == disjoint
+}
+
+#[test]
+fn intersections_near_the_ends_have_the_members_that_both_have(
+    rt: HostRuntime,
+) -> Result<(), Fail> {
+    let lists = lists(rt.alloc())?;
+    for left in &lists {
+        for right in &lists {
+            assert!(rt;
+                intersection_is_right(left, right),
+                "at {left:?}, {right:?}"
+            );
+        }
+    }
+    Ok(())
+}
+
+#[test]
+fn differences_near_the_ends_have_the_members_that_the_right_lacks(
+    rt: HostRuntime,
+) -> Result<(), Fail> {
+    let lists = lists(rt.alloc())?;
+    for left in &lists {
+        for right in &lists {
+            assert!(rt; difference_is_right(left, right), "at {left:?}, {right:?}");
+        }
+    }
+    Ok(())
+}
+
+#[test]
+fn tests_between_streams_near_the_ends_tell_what_their_members_tell(
+    rt: HostRuntime,
+) -> Result<(), Fail> {
+    let lists = lists(rt.alloc())?;
+    for left in &lists {
+        for right in &lists {
+            assert!(rt; tests_are_right(left, right), "at {left:?}, {right:?}");
+        }
+    }
+    Ok(())
+}
