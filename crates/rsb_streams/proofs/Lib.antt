@@ -8,7 +8,9 @@ pub mod ListedSources
 pub mod MergeTurns
 pub mod NotLemmas
 pub mod NotTurns
+pub mod OddEnds
 pub mod OddLemmas
+pub mod OddStates
 pub mod OddTurns
 pub mod OperationLemmas
 pub mod SourceLemmas
