@@ -10,7 +10,9 @@ pub mod MergeTurns
 pub mod NestedLemmas
 pub mod NotLemmas
 pub mod NotTurns
+pub mod OddEnds
 pub mod OddLemmas
+pub mod OddStates
 pub mod OddTurns
 pub mod OperationLemmas
 pub mod SourceLemmas

@@ -1,7 +1,6 @@
--- The loop of the pieces of ranges that an odd number of them covers.
-use Rattle.std.proofs.Common.{◌≡◌, ◌⊎◌, ℕ, ◌+◌, ◌<◌, ◌≤◌, Bool, true, false, cond, max, min, nat_le, List, [], ◌∷◌, ◌++◌, length, refl, sym, ap, ◌∙◌, subst, inl, inr, arith}
-use Rattle.std.proofs.lemmas.Bool.Decides.{nat_tests}
-use Rattle.std.specs.Prelude.{Option, Some, None}
+-- One more range, for the pieces that an odd number of ranges covers.
+use Rattle.std.proofs.Common.{◌≡◌, ℕ, ◌+◌, ◌<◌, ◌≤◌, Bool, true, false, List, [], ◌∷◌, ◌++◌, length, refl, sym, ap, ◌∙◌, subst, inr, arith}
+use Rattle.std.specs.Prelude.{Option, Some}
 use Rattle.std.specs.Ordering.{partial_lt}
 use Rattle.std.specs.declared.cmp.Ordering.{Ordering}
 use Rattle.std.specs.Iterator.{Count, IsFinite, MakesProgress, size}
@@ -10,117 +9,16 @@ use Rattle.std.specs.declared.ops.RangeInclusive.{RangeInclusive}
 use Rattle.rsb_integer.specs.Rank.{interval_of}
 use Rattle.rsb_integer.specs.Runs.{Interval}
 use Rattle.rsb_integer.proofs.MembersLemmas.{same_interval}
-use Rattle.rsb_streams.specs.OddPieces.{odd_may_give, odd_remaining, oddly_covered, begun_from, pieces_of, pending, ArePieces, HasOneEndAtMost, IsGoing, IsTwofold, OddAnswers, OddReady, OddSoFar}
+use Rattle.rsb_streams.specs.OddPieces.{odd_may_give, odd_remaining, oddly_covered, pieces_of, pending, ArePieces, IsGoing, IsTwofold, OddAnswers, OddReady, OddSoFar}
 use Rattle.rsb_streams.specs.Stream.{Outcomes, ◌⊆◌, run_if_any, unless, HasOutcome}
 use Rattle.rsb_streams.specs.declared.odd_pieces.OddPieces.{OddPieces}
 use Rattle.rsb_streams.proofs.Compare.{IsRanked, less-rank, not_less-rank}
 use Rattle.rsb_streams.proofs.NotTurns.{answered}
-use Rattle.rsb_streams.proofs.OddLemmas.{no-pieces, past-twofold, pieces-before, pieces-first, pieces-past, twofold-tail}
+use Rattle.rsb_streams.proofs.OddLemmas.{past-twofold, pieces-before, pieces-first, pieces-past, twofold-tail}
 use Rattle.rsb_streams.proofs.Sources.{Source, IsLawful, range-start, range-end}
 use Rattle.rsb_streams.proofs.UnionLemmas.{head-sorted}
-
--- a state of the pieces that is not at its end
-abbrev state : {T I : Type 0} → I → T → List (Option T) → OddPieces T I
-state iter start items =
-    record { iter = iter; done = false; start = start; ends = record { items = items } }
-
--- by its parts
-pub state-is : {T I : Type 0} (s : OddPieces T I) (iter : I) (start : T)
-    (items : List (Option T)) → s.iter ≡ iter → s.done ≡ false → s.start ≡ start
-    → s.ends.items ≡ items → state iter start items ≡ s
-state-is s iter start items iters undone starts ends = sym (λ k.
-    record { iter = iters k; done = undone k; start = starts k; ends = record { items = ends k } })
-
--- the ranks from a value to another
-abbrev between : {T : Type 0} → (T → ℕ) → T → T → Interval
-between rank start end = record { first = rank start; last = rank end }
-
--- what lies past the lesser of two ends, to the greater
-abbrev past_both : {T : Type 0} → (T → ℕ) → T → T → Interval
-past_both rank end other =
-    record { first = min (rank end) (rank other) + 1; last = max (rank end) (rank other) }
-
--- what lies past the lesser of two ends is pending
-pub record HasPassed {T I : Type 0} (rank : T → ℕ) (j : I) (end other : T)
-    (s : OddPieces T I) : Type 0 where
-  pub iter : s.iter ≡ j
-  pub undone : s.done ≡ false
-  pub ends : HasOneEndAtMost s
-  pub short : length s.ends.items ≤ 1
-  pub left : pending rank s ≡ run_if_any (past_both rank end other)
-
--- an interval with members stands
-one-run : (run other : Interval) → run.first ≤ run.last → run.first ≡ other.first
-    → run.last ≡ other.last → run ∷ [] ≡ run_if_any other
-one-run run other ordered first last =
-    let test : nat_le other.first other.last ≡ true = grind (arith, nat_tests) in
-    ap (λ each. each ∷ []) (same_interval run other first last)
-    ∙ sym (ap (λ each. cond each (other ∷ []) []) test)
-
--- the first one ends first
-pub passed-first : {T I : Type 0} (rank : T → ℕ) (j : I) (end other : T) (s : OddPieces T I)
-    → s.iter ≡ j → s.done ≡ false → s.ends.items ≡ Some other ∷ [] → rank s.start ≡ rank end + 1
-    → rank end < rank other → HasPassed rank j end other s
-passed-first rank j end other s same undone items start less = record {
-  iter = same;
-  undone = undone;
-  ends = inr (other, items);
-  short = rw items (omega arith);
-  left = ap (begun_from rank s.start) items
-      ∙ one-run (between rank s.start other) (past_both rank end other) (omega arith) (omega arith)
-      (omega arith);
-}
-
--- the second one does
-pub passed-second : {T I : Type 0} (rank : T → ℕ) (j : I) (end other : T) (s : OddPieces T I)
-    → s.iter ≡ j → s.done ≡ false → s.ends.items ≡ Some end ∷ [] → rank s.start ≡ rank other + 1
-    → rank other < rank end → HasPassed rank j end other s
-passed-second rank j end other s same undone items start less = record {
-  iter = same;
-  undone = undone;
-  ends = inr (end, items);
-  short = rw items (omega arith);
-  left = ap (begun_from rank s.start) items
-      ∙ one-run (between rank s.start end) (past_both rank end other) (omega arith) (omega arith)
-      (omega arith);
-}
-
--- both end at once
-pub passed-both : {T I : Type 0} (rank : T → ℕ) (j : I) (end other : T) (s : OddPieces T I)
-    → s.iter ≡ j → s.done ≡ false → s.ends.items ≡ [] → rank end ≤ rank other → rank other ≤ rank end
-    → HasPassed rank j end other s
-passed-both rank j end other s same undone items most least =
-    let past = past_both rank end other in
-    let test : nat_le past.first past.last ≡ false = grind (arith, nat_tests) in
-    record {
-      iter = same;
-      undone = undone;
-      ends = inl items;
-      short = rw items (omega arith);
-      left = ap (begun_from rank s.start) items ∙ sym (ap (λ each. cond each (past ∷ []) []) test);
-    }
-
--- the end that is answered is pending, alone
-pub is-pending : {T : Type 0} (items : List (Option T)) (found : Option T) (end : T)
-    → (items ≡ []) ⊎ ((last : T) × (items ≡ Some last ∷ []))
-    → (items ≡ [] → found ≡ None) → ((last : T) → items ≡ Some last ∷ [] → found ≡ Some last)
-    → found ≡ Some end → items ≡ Some end ∷ []
-is-pending items found end ends none some is = elim ends [
-  | inl empty ↦ let no = none empty in absurd (cc)
-  | inr one ↦
-      let same = some one.0 one.1 in
-      let end_is : one.0 ≡ end = cc in
-      one.1 ∙ ap (λ each. Some each ∷ []) end_is
-]
-
--- where none is answered, none is pending
-pub none-pending : {T : Type 0} (items : List (Option T)) (found : Option T)
-    → (items ≡ []) ⊎ ((last : T) × (items ≡ Some last ∷ []))
-    → ((last : T) → items ≡ Some last ∷ [] → found ≡ Some last) → found ≡ None → items ≡ []
-none-pending items found ends some is = elim ends [
-  | inl empty ↦ empty
-  | inr one ↦ let same = some one.0 one.1 in absurd (cc)
-]
+use Rattle.rsb_streams.proofs.OddEnds.{so-by}
+use Rattle.rsb_streams.proofs.OddStates.{state, between, past_both, HasPassed}
 
 module _ {I T : Type 0} (rank : T → ℕ) (n : ℕ) (source : Source I T) where
   -- the pieces may be drawn
@@ -143,115 +41,7 @@ module _ {I T : Type 0} (rank : T → ℕ) (n : ℕ) (source : Source I T) where
   abbrev Answered : OddPieces T I → Option (RangeInclusive T) → OddPieces T I → Type 0
   Answered = OddAnswers rank n source.can_next source.may_give
 
-  -- at the entry it is so
-  pub begun : (entry : OddPieces T I) → entry.done ≡ false → can entry → SoFar entry entry
-  begun entry undone ready = record {
-    undone = undone;
-    going = ready undone;
-    same = λ runs at. at;
-    nearer = omega arith;
-  }
-
-  -- where all was told, nothing comes
-  pub over : (entry : OddPieces T I) → entry.done ≡ true → can entry → Answered entry None entry
-  over entry done ready = record {
-    answers = subst (λ each. unless each (pieces_of n (pending rank entry)
-        (source.may_give entry.iter)) []) (sym done) refl;
-    rests = (
-      ready,
-      λ pieces at. subst (λ each. unless each (pieces_of n (pending rank entry)
-          (source.may_give entry.iter)) pieces) done at,
-    );
-  }
-
-  -- what the entry has, by the parts of a state that is not at its end
-  so-by : (entry : OddPieces T I) (i : I) (done : Bool) (start : T) (items others : List (Option T))
-      → SoFar entry (record { iter = i; done = done; start = start; ends = record { items = items } })
-      → items ≡ others → SoFar entry (state i start others)
-  so-by entry i done start items others so is =
-      subst (λ each. SoFar entry (state i start each)) is
-      (subst (λ each. SoFar entry
-      (record { iter = i; done = each; start = start; ends = record { items = items } })) so.undone so)
-
-  -- ---- pieces of which nothing is drawn yet
-  module _ (iter : I) (s : OddPieces T I) (same_source : s.iter ≡ iter)
-      (none : s.ends.items ≡ []) where
-    -- they may be drawn where the source may, and no rank lies in more than two of its ranges
-    pub fresh-going : source.can_next iter
-        → ((given : List Interval) → source.may_give iter given → IsTwofold n given) → can s
-    fresh-going ready twofold = λ undone. record {
-      callable = subst source.can_next (sym same_source) ready;
-      ends = inl none;
-      twofold = λ given at. subst (λ items. IsTwofold n (begun_from rank s.start items ++ given))
-          (sym none) (twofold given (subst (λ each. source.may_give each given) same_source at));
-    }
-
-    -- they are pieces of what the source gives
-    pub fresh-pieces : s.done ≡ false → may s ⊆ pieces_of n [] (source.may_give iter)
-    fresh-pieces undone pieces at = λ nothing.
-        subst (λ each. unless each (pieces_of n (pending rank s) (source.may_give s.iter)) pieces)
-        undone at (λ given might all.
-        nothing given (subst (λ each. source.may_give each given) same_source might)
-        (subst (λ items. ArePieces n (oddly_covered (begun_from rank s.start items ++ given)) pieces)
-        none all))
-
   module _ (laws : IsLawful rank n source) where
-    -- ---- the source has ended
-    module _ (entry : OddPieces T I) (i j : I) (done : Bool) (start : T) (items : List (Option T))
-        (so_now : SoFar entry
-        (record { iter = i; done = done; start = start; ends = record { items = items } }))
-        (call : source.steps i None j) where
-      -- the state at the end
-      abbrev final : List (Option T) → OddPieces T I
-      final left =
-          record { iter = j; done = true; start = start; ends = record { items = left } }
-
-      -- nothing is left to ask for
-      ready-end : (left : List (Option T)) → can (final left)
-      ready-end left = λ no. absurd (cc)
-
-      -- nothing comes
-      pub rests : items ≡ [] → Answered entry None (final items)
-      rests is =
-          let so = so-by entry i done start items [] so_now is in
-          record {
-            answers = so.same [] (λ nothing.
-                nothing [] (laws.answers i j None call) (no-pieces n));
-            rests = (ready-end items, λ pieces at. at);
-          }
-
-      -- what is pending comes last
-      pub last-answers : (end : T) (answer : RangeInclusive T) → items ≡ Some end ∷ []
-          → range_inclusive_exhausted answer ≡ false → range_inclusive_start answer ≡ start
-          → range_inclusive_end answer ≡ end → (left : List (Option T))
-          → Answered entry (Some answer) (final left)
-      last-answers end answer is fresh from to left =
-          let so = so-by entry i done start items (Some end ∷ []) so_now is in
-          let none = laws.answers i j None call in
-          let sorted = (so.going.twofold [] none).sorted in
-          let gap = answered rank n source start end answer fresh from to in
-          record {
-            answers = λ rest at. so.same (interval_of rank answer ∷ rest) (λ nothing.
-                nothing [] none
-                (subst (λ first. ArePieces n (oddly_covered (between rank start end ∷ []))
-                (first ∷ rest)) (sym gap)
-                (pieces-first n (between rank start end) [] rest sorted.1 sorted.2 tt
-                (subst (ArePieces n (oddly_covered [])) (sym at) (no-pieces n)))));
-            rests = tt;
-          }
-
-      -- and none is left
-      pub last-goes : (end : T) (answer : RangeInclusive T) → items ≡ Some end ∷ []
-          → (left : List (Option T)) → MakesProgress can left_of entry (Some answer) (final left)
-      last-goes end answer is left =
-          let so = so-by entry i done start items (Some end ∷ []) so_now is in
-          let nearer = so.nearer in
-          record {
-            on = λ ends. (ready-end left, tt, omega (arith, nearer));
-            keeps = ready-end left;
-            rests = λ ends. tt;
-          }
-
     -- ---- one more range
     module _ (entry : OddPieces T I) (i j : I) (done : Bool) (start : T) (items : List (Option T))
         (next next_end : T) (range : RangeInclusive T)
@@ -317,7 +107,7 @@ module _ {I T : Type 0} (rank : T → ℕ) (n : ℕ) (source : Source I T) where
         -- it begins where none is pending
         pub so-begins : items ≡ [] → SoFar entry (state j next (Some next_end ∷ []))
         so-begins is =
-            let so = so-by entry i done start items [] so_now is in
+            let so = so-by rank n source entry i done start items [] so_now is in
             let less = fewer in
             let nearer = so.nearer in
             record {
@@ -333,7 +123,7 @@ module _ {I T : Type 0} (rank : T → ℕ) (n : ℕ) (source : Source I T) where
         module _ (end : T) (is : items ≡ Some end ∷ []) where
           -- so it was before
           so : SoFar entry (state i start (Some end ∷ []))
-          so = so-by entry i done start items (Some end ∷ []) so_now is
+          so = so-by rank n source entry i done start items (Some end ∷ []) so_now is
 
           -- both, and what comes after them
           twofold : (given : List Interval) → source.may_give j given

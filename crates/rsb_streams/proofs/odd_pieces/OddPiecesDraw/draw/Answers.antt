@@ -3,7 +3,9 @@ use Rattle.std.specs.Prelude.{Some, drop, take}
 use Rattle.std.specs.Iterator.{MakesProgress, size}
 use Rattle.rsb_streams.specs.OddPieces.{odd_remaining, OddAnswers, OddReady, OddSoFar}
 use Rattle.rsb_streams.proofs.Compare.{IsRanked, less-rank, not_less-rank}
-use Rattle.rsb_streams.proofs.OddTurns.{HasPassed, apart-answers, apart-goes, begun, both-values, end-less, end-most, fewer, gap-answers, gap-goes, is-pending, last-answers, last-goes, none-pending, over, passed-both, passed-first, passed-second, rests, so-begins, so-passed, state-is}
+use Rattle.rsb_streams.proofs.OddEnds.{begun, last-answers, last-goes, over, rests}
+use Rattle.rsb_streams.proofs.OddStates.{HasPassed, is-pending, none-pending, passed-both, passed-first, passed-second, state-is}
+use Rattle.rsb_streams.proofs.OddTurns.{apart-answers, apart-goes, both-values, end-less, end-most, fewer, gap-answers, gap-goes, so-begins, so-passed}
 use Rattle.rsb_streams.proofs.Sources.{IsLawful}
 use Rattle.rsb_streams.proofs.odd_pieces.OddPiecesDraw.draw.Given.{Over}
 use Rattle.rsb_streams.proofs.odd_pieces.OddPiecesDraw.draw.Invariants.{source}

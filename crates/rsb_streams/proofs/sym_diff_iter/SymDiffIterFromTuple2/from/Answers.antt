@@ -4,7 +4,7 @@ use Rattle.rsb_streams.specs.OddPieces.{odd-keeps, odd_may_give, odd_remaining, 
 use Rattle.rsb_streams.specs.Stream.{◌⊆◌, merges, AnswersAndRests}
 use Rattle.rsb_streams.specs.declared.merge.Merge.{Merge}
 use Rattle.rsb_streams.specs.declared.odd_pieces.OddPieces.{OddPieces}
-use Rattle.rsb_streams.proofs.OddTurns.{fresh-going, fresh-pieces}
+use Rattle.rsb_streams.proofs.OddEnds.{fresh-going, fresh-pieces}
 use Rattle.rsb_streams.proofs.Sources.{Source, fresh-may, fresh-ready}
 use Rattle.rsb_streams.proofs.SymDiffLemmas.{merges-twofold, symmetric-of_merge}
 use Rattle.rsb_streams.proofs.sym_diff_iter.SymDiffIterFromTuple2.from.Given.{Over}
