@@ -14,6 +14,7 @@ mod look_up;
 mod remove;
 mod retain;
 pub(crate) mod run;
+mod take_in;
 
 use crate::ranges_iter::RangesIter;
 use num_traits::Zero;
