@@ -15,6 +15,7 @@ mod remove;
 mod retain;
 pub(crate) mod run;
 mod subsets;
+mod take_in;
 
 use crate::ranges_iter::RangesIter;
 use num_traits::Zero;

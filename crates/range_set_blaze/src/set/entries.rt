@@ -1,12 +1,13 @@
 //! Runs as entries of an ordered map, from starts to ends.
 
-ghost use Rattle.std.specs.Prelude.{◌≡◌, ◌<◌, [], ◌∷◌, ◌++◌, MatchOption};
+ghost use Rattle.std.specs.Prelude.{◌≡◌, ◌<◌, ◌≤◌, [], ◌∷◌, ◌++◌, IfSome, IsNone, MatchOption};
 ghost use Rattle.std.specs.BTreeMap.{is_at};
 ghost use Rattle.std.specs.Map.{set_value};
-ghost use Rattle.range_set_blaze.specs.Kept.{entry_of, IsAscendingFrom};
-ghost use Rattle.range_set_blaze.specs.Places.{past, up_to, EndsWith, StartsWith};
+ghost use Rattle.rsb_integer.specs.Runs.{IsCanonicalIn};
+ghost use Rattle.range_set_blaze.specs.Kept.{entry_of, runs_of, IsAscendingFrom};
+ghost use Rattle.range_set_blaze.specs.Places.{past, up_to, EndsWith, EndsWithTwo, IsFree, IsReaching, StartsWith};
 
-use crate::set::run::Run;
+use crate::set::run::{Run, reaches};
 use rsb_integer::Integer;
 use std::alloc::Allocator;
 use std::collections::BTreeMap;
@@ -69,6 +70,31 @@ pub(crate) fn run_after<T: Integer, A: Allocator>(
         start: *start,
         end: *end,
     })
+}
+
+/// The last of the runs that start at a point or before it, with the run before it, or `None` where
+/// it doesn't reach the start.
+pub(crate) fn last_reaching<T: Integer, A: Allocator>(
+    map: &BTreeMap<T, T, A>,
+    start: T,
+    point: T,
+) -> Option<(Run<T>, Option<Run<T>>)>
+    requires canonical { IsCanonicalIn T.value_count (runs_of T.rank map.now.entries) }
+    requires start { T.rank start ≤ T.rank point }
+    requires point { T.rank point < T.value_count }
+    ensures none { IsNone result →
+        IsFree T.rank (T.rank start) (T.rank point) map.now.entries }
+    ensures found { IfSome result (λ reached.
+        IsReaching T.rank (T.rank start) (T.rank point) map.now.entries reached.0) }
+    ensures before { IfSome result (λ reached. EndsWithTwo
+        (up_to T.rank (T.rank point) map.now.entries) reached.0 reached.1) }
+{
+    let mut entries = map.range(..=point);
+    let last = last_run(&mut entries)?;
+    if !reaches(last.end, start) {
+        return None;
+    }
+    Some((last, last_run(&mut entries)))
 }
 
 /// Moves the end of the run that begins at a start.

@@ -19,8 +19,8 @@ impl<T: Integer, A: Allocator + Clone> RangeSetBlaze<T, A> {
     /// (`RangeSetBlaze::remove`.)
     pub fn remove(&mut self, value: T) -> Result<bool, AllocError>
         ensures members { OnOk result (Removes self.old self.new (only (T.rank value))) }
-        ensures found { IfOk result (λ found.
-            IsTrue found ↔ IsTrue (members self.old (T.rank value))) }
+        ensures removed { IfOk result (λ removed.
+            IsTrue removed ↔ IsTrue (members self.old (T.rank value))) }
         ensures err { OnErr result (self.new ≡ self.old) }
 
         // No memory is taken where the value is no member, nor where it is the last of its run.

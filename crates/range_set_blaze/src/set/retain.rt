@@ -1,6 +1,6 @@
 //! Runs that are kept by a test.
 
-ghost use Rattle.std.specs.Prelude.{◌≡◌, ◌∷◌, Bool};
+ghost use Rattle.std.specs.Prelude.{◌≡◌, Bool};
 ghost use Rattle.std.specs.Fn.{ComputesKey};
 ghost use Rattle.std.specs.List.{filter};
 ghost use Rattle.rsb_integer.specs.Rank.{interval_of};

@@ -89,7 +89,8 @@ fn taken_by_a_call<A: Allocator + Clone>(
 ) -> Result<bool, AllocError> {
     match call {
         0 => set.remove(value),
-        _ => set.take(value).map(|found| found == Some(value)),
+        1 => set.take(value).map(|found| found == Some(value)),
+        _ => set.pop_first().map(|found| found == Some(value)),
     }
 }
 
@@ -144,6 +145,23 @@ fn each_growth_of_a_removal_is_refused_in_turn(rt: HostRuntime) -> Result<(), Fa
                 "of {count} runs, call {call}"
             );
         }
+    }
+    Ok(())
+}
+
+#[test]
+fn each_growth_of_a_pop_is_refused_in_turn(rt: HostRuntime) -> Result<(), Fail> {
+    for count in [1, 3, 100u16] {
+        let heap = LocalHeap::new(rt.alloc(), 16384)?;
+        let mut set = spaced(&heap, count)?;
+        for _ in 0..3 * count {
+            let Some(value) = set.first() else {
+                break;
+            };
+            let refused = refusals_of_a_removal(rt.alloc(), &heap, &mut set, 2, value)?;
+            assert!(rt; refused.is_some(), "of {count} runs, at {value}");
+        }
+        assert!(rt; set.is_empty(), "of {count} runs");
     }
     Ok(())
 }

@@ -72,9 +72,7 @@ fn a_clone_of_a_stream_known_to_be_sorted_goes_on(rt: HostRuntime) -> Result<(),
 fn a_clone_of_an_intersection_goes_on(rt: HostRuntime) -> Result<(), Fail> {
     let mut both = tens().intersection(tens());
     assert!(rt; both.next() == Some(0..=0));
-    let copy = both.clone()?;
-    assert!(rt; are_shown_alike(rt.alloc(), &both, &copy)?);
-    assert!(rt; gives(both, &[(10, 10), (20, 20)]));
+    assert!(rt; both_give(both, &[(10, 10), (20, 20)])?);
     Ok(())
 }
 
@@ -82,8 +80,6 @@ fn a_clone_of_an_intersection_goes_on(rt: HostRuntime) -> Result<(), Fail> {
 fn a_clone_of_a_difference_goes_on(rt: HostRuntime) -> Result<(), Fail> {
     let mut rest = tens().difference(fives());
     assert!(rt; rest.next() == Some(0..=0));
-    let copy = rest.clone()?;
-    assert!(rt; are_shown_alike(rt.alloc(), &rest, &copy)?);
-    assert!(rt; gives(rest, &[(10, 10), (20, 20)]));
+    assert!(rt; both_give(rest, &[(10, 10), (20, 20)])?);
     Ok(())
 }

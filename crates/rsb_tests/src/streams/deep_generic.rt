@@ -44,7 +44,11 @@ fn eight_unions<T: Integer, I: SortedDisjoint<T>>(
         × (I.can_draw others.3) }
     ensures { ⟦<FourMore<T, FourMore<T, I, I>, I> as Draw<T>>⟧.can_draw result }
 {
-    let four = stream.union(some.0).union(some.1).union(some.2).union(some.3);
+    let four = stream
+        .union(some.0)
+        .union(some.1)
+        .union(some.2)
+        .union(some.3);
     four | others.0 | others.1 | others.2 | others.3
 }
 

@@ -1,6 +1,6 @@
 use Rattle.std.proofs.Common.{arith, refl}
 use Rattle.range_set_blaze.proofs.PointLemmas.{free-reached}
-use Rattle.range_set_blaze.proofs.set.insert.swallow_many.Goals as goal
+use Rattle.range_set_blaze.proofs.set.take_in.swallow_many.Goals as goal
 
 -- no run reaches the start
 pub returns-in_default-clause-succeeds : goal.returns-in_default-clause-succeeds

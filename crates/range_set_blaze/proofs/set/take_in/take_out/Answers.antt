@@ -1,6 +1,6 @@
 use Rattle.std.proofs.Common.{◌∙◌, arith}
 use Rattle.range_set_blaze.proofs.TakeLastLemmas.{last-done, last-taken, left-counted, left-runs}
-use Rattle.range_set_blaze.proofs.set.insert.take_out.Goals as goal
+use Rattle.range_set_blaze.proofs.set.take_in.take_out.Goals as goal
 
 -- the only one is out
 pub returns-then-alone-clause-spared : goal.returns-then-alone-clause-spared

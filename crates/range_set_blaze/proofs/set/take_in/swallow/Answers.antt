@@ -2,7 +2,7 @@ use Rattle.std.proofs.Common.{arith}
 use Rattle.range_set_blaze.proofs.AloneLemmas.{before-free, before-reaching, before-swallowed, before-value, none-before}
 use Rattle.range_set_blaze.proofs.KeptLemmas.{le-fails, lt-fails}
 use Rattle.range_set_blaze.proofs.PointLemmas.{free-reached, kept-ascending}
-use Rattle.range_set_blaze.proofs.set.insert.swallow.Goals as goal
+use Rattle.range_set_blaze.proofs.set.take_in.swallow.Goals as goal
 
 -- no run comes before the last
 pub put_over-requires-clause-alone : goal.put_over-requires-clause-alone

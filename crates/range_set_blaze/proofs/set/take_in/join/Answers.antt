@@ -5,7 +5,7 @@ use Rattle.range_set_blaze.proofs.InsertedLemmas.{inserted-fits, last-order, ove
 use Rattle.range_set_blaze.proofs.JoinLemmas.{first-joined, first-order}
 use Rattle.range_set_blaze.proofs.PointLemmas.{kept-ascending, kept-fits}
 use Rattle.range_set_blaze.proofs.SwallowLemmas.{all-last, all-swallowed, taken-runs}
-use Rattle.range_set_blaze.proofs.set.insert.join.Goals as goal
+use Rattle.range_set_blaze.proofs.set.take_in.join.Goals as goal
 
 -- the last run is in order, and lies in the type
 pub greater-end-requires-clause-right : goal.greater-end-requires-clause-right

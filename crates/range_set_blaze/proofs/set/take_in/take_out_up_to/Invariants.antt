@@ -1,7 +1,7 @@
 -- Some of the last entries were taken out.
 use Rattle.std.proofs.Common.{length}
 use Rattle.range_set_blaze.proofs.TakeOutLemmas.{IsTakingOut}
-use Rattle.range_set_blaze.proofs.set.insert.take_out_up_to.Given as goal
+use Rattle.range_set_blaze.proofs.set.take_in.take_out_up_to.Given as goal
 
 abbrev pub invariant-loop-run : goal.invariant-loop-run
 invariant-loop-run g l =

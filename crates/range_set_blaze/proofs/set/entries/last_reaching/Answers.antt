@@ -4,7 +4,7 @@ use Rattle.range_set_blaze.proofs.AloneLemmas.{ends-at, ends-with}
 use Rattle.range_set_blaze.proofs.EntriesLemmas.{between-up_to}
 use Rattle.range_set_blaze.proofs.KeptLemmas.{le-fails}
 use Rattle.range_set_blaze.proofs.PointLemmas.{kept-ascending}
-use Rattle.range_set_blaze.proofs.set.insert.last_reaching.Goals as goal
+use Rattle.range_set_blaze.proofs.set.entries.last_reaching.Goals as goal
 
 -- none starts up to the point
 pub returns-in_err-last-clause-none : goal.returns-in_err-last-clause-none

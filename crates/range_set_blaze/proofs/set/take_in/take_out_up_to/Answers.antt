@@ -6,7 +6,7 @@ use Rattle.range_set_blaze.proofs.PartsLemmas.{All-last}
 use Rattle.range_set_blaze.proofs.EntriesLemmas.{up_to-starts}
 use Rattle.range_set_blaze.specs.Kept.{entry_of}
 use Rattle.range_set_blaze.proofs.TakeOutLemmas.{taking-counted, taking-done, taking-next, taking-shorter, taking-stops}
-use Rattle.range_set_blaze.proofs.set.insert.take_out_up_to.Goals as goal
+use Rattle.range_set_blaze.proofs.set.take_in.take_out_up_to.Goals as goal
 
 -- nothing was taken out at first
 pub loop-run-init : goal.loop-run-init

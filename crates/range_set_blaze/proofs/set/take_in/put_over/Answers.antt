@@ -4,7 +4,7 @@ use Rattle.range_set_blaze.proofs.InsertedLemmas.{inserted-fits, last-order, ove
 use Rattle.range_set_blaze.proofs.PointLemmas.{kept-fits}
 use Rattle.range_set_blaze.proofs.PutOverLemmas.{put-ascending, put-joined, put-last, put-swallowed}
 use Rattle.range_set_blaze.proofs.SwallowLemmas.{all-swallowed, taken-runs}
-use Rattle.range_set_blaze.proofs.set.insert.put_over.Goals as goal
+use Rattle.range_set_blaze.proofs.set.take_in.put_over.Goals as goal
 
 -- the last run is in order, and lies in the type
 pub greater-end-requires-clause-right : goal.greater-end-requires-clause-right
