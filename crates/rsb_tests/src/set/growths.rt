@@ -129,7 +129,7 @@ fn each_growth_of_a_set_of_a_stream_is_refused_in_turn(rt: HostRuntime) -> Resul
                 refused = refused.saturating_add(1);
                 drop(filler);
                 drop(wall);
-                assert_eq!(rt; heap.free(), free, "of {count} runs");
+                assert!(rt; heap.free() == free, "of {count} runs");
             }
             assert!(rt; passed && refused > 0, "of {count} runs");
         }
@@ -148,9 +148,9 @@ fn a_hundred_runs_become_one_with_no_memory(rt: HostRuntime) -> Result<(), Fail>
     let filler = filled(rt.alloc(), &heap)?;
     assert!(rt; set.ranges_insert(1..=197)?);
     drop(filler);
-    assert_eq!(rt; set.ranges().next(), Some(0..=198));
-    assert_eq!(rt; set.len(), 199);
-    assert_eq!(rt; set.ranges_len(), 1);
+    assert!(rt; set.ranges().next() == Some(0..=198));
+    assert!(rt; set.len() == 199);
+    assert!(rt; set.ranges_len() == 1);
     Ok(())
 }
 
@@ -169,13 +169,13 @@ fn a_refused_run_leaves_those_it_would_take_in(rt: HostRuntime) -> Result<(), Fa
         let answer = set.ranges_insert(1..=1000);
         drop(filler);
         if answer.is_err() {
-            assert_eq!(rt; set.ranges_len(), runs, "of {count} runs");
-            assert_eq!(rt; set.len(), members, "of {count} runs");
+            assert!(rt; set.ranges_len() == runs, "of {count} runs");
+            assert!(rt; set.len() == members, "of {count} runs");
             assert!(rt; set.ranges_insert(1..=1000)?, "of {count} runs");
         }
-        assert_eq!(rt; set.ranges().next(), Some(1..=1000), "of {count} runs");
-        assert_eq!(rt; set.ranges_len(), 1, "of {count} runs");
-        assert_eq!(rt; set.len(), 1000, "of {count} runs");
+        assert!(rt; set.ranges().next() == Some(1..=1000), "of {count} runs");
+        assert!(rt; set.ranges_len() == 1, "of {count} runs");
+        assert!(rt; set.len() == 1000, "of {count} runs");
     }
     Ok(())
 }

@@ -24,17 +24,27 @@ fn a_complement_makes_a_set(rt: HostRuntime) -> Result<(), Fail> {
     assert!(rt; gaps.range_at(15) == Some(10..=19));
     assert!(rt; bytes.range_or_gap_at(15) == (10..=19, false));
     assert!(rt; gaps.len() == 10);
-    assert!(rt; bytes.ranges().union(gaps.ranges()).is_universal());
     Ok(())
 }
 
 #[test]
-fn a_range_and_the_universe_make_sets(rt: HostRuntime) -> Result<(), Fail> {
+fn a_range_makes_a_set(rt: HostRuntime) -> Result<(), Fail> {
     let some = RangeSetBlaze::from(rt.alloc(), 3..=7_u8)?;
     assert!(rt; some.range_at(5) == Some(3..=7));
     assert!(rt; RangeSetBlaze::from(rt.alloc(), 7..=3_u8)?.is_empty());
+    Ok(())
+}
+
+#[test]
+fn every_character_makes_a_set(rt: HostRuntime) -> Result<(), Fail> {
     let letters = RangeSetBlaze::<char>::universe(rt.alloc())?;
     assert!(rt; letters.len() == 1_112_064);
-    assert!(rt; RangeSetBlaze::<i128>::universe(rt.alloc())?.len() == UIntPlusOne::MaxPlusOne);
+    Ok(())
+}
+
+#[test]
+fn every_wide_number_makes_a_set(rt: HostRuntime) -> Result<(), Fail> {
+    let numbers = RangeSetBlaze::<i128>::universe(rt.alloc())?;
+    assert!(rt; numbers.len() == UIntPlusOne::MaxPlusOne);
     Ok(())
 }
