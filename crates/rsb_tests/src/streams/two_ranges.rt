@@ -104,32 +104,37 @@ fn difference_is_right(left: &Ranges, right: &Ranges) -> bool {
     true
 }
 
-/// Whether two lists have the same members, all members of the left are in the right, and they have
-/// none in common.
-fn plain_answers(left: &Ranges, right: &Ranges) -> (bool, bool, bool) {
-    let mut equal = true;
-    let mut subset = true;
-    let mut disjoint = true;
+/// Whether two streams are told to be equal exactly where no value tells them apart.
+fn equal_is_right(left: &Ranges, right: &Ranges) -> bool {
+    let mut wanted = true;
     for value in 0..=255u8 {
-        match (has(left, value), has(right, value)) {
-            (true, true) => disjoint = false,
-            (true, false) => {
-                equal = false;
-                subset = false;
-            }
-            (false, true) => equal = false,
-            (false, false) => {}
+        if has(left, value) != has(right, value) {
+            wanted = false;
         }
     }
-    (equal, subset, disjoint)
+    stream_of(left).equal(stream_of(right)) == wanted
 }
 
-/// Whether the tests between two streams tell the same.
-fn tests_are_right(left: &Ranges, right: &Ranges) -> bool {
-    let (equal, subset, disjoint) = plain_answers(left, right);
-    stream_of(left).equal(stream_of(right)) == equal
-        && stream_of(left).is_subset(stream_of(right)) == subset
-        && stream_of(left).is_disjoint(stream_of(right)) == disjoint
+/// Whether a stream is told to be a part of another exactly where that lacks none of its members.
+fn is_subset_is_right(left: &Ranges, right: &Ranges) -> bool {
+    let mut wanted = true;
+    for value in 0..=255u8 {
+        if has(left, value) && !has(right, value) {
+            wanted = false;
+        }
+    }
+    stream_of(left).is_subset(stream_of(right)) == wanted
+}
+
+/// Whether two streams are told to be disjoint exactly where no value is in both.
+fn is_disjoint_is_right(left: &Ranges, right: &Ranges) -> bool {
+    let mut wanted = true;
+    for value in 0..=255u8 {
+        if has(left, value) && has(right, value) {
+            wanted = false;
+        }
+    }
+    stream_of(left).is_disjoint(stream_of(right)) == wanted
 }
 
 #[test]
@@ -162,13 +167,39 @@ fn differences_near_the_ends_have_the_members_that_the_right_lacks(
 }
 
 #[test]
-fn tests_between_streams_near_the_ends_tell_what_their_members_tell(
+fn streams_near_the_ends_are_equal_where_their_members_are_the_same(
     rt: HostRuntime,
 ) -> Result<(), Fail> {
     let lists = lists(rt.alloc())?;
     for left in &lists {
         for right in &lists {
-            assert!(rt; tests_are_right(left, right), "at {left:?}, {right:?}");
+            assert!(rt; equal_is_right(left, right), "at {left:?}, {right:?}");
+        }
+    }
+    Ok(())
+}
+
+#[test]
+fn streams_near_the_ends_are_subsets_where_no_member_is_lacking(
+    rt: HostRuntime,
+) -> Result<(), Fail> {
+    let lists = lists(rt.alloc())?;
+    for left in &lists {
+        for right in &lists {
+            assert!(rt; is_subset_is_right(left, right), "at {left:?}, {right:?}");
+        }
+    }
+    Ok(())
+}
+
+#[test]
+fn streams_near_the_ends_are_disjoint_where_no_member_is_in_both(
+    rt: HostRuntime,
+) -> Result<(), Fail> {
+    let lists = lists(rt.alloc())?;
+    for left in &lists {
+        for right in &lists {
+            assert!(rt; is_disjoint_is_right(left, right), "at {left:?}, {right:?}");
         }
     }
     Ok(())
