@@ -2,6 +2,8 @@ pub mod ArraySources
 pub mod CallerLemmas
 pub mod CheckLemmas
 pub mod Compare
+pub mod FillLemmas
+pub mod FillTurns
 pub mod FirstItems
 pub mod LawfulSources
 pub mod ListedSources

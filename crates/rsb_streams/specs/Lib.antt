@@ -2,6 +2,8 @@ pub mod Ascending
 pub mod AssumeSortedStarts
 pub mod Calls
 pub mod CheckSortedDisjoint
+pub mod FillGaps
+pub mod FillGapsIter
 pub mod Fused
 pub mod Listed
 pub mod Merge

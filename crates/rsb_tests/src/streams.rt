@@ -8,6 +8,7 @@ mod deep_generic;
 mod deep_intersections;
 mod deep_operators;
 mod deep_unions;
+mod fill_gaps;
 mod is_empty;
 mod is_universal;
 mod known_streams;
