@@ -3,6 +3,8 @@ pub mod CallerLemmas
 pub mod CheckLemmas
 pub mod Compare
 pub mod EqualTurns
+pub mod FillLemmas
+pub mod FillTurns
 pub mod FirstItems
 pub mod LawfulSources
 pub mod ListedSources

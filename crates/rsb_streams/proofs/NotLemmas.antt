@@ -23,7 +23,7 @@ gaps-below first rank selected below =
     ap (λ each. each && not (selected rank)) test
 
 -- from the first on a rank is in a gap where it is not selected
-gaps-above : (first rank : ℕ) (selected : Selection) → first ≤ rank
+pub gaps-above : (first rank : ℕ) (selected : Selection) → first ≤ rank
     → gaps_from first selected rank ≡ not (selected rank)
 gaps-above first rank selected above =
     let test : nat_le first rank ≡ true = grind (arith, nat_tests) in

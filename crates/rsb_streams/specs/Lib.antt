@@ -3,6 +3,8 @@ pub mod AssumeSortedStarts
 pub mod Calls
 pub mod CheckSortedDisjoint
 pub mod Difference
+pub mod FillGaps
+pub mod FillGapsIter
 pub mod Fused
 pub mod Intersection
 pub mod Listed

@@ -4,6 +4,8 @@
 pub mod assume_sorted_starts;
 pub mod check_sorted_disjoint;
 pub mod draw;
+pub mod fill_gaps_iter;
+pub mod laws;
 pub mod merge;
 pub mod not_iter;
 mod not_sorted_disjoint;
@@ -19,6 +21,7 @@ pub mod union_iter;
 pub use assume_sorted_starts::AssumeSortedStarts;
 pub use check_sorted_disjoint::CheckSortedDisjoint;
 pub use draw::Draw;
+pub use fill_gaps_iter::FillGapsIter;
 pub use merge::Merge;
 pub use not_iter::NotIter;
 pub use not_sorted_disjoint::NotSortedDisjoint;

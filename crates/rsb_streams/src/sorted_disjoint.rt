@@ -3,6 +3,7 @@
 ghost use Rattle.std.specs.Prelude.{◌↔◌, IsTrue};
 ghost use Rattle.rsb_integer.specs.Runs.{members, IsCanonicalIn};
 ghost use Rattle.rsb_integer.specs.Selection.{Agree, AreDisjoint, IsEverything, IsNothing, IsSubset};
+ghost use Rattle.rsb_streams.specs.FillGapsIter.{fill_may_give, GivesFilled};
 ghost use Rattle.rsb_streams.specs.Stream.{
   ◌⊆◌,
   GivesComplement,
@@ -16,6 +17,7 @@ ghost use Rattle.rsb_streams.specs.Stream.{
 };
 
 use crate::draw::Draw;
+use crate::fill_gaps_iter::FillGapsIter;
 use crate::not_iter::NotIter;
 use crate::operation_results::{Difference, Intersection, SymmetricDifference, Union};
 use rsb_integer::Integer;
@@ -107,6 +109,19 @@ pub trait DrawDisjoint<T: Integer>: Draw<T> {
             (R.may_give other) (⟦<SymmetricDifference<T, Self, R> as Draw<T>>⟧.may_give result) }
     {
         SymmetricDifference::from((self, other))
+    }
+
+    /// All runs of a stream that may be drawn from with true, and all gaps with false, from the
+    /// least value to the greatest. It takes no memory. (`SortedDisjoint::fill_gaps`.)
+    final fn fill_gaps(self) -> FillGapsIter<T, Self>
+    where
+        Self: Sized,
+        requires { Self.can_draw self }
+        ensures ready { ⟦<FillGapsIter<T, Self> as Iterator>⟧.can_next result }
+        ensures gives { GivesFilled T.value_count (Self.may_give self)
+            (fill_may_give T.rank T.value_count Self.may_give result) }
+    {
+        FillGapsIter::over(self, T::min_value())
     }
 
     /// Whether a stream that may be drawn from has no member. It draws one range, and takes no

@@ -12,6 +12,7 @@ mod deep_operators;
 mod deep_unions;
 mod difference;
 mod equal;
+mod fill_gaps;
 mod intersection;
 mod is_disjoint;
 mod is_empty;

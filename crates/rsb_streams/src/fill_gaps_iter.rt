@@ -1,0 +1,61 @@
+//! The runs of a stream and its gaps, in one.
+
+ghost use Rattle.std.specs.Prelude.{◌≡◌, Some};
+ghost use Rattle.rsb_streams.specs.FillGapsIter.{fill_can_next, fill_remaining, FillSteps};
+ghost use Rattle.rsb_streams.specs.PutBack.{IsFresh};
+
+use crate::draw::Draw;
+use crate::put_back::PutBack;
+use rsb_integer::Integer;
+use std::iter::FusedIterator;
+use std::ops::RangeInclusive;
+
+/// All runs of a stream with true, and all its gaps with false, from the least value to the
+/// greatest. (`FillGapsIter` of the Rust crate.)
+#[derive(Clone, Debug, Drop)]
+pub struct FillGapsIter<T, I> {
+    iter: PutBack<T, I>,
+    // Where the next run or gap starts: `None` once one reached the greatest value.
+    start: Option<T>,
+}
+
+impl<T, I> FillGapsIter<T, I> {
+    /// The runs and gaps of a stream from a value on, of which nothing is drawn yet.
+    pub(crate) fn over(iter: I, start: T) -> Self
+        ensures iter { IsFresh iter result.iter }
+        ensures start { result.start ≡ Some start }
+    {
+        FillGapsIter {
+            iter: PutBack::new(iter),
+            start: Some(start),
+        }
+    }
+}
+
+impl<T: Integer, I: Draw<T>> Iterator for FillGapsIter<T, I> {
+    type Item = (RangeInclusive<T>, bool);
+
+    ghost can_next = { fill_can_next T.rank T.value_count I.can_draw I.may_give };
+
+    ghost next_gives = { FillSteps T.rank T.value_count I.can_draw I.may_give };
+
+    ghost remaining = { fill_remaining T.rank T.value_count };
+
+    fn next(&mut self) -> Option<(RangeInclusive<T>, bool)> {
+        let start = self.start?;
+        let Some(range) = self.iter.draw() else {
+            self.start = None;
+            return Some((start..=T::max_value(), false));
+        };
+        let next = *range.start();
+        if start < next {
+            self.iter.put_back(range);
+            self.start = Some(next);
+            return Some((start..=next.sub_one(), false));
+        }
+        self.start = range.end().checked_add_one();
+        Some((range, true))
+    }
+}
+
+impl<T: Integer, I: Draw<T>> FusedIterator for FillGapsIter<T, I> {}
