@@ -10,8 +10,8 @@ pub mod ranges_iter;
 pub mod set;
 
 pub use crate::prelude::{
-    AnythingGoes, AssumeSortedStarts, CheckSortedDisjoint, Difference, Draw, DrawDisjoint, Integer,
-    Intersection, IntoRangeSetBlaze, IntoRangesIter, Merge, NotIter, NotSortedDisjoint, RangeOnce,
-    RangeSetBlaze, RangesIter, SafeLength, SortedDisjoint, SortedStarts, SymDiffIter,
-    SymmetricDifference, UInt, UIntPlusOne, Union, UnionIter,
+    AnythingGoes, AssumeSortedStarts, CheckSortedDisjoint, Difference, Draw, DrawDisjoint,
+    FillGapsIter, Integer, Intersection, IntoRangeSetBlaze, IntoRangesIter, Merge, NotIter,
+    NotSortedDisjoint, RangeOnce, RangeSetBlaze, RangesIter, SafeLength, SortedDisjoint,
+    SortedStarts, SymDiffIter, SymmetricDifference, UInt, UIntPlusOne, Union, UnionIter,
 };

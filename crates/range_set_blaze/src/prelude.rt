@@ -8,6 +8,6 @@ pub use rsb_integer::Integer;
 pub use rsb_length::{SafeLength, UInt, UIntPlusOne};
 pub use rsb_streams::{
     AnythingGoes, AssumeSortedStarts, CheckSortedDisjoint, Difference, Draw, DrawDisjoint,
-    Intersection, Merge, NotIter, NotSortedDisjoint, RangeOnce, SortedDisjoint, SortedStarts,
-    SymDiffIter, SymmetricDifference, Union, UnionIter,
+    FillGapsIter, Intersection, Merge, NotIter, NotSortedDisjoint, RangeOnce, SortedDisjoint,
+    SortedStarts, SymDiffIter, SymmetricDifference, Union, UnionIter,
 };
