@@ -3,7 +3,7 @@
 use Rattle.std.proofs.Common.{◌≡◌, ◌↔◌, ℕ, Bool, true, false, ◌&&◌, ◌||◌, not, refl, sym, ◌∙◌, inl, inr, List}
 use Rattle.std.specs.Prelude.{IsTrue}
 use Rattle.rsb_integer.specs.Runs.{Interval, members}
-use Rattle.rsb_integer.specs.Selection.{Selection, Agree, difference, intersection, union}
+use Rattle.rsb_integer.specs.Selection.{Selection, Agree, difference, exclusive_or, intersection, union}
 use Rattle.rsb_integer.proofs.ListLemmas.{not_both, true_or_false}
 use Rattle.rsb_integer.proofs.RunsLemmas.{runs-along, runs-members}
 use Rattle.rsb_streams.specs.Stream.{Outcomes, ◌⊆◌, joined, just, runs_by, runs_by_two, SomeOutcomes}
@@ -113,3 +113,11 @@ parts-join false right = refl
 pub neither-of : (left right : Bool) → not (left || right) ≡ (not left && not right)
 neither-of true right = refl
 neither-of false right = refl
+
+-- what one of two has, and not both, lies in one alone
+pub unshared-alone : (left right : Bool)
+    → ((left || right) && not (left && right)) ≡ exclusive_or left right
+unshared-alone true true = refl
+unshared-alone true false = refl
+unshared-alone false true = refl
+unshared-alone false false = refl

@@ -23,6 +23,7 @@ mod lists;
 mod merge;
 mod nested;
 mod operators;
+mod one_alone;
 mod own_stream;
 mod pairs_of_lists;
 mod range_once;
