@@ -1,6 +1,12 @@
 -- What a caller of operations on streams needs: their results composed, and the members of a list
 -- that an operation gives.
-use Rattle.std.proofs.Common.{◌≡◌, ℕ, Bool, true, false, ◌&&◌, ◌||◌, sym, ◌∙◌, List, not, refl, ap}
+use Rattle.std.proofs.Common.{◌≡◌, ℕ, Bool, true, false, ◌&&◌, ◌||◌, sym, ◌∙◌, List, not, refl, ap, [], ◌∷◌, map, subst}
+use Rattle.std.specs.Prelude.{None}
+use Rattle.std.specs.Iterator.{Yields}
+use Rattle.std.specs.declared.ops.RangeInclusive.{RangeInclusive}
+use Rattle.rsb_integer.specs.Rank.{interval_of}
+use Rattle.rsb_streams.specs.FillGapsIter.{FillSteps, fill_may_give}
+use Rattle.rsb_streams.specs.declared.fill_gaps_iter.FillGapsIter.{FillGapsIter}
 use Rattle.std.proofs.Math.Bool.{not-not}
 use Rattle.rsb_integer.specs.Runs.{Interval, members}
 use Rattle.rsb_integer.specs.Selection.{Selection, Agree, complement, difference, intersection, union}
@@ -166,3 +172,17 @@ difference-by_complements n P Q Gaps Union gaps either runs may = λ nothing. ma
     (runs-members n (complement (members one)) left gaps_runs rank below)
     ∙ not-outside (members one rank) (members right rank))
     all))))
+
+-- ---- runs and gaps
+
+-- what the calls told until `None` is a list that might come
+pub filled-drawn : {T I : Type 0} (rank : T → ℕ) (n : ℕ) (can_next : I → Type 0)
+    (may_give : I → Outcomes) (items : List (RangeInclusive T × Bool)) (s t u : FillGapsIter T I)
+    → Yields (FillSteps rank n can_next may_give) s items t
+    → FillSteps rank n can_next may_give t None u
+    → fill_may_give rank n may_give s (map (λ pair. (interval_of rank pair.0, pair.1)) items)
+filled-drawn rank n can_next may_give [] s t u all end =
+    subst (λ each. fill_may_give rank n may_give each []) (sym all) end.answers
+filled-drawn rank n can_next may_give (item ∷ items) s t u all end =
+    all.1.answers (map (λ pair. (interval_of rank pair.0, pair.1)) items)
+    (filled-drawn rank n can_next may_give items all.0 t u all.2 end)

@@ -83,3 +83,21 @@ fn a_clone_of_a_difference_goes_on(rt: HostRuntime) -> Result<(), Fail> {
     assert!(rt; both_give(rest, &[(10, 10), (20, 20)])?);
     Ok(())
 }
+
+#[test]
+fn a_clone_of_a_symmetric_difference_keeps_what_is_pending(rt: HostRuntime) -> Result<(), Fail> {
+    let mut alone = tens().symmetric_difference(fives());
+    assert!(rt; alone.next() == Some(0..=0));
+    assert!(rt; both_give(alone, &[(5, 5), (10, 10), (15, 15), (20, 20), (25, 25)])?);
+    Ok(())
+}
+
+#[test]
+fn a_clone_of_filled_gaps_keeps_the_range_that_is_held(rt: HostRuntime) -> Result<(), Fail> {
+    let mut filled = fives().fill_gaps();
+    assert!(rt; filled.next() == Some((0..=4, false)));
+    let mut copy = filled.clone()?;
+    assert!(rt; filled.next() == Some((5..=5, true)));
+    assert!(rt; copy.next() == Some((5..=5, true)));
+    Ok(())
+}

@@ -36,3 +36,15 @@ fn known_streams_have_a_text(rt: HostRuntime) -> Result<(), Fail> {
     assert!(rt; is_shown(rt.alloc(), &joined_again(tens()))?);
     Ok(())
 }
+
+#[test]
+fn symmetric_differences_have_a_text(rt: HostRuntime) -> Result<(), Fail> {
+    assert!(rt; is_shown(rt.alloc(), &tens().symmetric_difference(tens()))?);
+    Ok(())
+}
+
+#[test]
+fn filled_gaps_have_a_text(rt: HostRuntime) -> Result<(), Fail> {
+    assert!(rt; is_shown(rt.alloc(), &tens().fill_gaps())?);
+    Ok(())
+}
