@@ -22,14 +22,25 @@ fn eight_symmetric_differences_keep_what_an_odd_number_has(rt: HostRuntime) {
     assert!(rt;
         gives(
             nine,
-            &[(1, 1), (3, 3), (5, 5), (8, 8), (10, 10), (12, 12), (254, 254)]
+            &[
+                (1, 1),
+                (3, 3),
+                (5, 5),
+                (8, 8),
+                (10, 10),
+                (12, 12),
+                (254, 254)
+            ]
         )
     );
 }
 
 /// What is in both or neither of two streams, and in a third, and not in a fourth.
-type Alike<T, L, I> =
-    Difference<T, Intersection<T, NotIter<T, SymmetricDifference<T, L, I>>, I>, I>;
+type Alike<T, L, I> = Difference<
+    T,
+    Intersection<T, NotIter<T, SymmetricDifference<T, L, I>>, I>,
+    I,
+>;
 
 /// Four operations on a stream.
 fn alike<T: Integer, L: SortedDisjoint<T>, I: SortedDisjoint<T>>(

@@ -63,7 +63,12 @@ fn three_to_nine() -> (RangeOnce<u8>, RangeOnce<u8>)
 
 #[test]
 fn what_is_not_shared_is_told(rt: HostRuntime) {
-    assert!(rt; gives(unshared(three_to_nine(), three_to_nine()), &[(3, 4), (6, 9)]));
+    assert!(rt;
+        gives(
+            unshared(three_to_nine(), three_to_nine()),
+            &[(3, 4), (6, 9)]
+        )
+    );
 }
 
 #[test]
