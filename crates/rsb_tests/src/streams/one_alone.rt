@@ -1,6 +1,7 @@
-//! What lies in one of two streams alone, in two ways, proved of public contracts alone.
+//! What lies in one of two streams alone, as what they have and do not share, proved of public
+//! contracts alone.
 
-ghost use Rattle.std.specs.Prelude.{IsTrue, List};
+ghost use Rattle.std.specs.Prelude.{List};
 ghost use Rattle.rsb_integer.specs.Runs.{Interval};
 ghost use Rattle.rsb_integer.specs.Selection.{symmetric_difference};
 ghost use Rattle.rsb_streams.specs.Stream.{◌⊆◌, just, runs_by_two};
@@ -32,27 +33,6 @@ fn unshared<T: Integer, L: SortedDisjoint<T>, R: SortedDisjoint<T>>(
     either.difference(both)
 }
 
-/// Whether both ways to what lies in one of two streams alone give the same list: so it is where
-/// all three pairs give the same two lists.
-fn alone_is_unshared<T: Integer, L: SortedDisjoint<T>, R: SortedDisjoint<T>>(
-    one: (L, R),
-    some: (L, R),
-    again: (L, R),
-) -> bool
-    requires one { (L.can_draw one.0) × (R.can_draw one.1) }
-    requires some { (L.can_draw some.0) × (R.can_draw some.1) }
-    requires again { (L.can_draw again.0) × (R.can_draw again.1) }
-    ensures { (these those : List Interval)
-        → L.may_give one.0 ⊆ just these → R.may_give one.1 ⊆ just those
-        → L.may_give some.0 ⊆ just these → R.may_give some.1 ⊆ just those
-        → L.may_give again.0 ⊆ just these → R.may_give again.1 ⊆ just those
-        → IsTrue result }
-{
-    let alone = one.0.symmetric_difference(one.1);
-    let rest = unshared(some, again);
-    alone.equal(rest)
-}
-
 /// The ranges 3..=5 and 5..=9.
 fn three_to_nine() -> (RangeOnce<u8>, RangeOnce<u8>)
     ensures low { ⟦<RangeOnce<u8> as Draw<u8>>⟧.can_draw result.0 }
@@ -69,9 +49,4 @@ fn what_is_not_shared_is_told(rt: HostRuntime) {
             &[(3, 4), (6, 9)]
         )
     );
-}
-
-#[test]
-fn what_lies_in_one_alone_is_the_same_both_ways(rt: HostRuntime) {
-    assert!(rt; alone_is_unshared(three_to_nine(), three_to_nine(), three_to_nine()));
 }
