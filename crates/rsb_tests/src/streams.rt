@@ -9,6 +9,7 @@ mod deep_generic;
 mod deep_intersections;
 mod deep_mixed;
 mod deep_operators;
+mod deep_symmetric_differences;
 mod deep_unions;
 mod difference;
 mod equal;
