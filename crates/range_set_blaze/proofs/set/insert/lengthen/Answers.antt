@@ -18,7 +18,9 @@ add_length-requires-clause-fits g c κs within =
     let fits = inserted-fits rank n entries
     (set_value (is_at (g.T.Ord.cmp last.start)) entries run.end) run
     (total + (rank run.end - rank last.end))
-    (lengthened (over c.args.run c.requires.kept c.requires.order c.requires.value c.requires.reaching) g.T.Ord.cmp laws.in_order c.requires.start c.requires.end
+    (lengthened
+    (over c.args.run c.requires.kept c.requires.order c.requires.value c.requires.reaching)
+    g.T.Ord.cmp laws.in_order c.requires.start c.requires.end
     (set_value (is_at (g.T.Ord.cmp last.start)) entries run.end)
     (total + (rank run.end - rank last.end)) refl refl) in
     omega (arith, fits, c.add_one.ensures, c.requires.end)

@@ -78,7 +78,9 @@ add_length-requires-clause-fits g c κs within =
     let rank = g.T.Integer.rank in
     let n = g.T.Integer.value_count in
     let number = g.T.SafeLen.SafeLength.number in
-    let swallows = put-swallowed g.T.Ord.cmp laws.in_order (over c.args.run c.requires.kept c.requires.order c.requires.value c.requires.reaching) c.requires.start
+    let swallows = put-swallowed g.T.Ord.cmp laws.in_order
+    (over c.args.run c.requires.kept c.requires.order c.requires.value c.requires.reaching)
+    c.requires.start
     c.requires.free c.greater-end.result c.greater-end.ensures c.insert.new.self.entries
     c.in_ok-insert.ensures.entries in
     let others = rw swallows at c.take_out-length.ensures.others in
@@ -98,7 +100,9 @@ returns-clause-inserted g c =
     let laws = g.met.T.Integer g.world.𝓛 g.world.𝓜 g.world.𝓡
     ((λ s x. x), (λ x. x), (λ x. x), λ x. x) in
     let number = g.T.SafeLen.SafeLength.number in
-    let swallows = put-swallowed g.T.Ord.cmp laws.in_order (over c.args.run c.requires.kept c.requires.order c.requires.value c.requires.reaching) c.requires.start
+    let swallows = put-swallowed g.T.Ord.cmp laws.in_order
+    (over c.args.run c.requires.kept c.requires.order c.requires.value c.requires.reaching)
+    c.requires.start
     c.requires.free c.greater-end.result c.greater-end.ensures c.insert.new.self.entries
     c.in_ok-insert.ensures.entries in
     let others = rw swallows at c.take_out-length.ensures.others in
