@@ -18,8 +18,8 @@ use std::ops::RangeInclusive;
 /// more than two of the ranges, so no more than two have begun and not ended.
 #[derive(Clone, Debug, Drop)]
 pub(crate) struct OddPieces<T, I> {
-    // It stands beside its flag and in no `Fused`: with one more struct around it, the check does not
-    // find that the sizes of nested streams fit.
+    // It stands beside its flag: with one more struct around both, the check does not find that the
+    // sizes of nested streams fit.
     iter: I,
     // The source has ended, and all was told.
     done: bool,
