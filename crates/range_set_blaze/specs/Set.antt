@@ -43,6 +43,10 @@ Adds old new added = (rank : ℕ) → members new rank ≡ union (members old) a
 abbrev pub Removes : List Interval → List Interval → Selection → Type 0
 Removes old new removed = (rank : ℕ) → members new rank ≡ difference (members old) removed rank
 
+-- the set has the selected ranks as its members, and no others
+abbrev pub IsSetOf : List Interval → Selection → Type 0
+IsSetOf set selected = (rank : ℕ) → members set rank ≡ selected rank
+
 -- the first list has items of the second, in their order, and no others
 abbrev pub IsSublist : {X : Type 0} → List X → List X → Type 0
 IsSublist items [] = items ≡ []

@@ -11,7 +11,7 @@ use std::alloc::{AllocError, Allocator};
 /// one of `SortedDisjoint`.)
 pub trait IntoRangeSetBlaze<T: Integer>: DrawDisjoint<T> {
     /// The set of the ranges of the stream. Without memory nothing is made.
-    final fn into_range_set_blaze<A: Allocator + Clone>(
+    final fn into_range_set_blaze<A: Allocator + Copy>(
         self,
         alloc: A,
     ) -> Result<RangeSetBlaze<T, A>, AllocError>

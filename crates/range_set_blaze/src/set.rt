@@ -31,6 +31,8 @@ pub struct RangeSetBlaze<T: Integer, A: Allocator = Global> {
     // From the start of each run to its end.
     map: BTreeMap<T, T, A>,
     length: T::SafeLen,
+    // The map's allocator, for the sets that calls on this one make.
+    alloc: A,
 }
 
 impl<T: Integer, A: Allocator> Model for RangeSetBlaze<T, A> {
@@ -45,7 +47,7 @@ impl<T: Integer, A: Allocator> Model for RangeSetBlaze<T, A> {
     ghost invariant = { λ s. IsKept T.rank T.value_count s.map.entries (T.SafeLen.number s.length) };
 }
 
-impl<T: Integer, A: Allocator> RangeSetBlaze<T, A> {
+impl<T: Integer, A: Allocator + Copy> RangeSetBlaze<T, A> {
     /// The empty set. It takes no memory. (`RangeSetBlaze::new`.)
     pub fn new(alloc: A) -> Self
         ensures { result ≡ [] }
@@ -53,6 +55,7 @@ impl<T: Integer, A: Allocator> RangeSetBlaze<T, A> {
         RangeSetBlaze {
             map: BTreeMap::new(alloc),
             length: T::SafeLen::zero(),
+            alloc,
         }
     }
 
@@ -62,7 +65,9 @@ impl<T: Integer, A: Allocator> RangeSetBlaze<T, A> {
     {
         Self::new(alloc)
     }
+}
 
+impl<T: Integer, A: Allocator> RangeSetBlaze<T, A> {
     /// How many members there are. (`RangeSetBlaze::len`.)
     pub fn len(&self) -> T::SafeLen
         ensures { T.SafeLen.number result ≡ count T.value_count (members self.now) }

@@ -7,6 +7,7 @@ pub mod FillGaps
 pub mod FillGapsIter
 pub mod Fused
 pub mod Intersection
+pub mod Items
 pub mod Listed
 pub mod Merge
 pub mod NotIter

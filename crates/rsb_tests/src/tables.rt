@@ -19,7 +19,7 @@ pub(crate) fn set_of(
 }
 
 /// The runs of a set as a table.
-pub(crate) fn runs_of<A: Allocator + Clone>(
+pub(crate) fn runs_of<A: Allocator + Copy>(
     alloc: Global,
     set: &RangeSetBlaze<i32, A>,
 ) -> Result<Vec<(i32, i32)>, AllocError> {

@@ -15,7 +15,7 @@ use std::alloc::{AllocError, Allocator};
 use std::collections::BTreeMap;
 use std::ops::RangeInclusive;
 
-impl<T: Integer, A: Allocator + Clone> RangeSetBlaze<T, A> {
+impl<T: Integer, A: Allocator + Copy> RangeSetBlaze<T, A> {
     /// The set of the ranges of a stream. Without memory nothing is made.
     /// (`RangeSetBlaze::from_sorted_disjoint`.)
     pub fn from_sorted_disjoint<I: DrawDisjoint<T>>(alloc: A, iter: I) -> Result<Self, AllocError>
@@ -30,7 +30,11 @@ impl<T: Integer, A: Allocator + Clone> RangeSetBlaze<T, A> {
             let (start, end) = range.into_inner();
             map.insert(start, end)?;
         }
-        Ok(RangeSetBlaze { map, length })
+        Ok(RangeSetBlaze {
+            map,
+            length,
+            alloc,
+        })
     }
 
     /// The set of the values of a range: the empty set where the range is reversed or was iterated

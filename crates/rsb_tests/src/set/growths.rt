@@ -7,7 +7,7 @@ use std::alloc::{AllocError, Allocator, Global};
 use std::test::*;
 
 /// The set of the single values 0, 8, 16 and so on.
-fn spaced<A: Allocator + Clone>(alloc: A, count: u16) -> Result<RangeSetBlaze<u16, A>, AllocError> {
+fn spaced<A: Allocator + Copy>(alloc: A, count: u16) -> Result<RangeSetBlaze<u16, A>, AllocError> {
     let mut set = RangeSetBlaze::new(alloc);
     for place in 0..count {
         set.insert(place.saturating_mul(8))?;
@@ -90,7 +90,7 @@ fn each_growth_of_an_insertion_is_refused_in_turn(rt: HostRuntime) -> Result<(),
 }
 
 /// Whether a set made of the ranges of another has the same ones.
-fn made_alike<A: Allocator + Clone>(
+fn made_alike<A: Allocator + Copy>(
     alloc: A,
     from: &RangeSetBlaze<u16>,
     call: u8,

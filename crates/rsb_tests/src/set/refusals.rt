@@ -23,7 +23,7 @@ pub(crate) fn filled<'a>(alloc: Global, heap: &'a LocalHeap) -> Result<Filler<'a
 }
 
 /// Adds a value by one of the three calls that do, and tells whether it was new.
-fn added_by_a_call<A: Allocator + Clone>(
+fn added_by_a_call<A: Allocator + Copy>(
     set: &mut RangeSetBlaze<u8, A>,
     call: u8,
     value: u8,
@@ -36,7 +36,7 @@ fn added_by_a_call<A: Allocator + Clone>(
 }
 
 /// Whether a set has the length that it had, and takes the value that it could not take before.
-fn is_as_before<A: Allocator + Clone>(
+fn is_as_before<A: Allocator + Copy>(
     set: &mut RangeSetBlaze<u8, A>,
     length: u16,
     value: u8,
@@ -93,7 +93,7 @@ fn a_refused_growth_makes_no_set_of_a_range(rt: HostRuntime) -> Result<(), Fail>
 }
 
 /// Whether the runs of the set of 1..=3 make that set.
-fn is_copied<A: Allocator + Clone>(alloc: A, set: &RangeSetBlaze<u8>) -> Result<bool, AllocError> {
+fn is_copied<A: Allocator + Copy>(alloc: A, set: &RangeSetBlaze<u8>) -> Result<bool, AllocError> {
     let copy = set.ranges().into_range_set_blaze(alloc)?;
     Ok(copy.len() == 3 && copy.range_at(1) == Some(1..=3))
 }
@@ -110,7 +110,7 @@ fn a_refused_growth_makes_no_set_of_a_stream(rt: HostRuntime) -> Result<(), Fail
 }
 
 /// Adds a hundred even numbers.
-fn add_hundred<A: Allocator + Clone>(set: &mut RangeSetBlaze<u8, A>) -> Result<(), AllocError> {
+fn add_hundred<A: Allocator + Copy>(set: &mut RangeSetBlaze<u8, A>) -> Result<(), AllocError> {
     for place in 0..100u8 {
         set.insert(2 * place)?;
     }
@@ -118,7 +118,7 @@ fn add_hundred<A: Allocator + Clone>(set: &mut RangeSetBlaze<u8, A>) -> Result<(
 }
 
 /// Whether each insertion between the first hundred even numbers succeeds.
-fn gaps_are_filled<A: Allocator + Clone>(
+fn gaps_are_filled<A: Allocator + Copy>(
     set: &mut RangeSetBlaze<u8, A>,
 ) -> Result<bool, AllocError> {
     let is_added = set.insert(1)? && set.replace(3)? == None;
@@ -155,7 +155,7 @@ fn first_refused<A: Allocator + Copy>(
 }
 
 /// Whether a set of 0 and more is made of its runs.
-fn is_copied_whole<A: Allocator + Clone>(
+fn is_copied_whole<A: Allocator + Copy>(
     alloc: Global,
     small: A,
     set: &RangeSetBlaze<i32>,

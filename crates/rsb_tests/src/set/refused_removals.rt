@@ -7,7 +7,7 @@ use std::alloc::{AllocError, Allocator, Global};
 use std::test::*;
 
 /// Takes odd numbers out, from 1 on, until one is refused, and gives that one.
-fn first_refused<A: Allocator + Clone>(set: &mut RangeSetBlaze<u16, A>) -> Option<u16> {
+fn first_refused<A: Allocator + Copy>(set: &mut RangeSetBlaze<u16, A>) -> Option<u16> {
     for place in 0..1000u16 {
         let value = 2 * place + 1;
         match set.remove(value) {
@@ -40,7 +40,7 @@ fn a_refused_removal_leaves_the_set_as_it_was(rt: HostRuntime) -> Result<(), Fai
 }
 
 /// Whether what takes no memory succeeds on the set of 1..=5 and 7..=7.
-fn is_taken_without_memory<A: Allocator + Clone>(
+fn is_taken_without_memory<A: Allocator + Copy>(
     set: &mut RangeSetBlaze<u16, A>,
 ) -> Result<bool, AllocError> {
     let is_end_taken = set.remove(5)? && set.take(7)? == Some(7);
@@ -72,7 +72,7 @@ fn a_single_member_is_popped_with_no_memory(rt: HostRuntime) -> Result<(), Fail>
 }
 
 /// The set of 0..=2, 8..=10 and so on.
-fn spaced<A: Allocator + Clone>(alloc: A, count: u16) -> Result<RangeSetBlaze<u16, A>, AllocError> {
+fn spaced<A: Allocator + Copy>(alloc: A, count: u16) -> Result<RangeSetBlaze<u16, A>, AllocError> {
     let mut set = RangeSetBlaze::new(alloc);
     for place in 0..count {
         let start = place.saturating_mul(8);
@@ -82,7 +82,7 @@ fn spaced<A: Allocator + Clone>(alloc: A, count: u16) -> Result<RangeSetBlaze<u1
 }
 
 /// Takes a value out by one of the calls.
-fn taken_by_a_call<A: Allocator + Clone>(
+fn taken_by_a_call<A: Allocator + Copy>(
     set: &mut RangeSetBlaze<u16, A>,
     call: u8,
     value: u16,

@@ -1,0 +1,14 @@
+-- What becomes an iterator, by the items that its calls give.
+use Rattle.std.specs.Prelude.{List, Option}
+use Rattle.std.specs.Iterator.{Count, Drains, IsFinite}
+
+-- whatever the value becomes as an iterator may be called, and ends
+abbrev pub IsEnding : {J I : Type 0} → (J → I → Type 0) → (I → Type 0) → (I → Count) → J → Type 0
+IsEnding {I = I} becomes can_next remaining value = (iter : I) → becomes value iter
+    → can_next iter × IsFinite (remaining iter)
+
+-- the fact holds of all items that the value gave as an iterator
+abbrev pub GaveAll : {J I X : Type 0} → (J → I → Type 0) → (I → Option X → I → Type 0) → J
+    → (List X → Type 0) → Type 0
+GaveAll {I = I} {X} becomes steps value Fact = (iter : I) × (items : List X) × becomes value iter
+    × Drains steps iter items × Fact items
