@@ -1,6 +1,7 @@
 pub mod ArraySources
 pub mod CallerLemmas
 pub mod CheckLemmas
+pub mod CollectLemmas
 pub mod Compare
 pub mod EqualTurns
 pub mod FillLemmas
@@ -17,6 +18,7 @@ pub mod OddLemmas
 pub mod OddStates
 pub mod OddTurns
 pub mod OperationLemmas
+pub mod SortLemmas
 pub mod SourceLemmas
 pub mod Sources
 pub mod SymDiffLemmas

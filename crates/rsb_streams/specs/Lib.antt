@@ -15,6 +15,7 @@ pub mod NotSortedDisjoint
 pub mod OddPieces
 pub mod Outcomes
 pub mod PutBack
+pub mod SortedStartsInVec
 pub mod Stream
 pub mod SymDiffIter
 pub mod Union

@@ -15,6 +15,7 @@ mod operators;
 mod put_back;
 pub mod range_once;
 pub mod sorted_disjoint;
+pub mod sorted_starts_in_vec;
 pub mod sym_diff_iter;
 pub mod union_iter;
 
@@ -28,5 +29,6 @@ pub use not_sorted_disjoint::NotSortedDisjoint;
 pub use operation_results::{Difference, Intersection, SymmetricDifference, Union};
 pub use range_once::RangeOnce;
 pub use sorted_disjoint::{AnythingGoes, DrawDisjoint, SortedDisjoint, SortedStarts};
+pub use sorted_starts_in_vec::SortedStartsInVec;
 pub use sym_diff_iter::SymDiffIter;
 pub use union_iter::UnionIter;
