@@ -20,3 +20,4 @@ pub mod Stream
 pub mod SymDiffIter
 pub mod Union
 pub mod UnionIter
+pub mod UnsortedDisjoint

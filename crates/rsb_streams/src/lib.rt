@@ -18,6 +18,7 @@ pub mod sorted_disjoint;
 pub mod sorted_starts_in_vec;
 pub mod sym_diff_iter;
 pub mod union_iter;
+pub mod unsorted_disjoint;
 
 pub use assume_sorted_starts::AssumeSortedStarts;
 pub use check_sorted_disjoint::CheckSortedDisjoint;
@@ -32,3 +33,4 @@ pub use sorted_disjoint::{AnythingGoes, DrawDisjoint, SortedDisjoint, SortedStar
 pub use sorted_starts_in_vec::SortedStartsInVec;
 pub use sym_diff_iter::SymDiffIter;
 pub use union_iter::UnionIter;
+pub use unsorted_disjoint::UnsortedDisjoint;
