@@ -17,17 +17,17 @@ use borrow.Author.Tests.{leb-true, leb-false}
 some-by : (exhausted test told : Bool) (first last : ℕ) → nat_le first last ≡ test
     → MatchBool exhausted (IsTrue told) (told ≡ not test) → false ≡ told
     → (exhausted ≡ false) × (first ≤ last)
-some-by true test told first last is tells no = absurd (cc)
-some-by false true told first last is tells no = (refl, leb-true first last is)
-some-by false false told first last is tells no = absurd (cc)
+some-by true test told first last is tells fails = absurd (cc)
+some-by false true told first last is tells fails = (refl, leb-true first last is)
+some-by false false told first last is tells fails = absurd (cc)
 
 -- and of one that is told to be empty
 empty-by : (exhausted test told : Bool) (first last : ℕ) → nat_le first last ≡ test
     → MatchBool exhausted (IsTrue told) (told ≡ not test) → true ≡ told
     → (exhausted ≡ true) ⊎ (last < first)
-empty-by true test told first last is tells yes = inl refl
-empty-by false true told first last is tells yes = absurd (cc)
-empty-by false false told first last is tells yes = inr (leb-false first last is)
+empty-by true test told first last is tells holds = inl refl
+empty-by false true told first last is tells holds = absurd (cc)
+empty-by false false told first last is tells holds = inr (leb-false first last is)
 
 module _ {T : Type 0} (rank : T → ℕ) (n : ℕ) (partial_cmp : T → T → Option Ordering)
     (cmp : T → T → Ordering) (ranked : IsRanked rank n partial_cmp cmp) where
@@ -35,6 +35,12 @@ module _ {T : Type 0} (rank : T → ℕ) (n : ℕ) (partial_cmp : T → T → Op
   abbrev interval_at : Bool → RangeInclusive T → Interval
   interval_at exhausted range = cond exhausted (record { first = 1; last = 0 })
       (record { first = rank (range_inclusive_start range); last = rank (range_inclusive_end range) })
+
+  -- one that was is empty
+  gone-empty : (range : RangeInclusive T) → range_inclusive_exhausted range ≡ true
+      → IsEmpty (interval_of rank range)
+  gone-empty range gone =
+      subst IsEmpty (ap (λ exhausted. interval_at exhausted range) (sym gone)) (omega arith)
 
   -- what is told of a range is whether it is empty
   abbrev pub Tells : RangeInclusive T → Bool → Type 0
@@ -51,8 +57,8 @@ module _ {T : Type 0} (rank : T → ℕ) (n : ℕ) (partial_cmp : T → T → Op
 
     -- a range that is not told to be empty is proper
     pub proper-told : false ≡ told → IsProper rank n range
-    proper-told no =
-        let some = some-by (range_inclusive_exhausted range) _ told _ _ tested tells no in
+    proper-told fails =
+        let some = some-by (range_inclusive_exhausted range) _ told _ _ tested tells fails in
         let is = ap (λ exhausted. interval_at exhausted range) (sym some.0) in
         record {
           in_order = subst (λ (run : Interval). run.first ≤ run.last) is some.1;
@@ -61,11 +67,10 @@ module _ {T : Type 0} (rank : T → ℕ) (n : ℕ) (partial_cmp : T → T → Op
 
     -- one that is told to be empty is
     pub empty-told : true ≡ told → IsEmpty (interval_of rank range)
-    empty-told yes = elim (empty-by (range_inclusive_exhausted range) _ told _ _ tested tells yes) [
-      | inl gone ↦ subst IsEmpty (ap (λ exhausted. interval_at exhausted range) (sym gone)) (omega arith)
+    empty-told holds = elim (empty-by (range_inclusive_exhausted range) _ told _ _ tested tells holds) [
+      | inl gone ↦ gone-empty range gone
       | inr past ↦ elim (true_or_false (range_inclusive_exhausted range)) [
-        | inl gone ↦
-            subst IsEmpty (ap (λ exhausted. interval_at exhausted range) (sym gone)) (omega arith)
+        | inl gone ↦ gone-empty range gone
         | inr fresh ↦
             subst IsEmpty (ap (λ exhausted. interval_at exhausted range) (sym fresh)) past
       ]
@@ -109,6 +114,13 @@ module _ {T : Type 0} (rank : T → ℕ) (n : ℕ) (partial_cmp : T → T → Op
       (λ last. let no = is.none.1 last in absurd (cc)) is.next in
       let most = not_less-rank rank n partial_cmp cmp ranked next start value within told in
       omega (arith, most, is.next)
+
+  -- what a test of a start answered
+  pub told-past : (test told : Bool) (after : Option T) (value start : T) → test ≡ told
+      → test ≡ starts_past partial_cmp after value → value ≡ start
+      → told ≡ starts_past partial_cmp after start
+  told-past test told after value start is tests same =
+      sym is ∙ tests ∙ ap (starts_past partial_cmp after) same
 
   -- ---- two ranges
 

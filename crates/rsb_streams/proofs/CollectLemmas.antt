@@ -1,11 +1,13 @@
--- Ranges that are collected, the empty ones left out.
-use Rattle.std.proofs.Common.{◌≡◌, ℕ, Bool, true, false, ◌||◌, List, [], ◌∷◌, ◌++◌, refl, sym, ap, ◌∙◌, arith}
+-- Ranges that are collected and sorted, and the members of those that came.
+use Rattle.std.proofs.Common.{◌≡◌, ℕ, Bool, true, false, ◌||◌, List, [], ◌∷◌, ◌++◌, refl, subst, sym, ap, ◌∙◌, arith}
 use Rattle.std.proofs.lemmas.Bool.Decides.{nat_tests}
 use Rattle.std.proofs.lemmas.List.{map-append}
 use Rattle.std.proofs.lemmas.List.Elements.{All-nil, All-push}
 use Rattle.std.proofs.lemmas.List.Sorted.{All-permutation, IsPermutation-map}
 use Rattle.std.specs.List.{All}
 use Rattle.std.specs.List.Sorted.{IsPermutation}
+use Rattle.std.specs.Prelude.{Option, None}
+use Rattle.std.specs.Iterator.{Drains, Yields}
 use Rattle.std.specs.declared.cmp.Ordering.{Ordering}
 use Rattle.std.specs.declared.ops.RangeInclusive.{RangeInclusive}
 use Rattle.rsb_integer.specs.Rank.{interval_of, intervals_of}
@@ -13,8 +15,12 @@ use Rattle.rsb_integer.specs.Runs.{Interval, members, AreRuns, IsEmpty}
 use Rattle.rsb_integer.specs.Selection.{Selection}
 use Rattle.rsb_integer.proofs.MembersLemmas.{members-append}
 use Rattle.rsb_integer.proofs.RunsLemmas.{runs-along}
+use Rattle.rsb_streams.specs.UnsortedDisjoint.{non_empty, AreSpans, GivesSpans, IsProper, UnsortedSteps}
+use Rattle.rsb_streams.specs.declared.unsorted_disjoint.UnsortedDisjoint.{UnsortedDisjoint}
 use Rattle.rsb_streams.specs.Stream.{joined, just, HasSortedStarts}
-use Rattle.rsb_streams.proofs.SortLemmas.{runs-joined, members-permutation, sorted-starts, IsInOrder, IsProper, StartsAscend}
+use Rattle.rsb_streams.proofs.SortLemmas.{runs-joined, members-permutation, sorted-starts, IsInOrder, StartsAscend}
+use Rattle.rsb_streams.proofs.SpanLemmas.{spans-members}
+use Rattle.rsb_streams.proofs.UnsortedCalls.{answers-proper}
 
 module _ {T : Type 0} (rank : T → ℕ) (n : ℕ) where
   -- the members of a list of ranges
@@ -26,49 +32,44 @@ module _ {T : Type 0} (rank : T → ℕ) (n : ℕ) where
     pub proper : All (IsProper rank n) kept
     pub same : (place : ℕ) → of kept place ≡ of items place
 
-  -- nothing, of no items
-  pub collects-none : Collects [] []
-  collects-none = record {
-    proper = All-nil (IsProper rank n);
-    same = λ place. refl;
+  -- the spans of the items do
+  pub collects-spans : (items kept : List (RangeInclusive T)) → All (IsProper rank n) kept
+      → AreSpans (non_empty (intervals_of rank items)) (intervals_of rank kept)
+      → Collects items kept
+  collects-spans items kept proper are = record {
+    proper = proper;
+    same = λ place. spans-members (intervals_of rank items) (intervals_of rank kept) place are;
   }
 
-  -- the members of a list and one more range
-  of-push : (ranges : List (RangeInclusive T)) (range : RangeInclusive T) (place : ℕ)
-      → of (ranges ++ range ∷ []) place ≡ (of ranges place || of (range ∷ []) place)
-  of-push ranges range place =
-      ap (λ runs. members runs place) (map-append (interval_of rank) ranges (range ∷ []))
-      ∙ members-append (intervals_of rank ranges) (interval_of rank range ∷ []) place
+  module _ {I : Type 0} (input : I → Option (RangeInclusive T) → I → Type 0) (iter : I) where
+    -- the calls of an iterator drained to items, of which these were kept
+    pub record Gathered (kept : List (RangeInclusive T)) : Type 0 where
+      pub items : List (RangeInclusive T)
+      pub drains : Drains input iter items
+      pub collects : Collects items kept
 
-  module _ (items kept : List (RangeInclusive T)) (range : RangeInclusive T)
-      (collects : Collects items kept) where
-    -- a proper range is kept
-    pub collects-more : IsProper rank n range → Collects (items ++ range ∷ []) (kept ++ range ∷ [])
-    collects-more proper = record {
-      proper = All-push (IsProper rank n) kept range collects.proper proper;
-      same = λ place.
-          of-push kept range place ∙ ap (λ test. test || of (range ∷ []) place) (collects.same place)
-          ∙ sym (of-push items range place);
-    }
-
-    -- an empty interval alone has no members
-    none-of_empty : (run : Interval) (place : ℕ) → IsEmpty run → members (run ∷ []) place ≡ false
-    none-of_empty run place empty = grind (arith, nat_tests)
-
-    -- what is false besides says nothing
-    or-false : (test : Bool) → (test || false) ≡ test
-    or-false true = refl
-    or-false false = refl
-
-    -- an empty range is left out
-    pub collects-skip : IsEmpty (interval_of rank range) → Collects (items ++ range ∷ []) kept
-    collects-skip empty = record {
-      proper = collects.proper;
-      same = λ place.
-          collects.same place ∙ sym (of-push items range place
-          ∙ ap (λ test. of items place || test) (none-of_empty (interval_of rank range) place empty)
-          ∙ or-false (of items place));
-    }
+    -- so they were where those of the stream over it drained to what was kept
+    pub gathered : (stream s t : UnsortedDisjoint T I) (answers kept : List (RangeInclusive T))
+        → GivesSpans rank input iter (UnsortedSteps rank n input) stream → s ≡ stream
+        → Yields (UnsortedSteps rank n input) s answers t
+        → ((u : UnsortedDisjoint T I) × UnsortedSteps rank n input t None u) → kept ≡ answers
+        → Gathered kept
+    gathered stream s t answers kept gives same all end is =
+        let given = gives answers (
+          end.0,
+          (
+            t,
+            subst (λ each.
+                Yields (UnsortedSteps rank n input) each answers t) same all,
+            end.1,
+          ),
+        ) in
+        record {
+          items = given.0;
+          drains = given.1;
+          collects = subst (Collects given.0) (sym is) (collects-spans given.0 answers
+              (answers-proper rank n input answers s t all) given.2);
+        }
 
   -- ---- what was kept, in another order
 

@@ -108,10 +108,16 @@ split-push (first ∷ before) after (other ∷ items) last item is =
     let same : other ≡ first = cc in
     let rest : items ++ last ∷ [] ≡ before ++ item ∷ after = cc in
     elim (split-push before after items last item rest) [
-      | inl here ↦ inl (here.0, ap (λ each. each ∷ before) (sym same)
-      ∙ ap (λ each. other ∷ each) here.1)
-      | inr there ↦ inr (there.0, ap (λ each. each ∷ items) same
-      ∙ ap (λ each. first ∷ each) there.1)
+      | inl here ↦ inl (
+        here.0,
+        ap (λ each. each ∷ before) (sym same)
+            ∙ ap (λ each. other ∷ each) here.1,
+      )
+      | inr there ↦ inr (
+        there.0,
+        ap (λ each. each ∷ items) same
+            ∙ ap (λ each. first ∷ each) there.1,
+      )
     ]
 
 -- an item alone is a piece

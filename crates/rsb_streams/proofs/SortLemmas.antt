@@ -1,6 +1,5 @@
 -- Ranges that were sorted by their starts, and the runs of their union.
 use Rattle.std.proofs.Common.{◌≡◌, ℕ, suc, ◌+◌, ◌<◌, ◌≤◌, false, cond, nat_lt, List, [], ◌∷◌, get_or, refl, sym, ap, ◌∙◌, subst, inl, inr, arith}
-use Rattle.std.proofs.lemmas.Bool.{cases_lt}
 use Rattle.std.proofs.lemmas.List.Elements.{All-head, All-tail}
 use Rattle.std.proofs.lemmas.List.Sorted.{sum_by-IsPermutation}
 use Rattle.std.proofs.lemmas.List.Sums.{sum_by-cons}
@@ -15,6 +14,7 @@ use Rattle.rsb_integer.specs.Runs.{Interval, covers, cover, members, AreRuns}
 use Rattle.rsb_integer.proofs.RunsLemmas.{runs-canonical, runs-from_canonical}
 use Rattle.rsb_streams.specs.Outcomes.{settled_canonical_in}
 use Rattle.rsb_streams.specs.Stream.{joined, just, HasSortedStarts, HasSortedStartsFrom}
+use Rattle.rsb_streams.specs.UnsortedDisjoint.{IsProper}
 use Rattle.rsb_streams.proofs.CallerLemmas.{members-runs_by}
 use Rattle.rsb_streams.proofs.Compare.{is_lt-nat}
 use Rattle.rsb_streams.proofs.Sources.{range-start}
@@ -28,13 +28,6 @@ runs-joined n given runs may =
     fails (runs-canonical n (members other) runs all))) in
     runs-from_canonical n (members given) runs canonical.0 canonical.1
     (members-runs_by n (λ selected. selected) given runs may)
-
--- a number that is not at most another is past it
-pub past : {a b : ℕ} → ¬ (a ≤ b) → b < a
-past {a} {b} fails = elim (cases_lt b a) [
-  | inl less ↦ less
-  | inr most ↦ absurd (fails most)
-]
 
 -- ---- another order
 
@@ -57,10 +50,9 @@ members-permutation runs others place moved =
 -- ---- sorted by their starts
 
 module _ {T : Type 0} (rank : T → ℕ) (n : ℕ) where
-  -- the range has a member, and lies in the type
-  pub record IsProper (range : RangeInclusive T) : Type 0 where
-    pub in_order : (interval_of rank range).first ≤ (interval_of rank range).last
-    pub in_type : (interval_of rank range).last < n
+  -- a range with a member that lies in the type
+  abbrev Proper : RangeInclusive T → Type 0
+  Proper = IsProper rank n
 
   -- values are ordered as their ranks are
   abbrev pub IsInOrder : (T → T → Ordering) → Type 0
@@ -72,7 +64,7 @@ module _ {T : Type 0} (rank : T → ℕ) (n : ℕ) where
     StartsAscend ranges = IsSortedByKey range_inclusive_start cmp ranges
 
     -- a range whose start is not less than that of another starts no earlier
-    starts-after : (range next : RangeInclusive T) → IsProper range → IsProper next
+    starts-after : (range next : RangeInclusive T) → Proper range → Proper next
         → is_lt (cmp (range_inclusive_start next) (range_inclusive_start range)) ≡ false
         → (interval_of rank range).first ≤ (interval_of rank next).first
     starts-after range next proper follows not_less =
@@ -96,28 +88,28 @@ module _ {T : Type 0} (rank : T → ℕ) (n : ℕ) where
         (ascend (suc k) default (omega arith) (omega arith))
 
     -- from a rank on that the first of them does not start before
-    sorted-from : (low : ℕ) (ranges : List (RangeInclusive T)) → All IsProper ranges
+    sorted-from : (low : ℕ) (ranges : List (RangeInclusive T)) → All Proper ranges
         → StartsAscend ranges
         → ((range : RangeInclusive T) (others : List (RangeInclusive T)) → ranges ≡ range ∷ others
         → low ≤ (interval_of rank range).first)
         → HasSortedStartsFrom n low (intervals_of rank ranges)
     sorted-from low [] proper ascend from = tt
     sorted-from low (range ∷ ranges) proper ascend from =
-        let here = All-head IsProper range ranges proper in
-        let rest = All-tail IsProper range ranges proper in (
+        let here = All-head Proper range ranges proper in
+        let rest = All-tail Proper range ranges proper in (
           from range ranges refl,
           here.in_order,
           here.in_type,
           sorted-from (interval_of rank range).first ranges rest (ascend-tail range ranges ascend)
               (λ next others is.
-              let follows = subst (All IsProper) is rest in
+              let follows = subst (All Proper) is rest in
               let later = subst (λ each. StartsAscend (range ∷ each)) is ascend in
-              starts-after range next here (All-head IsProper next others follows)
+              starts-after range next here (All-head Proper next others follows)
               (later 0 range (omega arith) (omega arith))),
         )
 
     -- proper ranges whose starts do not fall have sorted starts
-    pub sorted-starts : (ranges : List (RangeInclusive T)) → All IsProper ranges
+    pub sorted-starts : (ranges : List (RangeInclusive T)) → All Proper ranges
         → StartsAscend ranges → HasSortedStarts n (intervals_of rank ranges)
     sorted-starts ranges proper ascend =
         sorted-from 0 ranges proper ascend (λ range others is. omega arith)

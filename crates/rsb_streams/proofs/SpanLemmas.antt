@@ -10,7 +10,6 @@ use Rattle.rsb_integer.proofs.MembersLemmas.{members-append, members-cons}
 use Rattle.rsb_streams.specs.UnsortedDisjoint.{items_of, non_empty, AreSpans, HoldsTogether, IsApart, IsPiece, IsSpan, Meet}
 use Rattle.rsb_streams.proofs.PieceLemmas.{not_nil, piece-members, span-same, span-some}
 
-
 -- ---- items that have a rank
 
 -- an item that has none is left out

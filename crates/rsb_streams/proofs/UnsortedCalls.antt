@@ -104,8 +104,12 @@ module _ {T I : Type 0} (rank : T → ℕ) (n : ℕ)
       let none = begins-none u.gathered call.begins in (
         call.drawn,
         u.iter,
-        (call.between, call.draws, subst (λ item. fuse_steps steps call.between item u.iter) none
-            call.stops),
+        (
+          call.between,
+          call.draws,
+          subst (λ item. fuse_steps steps call.between item u.iter) none
+              call.stops,
+        ),
         subst (λ items. AreSpans items []) (sym (call.gathers before held)) no-spans,
       )
 
@@ -120,8 +124,12 @@ module _ {T I : Type 0} (rank : T → ℕ) (n : ℕ)
     drained-last none = (
       call.drawn,
       t.iter,
-      (call.between, call.draws, subst (λ item. fuse_steps steps call.between item t.iter) none
-          call.stops),
+      (
+        call.between,
+        call.draws,
+        subst (λ item. fuse_steps steps call.between item t.iter) none
+            call.stops,
+      ),
       subst (λ items. AreSpans items (interval_of rank answer ∷ [])) (append-nil piece)
           (more-spans piece (interval_of rank answer) [] [] (call.gathers before held) no-spans
           (λ item others is. absurd (cc))),
@@ -157,9 +165,11 @@ module _ {T I : Type 0} (rank : T → ℕ) (n : ℕ)
         (
           rest.2.0,
           yields-then (fuse_steps steps) call.drawn (range ∷ rest.0) s.iter call.between rest.2.0
-              call.draws
-              (t.iter, subst (λ item. fuse_steps steps call.between item t.iter) is call.stops,
-              rest.2.1),
+              call.draws (
+                t.iter,
+                subst (λ item. fuse_steps steps call.between item t.iter) is call.stops,
+                rest.2.1,
+              ),
           rest.2.2,
         ),
         subst (λ items. AreSpans items (intervals_of rank (answer ∷ answers))) all-items

@@ -45,7 +45,7 @@ fn follows<T: Integer>(previous: Option<T>, range: &RangeInclusive<T>) -> bool
 }
 
 // Whether a range is non-empty.
-pub(crate) fn has_members<T: Integer>(range: &RangeInclusive<T>) -> bool
+fn has_members<T: Integer>(range: &RangeInclusive<T>) -> bool
     ensures value { (interval_of T.rank range.now).last < T.value_count }
     ensures found { IsTrue result ↔ IsNonEmpty (interval_of T.rank range.now) }
     ensures start { IsTrue result → T.rank (range_inclusive_start range.now)

@@ -6,8 +6,8 @@ ghost use Rattle.rsb_streams.specs.SortedStartsInVec.{GivesRunsOf};
 
 use crate::assume_sorted_starts::AssumeSortedStarts;
 use crate::draw::Draw;
-use crate::not_sorted_disjoint::has_members;
 use crate::union_iter::UnionIter;
+use crate::unsorted_disjoint::UnsortedDisjoint;
 use rsb_integer::Integer;
 use std::alloc::{AllocError, Allocator, Global};
 use std::ops::RangeInclusive;
@@ -18,9 +18,9 @@ use std::vec::IntoIter;
 pub type SortedStartsInVec<T, A = Global> = AssumeSortedStarts<T, IntoIter<RangeInclusive<T>, A>>;
 
 impl<T: Integer, A: Allocator> UnionIter<T, SortedStartsInVec<T, A>> {
-    /// The union of ranges in any order, of which some may be empty. It keeps them and sorts them
-    /// once by their starts, which takes no more memory than the list. Without memory nothing is
-    /// made. (`FromIterator` of `UnionIter`.)
+    /// The union of ranges in any order, of which some may be empty. It keeps them, joined as
+    /// `UnsortedDisjoint` does, so what comes nearly in order takes little memory, and sorts them
+    /// once in place. Without memory nothing is made. (`FromIterator` of `UnionIter`.)
     pub fn from_iter<J: IntoIterator<Item = RangeInclusive<T>>>(
         alloc: A,
         ranges: J,
@@ -33,12 +33,8 @@ impl<T: Integer, A: Allocator> UnionIter<T, SortedStartsInVec<T, A>> {
             (GivesRunsOf T.rank T.value_count
             (⟦<UnionIter<T, SortedStartsInVec<T, A>> as Draw<T>>⟧.may_give stream))) }
     {
-        let mut kept = Vec::new(alloc);
-        for range in ranges {
-            if has_members(&range) {
-                kept.push(range)?;
-            }
-        }
+        let joined = UnsortedDisjoint::new(ranges.into_iter());
+        let mut kept = Vec::from_iter(alloc, joined)?;
         kept.sort_unstable_by_key(|range| *range.start());
         Ok(UnionIter::new(AssumeSortedStarts::new(kept)))
     }

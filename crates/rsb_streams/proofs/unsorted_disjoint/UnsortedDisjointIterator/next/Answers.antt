@@ -1,7 +1,8 @@
-use Rattle.std.proofs.Common.{◌≡◌, ◌<◌, sym, ap, ◌∙◌, subst, inl, inr}
+use Rattle.std.proofs.Common.{◌≡◌, ◌<◌, true, false, sym, subst, inl, inr}
 use Rattle.std.specs.Prelude.{Some, None, IfSome}
-use Rattle.rsb_streams.specs.UnsortedDisjoint.{starts_past, IsProper, UnsortedSteps}
-use Rattle.rsb_streams.proofs.ApartLemmas.{apart-told, empty-told, is_after, joined-first, joined-last, joined-proper, meet-told, proper-told}
+use Rattle.std.specs.Range.{range_inclusive_start}
+use Rattle.rsb_streams.specs.UnsortedDisjoint.{IsProper, UnsortedSteps}
+use Rattle.rsb_streams.proofs.ApartLemmas.{apart-told, empty-told, is_after, joined-first, joined-last, joined-proper, meet-told, proper-told, told-past}
 use Rattle.rsb_streams.proofs.Compare.{IsRanked}
 use Rattle.rsb_streams.proofs.UnsortedTurns.{answer-last, answer-span, so_far-first, so_far-joined, so_far-none, so_far-skip, span-goes}
 use Rattle.rsb_streams.proofs.unsorted_disjoint.UnsortedDisjointIterator.next.Given.{Over}
@@ -72,10 +73,16 @@ returns-then-past-clause-steps g c =
     c.checked_add_one-after.result c.end.ensures c.checked_add_one-after.ensures.none
     c.checked_add_one-after.ensures.next)
     (elim c.then-past.branch [
-      | then-past-via-then-past w ↦ inl (sym w.if-past.true ∙ c.is_past-past.ensures
-          ∙ ap (starts_past partial_cmp c.checked_add_one-in-Some.result) c.start-in-Some.ensures)
-      | then-past-via-else-past+then-before w ↦ inr (sym w.if-before.true ∙ c.is_past-before.ensures
-          ∙ ap (starts_past partial_cmp c.checked_add_one-after.result) c.start-in-Some-2.ensures)
+      | then-past-via-then-past w ↦
+          inl (told-past rank n partial_cmp cmp (ranked g) c.is_past-past.result true
+          c.checked_add_one-in-Some.result c.start-in-Some.result.now
+          (range_inclusive_start c.in-Some.range) w.if-past.true c.is_past-past.ensures
+          c.start-in-Some.ensures)
+      | then-past-via-else-past+then-before w ↦
+          inr (told-past rank n partial_cmp cmp (ranked g) c.is_past-before.result true
+          c.checked_add_one-after.result c.start-in-Some-2.result.now
+          (range_inclusive_start c.in-Some-take.gathered) w.if-before.true c.is_past-before.ensures
+          c.start-in-Some-2.ensures)
     ]))
 
 pub returns-then-past-clause-goes : goal.returns-then-past-clause-goes
@@ -117,10 +124,14 @@ loop-range-preserved g c =
     (is_after rank n partial_cmp cmp (ranked g) c.in-Some.range c.end.result.now
     c.checked_add_one-after.result c.end.ensures c.checked_add_one-after.ensures.none
     c.checked_add_one-after.ensures.next)
-    (sym c.if-past.false ∙ c.is_past-past.ensures
-    ∙ ap (starts_past partial_cmp c.checked_add_one-in-Some.result) c.start-in-Some.ensures)
-    (sym c.if-before.false ∙ c.is_past-before.ensures
-    ∙ ap (starts_past partial_cmp c.checked_add_one-after.result) c.start-in-Some-2.ensures))
+    (told-past rank n partial_cmp cmp (ranked g) c.is_past-past.result false
+    c.checked_add_one-in-Some.result c.start-in-Some.result.now
+    (range_inclusive_start c.in-Some.range) c.if-past.false c.is_past-past.ensures
+    c.start-in-Some.ensures)
+    (told-past rank n partial_cmp cmp (ranked g) c.is_past-before.result false
+    c.checked_add_one-after.result c.start-in-Some-2.result.now
+    (range_inclusive_start c.in-Some-take.gathered) c.if-before.false c.is_past-before.ensures
+    c.start-in-Some-2.ensures))
     (joined-first rank n partial_cmp cmp (ranked g) c.in-Some-take.gathered c.in-Some.range held
     proper c.joined.result c.joined.ensures.start c.joined.ensures.end c.joined.ensures.exhausted)
     (joined-last rank n partial_cmp cmp (ranked g) c.in-Some-take.gathered c.in-Some.range held
