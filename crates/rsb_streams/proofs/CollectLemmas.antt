@@ -1,8 +1,5 @@
 -- Ranges that are collected and sorted, and the members of those that came.
-use Rattle.std.proofs.Common.{◌≡◌, ℕ, Bool, true, false, ◌||◌, List, [], ◌∷◌, ◌++◌, refl, subst, sym, ap, ◌∙◌, arith}
-use Rattle.std.proofs.lemmas.Bool.Decides.{nat_tests}
-use Rattle.std.proofs.lemmas.List.{map-append}
-use Rattle.std.proofs.lemmas.List.Elements.{All-nil, All-push}
+use Rattle.std.proofs.Common.{◌≡◌, ℕ, List, subst, sym, ◌∙◌}
 use Rattle.std.proofs.lemmas.List.Sorted.{All-permutation, IsPermutation-map}
 use Rattle.std.specs.List.{All}
 use Rattle.std.specs.List.Sorted.{IsPermutation}
@@ -11,9 +8,8 @@ use Rattle.std.specs.Iterator.{Drains, Yields}
 use Rattle.std.specs.declared.cmp.Ordering.{Ordering}
 use Rattle.std.specs.declared.ops.RangeInclusive.{RangeInclusive}
 use Rattle.rsb_integer.specs.Rank.{interval_of, intervals_of}
-use Rattle.rsb_integer.specs.Runs.{Interval, members, AreRuns, IsEmpty}
+use Rattle.rsb_integer.specs.Runs.{Interval, members, AreRuns}
 use Rattle.rsb_integer.specs.Selection.{Selection}
-use Rattle.rsb_integer.proofs.MembersLemmas.{members-append}
 use Rattle.rsb_integer.proofs.RunsLemmas.{runs-along}
 use Rattle.rsb_streams.specs.UnsortedDisjoint.{non_empty, AreSpans, GivesSpans, IsProper, UnsortedSteps}
 use Rattle.rsb_streams.specs.declared.unsorted_disjoint.UnsortedDisjoint.{UnsortedDisjoint}

@@ -1,14 +1,14 @@
 -- The spans of items that are cut into pieces, and their members.
-use Rattle.std.proofs.Common.{◌≡◌, ℕ, ◌<◌, ◌≤◌, Bool, true, false, ◌||◌, nat_le, List, [], ◌∷◌, ◌++◌, refl, sym, ap, ◌∙◌, subst, inl, inr, arith}
+use Rattle.std.proofs.Common.{◌≡◌, ℕ, true, false, ◌||◌, nat_le, List, [], ◌∷◌, ◌++◌, refl, sym, ap, ◌∙◌, subst, inl, inr, arith}
 use Rattle.std.proofs.lemmas.Bool.{cases_lt}
 use Rattle.std.proofs.lemmas.Bool.Decides.{nat_tests}
 use Rattle.std.proofs.lemmas.List.Elements.{All-cons, All-head, All-nil, All-tail}
 use Rattle.std.specs.List.{All, AllZip}
 use Rattle.rsb_integer.specs.Runs.{Interval, covers, members, IsEmpty, IsNonEmpty}
-use Rattle.rsb_integer.proofs.ListLemmas.{true_or_false, All-front}
+use Rattle.rsb_integer.proofs.ListLemmas.{All-front}
 use Rattle.rsb_integer.proofs.MembersLemmas.{members-append, members-cons}
 use Rattle.rsb_streams.specs.UnsortedDisjoint.{items_of, non_empty, AreSpans, HoldsTogether, IsApart, IsPiece, IsSpan, Meet}
-use Rattle.rsb_streams.proofs.PieceLemmas.{not_nil, piece-members, span-same, span-some}
+use Rattle.rsb_streams.proofs.PieceLemmas.{not_nil, piece-members, span-same}
 
 -- ---- items that have a rank
 

@@ -1,5 +1,5 @@
 -- The loop of joining ranges.
-use Rattle.std.proofs.Common.{◌≡◌, ℕ, ◌+◌, ◌<◌, ◌≤◌, Bool, true, false, min, max, List, [], ◌∷◌, ◌++◌, append_assoc, refl, sym, ap, ◌∙◌, subst, arith}
+use Rattle.std.proofs.Common.{◌≡◌, ℕ, ◌+◌, ◌≤◌, true, min, max, List, [], ◌∷◌, ◌++◌, append_assoc, refl, sym, ap, ◌∙◌, subst, arith}
 use Rattle.std.proofs.iter.Next.{Yields-more}
 use Rattle.std.proofs.lemmas.List.{append-nil, map-append}
 use Rattle.std.specs.Prelude.{Option, Some, None, IfSome}
@@ -10,7 +10,7 @@ use Rattle.std.specs.declared.ops.RangeInclusive.{RangeInclusive}
 use Rattle.rsb_integer.specs.Rank.{interval_of, intervals_of}
 use Rattle.rsb_integer.specs.Runs.{Interval, IsEmpty}
 use Rattle.rsb_streams.specs.Fused.{fuse_can_next, fuse_remaining}
-use Rattle.rsb_streams.specs.UnsortedDisjoint.{non_empty, unsorted_remaining, BeginsAfter, IsGathered, IsProper, Meet, UnsortedReady, UnsortedSteps}
+use Rattle.rsb_streams.specs.UnsortedDisjoint.{non_empty, unsorted_remaining, IsGathered, IsProper, Meet, UnsortedReady, UnsortedSteps}
 use Rattle.rsb_streams.specs.declared.unsorted_disjoint.UnsortedDisjoint.{UnsortedDisjoint}
 use Rattle.rsb_streams.proofs.PieceLemmas.{piece-more, piece-one}
 use Rattle.rsb_streams.proofs.SpanLemmas.{non_empty-keep, non_empty-skip}

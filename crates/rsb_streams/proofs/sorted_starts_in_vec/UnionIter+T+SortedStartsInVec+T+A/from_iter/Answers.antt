@@ -1,4 +1,4 @@
-use Rattle.std.proofs.Common.{refl, sym, ap, ◌∙◌, subst, arith, rules}
+use Rattle.std.proofs.Common.{sym, ap, ◌∙◌, subst, rules}
 use Rattle.std.proofs.lemmas.Fn.{always_returns_same}
 use Rattle.std.specs.Range.{range_inclusive_start}
 use Rattle.rsb_integer.specs.Rank.{intervals_of}

@@ -1,5 +1,5 @@
-use Rattle.std.proofs.Common.{◌≡◌, ◌<◌, true, false, sym, subst, inl, inr}
-use Rattle.std.specs.Prelude.{Some, None, IfSome}
+use Rattle.std.proofs.Common.{◌<◌, true, false, sym, subst, inl, inr}
+use Rattle.std.specs.Prelude.{IfSome}
 use Rattle.std.specs.Range.{range_inclusive_start}
 use Rattle.rsb_streams.specs.UnsortedDisjoint.{IsProper, UnsortedSteps}
 use Rattle.rsb_streams.proofs.ApartLemmas.{apart-told, empty-told, is_after, joined-first, joined-last, joined-proper, meet-told, proper-told, told-past}
