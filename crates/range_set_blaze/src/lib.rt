@@ -13,5 +13,6 @@ pub use crate::prelude::{
     AnythingGoes, AssumeSortedStarts, CheckSortedDisjoint, Difference, Draw, DrawDisjoint,
     FillGapsIter, Integer, Intersection, IntoRangeSetBlaze, IntoRangesIter, Merge, NotIter,
     NotSortedDisjoint, RangeOnce, RangeSetBlaze, RangesIter, SafeLength, SortedDisjoint,
-    SortedStarts, SymDiffIter, SymmetricDifference, UInt, UIntPlusOne, Union, UnionIter,
+    SortedStarts, SortedStartsInVec, SymDiffIter, SymmetricDifference, UInt, UIntPlusOne, Union,
+    UnionIter,
 };

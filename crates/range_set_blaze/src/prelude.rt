@@ -9,5 +9,5 @@ pub use rsb_length::{SafeLength, UInt, UIntPlusOne};
 pub use rsb_streams::{
     AnythingGoes, AssumeSortedStarts, CheckSortedDisjoint, Difference, Draw, DrawDisjoint,
     FillGapsIter, Intersection, Merge, NotIter, NotSortedDisjoint, RangeOnce, SortedDisjoint,
-    SortedStarts, SymDiffIter, SymmetricDifference, Union, UnionIter,
+    SortedStarts, SortedStartsInVec, SymDiffIter, SymmetricDifference, Union, UnionIter,
 };

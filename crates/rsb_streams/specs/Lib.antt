@@ -15,7 +15,9 @@ pub mod NotSortedDisjoint
 pub mod OddPieces
 pub mod Outcomes
 pub mod PutBack
+pub mod SortedStartsInVec
 pub mod Stream
 pub mod SymDiffIter
 pub mod Union
 pub mod UnionIter
+pub mod UnsortedDisjoint

@@ -15,8 +15,10 @@ mod operators;
 mod put_back;
 pub mod range_once;
 pub mod sorted_disjoint;
+pub mod sorted_starts_in_vec;
 pub mod sym_diff_iter;
 pub mod union_iter;
+pub mod unsorted_disjoint;
 
 pub use assume_sorted_starts::AssumeSortedStarts;
 pub use check_sorted_disjoint::CheckSortedDisjoint;
@@ -28,5 +30,7 @@ pub use not_sorted_disjoint::NotSortedDisjoint;
 pub use operation_results::{Difference, Intersection, SymmetricDifference, Union};
 pub use range_once::RangeOnce;
 pub use sorted_disjoint::{AnythingGoes, DrawDisjoint, SortedDisjoint, SortedStarts};
+pub use sorted_starts_in_vec::SortedStartsInVec;
 pub use sym_diff_iter::SymDiffIter;
 pub use union_iter::UnionIter;
+pub use unsorted_disjoint::UnsortedDisjoint;

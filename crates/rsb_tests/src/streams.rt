@@ -35,3 +35,4 @@ mod symmetric_difference;
 mod texts;
 mod two_ranges;
 mod unions;
+mod unsorted;
