@@ -1,11 +1,15 @@
 -- Ranges and values that are added one after the other.
-use Rattle.std.proofs.Common.{◌≡◌, ◌↔◌, ℕ, Bool, true, false, ◌&&◌, ◌||◌, nat_le, nat_lt, ◌+◌, ◌<◌, ◌≤◌, List, [], ◌∷◌, ◌++◌, append-nil, refl, sym, ◌∙◌, ap, inl, inr, arith}
+use Rattle.std.proofs.Common.{◌≡◌, ◌↔◌, ℕ, Bool, true, false, ◌&&◌, ◌||◌, nat_le, nat_lt, ◌+◌, ◌<◌, ◌≤◌, List, [], ◌∷◌, ◌++◌, append-nil, refl, sym, ◌∙◌, ap, subst, inl, inr, arith}
 use Rattle.std.proofs.Math.Bool.{or-false, or_assoc, or_comm}
 use Rattle.std.proofs.lemmas.Bool.{cases_lt}
 use Rattle.std.proofs.lemmas.Bool.Decides.{nat_tests}
-use Rattle.std.proofs.lemmas.List.{map-append}
-use Rattle.std.specs.Iterator.{Drains, Yields, YieldsFirst}
-use Rattle.std.specs.Prelude.{IsTrue}
+use Rattle.std.proofs.lemmas.List.{map-append, nil_from_length}
+use Rattle.std.specs.Iterator.{Drains, ExtendsWithItems, Yields, YieldsFirst}
+use Rattle.std.specs.Prelude.{IsTrue, OnErr, OnOk, Option, None, Some, Result, Ok, Err}
+use Rattle.std.specs.Array.Iter.{array_into_iter_items, array_steps}
+use Rattle.std.specs.declared.array.IntoIter.{IntoIter}
+use Rattle.std.specs.declared.alloc.AllocError.{AllocError}
+use Rattle.rsb_streams.specs.Items.{GaveAll}
 use Rattle.std.specs.Range.{range_inclusive_start, range_inclusive_end}
 use Rattle.std.specs.declared.ops.RangeInclusive.{RangeInclusive}
 use Rattle.rsb_integer.specs.Rank.{interval_of, intervals_of}
@@ -14,7 +18,7 @@ use Rattle.rsb_integer.specs.Selection.{Selection}
 use Rattle.rsb_integer.proofs.MembersLemmas.{covers-outside, members-append, members-cons}
 use Rattle.rsb_integer.proofs.RangeLemmas.{interval_of-some}
 use Rattle.range_set_blaze.specs.Algebra.{ranks_of, AddsFrontOf, AddsItems, AddsValues}
-use Rattle.range_set_blaze.specs.Set.{only, Adds}
+use Rattle.range_set_blaze.specs.Set.{only, Adds, IsSetOf}
 use Rattle.range_set_blaze.proofs.KeptLemmas.{le-fails}
 
 -- the members of nothing more are those of the set
@@ -104,16 +108,88 @@ module _ {T : Type 0} (rank : T → ℕ) where
       adds-after old mid new (ranks_of rank values) (only (rank value)) first second point
       ∙ ap (λ test. members old point || test) (sym (ranks_of-after values value point))
 
--- what a list gave, and what is left of it, are the list
-pub given-front : {X : Type 0} (all : List X) (items : List X) (left : List X)
-    → Yields (YieldsFirst (λ (s : List X). s)) all items left → all ≡ items ++ left
-given-front all [] left is = is
-given-front {X} all (item ∷ items) left calls =
-    calls.1 ∙ ap (λ (rest : List X). item ∷ rest) (given-front calls.0 items left calls.2)
+-- ---- what is left of a source is a list
 
--- and what it gave to its end is the list
-pub given-all : {X : Type 0} (all : List X) (items : List X)
-    → Drains (YieldsFirst (λ (s : List X). s)) all items → all ≡ items
-given-all {X} all items drained =
-    given-front all items drained.1.0 drained.1.1
-    ∙ ap (λ (rest : List X). items ++ rest) drained.1.2.0 ∙ append-nil items
+module _ {S X : Type 0} (steps : S → Option X → S → Type 0) (left : S → List X)
+    (some : (s t : S) (item : X) → steps s (Some item) t → left s ≡ item ∷ left t)
+    (none : (s t : S) → steps s None t → left s ≡ []) where
+  -- what it gave, and what is left then, are the list
+  pub given-front : (items : List X) (s t : S) → Yields steps s items t → left s ≡ items ++ left t
+  given-front [] s t is = ap left is
+  given-front (item ∷ items) s t calls =
+      some s calls.0 item calls.1
+      ∙ ap (λ (rest : List X). item ∷ rest) (given-front items calls.0 t calls.2)
+
+  -- and what it gave to its end is the list
+  pub given-all : (items : List X) (s : S) → Drains steps s items → left s ≡ items
+  given-all items s drained =
+      given-front items s drained.1.0 drained.1.1
+      ∙ ap (λ (rest : List X). items ++ rest) (none drained.1.0 drained.0 drained.1.2)
+      ∙ append-nil items
+
+module _ {T E : Type 0} (rank : T → ℕ) (given : List (RangeInclusive T)) (runs : List Interval)
+    (is : intervals_of rank given ≡ runs) (old new : List Interval) where
+  -- a list of ranges extends a set by all of them
+  pub extended-all : (result : Result (Unit {0}) E)
+      → ExtendsWithItems (λ (s it : List (RangeInclusive T)). it ≡ s)
+      (YieldsFirst (λ (s : List (RangeInclusive T)). s)) (AddsItems rank) given old new result
+      → OnOk result (Adds old new (members runs))
+  extended-all (Ok done) extends =
+      subst (λ (each : List Interval). Adds old new (members each))
+      (ap (intervals_of rank)
+      (sym (given-all (YieldsFirst (λ (s : List (RangeInclusive T)). s)) (λ s. s)
+      (λ s t item call. call) (λ s t call. call.0) extends.1 extends.0 extends.4) ∙ extends.2) ∙ is)
+      extends.3
+  extended-all (Err error) extends = tt
+
+  -- or by a front of them
+  pub extended-front : (result : Result (Unit {0}) E)
+      → ExtendsWithItems (λ (s it : List (RangeInclusive T)). it ≡ s)
+      (YieldsFirst (λ (s : List (RangeInclusive T)). s)) (AddsItems rank) given old new result
+      → OnErr result (AddsFrontOf old new runs)
+  extended-front (Ok done) extends = tt
+  extended-front (Err error) extends = record {
+    front = intervals_of rank extends.1;
+    is_front = record {
+      rest = intervals_of rank extends.4.0;
+      parts = sym is ∙ ap (intervals_of rank) (sym extends.2
+          ∙ given-front (YieldsFirst (λ (s : List (RangeInclusive T)). s)) (λ s. s)
+          (λ s t item call. call) (λ s t call. call.0) extends.1 extends.0 extends.4.0 extends.4.1)
+          ∙ map-append (interval_of rank) extends.1 extends.4.0;
+    };
+    adds = extends.3;
+  }
+
+-- a fact that holds stands after a refusal too
+pub on_err-holds : {T E P : Type 0} (result : Result T E) → P → OnErr result P
+on_err-holds (Ok done) holds = tt
+on_err-holds (Err error) holds = holds
+
+-- an empty set that was extended by all items has what they add
+pub made-of_items : {J I X : Type 0} (becomes : J → I → Type 0) (steps : I → Option X → I → Type 0)
+    (selects : List X → Selection) (source : J) (empty set : List Interval) (done : Unit {0})
+    → empty ≡ []
+    → ExtendsWithItems {E = AllocError} becomes steps
+    (λ old items new. Adds old new (selects items)) source empty set (Ok done)
+    → GaveAll becomes steps source (λ items. IsSetOf set (selects items))
+made-of_items becomes steps selects source empty set done is extends = (
+  extends.0,
+  extends.1,
+  extends.2,
+  extends.4,
+  subst (λ (each : List Interval). Adds each set (selects extends.1)) is extends.3,
+)
+
+-- a set of all values that an array gave is the set of its values
+pub made-of_array : {T : Type 0} (rank : T → ℕ) (size : ℕ) (values : List T)
+    (becomes : List T → IntoIter T size → Type 0)
+    → ((iter : IntoIter T size) → becomes values iter → array_into_iter_items iter ≡ values)
+    → (set : List Interval)
+    → GaveAll becomes array_steps values (λ items. IsSetOf set (ranks_of rank items))
+    → IsSetOf set (ranks_of rank values)
+made-of_array {T} rank size values becomes items set gave =
+    subst (λ (each : List T). IsSetOf set (ranks_of rank each))
+    (sym (given-all array_steps array_into_iter_items (λ s t item call. call)
+    (λ s t call. nil_from_length (array_into_iter_items s) call.0) gave.1 gave.0 gave.3)
+    ∙ items gave.0 gave.2)
+    gave.4

@@ -2,11 +2,11 @@
 
 ghost use Rattle.std.specs.Prelude.{◌≡◌, ◌↔◌, [], IfOk, IsTrue, OnErr, OnOk};
 ghost use Rattle.std.specs.Iterator.{ExtendsWithItems};
-ghost use Rattle.rsb_integer.specs.Rank.{interval_of};
+ghost use Rattle.rsb_integer.specs.Rank.{interval_of, intervals_of};
 ghost use Rattle.rsb_integer.specs.Runs.{covers, members, IsNonEmpty};
-ghost use Rattle.rsb_streams.specs.Items.{IsEnding};
-ghost use Rattle.range_set_blaze.specs.Algebra.{AddsFrontOf, AddsItems, AddsValues};
-ghost use Rattle.range_set_blaze.specs.Set.{Adds};
+ghost use Rattle.rsb_streams.specs.Items.{GaveAll, IsEnding};
+ghost use Rattle.range_set_blaze.specs.Algebra.{ranks_of, AddsFrontOf, AddsItems, AddsValues};
+ghost use Rattle.range_set_blaze.specs.Set.{Adds, IsSetOf};
 
 use crate::set::RangeSetBlaze;
 use crate::set::run::known;
@@ -58,6 +58,46 @@ impl<T: Integer, A: Allocator + Clone> RangeSetBlaze<T, A> {
 }
 
 impl<T: Integer, A: Allocator + Copy> RangeSetBlaze<T, A> {
+    /// The set of ranges in any order, of which some may be empty. Without memory nothing is made.
+    /// (`FromIterator<RangeInclusive<T>>` of `RangeSetBlaze`.)
+    pub fn from_iter<J: IntoIterator<Item = RangeInclusive<T>>>(
+        alloc: A,
+        ranges: J,
+    ) -> Result<Self, AllocError>
+        requires ready { IsEnding J.into_iter_gives J.IntoIter.can_next J.IntoIter.remaining ranges }
+        ensures members { IfOk result (λ set.
+            GaveAll J.into_iter_gives J.IntoIter.next_gives ranges
+            (λ items. IsSetOf set (members (intervals_of T.rank items)))) }
+    {
+        let mut set = Self::new(alloc);
+        set.extend(ranges)?;
+        Ok(set)
+    }
+
+    /// The set of values in any order. Without memory nothing is made. (`FromIterator<T>` of
+    /// `RangeSetBlaze`.)
+    pub fn from_iter_values<J: IntoIterator<Item = T>>(
+        alloc: A,
+        values: J,
+    ) -> Result<Self, AllocError>
+        requires ready { IsEnding J.into_iter_gives J.IntoIter.can_next J.IntoIter.remaining values }
+        ensures members { IfOk result (λ set.
+            GaveAll J.into_iter_gives J.IntoIter.next_gives values
+            (λ items. IsSetOf set (ranks_of T.rank items))) }
+    {
+        let mut set = Self::new(alloc);
+        set.extend_values(values)?;
+        Ok(set)
+    }
+
+    /// The set of the values of an array, in any order. Without memory nothing is made.
+    /// (`From<[T; N]>` of `RangeSetBlaze`.)
+    pub fn from_array<const N: usize>(alloc: A, values: [T; N]) -> Result<Self, AllocError>
+        ensures members { IfOk result (λ set. IsSetOf set (ranks_of T.rank values)) }
+    {
+        Self::from_iter_values(alloc, values)
+    }
+
     /// Adds the members of another set: one run after the other where these are few, else by one
     /// pass over both sets. Without memory a front of the other's runs is added.
     /// (`BitOrAssign` of `RangeSetBlaze`.)
