@@ -3,11 +3,9 @@ use Rattle.std.proofs.Common.{◌≡◌, ◌↔◌, ℕ, Bool, true, false, ◌&
 use Rattle.std.proofs.Math.Bool.{or-false, or_assoc, or_comm}
 use Rattle.std.proofs.lemmas.Bool.{cases_lt}
 use Rattle.std.proofs.lemmas.Bool.Decides.{nat_tests}
-use Rattle.std.proofs.lemmas.List.{map-append, nil_from_length}
+use Rattle.std.proofs.lemmas.List.{map-append}
 use Rattle.std.specs.Iterator.{Drains, ExtendsWithItems, Yields, YieldsFirst}
 use Rattle.std.specs.Prelude.{IsTrue, OnErr, OnOk, Option, None, Some, Result, Ok, Err}
-use Rattle.std.specs.Array.Iter.{array_into_iter_items, array_steps}
-use Rattle.std.specs.declared.array.IntoIter.{IntoIter}
 use Rattle.std.specs.declared.alloc.AllocError.{AllocError}
 use Rattle.rsb_streams.specs.Items.{GaveAll}
 use Rattle.std.specs.Range.{range_inclusive_start, range_inclusive_end}
@@ -179,17 +177,3 @@ made-of_items becomes steps selects source empty set done is extends = (
   extends.4,
   subst (λ (each : List Interval). Adds each set (selects extends.1)) is extends.3,
 )
-
--- a set of all values that an array gave is the set of its values
-pub made-of_array : {T : Type 0} (rank : T → ℕ) (size : ℕ) (values : List T)
-    (becomes : List T → IntoIter T size → Type 0)
-    → ((iter : IntoIter T size) → becomes values iter → array_into_iter_items iter ≡ values)
-    → (set : List Interval)
-    → GaveAll becomes array_steps values (λ items. IsSetOf set (ranks_of rank items))
-    → IsSetOf set (ranks_of rank values)
-made-of_array {T} rank size values becomes items set gave =
-    subst (λ (each : List T). IsSetOf set (ranks_of rank each))
-    (sym (given-all array_steps array_into_iter_items (λ s t item call. call)
-    (λ s t call. nil_from_length (array_into_iter_items s) call.0) gave.1 gave.0 gave.3)
-    ∙ items gave.0 gave.2)
-    gave.4

@@ -114,12 +114,7 @@ fn difference_of<T: Integer, A: Allocator + Copy, L: DrawDisjoint<T>, R: DrawDis
 
 // The set of what lies in one of two streams alone, each of which is given twice. (That sizes fit is
 // not found of a set made of a `SymmetricDifference`, which holds more structs in each other.)
-fn symmetric_difference_of<
-    T: Integer,
-    A: Allocator + Copy,
-    L: DrawDisjoint<T>,
-    R: DrawDisjoint<T>,
->(
+fn symmetric_difference_of<T: Integer, A: Allocator + Copy, L: DrawDisjoint<T>, R: DrawDisjoint<T>>(
     alloc: A,
     left: L,
     right: R,
@@ -135,5 +130,9 @@ fn symmetric_difference_of<
         (runs_by_two T.value_count intersection (L.may_give left_again) (R.may_give right_again))
         set) }
 {
-    difference_of(alloc, left.union(right), left_again.intersection(right_again))
+    difference_of(
+        alloc,
+        left.union(right),
+        left_again.intersection(right_again),
+    )
 }

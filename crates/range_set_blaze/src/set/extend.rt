@@ -90,12 +90,12 @@ impl<T: Integer, A: Allocator + Copy> RangeSetBlaze<T, A> {
         Ok(set)
     }
 
-    /// The set of the values of an array, in any order. Without memory nothing is made.
-    /// (`From<[T; N]>` of `RangeSetBlaze`.)
+    /// The set of the values of an array, in any order, which are moved into a list first. Without
+    /// memory nothing is made. (`From<[T; N]>` of `RangeSetBlaze`.)
     pub fn from_array<const N: usize>(alloc: A, values: [T; N]) -> Result<Self, AllocError>
         ensures members { IfOk result (λ set. IsSetOf set (ranks_of T.rank values)) }
     {
-        Self::from_iter_values(alloc, values)
+        Self::from_iter_values(alloc, Vec::from_array(alloc, values)?)
     }
 
     /// Adds the members of another set: one run after the other where these are few, else by one

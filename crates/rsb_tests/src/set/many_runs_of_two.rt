@@ -47,7 +47,10 @@ fn thousands_of_runs_are_made_and_added(rt: HostRuntime) -> Result<(), Fail> {
             _ => 10000,
         };
         assert!(rt; set.len() == wanted, "by {call}");
-        assert!(rt; set.ranges_len() == if call == 1 { 0 } else { 5000 }, "by {call}");
+        assert!(rt;
+            set.ranges_len() == if call == 1 { 0 } else { 5000 },
+            "by {call}"
+        );
     }
     Ok(())
 }

@@ -91,7 +91,10 @@ fn each_growth_of_a_set_of_others_is_refused_in_turn(rt: HostRuntime) -> Result<
                 assert!(rt; false, "of {count} runs, call {call}");
                 return Ok(());
             };
-            assert!(rt; wanted(call, count) == 0 || refused > 0, "of {count} runs, call {call}");
+            assert!(rt;
+                wanted(call, count) == 0 || refused > 0,
+                "of {count} runs, call {call}"
+            );
         }
     }
     Ok(())

@@ -65,12 +65,21 @@ fn add(
 fn other_sets_are_added(rt: HostRuntime) -> Result<(), Fail> {
     for call in 0..4u8 {
         let mut set = set_of(rt.alloc(), &[(1, 4)])?;
-        assert!(rt; add(rt.alloc(), call, &mut set, &[(0, 0), (3, 5), (10, 10)])?, "by {call}");
+        assert!(rt;
+            add(rt.alloc(), call, &mut set, &[(0, 0), (3, 5), (10, 10)])?,
+            "by {call}"
+        );
         let wanted = [(0, 5), (10, 10)];
-        assert!(rt; runs_of(rt.alloc(), &set)?.as_slice() == wanted.as_slice(), "by {call}");
+        assert!(rt;
+            runs_of(rt.alloc(), &set)?.as_slice() == wanted.as_slice(),
+            "by {call}"
+        );
         assert!(rt; add(rt.alloc(), call, &mut set, &[(7, 7)])?, "by {call}");
         let wanted = [(0, 5), (7, 7), (10, 10)];
-        assert!(rt; runs_of(rt.alloc(), &set)?.as_slice() == wanted.as_slice(), "by {call}");
+        assert!(rt;
+            runs_of(rt.alloc(), &set)?.as_slice() == wanted.as_slice(),
+            "by {call}"
+        );
     }
     Ok(())
 }
