@@ -1,3 +1,5 @@
 pub mod Kept
+pub mod Order
+pub mod OrderLaws
 pub mod Places
 pub mod Set

@@ -11,6 +11,7 @@ mod entries;
 mod insert;
 mod lengths;
 mod look_up;
+pub(crate) mod order;
 mod remove;
 mod retain;
 pub(crate) mod run;
