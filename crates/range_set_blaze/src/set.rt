@@ -17,6 +17,7 @@ mod retain;
 pub(crate) mod run;
 mod subsets;
 mod take_in;
+mod text;
 
 use crate::ranges_iter::RangesIter;
 use num_traits::Zero;
