@@ -96,12 +96,15 @@ later-elements n low zero rank selected all past none = λ later.
     let within = later.in_type in
     not_both (selected later.later) later.here (none later.later beyond (omega arith))
 later-elements n low (suc more) rank selected all past none = elim (true_or_false (selected low)) [
-  | inl here ↦ rw here (past, record {
+  | inl here ↦ rw here (
+    past,
+    record {
       later = low;
       past = past;
       in_type = omega arith;
       here = here;
-    })
+    },
+  )
   | inr lacks ↦ rw lacks (later-elements n (suc low) more rank selected (omega arith) (omega arith)
       (λ other beyond within. elim (cases_lt other low) [
         | inl less ↦ none other beyond less
