@@ -14,6 +14,7 @@ mod look_up;
 mod remove;
 mod retain;
 pub(crate) mod run;
+mod split;
 mod subsets;
 mod take_in;
 
