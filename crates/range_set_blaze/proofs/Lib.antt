@@ -8,6 +8,7 @@ pub mod EntriesLemmas
 pub mod InsertLemmas
 pub mod InsertedLemmas
 pub mod JoinLemmas
+pub mod KeepLemmas
 pub mod KeptLemmas
 pub mod LookUpLemmas
 pub mod PartingLemmas

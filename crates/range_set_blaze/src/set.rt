@@ -9,6 +9,7 @@ ghost use Rattle.range_set_blaze.specs.Set.{IsGreatest, IsLeast};
 mod bulk;
 mod entries;
 mod insert;
+mod keep;
 mod lengths;
 mod look_up;
 mod remove;
