@@ -24,62 +24,62 @@ or-later true second third = refl
 or-later false second third = refl
 
 module _ (n : ℕ) (run : Interval) (rest : List Interval) (canonical : IsCanonicalIn n (run ∷ rest))
-    where
-  -- the first run is in order, and lies in the type
-  pub head-order : (run.first ≤ run.last) × (run.last < n)
-  head-order = (
-    canonical.0.1,
-    All-head (λ (each : Interval). each.last < n) run rest canonical.1,
-  )
+  where
+    -- the first run is in order, and lies in the type
+    pub head-order : (run.first ≤ run.last) × (run.last < n)
+    head-order = (
+      canonical.0.1,
+      All-head (λ (each : Interval). each.last < n) run rest canonical.1,
+    )
 
-  -- the rest of the run, where it goes on
-  pub past-more : run.first < run.last → (next : Interval) → next.first ≡ run.first + 1
-      → next.last ≡ run.last → IsPastFirst n (run ∷ rest) (next ∷ rest) run.first
-  unfolding ranks_from
-  past-more more next starts ends =
-      let last = All-head (λ (each : Interval). each.last < n) run rest canonical.1 in
-      let one = sum_by-cons length_of run rest in
-      let other = sum_by-cons length_of next rest in
-      let count : length_of run ≡ suc (length_of next) = omega (arith, more, starts, ends) in
-      record {
-        canonical = (
-          omega (arith, starts),
-          omega (arith, starts, ends, more),
-          subst (λ end. IsCanonicalFrom (end + 2) rest) (sym ends) canonical.0.2,
-        );
-        below = All-cons (λ (each : Interval). each.last < n) next rest (omega (arith, ends, last))
-            (All-tail (λ (each : Interval). each.last < n) run rest canonical.1);
-        has = λ point.
-            let covered : covers point run ≡ (only run.first point || covers point next) =
-            grind (arith, nat_tests, more, starts, ends) in
-            members-cons run rest point
-            ∙ ap (λ test. test || members rest point) covered
-            ∙ or-later (only run.first point) (covers point next) (members rest point)
-            ∙ ap (λ test. only run.first point || test) (sym (members-cons next rest point));
-        fewer = omega (arith, one, other, more, starts, ends);
-        listed = ap (λ count. ranks_from run.first count ++ ranks_of rest) count
-            ∙ ap (λ start. run.first ∷ (ranks_from start (length_of next) ++ ranks_of rest))
-            (sym starts);
-      }
+    -- the rest of the run, where it goes on
+    pub past-more : run.first < run.last → (next : Interval) → next.first ≡ run.first + 1
+        → next.last ≡ run.last → IsPastFirst n (run ∷ rest) (next ∷ rest) run.first
+    unfolding ranks_from
+    past-more more next starts ends =
+        let last = All-head (λ (each : Interval). each.last < n) run rest canonical.1 in
+        let one = sum_by-cons length_of run rest in
+        let other = sum_by-cons length_of next rest in
+        let count : length_of run ≡ suc (length_of next) = omega (arith, more, starts, ends) in
+        record {
+          canonical = (
+            omega (arith, starts),
+            omega (arith, starts, ends, more),
+            subst (λ end. IsCanonicalFrom (end + 2) rest) (sym ends) canonical.0.2,
+          );
+          below = All-cons (λ (each : Interval). each.last < n) next rest (omega (arith, ends, last))
+              (All-tail (λ (each : Interval). each.last < n) run rest canonical.1);
+          has = λ point.
+              let covered : covers point run ≡ (only run.first point || covers point next) =
+              grind (arith, nat_tests, more, starts, ends) in
+              members-cons run rest point
+              ∙ ap (λ test. test || members rest point) covered
+              ∙ or-later (only run.first point) (covers point next) (members rest point)
+              ∙ ap (λ test. only run.first point || test) (sym (members-cons next rest point));
+          fewer = omega (arith, one, other, more, starts, ends);
+          listed = ap (λ count. ranks_from run.first count ++ ranks_of rest) count
+              ∙ ap (λ start. run.first ∷ (ranks_from start (length_of next) ++ ranks_of rest))
+              (sym starts);
+        }
 
-  -- and else the runs after it
-  pub past-one : run.last ≤ run.first → IsPastFirst n (run ∷ rest) rest run.first
-  unfolding ranks_from
-  past-one least =
-      let ordered = canonical.0.1 in
-      let one = sum_by-cons length_of run rest in
-      let count : length_of run ≡ suc zero = omega (arith, least, ordered) in
-      record {
-        canonical = canonical-lower (run.last + 2) (run.first + 1) rest (omega (arith, ordered))
-            canonical.0.2;
-        below = All-tail (λ (each : Interval). each.last < n) run rest canonical.1;
-        has = λ point.
-            let covered : covers point run ≡ only run.first point =
-            grind (arith, nat_tests, least, ordered) in
-            members-cons run rest point ∙ ap (λ test. test || members rest point) covered;
-        fewer = omega (arith, one, least, ordered);
-        listed = ap (λ count. ranks_from run.first count ++ ranks_of rest) count;
-      }
+    -- and else the runs after it
+    pub past-one : run.last ≤ run.first → IsPastFirst n (run ∷ rest) rest run.first
+    unfolding ranks_from
+    past-one least =
+        let ordered = canonical.0.1 in
+        let one = sum_by-cons length_of run rest in
+        let count : length_of run ≡ suc zero = omega (arith, least, ordered) in
+        record {
+          canonical = canonical-lower (run.last + 2) (run.first + 1) rest (omega (arith, ordered))
+              canonical.0.2;
+          below = All-tail (λ (each : Interval). each.last < n) run rest canonical.1;
+          has = λ point.
+              let covered : covers point run ≡ only run.first point =
+              grind (arith, nat_tests, least, ordered) in
+              members-cons run rest point ∙ ap (λ test. test || members rest point) covered;
+          fewer = omega (arith, one, least, ordered);
+          listed = ap (λ count. ranks_from run.first count ++ ranks_of rest) count;
+        }
 
 -- the next entry is the first of those that are left
 pub left-next : {T : Type 0} (rank : T → ℕ) (next : Option (Run T)) (old new : List (T × T))
@@ -165,10 +165,10 @@ exact-none old todo set keeps none all point = rw (none, all) (by (members old p
 -- ---- what one call leaves
 
 module _ (n : ℕ) (run : Interval) (rest : List Interval) (canonical : IsCanonicalIn n (run ∷ rest))
-    where
-  -- the first rank is one of those that are left
-  pub first-left : members (run ∷ rest) run.first ≡ true
-  first-left = members-head run rest run.first (omega arith) canonical.0.1
+  where
+    -- the first rank is one of those that are left
+    pub first-left : members (run ∷ rest) run.first ≡ true
+    first-left = members-head run rest run.first (omega arith) canonical.0.1
 
 module _ (n : ℕ) (todo rest : List Interval) (first : ℕ) (past : IsPastFirst n todo rest first) where
   -- what is left then was left before

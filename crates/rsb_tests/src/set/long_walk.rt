@@ -254,7 +254,10 @@ fn thousands_of_changes_leave_what_flags_tell(rt: HostRuntime) -> Result<(), Fai
         let other = byte_of(drawn, 8);
         let is_right = called(&mut set, &mut flags, kind, value, other)?;
         assert!(rt; is_right, "the answer of turn {turn}, call {kind}");
-        assert!(rt; agrees(&set, &flags), "the members after turn {turn}, call {kind}");
+        assert!(rt;
+            agrees(&set, &flags),
+            "the members after turn {turn}, call {kind}"
+        );
         assert!(rt; ascends(&set), "the runs after turn {turn}, call {kind}");
     }
     Ok(())

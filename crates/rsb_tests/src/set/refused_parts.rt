@@ -60,7 +60,10 @@ fn each_growth_of_a_split_is_refused_in_turn(rt: HostRuntime) -> Result<(), Fail
         let heap = LocalHeap::new(rt.alloc(), 32768)?;
         let mut set = spaced(&heap, count)?;
         let refused = refusals_of_a_call(rt.alloc(), &heap, &mut set, 0, key)?;
-        assert!(rt; refused.is_some_and(|times| times > 0), "of {count} runs, at {key}");
+        assert!(rt;
+            refused.is_some_and(|times| times > 0),
+            "of {count} runs, at {key}"
+        );
     }
     Ok(())
 }

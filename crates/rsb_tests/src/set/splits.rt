@@ -17,8 +17,14 @@ fn a_run_is_parted_at_a_value(rt: HostRuntime) -> Result<(), Fail> {
     for (key, low, high) in &rows {
         let mut set = set_of(rt.alloc(), &[(1, 5)])?;
         let split = set.split_off(*key)?;
-        assert!(rt; runs_of(rt.alloc(), &set)?.as_slice() == *low, "below {key}");
-        assert!(rt; runs_of(rt.alloc(), &split)?.as_slice() == *high, "from {key} on");
+        assert!(rt;
+            runs_of(rt.alloc(), &set)?.as_slice() == *low,
+            "below {key}"
+        );
+        assert!(rt;
+            runs_of(rt.alloc(), &split)?.as_slice() == *high,
+            "from {key} on"
+        );
     }
     Ok(())
 }
@@ -34,8 +40,14 @@ fn runs_are_parted_at_a_value(rt: HostRuntime) -> Result<(), Fail> {
     for (key, low, high) in &rows {
         let mut set = set_of(rt.alloc(), &[(1, 3), (17, 17), (41, 41)])?;
         let split = set.split_off(*key)?;
-        assert!(rt; runs_of(rt.alloc(), &set)?.as_slice() == *low, "below {key}");
-        assert!(rt; runs_of(rt.alloc(), &split)?.as_slice() == *high, "from {key} on");
+        assert!(rt;
+            runs_of(rt.alloc(), &set)?.as_slice() == *low,
+            "below {key}"
+        );
+        assert!(rt;
+            runs_of(rt.alloc(), &split)?.as_slice() == *high,
+            "from {key} on"
+        );
     }
     Ok(())
 }

@@ -91,30 +91,30 @@ loop-left-preserved g c =
     let has = with_piece rank c.loop-left.kept c.loop-left.piece in
     elim c.if-f.branch [
       | then-f+in_ok-grown w ↦ rw (w.kept-is, w.piece-is) (
-        let grown = w.in_ok-grown.ensures in
-        record {
-          callable = λ always. mut_next g.F.FnMut _ _ _ _ _ c.f.ensures refl
-              (c.loop-left.invariant.callable always);
-          canonical = left-canonical n todo rest first past;
-          order = grown.order;
-          value = omega (arith, grown.last, in_type);
-          later = subst (λ end. IsCanonicalFrom (end + 1) rest) (sym grown.last) past.canonical;
-          todo_within = λ point member.
-              todo_within point (left-within n todo rest first past point member);
-          within = grown-within old first has _ inside within grown.added;
-          exact = λ keeps answers.
-              let before = exact keeps answers in
-              let next = computes-next g.F.FnMut _ _ _ _ _ c.f.ensures before.0 in (
-                next.1,
-                exact-true n old todo rest first past inside keeps has before.1 _ grown.added
-                    (sym (next.0 in_type) ∙ w.if-f.true),
-              );
-          asked = c.loop-left.invariant.asked ++ c.in-Some.run'.start ∷ [];
-          calls = FoldsTo-push _ _ _ _ _ _ c.loop-left.invariant.calls
-              (c.f.result, record { shown = _; shows = refl; called = c.f.ensures });
-          listed = left-listed n todo rest first past rank old c.loop-left.invariant.asked
-              c.in-Some.run'.start refl listed;
-        })
+          let grown = w.in_ok-grown.ensures in
+          record {
+            callable = λ always. mut_next g.F.FnMut _ _ _ _ _ c.f.ensures refl
+                (c.loop-left.invariant.callable always);
+            canonical = left-canonical n todo rest first past;
+            order = grown.order;
+            value = omega (arith, grown.last, in_type);
+            later = subst (λ end. IsCanonicalFrom (end + 1) rest) (sym grown.last) past.canonical;
+            todo_within = λ point member.
+                todo_within point (left-within n todo rest first past point member);
+            within = grown-within old first has _ inside within grown.added;
+            exact = λ keeps answers.
+                let before = exact keeps answers in
+                let next = computes-next g.F.FnMut _ _ _ _ _ c.f.ensures before.0 in (
+                  next.1,
+                  exact-true n old todo rest first past inside keeps has before.1 _ grown.added
+                      (sym (next.0 in_type) ∙ w.if-f.true),
+                );
+            asked = c.loop-left.invariant.asked ++ c.in-Some.run'.start ∷ [];
+            calls = FoldsTo-push _ _ _ _ _ _ c.loop-left.invariant.calls
+                (c.f.result, record { shown = _; shows = refl; called = c.f.ensures });
+            listed = left-listed n todo rest first past rank old c.loop-left.invariant.asked
+                c.in-Some.run'.start refl listed;
+          })
       | else-f w ↦ rw (w.kept-is, w.piece-is) (record {
         callable = λ always. mut_next g.F.FnMut _ _ _ _ _ c.f.ensures refl
             (c.loop-left.invariant.callable always);
