@@ -3,4 +3,6 @@ pub mod Kept
 pub mod Order
 pub mod OrderLaws
 pub mod Places
+pub mod Retain
 pub mod Set
+pub mod Split
