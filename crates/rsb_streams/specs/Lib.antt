@@ -1,3 +1,5 @@
+pub mod AdapterLaws
+pub mod Adapters
 pub mod Ascending
 pub mod AssumeSortedStarts
 pub mod Calls
@@ -16,6 +18,7 @@ pub mod OddPieces
 pub mod Outcomes
 pub mod PutBack
 pub mod Stream
+pub mod Sublists
 pub mod SymDiffIter
 pub mod Union
 pub mod UnionIter

@@ -15,6 +15,7 @@ mod operators;
 mod put_back;
 pub mod range_once;
 pub mod sorted_disjoint;
+mod std_markers;
 pub mod sym_diff_iter;
 pub mod union_iter;
 
