@@ -15,7 +15,7 @@ use Rattle.rsb_integer.specs.Front.{IsFrontOf}
 use Rattle.rsb_integer.specs.Runs.{Interval, IsCanonicalIn}
 use Rattle.rsb_streams.specs.Fused.{fuse_can_next, fuse_may_give}
 use Rattle.rsb_streams.specs.Outcomes.{settled_canonical_in, settled_sorted}
-use Rattle.rsb_streams.specs.Stream.{Outcomes, ◌⊆◌, HasOutcome, HasSortedStarts, IsDrawn, Keeps, SomeOutcome, unless}
+use Rattle.rsb_streams.specs.Stream.{Outcomes, ◌⊆◌, Answers, HasOutcome, HasSortedStarts, IsDrawn, Keeps, SomeOutcome, unless}
 use Rattle.rsb_streams.specs.Sublists.{IsSublist, sublist-after, sublist-all, sublist-canonical, sublist-drop, sublist-front, sublist-none, sublist-sorted, sublist-take}
 use denote.Param.Members.{Mut}
 use denote.Ref.{Bor}
@@ -68,6 +68,13 @@ skip_may_give steps may_give s =
     part_of (may_give (skip_source s)) (IsSkipped steps (skip_source s) (skip_count s))
 
 -- ---- when they may be drawn from
+
+-- a draw is a call of `next`, and answers what may come before what may come after it
+pub record IsCall {S T : Type 0} (rank : T → ℕ)
+    (next_gives : S → Option (RangeInclusive T) → S → Type 0) (may_give : S → Outcomes)
+    (s : S) (item : Option (RangeInclusive T)) (t : S) : Type 0 where
+  pub call : next_gives s item t
+  pub answers : Answers rank may_give s item t
 
 -- the stream inside may be drawn from, its `next` is its `draw`, and the closure may be called at
 -- what may come

@@ -1,3 +1,4 @@
+pub mod AdapterCalls
 pub mod AdapterLaws
 pub mod Adapters
 pub mod Ascending

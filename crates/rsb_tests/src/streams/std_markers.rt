@@ -22,8 +22,8 @@ fn outside_of_kept<T: Integer, I: SortedDisjoint<T>, P: FnMut(&RangeInclusive<T>
 
 #[test]
 fn gaps_of_the_ranges_that_pass_a_test(rt: HostRuntime) {
-    let ranges = CheckSortedDisjoint::new([1u8..=2, 4..=5, 7..=8]);
-    let gaps = outside_of_kept(ranges, |range| *range.start() > 1);
+    let stream = CheckSortedDisjoint::new([1u8..=2, 4..=5, 7..=8]);
+    let gaps = outside_of_kept(stream, |range| *range.start() > 1);
     assert!(rt; gives(gaps, &[(0, 3), (6, 6), (9, 255)]));
 }
 
@@ -51,14 +51,14 @@ fn before_failing<T: Integer, I: SortedDisjoint<T>, P: FnMut(&RangeInclusive<T>)
     stream.take_while(passes)
 }
 
-/// The ranges that pass a test, of those after so many.
-fn passing_after<T: Integer, I: SortedDisjoint<T>, P: FnMut(&RangeInclusive<T>) -> bool>(
-    stream: Skip<Fuse<I>>,
+/// The ranges that pass a test.
+fn passing<T: Integer, I: SortedDisjoint<T>, P: FnMut(&RangeInclusive<T>) -> bool>(
+    stream: I,
     passes: P,
-) -> Filter<Skip<Fuse<I>>, P>
-    requires stream { ⟦<Skip<Fuse<I>> as Draw<T>>⟧.can_draw stream }
+) -> Filter<I, P>
+    requires stream { I.can_draw stream }
     requires passes { (test : P) (range : _) → P.pre test range }
-    ensures { ⟦<Filter<Skip<Fuse<I>>, P> as Draw<T>>⟧.can_draw result }
+    ensures { ⟦<Filter<I, P> as Draw<T>>⟧.can_draw result }
 {
     stream.filter(passes)
 }
@@ -75,8 +75,8 @@ fn fused_after<T: Integer, I: SortedDisjoint<T>>(stream: I, count: usize) -> Ski
 fn union_over_five_adapters(rt: HostRuntime) {
     let from = from_failing(RangeOnce::new(10u64..=20), |_| false);
     let before = before_failing(from, |_| true);
-    let passing = passing_after(fused_after(before, 0), |_| true);
-    let either = CheckSortedDisjoint::default().union(passing);
+    let kept = passing(fused_after(before, 0), |_| true);
+    let either = CheckSortedDisjoint::default().union(kept);
     assert!(rt; gives(either, &[(10, 20)]));
 }
 
@@ -87,7 +87,12 @@ fn gaps_of_what_is_left_after_one(rt: HostRuntime) {
 
 #[test]
 fn gaps_of_the_first_range(rt: HostRuntime) {
-    assert!(rt; gives(RangeOnce::new(3u8..=5).take(1).complement(), &[(0, 2), (6, 255)]));
+    assert!(rt;
+        gives(
+            RangeOnce::new(3u8..=5).take(1).complement(),
+            &[(0, 2), (6, 255)]
+        )
+    );
 }
 
 #[test]

@@ -1,6 +1,6 @@
 use Rattle.rsb_streams.specs.AdapterLaws.{skip_while-drawn}
 use Rattle.rsb_streams.specs.Stream.{drawn-call}
-use Rattle.rsb_streams.proofs.std_markers.SkipWhileDraw.draw.Goals as goal
+use Rattle.rsb_streams.proofs.std_markers.skip_while.SkipWhileDraw.draw.Goals as goal
 
 -- a call of its `next` is a draw
 pub returns-clause-steps : goal.returns-clause-steps
