@@ -16,6 +16,7 @@ mod put_back;
 pub mod range_once;
 pub mod sorted_disjoint;
 pub mod sorted_starts_in_vec;
+mod std_markers;
 pub mod sym_diff_iter;
 pub mod union_iter;
 pub mod unsorted_disjoint;

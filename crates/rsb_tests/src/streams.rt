@@ -31,6 +31,7 @@ mod range_once;
 mod refused_lists;
 mod set_algebra;
 mod six_operations;
+mod std_markers;
 mod symmetric_difference;
 mod texts;
 mod two_ranges;
