@@ -1,10 +1,13 @@
 pub mod AloneLemmas
 pub mod AnswerLemmas
+pub mod BackTurns
 pub mod BoundsLemmas
 pub mod BulkLemmas
 pub mod CutLemmas
+pub mod ElementsLeft
 pub mod EndLemmas
 pub mod EntriesLemmas
+pub mod FrontTurns
 pub mod InsertLemmas
 pub mod InsertedLemmas
 pub mod JoinLemmas
@@ -21,3 +24,5 @@ pub mod SubsetLemmas
 pub mod SwallowLemmas
 pub mod TakeLastLemmas
 pub mod TakeOutLemmas
+pub mod TakenLemmas
+pub mod TurnLemmas

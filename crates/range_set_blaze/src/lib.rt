@@ -3,6 +3,7 @@
 
 pub mod into_range_set_blaze;
 pub mod into_ranges_iter;
+pub mod iter;
 pub mod laws;
 mod operators;
 pub mod prelude;
