@@ -1,12 +1,12 @@
 -- Calls of `next_back` of an iterator over the elements of a stream.
-use Rattle.std.proofs.Common.{◌≡◌, ◌↔◌, ℕ, Bool, true, false, ◌<◌, ◌≤◌, List, [], ◌∷◌, ◌++◌, append-nil, append_assoc, refl, sym, ◌∙◌, ap, subst, arith}
-use Rattle.std.specs.Prelude.{Option, Some, None, IfSome, IsNone}
+use Rattle.std.proofs.Common.{◌≡◌, ◌↔◌, ℕ, true, false, List, [], ◌∷◌, ◌++◌, append-nil, append_assoc, refl, sym, ◌∙◌, ap, subst, arith}
+use Rattle.std.specs.Prelude.{Option, Some, IfSome, IsNone}
 use Rattle.std.specs.declared.ops.RangeInclusive.{RangeInclusive}
 use Rattle.rsb_integer.specs.Rank.{interval_of}
-use Rattle.rsb_integer.specs.Runs.{Interval, members, IsBeforeLast, IsCanonicalIn, IsEmpty}
+use Rattle.rsb_integer.specs.Runs.{Interval, IsBeforeLast, IsCanonicalIn, IsEmpty}
 use Rattle.rsb_integer.proofs.CanonicalLemmas.{canonical-parts}
 use Rattle.rsb_streams.specs.Fused.{fused_can, fused_may_give}
-use Rattle.rsb_streams.specs.Stream.{Outcomes, run_if_any, unless}
+use Rattle.rsb_streams.specs.Stream.{Outcomes, unless}
 use Rattle.rsb_streams.proofs.CheckLemmas.{none-if_empty}
 use Rattle.range_set_blaze.specs.BothEnds.{between_ends, held, stream_of, AnswersLast, ElementsReady, GivesGreatest}
 use Rattle.range_set_blaze.specs.declared.iter.Iter.{Iter}

@@ -1,13 +1,13 @@
 -- How many elements an iterator over a stream has left at most.
-use Rattle.std.proofs.Common.{◌≡◌, ◌↔◌, ℕ, true, false, cond, ◌+◌, ◌*◌, ◌-◌, ◌<◌, ◌≤◌, ap, subst, sym, ◌∙◌, arith, inl, inr}
+use Rattle.std.proofs.Common.{◌≡◌, ◌↔◌, ℕ, true, false, cond, ◌+◌, ◌*◌, ◌<◌, ◌≤◌, ap, subst, sym, ◌∙◌, arith, inl, inr}
 use Rattle.std.proofs.lemmas.Bool.{cases_lt}
-use Rattle.std.proofs.lemmas.Nat.{row_fits}
-use Rattle.std.specs.Prelude.{Option, Some, None, IfSome, IsNone, OnSome}
+use Rattle.std.proofs.lemmas.Nat.{mul-le, row_fits}
+use Rattle.std.specs.Prelude.{Option, Some, None, IsNone, OnSome}
 use Rattle.std.specs.Iterator.{Count, IsFinite, MakesProgress, size}
-use Rattle.std.specs.declared.ops.RangeInclusive.{RangeInclusive}
+use Rattle.std.specs.Iterator.SizeHint.{IsWithinCount}
 use Rattle.rsb_integer.specs.Rank.{interval_of}
 use Rattle.rsb_integer.specs.Runs.{Interval, length_of, IsAfterFirst, IsBeforeLast, IsEmpty}
-use Rattle.range_set_blaze.specs.BothEnds.{elements_left}
+use Rattle.range_set_blaze.specs.BothEnds.{elements_left, ranges_left}
 use Rattle.range_set_blaze.specs.declared.iter.Iter.{Iter}
 
 -- an interval that is not empty has fewer ranks without its first one
@@ -166,3 +166,21 @@ module _ {T I : Type 0} (rank : T → ℕ) (n : ℕ) (left : I → Count) (can :
           ap (λ each. cond each 0 (size (left s.ranges) * n)) undone in
           let fits = row_fits (size (left t.ranges)) n (size (left s.ranges)) n less (omega arith) in
           omega (arith, new, old, fits, fewer)
+
+-- a hint of the stream is one of its elements: each range has one at least
+pub hint-within : {T I : Type 0} (rank : T → ℕ) (n : ℕ) → 2 ≤ n → (remaining left : I → Count)
+    → ((iter : I) → remaining iter ≡ left iter) → (s : Iter T I) → s.done ≡ false → (low : ℕ)
+    → IsWithinCount low (remaining s.ranges)
+    → IsWithinCount low (elements_left rank n left s) × IsWithinCount low (ranges_left left s)
+hint-within rank n some remaining left same s undone low within =
+    let under : IsFinite (left s.ranges) → low ≤ size (left s.ranges) =
+    subst (IsWithinCount low) (same s.ranges) within in
+    let all : cond s.done 0 (size (left s.ranges) * n) ≡ size (left s.ranges) * n =
+    ap (λ each. cond each 0 (size (left s.ranges) * n)) undone in
+    let ranges : cond s.done 0 (size (left s.ranges)) ≡ size (left s.ranges) =
+    ap (λ each. cond each 0 (size (left s.ranges))) undone in
+    let more = mul-le (size (left s.ranges)) 1 (size (left s.ranges)) n (omega arith) (omega arith)
+    in (
+      λ finite. let least = under finite in omega (arith, all, more, least),
+      λ finite. let least = under finite in omega (arith, ranges, least),
+    )

@@ -1,6 +1,7 @@
 pub mod AloneLemmas
 pub mod AnswerLemmas
 pub mod BackTurns
+pub mod BetweenLemmas
 pub mod BoundsLemmas
 pub mod BulkLemmas
 pub mod CutLemmas
@@ -12,6 +13,7 @@ pub mod InsertLemmas
 pub mod InsertedLemmas
 pub mod JoinLemmas
 pub mod KeptLemmas
+pub mod ListedElements
 pub mod LookUpLemmas
 pub mod PartsLemmas
 pub mod PointLemmas
@@ -25,4 +27,5 @@ pub mod SwallowLemmas
 pub mod TakeLastLemmas
 pub mod TakeOutLemmas
 pub mod TakenLemmas
+pub mod TakesLemmas
 pub mod TurnLemmas

@@ -1,9 +1,8 @@
 -- What one call makes of what is left of an iterator over elements, as lists of intervals.
-use Rattle.std.proofs.Common.{◌≡◌, ◌↔◌, ℕ, false, ◌+◌, ◌<◌, ◌≤◌, List, [], ◌∷◌, ◌++◌, append-nil, append_assoc, refl, sym, ◌∙◌, ap, subst, inl, inr, arith}
+use Rattle.std.proofs.Common.{◌≡◌, ◌↔◌, ℕ, ◌<◌, ◌≤◌, List, [], ◌∷◌, ◌++◌, append-nil, refl, sym, ◌∙◌, ap, subst, inl, inr, arith}
 use Rattle.std.specs.Prelude.{Option, Some, None, IfSome, IsNone}
 use Rattle.rsb_integer.specs.Runs.{Interval, members, IsAfterFirst, IsBeforeLast, IsCanonicalIn, IsEmpty}
 use Rattle.rsb_integer.specs.Selection.{difference}
-use Rattle.rsb_integer.proofs.CanonicalLemmas.{canonical-parts}
 use Rattle.rsb_integer.proofs.ListLemmas.{not_both}
 use Rattle.rsb_streams.specs.Stream.{run_if_any}
 use Rattle.rsb_streams.proofs.CheckLemmas.{none-if_empty}
@@ -58,9 +57,9 @@ module _ {T : Type 0} (rank : T → ℕ) (n : ℕ) where
 
   -- what is left, as lists, by what was left: canonical again, and the least member is taken
   pub record TurnsLeast (before : List Interval) (item : Option T) (after : List Interval) : Type 0
-      where
-    pub canonical : IsCanonicalIn n after
-    pub takes : TakesLeast rank n (members before) item (members after)
+    where
+      pub canonical : IsCanonicalIn n after
+      pub takes : TakesLeast rank n (members before) item (members after)
 
   -- the same from the back
   pub record TurnsGreatest (before : List Interval) (item : Option T) (after : List Interval)

@@ -1,12 +1,13 @@
 -- What iterators over elements stand for: a set of ranks, of which the least and the greatest are
 -- taken out.
 use Rattle.std.specs.Prelude.{◌≡◌, ◌↔◌, ℕ, ◌+◌, ◌*◌, cond, false, List, [], ◌∷◌, ◌++◌, Option, Some, None, IsNone, IfSome, MatchOption}
-use Rattle.std.specs.Iterator.{Count, size}
+use Rattle.std.specs.Iterator.{Count, YieldsLast, size}
 use Rattle.std.specs.declared.ops.RangeInclusive.{RangeInclusive}
 use Rattle.rsb_integer.specs.Rank.{interval_of, intervals_of}
 use Rattle.rsb_integer.specs.Runs.{Interval, length_of, members, IsCanonicalIn, IsEmpty}
 use Rattle.rsb_integer.specs.Selection.{Selection, difference, IsNothing}
 use Rattle.rsb_streams.specs.Fused.{Fused, fused_can, fused_may_give}
+use Rattle.rsb_streams.specs.Listed.{listed_may_give}
 use Rattle.rsb_streams.specs.Stream.{Outcomes, ◌⊆◌, run_if_any}
 use Rattle.range_set_blaze.specs.Set.{only, IsGreatest, IsLeast}
 use Rattle.range_set_blaze.specs.declared.iter.Iter.{Iter}
@@ -68,6 +69,13 @@ elements_left rank n left s = record {
       + cond s.done 0 (size (left s.ranges) * n);
 }
 
+-- how many ranges the stream still gives
+abbrev pub ranges_left : {T I : Type 0} → (I → Count) → Iter T I → Count
+ranges_left left s = record {
+  bounded = (left s.ranges).bounded;
+  bound = cond s.done 0 (size (left s.ranges));
+}
+
 module _ {T I : Type 0} (rank : T → ℕ) (n : ℕ) (can_draw : I → Type 0)
     (may_give : I → Outcomes) where
   -- the stream may be drawn from or has ended, and what is left is canonical
@@ -99,23 +107,43 @@ module _ {T I : Type 0} (rank : T → ℕ) (n : ℕ) (can_draw : I → Type 0)
       → may_give s (rest ++ interval_of rank range ∷ []))
 
   module _ (can_next_back : I → Type 0) (back_gives : I → Option (RangeInclusive T) → I → Type 0)
-      where
-    -- the stream may be asked from the one end where it may be asked from the other, and answers
-    -- from the back what may come last
-    pub record GoesBack : Type 0 where
-      pub callable : (s : I) → can_draw s → can_next_back s
-      pub drawable : (s : I) → can_next_back s → can_draw s
-      pub answers : (s t : I) (item : Option (RangeInclusive T)) → back_gives s item t
-          → AnswersLast s item t
+    where
+      -- the stream may be asked from the one end where it may be asked from the other, and answers
+      -- from the back what may come last
+      pub record GoesBack : Type 0 where
+        pub callable : (s : I) → can_draw s → can_next_back s
+        pub drawable : (s : I) → can_next_back s → can_draw s
+        pub answers : (s t : I) (item : Option (RangeInclusive T)) → back_gives s item t
+            → AnswersLast s item t
 
-    -- the stream goes from both ends, and the iterator may be called
-    pub record ElementsReadyBack (s : Iter T I) : Type 0 where
-      pub both_ends : GoesBack
-      pub ready : ElementsReady s
+      -- the stream goes from both ends, and the iterator may be called
+      pub record ElementsReadyBack (s : Iter T I) : Type 0 where
+        pub both_ends : GoesBack
+        pub ready : ElementsReady s
 
 -- ---- where the state of the stream shows the list of the ranges to come
 
--- the ranks of what is left
-abbrev pub elements_of : {T : Type 0} → (T → ℕ) → Iter T (List (RangeInclusive T)) → Selection
-elements_of rank s = members
-    (between_ends rank s (cond s.done [] (intervals_of rank s.ranges)))
+module _ {T : Type 0} (rank : T → ℕ) (n : ℕ) where
+  -- the list is canonical
+  abbrev pub IsListReady : List (RangeInclusive T) → Type 0
+  IsListReady ranges = IsCanonicalIn n (intervals_of rank ranges)
+
+  -- it may be called
+  abbrev pub ListedReady : Iter T (List (RangeInclusive T)) → Type 0
+  ListedReady = ElementsReady rank n IsListReady (listed_may_give rank (λ ranges. ranges))
+
+  -- it may be called from the back
+  abbrev pub ListedReadyBack : Iter T (List (RangeInclusive T)) → Type 0
+  ListedReadyBack = ElementsReadyBack rank n IsListReady (listed_may_give rank (λ ranges. ranges))
+      IsListReady (YieldsLast (λ ranges. ranges))
+
+-- what is left, as intervals in ascending order
+abbrev pub runs_left : {T : Type 0} → (T → ℕ) → Iter T (List (RangeInclusive T)) → List Interval
+runs_left rank s = between_ends rank s (cond s.done [] (intervals_of rank s.ranges))
+
+-- the iterator may be called from both ends, and has the members of the set
+pub record IsOverSet {T : Type 0} (rank : T → ℕ) (n : ℕ) (set : List Interval)
+    (elements : Iter T (List (RangeInclusive T))) : Type 0 where
+  pub runs : runs_left rank elements ≡ set
+  pub ready : ListedReady rank n elements
+  pub ready_back : ListedReadyBack rank n elements

@@ -1,12 +1,15 @@
 //! The elements of a stream of ranges, one after the other.
 
+ghost use Rattle.std.specs.Iterator.{UpTo};
+ghost use Rattle.std.specs.Iterator.SizeHint.{IsWithinCount};
+ghost use Rattle.std.specs.Prelude.{IfSome};
 ghost use Rattle.range_set_blaze.specs.BothEnds.{
   elements_left,
+  ranges_left,
   ElementsReady,
   ElementsReadyBack,
   GivesGreatest,
   GivesLeast,
-  IsWhole,
 };
 
 use rsb_integer::Integer;
@@ -18,26 +21,12 @@ use std::ops::RangeInclusive;
 /// both. (`Iter` of the Rust crate.)
 #[derive(Clone, Debug, Drop)]
 pub struct Iter<T, I> {
-    ranges: I,
+    pub(crate) ranges: I,
     // Whether the stream has ended: it is not asked again then.
-    done: bool,
+    pub(crate) done: bool,
     // What is left of the ranges that were taken from the two ends.
-    front: RangeInclusive<T>,
-    back: RangeInclusive<T>,
-}
-
-impl<T: Integer, I> Iter<T, I> {
-    // The elements of a stream of which nothing is drawn yet.
-    pub(crate) fn over(ranges: I) -> Self
-        ensures { IsWhole T.rank ranges result }
-    {
-        Iter {
-            ranges,
-            done: false,
-            front: T::exhausted_range(),
-            back: T::exhausted_range(),
-        }
-    }
+    pub(crate) front: RangeInclusive<T>,
+    pub(crate) back: RangeInclusive<T>,
 }
 
 impl<T: Integer, I: SortedDisjoint<T>> Iterator for Iter<T, I> {
@@ -64,18 +53,18 @@ impl<T: Integer, I: SortedDisjoint<T>> Iterator for Iter<T, I> {
         T::range_next(&mut self.front)
     }
 
-    // Each range to come has an element, and so has what is left of one.
-    fn size_hint(&self) -> (usize, Option<usize>) {
-        // The ends of what is held are known for values from here on.
-        self.front.start().checked_add_one();
-        self.front.end().checked_add_one();
-        self.back.start().checked_add_one();
-        self.back.end().checked_add_one();
-        let held = usize::from(!self.front.is_empty()) + usize::from(!self.back.is_empty());
+    // Each range to come has an element.
+    fn size_hint(&self) -> (usize, Option<usize>)
+        ensures lower { IsWithinCount result.0
+            (elements_left T.rank T.value_count I.draws_left self.now) }
+        ensures upper { IfSome result.1
+            (UpTo (elements_left T.rank T.value_count I.draws_left self.now)) }
+        ensures ranges { IsWithinCount result.0 (ranges_left I.draws_left self.now) }
+    {
         if self.done {
-            return (held, None);
+            return (0, None);
         }
-        (self.ranges.size_hint().0.saturating_add(held), None)
+        (self.ranges.size_hint().0, None)
     }
 }
 

@@ -1,6 +1,7 @@
 //! Sets of integers, kept as their maximal runs.
 #![tactic(auto)]
 
+pub mod into_iter;
 pub mod into_range_set_blaze;
 pub mod into_ranges_iter;
 pub mod iter;
@@ -12,7 +13,7 @@ pub mod set;
 
 pub use crate::prelude::{
     AnythingGoes, AssumeSortedStarts, CheckSortedDisjoint, Difference, Draw, DrawDisjoint,
-    FillGapsIter, Integer, Intersection, IntoRangeSetBlaze, IntoRangesIter, Merge, NotIter,
-    NotSortedDisjoint, RangeOnce, RangeSetBlaze, RangesIter, SafeLength, SortedDisjoint,
+    FillGapsIter, Integer, Intersection, IntoIter, IntoRangeSetBlaze, IntoRangesIter, Iter, Merge,
+    NotIter, NotSortedDisjoint, RangeOnce, RangeSetBlaze, RangesIter, SafeLength, SortedDisjoint,
     SortedStarts, SymDiffIter, SymmetricDifference, UInt, UIntPlusOne, Union, UnionIter,
 };

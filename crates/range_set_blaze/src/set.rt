@@ -7,6 +7,7 @@ ghost use Rattle.rsb_integer.specs.Selection.{count, IsNothing};
 ghost use Rattle.range_set_blaze.specs.Set.{IsGreatest, IsLeast};
 
 mod bulk;
+mod elements;
 mod entries;
 mod insert;
 mod lengths;

@@ -1,6 +1,7 @@
 //! Sets.
 
 mod element_types;
+mod elements;
 mod empty_sets;
 mod growths;
 mod insertions;
@@ -10,6 +11,7 @@ mod laws;
 mod look_ups;
 mod many_runs;
 mod operators;
+mod owned_elements;
 mod ranges_iter;
 mod refusals;
 mod refused_removals;

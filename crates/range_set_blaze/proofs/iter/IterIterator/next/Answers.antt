@@ -1,4 +1,4 @@
-use Rattle.std.proofs.Common.{[], false, true, refl, subst, sym, arith}
+use Rattle.std.proofs.Common.{[], refl, subst, sym, arith}
 use Rattle.std.specs.Prelude.{None, Some}
 use Rattle.rsb_integer.specs.Rank.{interval_of}
 use Rattle.rsb_integer.specs.Runs.{IsEmpty}
