@@ -1,13 +1,17 @@
 pub mod AlgebraLemmas
 pub mod AloneLemmas
 pub mod AnswerLemmas
+pub mod BackTurns
+pub mod BetweenLemmas
 pub mod BoundsLemmas
 pub mod BulkLemmas
 pub mod ComparedLemmas
 pub mod CutLemmas
+pub mod ElementsLeft
 pub mod EndLemmas
 pub mod EntriesLemmas
 pub mod ExtendLemmas
+pub mod FrontTurns
 pub mod HeldLemmas
 pub mod InsertLemmas
 pub mod InsertedLemmas
@@ -15,6 +19,7 @@ pub mod JoinLemmas
 pub mod KeepLemmas
 pub mod KeptLemmas
 pub mod LastTurnLemmas
+pub mod ListedElements
 pub mod LookUpLemmas
 pub mod OrderLemmas
 pub mod PartingLemmas
@@ -30,4 +35,7 @@ pub mod SubsetLemmas
 pub mod SwallowLemmas
 pub mod TakeLastLemmas
 pub mod TakeOutLemmas
+pub mod TakenLemmas
+pub mod TakesLemmas
+pub mod TurnLemmas
 pub mod TurnsLemmas

@@ -1,4 +1,5 @@
 pub mod Algebra
+pub mod BothEnds
 pub mod Kept
 pub mod Order
 pub mod OrderLaws

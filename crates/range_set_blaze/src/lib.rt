@@ -1,8 +1,10 @@
 //! Sets of integers, kept as their maximal runs.
 #![tactic(auto)]
 
+pub mod into_iter;
 pub mod into_range_set_blaze;
 pub mod into_ranges_iter;
+pub mod iter;
 pub mod laws;
 mod operators;
 pub mod prelude;
@@ -11,8 +13,11 @@ pub mod set;
 
 pub use crate::prelude::{
     AnythingGoes, AssumeSortedStarts, CheckSortedDisjoint, Difference, Draw, DrawDisjoint,
+    FillGapsIter, Integer, Intersection, IntoIter, IntoRangeSetBlaze, IntoRangesIter, Iter, Merge,
     FillGapsIter, Integer, Intersection, IntoRangeSetBlaze, IntoRangesIter, Merge, NotIter,
+    NotIter, NotSortedDisjoint, RangeOnce, RangeSetBlaze, RangesIter, SafeLength, SortedDisjoint,
     NotSortedDisjoint, RangeOnce, RangeSetBlaze, RangesIter, SafeLength, SortedDisjoint,
     SortedStarts, SortedStartsInVec, SymDiffIter, SymmetricDifference, UInt, UIntPlusOne, Union,
+    SortedStarts, SymDiffIter, SymmetricDifference, UInt, UIntPlusOne, Union, UnionIter,
     UnionIter,
 };

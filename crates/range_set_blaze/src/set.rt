@@ -8,6 +8,7 @@ ghost use Rattle.range_set_blaze.specs.Set.{IsGreatest, IsLeast};
 
 mod algebra;
 mod bulk;
+mod elements;
 mod entries;
 mod extend;
 mod insert;

@@ -1,6 +1,7 @@
 //! Sets.
 
 mod element_types;
+mod elements;
 mod empty_sets;
 mod growths;
 mod insertions;
@@ -13,6 +14,7 @@ mod many_runs;
 mod many_runs_of_two;
 mod operators;
 mod order;
+mod owned_elements;
 mod ranges_iter;
 mod refusals;
 mod refused_parts;

@@ -98,7 +98,7 @@ impl<T: Integer, A: Allocator + Clone> RangeSetBlaze<T, A> {
 }
 
 // The values between two bounds as a run, or `None` where there are none.
-fn run_between<T: Integer, R: RangeBounds<T>>(range: &R) -> Option<Run<T>>
+pub(crate) fn run_between<T: Integer, R: RangeBounds<T>>(range: &R) -> Option<Run<T>>
     ensures none { R.has_bounds range.now → IsNone result →
         past_rank T.rank T.value_count (R.end_bound range.now)
         ≤ first_rank T.rank (R.start_bound range.now) }
