@@ -14,10 +14,7 @@ pub mod set;
 pub use crate::prelude::{
     AnythingGoes, AssumeSortedStarts, CheckSortedDisjoint, Difference, Draw, DrawDisjoint,
     FillGapsIter, Integer, Intersection, IntoIter, IntoRangeSetBlaze, IntoRangesIter, Iter, Merge,
-    FillGapsIter, Integer, Intersection, IntoRangeSetBlaze, IntoRangesIter, Merge, NotIter,
     NotIter, NotSortedDisjoint, RangeOnce, RangeSetBlaze, RangesIter, SafeLength, SortedDisjoint,
-    NotSortedDisjoint, RangeOnce, RangeSetBlaze, RangesIter, SafeLength, SortedDisjoint,
     SortedStarts, SortedStartsInVec, SymDiffIter, SymmetricDifference, UInt, UIntPlusOne, Union,
-    SortedStarts, SymDiffIter, SymmetricDifference, UInt, UIntPlusOne, Union, UnionIter,
     UnionIter,
 };
