@@ -19,3 +19,4 @@ mod retained_runs;
 mod sets_of_streams;
 mod subsets;
 mod texts;
+mod threads;
