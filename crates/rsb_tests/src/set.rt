@@ -28,5 +28,6 @@ mod sets_of_streams;
 mod splits;
 mod subsets;
 mod texts;
+mod threads;
 mod two_sets;
 mod unshared;

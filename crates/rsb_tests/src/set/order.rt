@@ -3,8 +3,8 @@
 ghost use Rattle.std.specs.Prelude.{◌≡◌, true};
 
 use crate::tables::set_of;
-use range_set_blaze::{Integer, RangeSetBlaze};
 use range_set_blaze::laws::cmp_counted;
+use range_set_blaze::{Integer, RangeSetBlaze};
 use std::alloc::{AllocError, Allocator, Global};
 use std::cmp::Ordering;
 use std::test::*;
@@ -62,7 +62,10 @@ fn members_of(alloc: Global, bits: u8) -> Result<Vec<u8>, AllocError> {
     Ok(members)
 }
 
-fn set_of_members(alloc: Global, members: &[u8]) -> Result<RangeSetBlaze<u8>, AllocError> {
+fn set_of_members(
+    alloc: Global,
+    members: &[u8],
+) -> Result<RangeSetBlaze<u8>, AllocError> {
     let mut set = RangeSetBlaze::new(alloc);
     for member in members {
         set.insert(*member)?;
