@@ -8,14 +8,17 @@ pub mod EntriesLemmas
 pub mod InsertLemmas
 pub mod InsertedLemmas
 pub mod JoinLemmas
+pub mod KeepLemmas
 pub mod KeptLemmas
 pub mod LookUpLemmas
+pub mod PartingLemmas
 pub mod PartsLemmas
 pub mod PointLemmas
 pub mod PutOverLemmas
 pub mod RangesLemmas
 pub mod RemoveLemmas
 pub mod RetainLemmas
+pub mod SplitLemmas
 pub mod SublistLemmas
 pub mod SubsetLemmas
 pub mod SwallowLemmas

@@ -1,3 +1,5 @@
 pub mod Kept
 pub mod Places
+pub mod Retain
 pub mod Set
+pub mod Split

@@ -9,11 +9,13 @@ ghost use Rattle.range_set_blaze.specs.Set.{IsGreatest, IsLeast};
 mod bulk;
 mod entries;
 mod insert;
+mod keep;
 mod lengths;
 mod look_up;
 mod remove;
 mod retain;
 pub(crate) mod run;
+mod split;
 mod subsets;
 mod take_in;
 

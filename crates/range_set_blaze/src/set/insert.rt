@@ -77,8 +77,8 @@ impl<T: Integer, A: Allocator + Clone> RangeSetBlaze<T, A> {
         }
     }
 
-    // Adds the values of a run, and says whether one of them was new.
-    fn insert_run(&mut self, run: Run<T>) -> Result<bool, AllocError>
+    /// Adds the values of a run, and says whether one of them was new.
+    pub(crate) fn insert_run(&mut self, run: Run<T>) -> Result<bool, AllocError>
         requires order { T.rank run.start ≤ T.rank run.end }
         requires value { T.rank run.end < T.value_count }
         ensures members { OnOk result
