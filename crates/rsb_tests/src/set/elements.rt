@@ -90,8 +90,7 @@ fn owned_elements_of(alloc: Global, set: RangeSetBlaze<i32>) -> Result<Vec<i32>,
 #[test]
 fn loops_go_over_a_set_and_over_a_reference(rt: HostRuntime) -> Result<(), Fail> {
     let set = set_of(rt.alloc(), &[(-2, -1), (1, 1), (4, 5)])?;
-    let wanted = [-2, -1, 1, 4, 5];
-    assert!(rt; elements_of(rt.alloc(), &set)?[..] == wanted);
-    assert!(rt; owned_elements_of(rt.alloc(), set)?[..] == wanted);
+    assert!(rt; elements_of(rt.alloc(), &set)?[..] == [-2, -1, 1, 4, 5][..]);
+    assert!(rt; owned_elements_of(rt.alloc(), set)?[..] == [-2, -1, 1, 4, 5][..]);
     Ok(())
 }
