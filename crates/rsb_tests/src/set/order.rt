@@ -62,10 +62,7 @@ fn members_of(alloc: Global, bits: u8) -> Result<Vec<u8>, AllocError> {
     Ok(members)
 }
 
-fn set_of_members(
-    alloc: Global,
-    members: &[u8],
-) -> Result<RangeSetBlaze<u8>, AllocError> {
+fn set_of_members(alloc: Global, members: &[u8]) -> Result<RangeSetBlaze<u8>, AllocError> {
     let mut set = RangeSetBlaze::new(alloc);
     for member in members {
         set.insert(*member)?;
