@@ -1,5 +1,7 @@
 //! The elements of a set, from both ends.
 
+ghost use Rattle.std.specs.Prelude.{◌≡◌};
+
 use crate::tables::{runs_of, set_of};
 use range_set_blaze::RangeSetBlaze;
 use std::alloc::{AllocError, Global};
@@ -43,10 +45,18 @@ fn a_clone_gives_the_same_elements(rt: HostRuntime) -> Result<(), Fail> {
     let set = set_of(rt.alloc(), &[(1, 3)])?;
     let mut elements = set.iter();
     assert!(rt; elements.next() == Some(1));
-    let mut copy = elements.clone()?;
-    assert!(rt; elements.next() == Some(2));
-    assert!(rt; copy.next() == Some(2));
+    assert!(rt; both_give_two(elements)?);
     Ok(())
+}
+
+// Whether an iterator and a copy of it give 2 next.
+fn both_give_two<I: Iterator<Item = i32> + Clone>(elements: I) -> Result<bool, AllocError>
+    requires ready { I.can_next elements }
+    requires copies { (stream copy : I) → I.is_clone stream copy → copy ≡ stream }
+{
+    let mut copy = elements.clone()?;
+    let mut elements = elements;
+    Ok(elements.next() == Some(2) && copy.next() == Some(2))
 }
 
 // What the text is is left open.

@@ -81,8 +81,10 @@ fn union_sorts_some_thousand_ranges_that_descend(rt: HostRuntime) -> Result<(), 
     let mut ranges = Vec::new(rt.alloc());
     let mut wanted = Vec::new(rt.alloc());
     for i in 0..3000i32 {
-        ranges.push(10 * (3000 - i)..=10 * (3000 - i) + 3)?;
-        wanted.push((10 * i + 10, 10 * i + 13))?;
+        let start = 30_000i32.saturating_sub(i.saturating_mul(10));
+        ranges.push(start..=start.saturating_add(3))?;
+        let wanted_start = i.saturating_mul(10).saturating_add(10);
+        wanted.push((wanted_start, wanted_start.saturating_add(3)))?;
     }
     let union = UnionIter::from_iter(rt.alloc(), ranges)?;
     assert!(rt; gives(union, &wanted));
