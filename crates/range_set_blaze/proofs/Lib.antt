@@ -1,3 +1,4 @@
+pub mod AlgebraLemmas
 pub mod AloneLemmas
 pub mod AnswerLemmas
 pub mod BoundsLemmas
@@ -5,6 +6,7 @@ pub mod BulkLemmas
 pub mod CutLemmas
 pub mod EndLemmas
 pub mod EntriesLemmas
+pub mod ExtendLemmas
 pub mod InsertLemmas
 pub mod InsertedLemmas
 pub mod JoinLemmas

@@ -1,3 +1,4 @@
+pub mod Algebra
 pub mod Kept
 pub mod Places
 pub mod Set

@@ -6,8 +6,10 @@ ghost use Rattle.rsb_integer.specs.Runs.{members, AreRuns, IsCanonicalIn};
 ghost use Rattle.rsb_integer.specs.Selection.{count, IsNothing};
 ghost use Rattle.range_set_blaze.specs.Set.{IsGreatest, IsLeast};
 
+mod algebra;
 mod bulk;
 mod entries;
+mod extend;
 mod insert;
 mod lengths;
 mod look_up;

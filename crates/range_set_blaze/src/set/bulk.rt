@@ -30,11 +30,7 @@ impl<T: Integer, A: Allocator + Copy> RangeSetBlaze<T, A> {
             let (start, end) = range.into_inner();
             map.insert(start, end)?;
         }
-        Ok(RangeSetBlaze {
-            map,
-            length,
-            alloc,
-        })
+        Ok(RangeSetBlaze { map, length, alloc })
     }
 
     /// The set of the values of a range: the empty set where the range is reversed or was iterated

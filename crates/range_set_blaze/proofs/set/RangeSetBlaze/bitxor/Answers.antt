@@ -1,0 +1,17 @@
+use Rattle.std.proofs.lemmas.Result.{IfOk-weaker}
+use Rattle.range_set_blaze.proofs.AlgebraLemmas.{symmetric_difference-of_sets}
+use Rattle.range_set_blaze.proofs.set.RangeSetBlaze.bitxor.Goals as goal
+
+-- the streams give the runs of the two sets
+pub returns : goal.returns
+returns g c =
+    let one = c.ranges-left.ensures in
+    let other = c.ranges-right.ensures in
+    let again = c.ranges-2.ensures in
+    let others = c.ranges-3.ensures in
+    record {
+      members = IfOk-weaker c.symmetric_difference_of.result _ _
+          (symmetric_difference-of_sets g.T.Integer.value_count c.args.self.now c.args.other.now
+          _ _ _ _ one.ranges other.ranges again.ranges others.ranges one.ready other.ready)
+          c.symmetric_difference_of.ensures.runs;
+    }

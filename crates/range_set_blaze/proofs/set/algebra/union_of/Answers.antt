@@ -1,0 +1,9 @@
+use Rattle.std.proofs.lemmas.Result.{IfOk-weaker}
+use Rattle.range_set_blaze.proofs.set.algebra.union_of.Goals as goal
+
+-- the stream gives nothing but such runs
+pub returns : goal.returns
+returns g c = record {
+  runs = IfOk-weaker c.from_sorted_disjoint.result _ _ c.union.ensures.gives
+      c.from_sorted_disjoint.ensures.runs;
+}

@@ -1,0 +1,138 @@
+//! Sets made of one set or two.
+
+ghost use Rattle.std.specs.Prelude.{◌≡◌, IfOk};
+ghost use Rattle.rsb_integer.specs.Runs.{members};
+ghost use Rattle.rsb_integer.specs.Selection.{
+  difference,
+  intersection,
+  symmetric_difference,
+  union,
+};
+ghost use Rattle.rsb_streams.specs.Stream.{runs_by_two};
+ghost use Rattle.range_set_blaze.specs.Algebra.{IsComplementOf};
+ghost use Rattle.range_set_blaze.specs.Set.{IsSetOf};
+
+use crate::set::RangeSetBlaze;
+use rsb_integer::Integer;
+use rsb_streams::DrawDisjoint;
+use std::alloc::{AllocError, Allocator};
+
+impl<T: Integer, A: Allocator + Copy> RangeSetBlaze<T, A> {
+    /// A copy of the set. Without memory nothing is made. (`Clone` of `RangeSetBlaze`.)
+    pub fn clone(&self) -> Result<Self, AllocError>
+        ensures same { IfOk result (λ set. set ≡ self.now) }
+    {
+        Self::from_sorted_disjoint(self.alloc, self.ranges())
+    }
+
+    /// What lies in either of two sets, by one pass over both. Without memory nothing is made.
+    /// (`BitOr` of `RangeSetBlaze`.)
+    pub fn bitor<B: Allocator>(&self, other: &RangeSetBlaze<T, B>) -> Result<Self, AllocError>
+        ensures members { IfOk result (λ set.
+            IsSetOf set (union (members self.now) (members other.now))) }
+    {
+        union_of(self.alloc, self.ranges(), other.ranges())
+    }
+
+    /// What two sets both have, by one pass over both. Without memory nothing is made.
+    /// (`BitAnd` of `RangeSetBlaze`.)
+    pub fn bitand<B: Allocator>(&self, other: &RangeSetBlaze<T, B>) -> Result<Self, AllocError>
+        ensures members { IfOk result (λ set.
+            IsSetOf set (intersection (members self.now) (members other.now))) }
+    {
+        intersection_of(self.alloc, self.ranges(), other.ranges())
+    }
+
+    /// What this set has and the other lacks, by one pass over both. Without memory nothing is
+    /// made. (`Sub` of `RangeSetBlaze`.)
+    pub fn sub<B: Allocator>(&self, other: &RangeSetBlaze<T, B>) -> Result<Self, AllocError>
+        ensures members { IfOk result (λ set.
+            IsSetOf set (difference (members self.now) (members other.now))) }
+    {
+        difference_of(self.alloc, self.ranges(), other.ranges())
+    }
+
+    /// What lies in one of two sets alone, by one pass over both. Without memory nothing is made.
+    /// (`BitXor` of `RangeSetBlaze`.)
+    pub fn bitxor<B: Allocator>(&self, other: &RangeSetBlaze<T, B>) -> Result<Self, AllocError>
+        ensures members { IfOk result (λ set.
+            IsSetOf set (symmetric_difference (members self.now) (members other.now))) }
+    {
+        let (left, right) = (self.ranges(), other.ranges());
+        symmetric_difference_of(self.alloc, left, right, self.ranges(), other.ranges())
+    }
+
+    /// The values that the set lacks. Without memory nothing is made. (`Not` of `RangeSetBlaze`.)
+    pub fn not(&self) -> Result<Self, AllocError>
+        ensures members { IfOk result (λ set. IsComplementOf T.value_count set self.now) }
+    {
+        Self::from_sorted_disjoint(self.alloc, self.ranges().complement())
+    }
+}
+
+// The set of what lies in either of two streams.
+fn union_of<T: Integer, A: Allocator + Copy, L: DrawDisjoint<T>, R: DrawDisjoint<T>>(
+    alloc: A,
+    left: L,
+    right: R,
+) -> Result<RangeSetBlaze<T, A>, AllocError>
+    requires left { L.can_draw left }
+    requires right { R.can_draw right }
+    ensures runs { IfOk result (λ set.
+        runs_by_two T.value_count union (L.may_give left) (R.may_give right) set) }
+{
+    RangeSetBlaze::from_sorted_disjoint(alloc, left.union(right))
+}
+
+// The set of what two streams both have.
+fn intersection_of<T: Integer, A: Allocator + Copy, L: DrawDisjoint<T>, R: DrawDisjoint<T>>(
+    alloc: A,
+    left: L,
+    right: R,
+) -> Result<RangeSetBlaze<T, A>, AllocError>
+    requires left { L.can_draw left }
+    requires right { R.can_draw right }
+    ensures runs { IfOk result (λ set.
+        runs_by_two T.value_count intersection (L.may_give left) (R.may_give right) set) }
+{
+    RangeSetBlaze::from_sorted_disjoint(alloc, left.intersection(right))
+}
+
+// The set of what one stream has and the other lacks.
+fn difference_of<T: Integer, A: Allocator + Copy, L: DrawDisjoint<T>, R: DrawDisjoint<T>>(
+    alloc: A,
+    left: L,
+    right: R,
+) -> Result<RangeSetBlaze<T, A>, AllocError>
+    requires left { L.can_draw left }
+    requires right { R.can_draw right }
+    ensures runs { IfOk result (λ set.
+        runs_by_two T.value_count difference (L.may_give left) (R.may_give right) set) }
+{
+    RangeSetBlaze::from_sorted_disjoint(alloc, left.difference(right))
+}
+
+// The set of what lies in one of two streams alone, each of which is given twice. (That sizes fit is
+// not found of a set made of a `SymmetricDifference`, which holds more structs in each other.)
+fn symmetric_difference_of<T: Integer, A: Allocator + Copy, L: DrawDisjoint<T>, R: DrawDisjoint<T>>(
+    alloc: A,
+    left: L,
+    right: R,
+    left_again: L,
+    right_again: R,
+) -> Result<RangeSetBlaze<T, A>, AllocError>
+    requires left { L.can_draw left }
+    requires right { R.can_draw right }
+    requires left_again { L.can_draw left_again }
+    requires right_again { R.can_draw right_again }
+    ensures runs { IfOk result (λ set. runs_by_two T.value_count difference
+        (runs_by_two T.value_count union (L.may_give left) (R.may_give right))
+        (runs_by_two T.value_count intersection (L.may_give left_again) (R.may_give right_again))
+        set) }
+{
+    difference_of(
+        alloc,
+        left.union(right),
+        left_again.intersection(right_again),
+    )
+}

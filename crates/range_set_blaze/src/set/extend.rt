@@ -1,0 +1,164 @@
+//! Additions of many ranges and values.
+
+ghost use Rattle.std.specs.Prelude.{◌≡◌, ◌↔◌, [], IfOk, IsTrue, OnErr, OnOk};
+ghost use Rattle.std.specs.Iterator.{ExtendsWithItems};
+ghost use Rattle.rsb_integer.specs.Rank.{interval_of, intervals_of};
+ghost use Rattle.rsb_integer.specs.Runs.{covers, members, IsNonEmpty};
+ghost use Rattle.rsb_streams.specs.Items.{GaveAll, IsEnding};
+ghost use Rattle.range_set_blaze.specs.Algebra.{ranks_of, AddsFrontOf, AddsItems, AddsValues};
+ghost use Rattle.range_set_blaze.specs.Set.{Adds, IsSetOf};
+
+use crate::set::RangeSetBlaze;
+use crate::set::run::known;
+use rsb_integer::Integer;
+use std::alloc::{AllocError, Allocator};
+use std::ops::RangeInclusive;
+
+impl<T: Integer, A: Allocator + Clone> RangeSetBlaze<T, A> {
+    /// Adds the values of ranges in any order; an empty one adds nothing. Without memory those of
+    /// the ranges that came before stay added. (`Extend<RangeInclusive>` of `RangeSetBlaze`.)
+    pub fn extend<J: IntoIterator<Item = RangeInclusive<T>>>(
+        &mut self,
+        ranges: J,
+    ) -> Result<(), AllocError>
+        requires ready { IsEnding J.into_iter_gives J.IntoIter.can_next J.IntoIter.remaining ranges }
+        ensures members { ExtendsWithItems J.into_iter_gives J.IntoIter.next_gives
+            (AddsItems T.rank) ranges self.old self.new result }
+    {
+        for range in ranges {
+            self.add_range(range)?;
+        }
+        Ok(())
+    }
+
+    /// Adds values in any order. Without memory those that came before stay added.
+    /// (`Extend<T>` of `RangeSetBlaze`.)
+    pub fn extend_values<J: IntoIterator<Item = T>>(&mut self, values: J) -> Result<(), AllocError>
+        requires ready { IsEnding J.into_iter_gives J.IntoIter.can_next J.IntoIter.remaining values }
+        ensures members { ExtendsWithItems J.into_iter_gives J.IntoIter.next_gives
+            (AddsValues T.rank) values self.old self.new result }
+    {
+        for value in values {
+            self.insert(value)?;
+        }
+        Ok(())
+    }
+
+    // Adds the values of a range. Without memory the set is as it was.
+    fn add_range(&mut self, range: RangeInclusive<T>) -> Result<(), AllocError>
+        ensures members { OnOk result
+            (Adds self.old self.new (λ rank. covers rank (interval_of T.rank range))) }
+        ensures err { OnErr result (self.new ≡ self.old) }
+    {
+        if has_members(&range) {
+            self.ranges_insert(range)?;
+        }
+        Ok(())
+    }
+}
+
+impl<T: Integer, A: Allocator + Copy> RangeSetBlaze<T, A> {
+    /// The set of ranges in any order, of which some may be empty. Without memory nothing is made.
+    /// (`FromIterator<RangeInclusive<T>>` of `RangeSetBlaze`.)
+    pub fn from_iter<J: IntoIterator<Item = RangeInclusive<T>>>(
+        alloc: A,
+        ranges: J,
+    ) -> Result<Self, AllocError>
+        requires ready { IsEnding J.into_iter_gives J.IntoIter.can_next J.IntoIter.remaining ranges }
+        ensures members { IfOk result (λ set.
+            GaveAll J.into_iter_gives J.IntoIter.next_gives ranges
+            (λ items. IsSetOf set (members (intervals_of T.rank items)))) }
+    {
+        let mut set = Self::new(alloc);
+        set.extend(ranges)?;
+        Ok(set)
+    }
+
+    /// The set of values in any order. Without memory nothing is made. (`FromIterator<T>` of
+    /// `RangeSetBlaze`.)
+    pub fn from_iter_values<J: IntoIterator<Item = T>>(
+        alloc: A,
+        values: J,
+    ) -> Result<Self, AllocError>
+        requires ready { IsEnding J.into_iter_gives J.IntoIter.can_next J.IntoIter.remaining values }
+        ensures members { IfOk result (λ set.
+            GaveAll J.into_iter_gives J.IntoIter.next_gives values
+            (λ items. IsSetOf set (ranks_of T.rank items))) }
+    {
+        let mut set = Self::new(alloc);
+        set.extend_values(values)?;
+        Ok(set)
+    }
+
+    /// The set of the values of an array, in any order, which are moved into a list first. Without
+    /// memory nothing is made. (`From<[T; N]>` of `RangeSetBlaze`.)
+    pub fn from_array<const N: usize>(alloc: A, values: [T; N]) -> Result<Self, AllocError>
+        ensures members { IfOk result (λ set. IsSetOf set (ranks_of T.rank values)) }
+    {
+        Self::from_iter_values(alloc, Vec::from_array(alloc, values)?)
+    }
+
+    /// Adds the members of another set: one run after the other where these are few, else by one
+    /// pass over both sets. Without memory a front of the other's runs is added.
+    /// (`BitOrAssign` of `RangeSetBlaze`.)
+    pub fn bitor_assign<B: Allocator>(
+        &mut self,
+        other: &RangeSetBlaze<T, B>,
+    ) -> Result<(), AllocError>
+        ensures members { OnOk result (Adds self.old self.new (members other.now)) }
+        ensures err { OnErr result (AddsFrontOf self.old self.new other.now) }
+    {
+        if is_few(other.ranges_len(), self.ranges_len()) {
+            return self.extend(other.ranges());
+        }
+        *self = self.bitor(other)?;
+        Ok(())
+    }
+
+    /// Adds the members of another set, which goes on as this one where it has more runs. Without
+    /// memory a front of the other's runs is added, and the other is gone.
+    /// (`BitOrAssign` of `RangeSetBlaze`, of a set by value.)
+    pub fn bitor_assign_owned(&mut self, other: Self) -> Result<(), AllocError>
+        ensures members { OnOk result (Adds self.old self.new (members other)) }
+        ensures err { OnErr result (AddsFrontOf self.old self.new other) }
+    {
+        if other.ranges_len() <= self.ranges_len() {
+            return self.bitor_assign(&other);
+        }
+        let mut larger = other;
+        larger.bitor_assign(&*self)?;
+        *self = larger;
+        Ok(())
+    }
+
+    /// Adds the members of another set, which is empty then. Without memory a front of the other's
+    /// runs is added, and the other is as it was. (`RangeSetBlaze::append`.)
+    pub fn append(&mut self, other: &mut Self) -> Result<(), AllocError>
+        ensures members { OnOk result (Adds self.old self.new (members other.old)) }
+        ensures emptied { OnOk result (other.new ≡ []) }
+        ensures err { OnErr result (AddsFrontOf self.old self.new other.old) }
+        ensures other { OnErr result (other.new ≡ other.old) }
+    {
+        self.bitor_assign(&*other)?;
+        other.clear();
+        Ok(())
+    }
+}
+
+// Whether a range is non-empty.
+fn has_members<T: Integer>(range: &RangeInclusive<T>) -> bool
+    ensures { IsTrue result ↔ IsNonEmpty (interval_of T.rank range.now) }
+{
+    // Its ends are known for values from here on.
+    known(*range.start());
+    known(*range.end());
+    !range.is_empty()
+}
+
+// Whether to insert some runs one by one among others costs less than one pass over all.
+fn is_few(some: usize, others: usize) -> bool {
+    let Some(depth) = others.checked_ilog2() else {
+        return some == 0;
+    };
+    some.saturating_mul(depth as usize + 1) < others.saturating_add(some)
+}
