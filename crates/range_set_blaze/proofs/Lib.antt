@@ -3,15 +3,19 @@ pub mod AloneLemmas
 pub mod AnswerLemmas
 pub mod BoundsLemmas
 pub mod BulkLemmas
+pub mod ComparedLemmas
 pub mod CutLemmas
 pub mod EndLemmas
 pub mod EntriesLemmas
 pub mod ExtendLemmas
+pub mod HeldLemmas
 pub mod InsertLemmas
 pub mod InsertedLemmas
 pub mod JoinLemmas
 pub mod KeptLemmas
+pub mod LastTurnLemmas
 pub mod LookUpLemmas
+pub mod OrderLemmas
 pub mod PartsLemmas
 pub mod PointLemmas
 pub mod PutOverLemmas
@@ -23,3 +27,4 @@ pub mod SubsetLemmas
 pub mod SwallowLemmas
 pub mod TakeLastLemmas
 pub mod TakeOutLemmas
+pub mod TurnsLemmas

@@ -1,5 +1,7 @@
-//! Laws that callers rely on: functions that do nothing, each with a law for its clause.
+//! Laws that callers rely on: functions that do nothing, each with a law for its clause. Beside them
+//! stands `cmp_counted`, the order of two sets with the turns that it takes.
 
+pub use crate::set::order::cmp_counted;
 pub use rsb_integer::laws::{
     canonical_lists_are_runs, equal_members_equal_lists, offsets_undo_length,
 };

@@ -13,11 +13,13 @@ mod extend;
 mod insert;
 mod lengths;
 mod look_up;
+pub(crate) mod order;
 mod remove;
 mod retain;
 pub(crate) mod run;
 mod subsets;
 mod take_in;
+mod text;
 
 use crate::ranges_iter::RangesIter;
 use num_traits::Zero;

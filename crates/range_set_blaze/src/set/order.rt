@@ -1,0 +1,139 @@
+//! How sets compare.
+
+ghost use Rattle.std.specs.Prelude.{◌≡◌, ℕ, ◌+◌, ◌≤◌, [], ◌∷◌, length, min, refl, MatchOption, Some};
+ghost use Rattle.rsb_integer.specs.Runs.{members, IsCanonicalIn};
+ghost use Rattle.range_set_blaze.specs.Kept.{entry_of, runs_of};
+ghost use Rattle.range_set_blaze.specs.Order.{AreTurns, HasOrder, IsRanking};
+ghost use Rattle.range_set_blaze.specs.OrderLaws.{set_cmp, set_eq, sets_equivalence, sets_partial_equivalence, sets_partial_order, sets_ties, sets_total};
+
+use crate::set::RangeSetBlaze;
+use crate::set::run::Run;
+use rsb_integer::Integer;
+use std::alloc::Allocator;
+use std::cmp::Ordering;
+use std::collections::BTreeMap;
+use std::collections::btree_map::Iter;
+
+/// The ranks of an element type, and no more of it. The methods of `Ord` can't hand on what else
+/// `Integer` says, that values may be sent to other threads.
+pub(crate) trait Ranked: Copy + Ord {
+    // The place of a value, from 0 on.
+    ghost rank: { Self → ℕ };
+
+    // How many values there are.
+    ghost value_count: { ℕ };
+
+    // Values are ordered as their places are.
+    ghost ranking: { IsRanking rank value_count Self.cmp };
+}
+
+impl<T: Integer> Ranked for T {
+    ghost rank = { T.rank };
+
+    ghost value_count = { T.value_count };
+
+    ghost ranking = { record { in_order = T.Integer.in_order; countable = T.Integer.countable } };
+}
+
+/// Two sets are equal where no rank tells them apart.
+impl<T: Integer, A: Allocator> PartialEq for RangeSetBlaze<T, A> {
+    ghost eq = { set_eq T.value_count };
+
+    ghost laws = { sets_partial_equivalence T.value_count };
+
+    fn eq(&self, other: &Self) -> bool {
+        self.cmp(other).is_eq()
+    }
+}
+
+impl<T: Integer, A: Allocator> Eq for RangeSetBlaze<T, A> {
+    ghost laws = { sets_equivalence T.value_count };
+}
+
+impl<T: Integer, A: Allocator> PartialOrd for RangeSetBlaze<T, A> {
+    ghost partial_cmp = { λ left right. Some (set_cmp T.value_count left right) };
+
+    ghost laws = { sets_partial_order T.value_count };
+
+    fn partial_cmp(&self, other: &Self) -> Option<Ordering> {
+        Some(self.cmp(other))
+    }
+}
+
+/// Sets are ordered as the ascending lists of their members are.
+impl<T: Integer, A: Allocator> Ord for RangeSetBlaze<T, A> {
+    ghost cmp = { set_cmp T.value_count };
+
+    ghost total = { sets_total T.value_count };
+
+    ghost matches_partial_cmp = { λ left right. refl };
+
+    ghost matches_eq = { sets_ties T.value_count };
+
+    fn cmp(&self, other: &Self) -> Ordering {
+        compare_runs(&self.map, &other.map).0
+    }
+}
+
+/// The order of two sets, as `cmp` answers it, and how many turns its loop took. A turn looks at
+/// one run of each set, and steps to the next one of each at most once. (Own.)
+pub fn cmp_counted<T: Integer, A: Allocator, B: Allocator>(
+    a: &RangeSetBlaze<T, A>,
+    b: &RangeSetBlaze<T, B>,
+) -> (Ordering, u128)
+    ensures order { HasOrder T.value_count (members a.now) (members b.now) result.0 }
+    ensures turns { AreTurns a.now b.now result.1 }
+    ensures bound { result.1 ≤ min (length a.now) (length b.now) + 1 }
+{
+    compare_runs(&a.map, &b.map)
+}
+
+// The order of the sets of two lists of runs, and the turns that it took.
+fn compare_runs<T: Ranked, A: Allocator, B: Allocator>(
+    left: &BTreeMap<T, T, A>,
+    right: &BTreeMap<T, T, B>,
+) -> (Ordering, u128)
+    requires left { IsCanonicalIn T.value_count (runs_of T.rank left.now.entries) }
+    requires right { IsCanonicalIn T.value_count (runs_of T.rank right.now.entries) }
+    ensures order { HasOrder T.value_count (members (runs_of T.rank left.now.entries))
+        (members (runs_of T.rank right.now.entries)) result.0 }
+    ensures turns { AreTurns (runs_of T.rank left.now.entries)
+        (runs_of T.rank right.now.entries) result.1 }
+{
+    let mut left = left.iter();
+    let mut right = right.iter();
+    let mut first = next_run(&mut left);
+    let mut second = next_run(&mut right);
+    let mut turns = 0;
+    'turns: loop {
+        turns += 1;
+        let (Some(run), Some(other)) = (first, second) else {
+            return (first.is_some().cmp(&second.is_some()), turns);
+        };
+        let starts = run.start.cmp(&other.start);
+        if starts.is_ne() {
+            return (starts, turns);
+        }
+        // The run that ends first is passed, or both where they end alike.
+        match run.end.cmp(&other.end) {
+            Ordering::Less => first = next_run(&mut left),
+            Ordering::Equal => {
+                first = next_run(&mut left);
+                second = next_run(&mut right);
+            }
+            Ordering::Greater => second = next_run(&mut right),
+        }
+    }
+}
+
+// Takes the first run off some entries.
+fn next_run<T: Copy>(entries: &mut Iter<'_, T, T>) -> Option<Run<T>>
+    ensures { MatchOption result (entries.old ≡ [])
+        (λ run. entries.old ≡ entry_of run ∷ entries.new) }
+{
+    let (start, end) = entries.next()?;
+    Some(Run {
+        start: *start,
+        end: *end,
+    })
+}

@@ -1,0 +1,28 @@
+//! How sets are written.
+
+use crate::set::RangeSetBlaze;
+use rsb_integer::Integer;
+use std::alloc::Allocator;
+use std::fmt::{self, Debug, Display, Formatter, Write};
+
+/// Each run is written as `start..=end`, with a comma and a space between two of them.
+impl<T: Integer, A: Allocator> Display for RangeSetBlaze<T, A> {
+    fn fmt<W: Write>(&self, f: &mut Formatter<W>) -> fmt::Result {
+        let mut runs = self.map.iter();
+        let Some((start, end)) = runs.next() else {
+            return Ok(());
+        };
+        write!(f, "{start:?}..={end:?}")?;
+        for (start, end) in runs {
+            write!(f, ", {start:?}..={end:?}")?;
+        }
+        Ok(())
+    }
+}
+
+/// As by `Display`.
+impl<T: Integer, A: Allocator> Debug for RangeSetBlaze<T, A> {
+    fn fmt<W: Write>(&self, f: &mut Formatter<W>) -> fmt::Result {
+        Display::fmt(self, f)
+    }
+}
