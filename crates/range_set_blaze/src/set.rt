@@ -81,7 +81,8 @@ impl<T: Integer, A: Allocator> RangeSetBlaze<T, A> {
 
     /// How many runs there are. (`RangeSetBlaze::ranges_len`.)
     pub fn ranges_len(&self) -> usize
-        ensures { result ≡ length self.now }
+        ensures length { result ≡ length self.now }
+        ensures runs { AreRuns T.value_count (members self.now) self.now }
     {
         self.map.len()
     }

@@ -10,7 +10,7 @@ use Rattle.rsb_run.specs.Commands.{piece, from_to, whichever, HasRuns, IsPieceAr
 
 -- nothing is both
 not_both : (is : Bool) → IsTrue is → IsFalse is → ⊥
-not_both is yes no = absurd cc
+not_both is has lacks = absurd cc
 
 module _ (n : ℕ) (selected : Selection) (rank : ℕ) (run other : Interval)
     (around : IsRunAround n selected rank run) (also : IsRunAround n selected rank other) where

@@ -98,11 +98,21 @@ module _ {T : Type 0} (rank : T → ℕ) (value_count : ℕ) where
     pub around : IsRunAround value_count (whichever present set (complement set)) at
         (from_to first last)
 
+  -- the reply tells the run or the gap that the rank lies in
+  abbrev pub IsPieceReply : Selection → ℕ → Content T → Type 0
+  IsPieceReply set at (piece first last present) = IsPieceAround set at first last present
+  IsPieceReply set at _ = ⊥
+
   -- so many runs has the set
   pub record HasRuns (set : Selection) (many : ℕ) : Type 0 where
     pub all : List Interval
     pub are : AreRuns value_count set all
     pub counted : many ≡ length all
+
+  -- the reply tells how many runs the set has
+  abbrev pub IsRunsReply : Selection → Content T → Type 0
+  IsRunsReply set (runs many) = HasRuns set many
+  IsRunsReply set _ = ⊥
 
   -- the command, given to these sets, replies this
   abbrev pub IsReply : Sets → Command T → Content T → Type 0
@@ -110,19 +120,17 @@ module _ {T : Type 0} (rank : T → ℕ) (value_count : ℕ) where
       IsTrue added ↔ LacksSome (sets slot) (between first last)
   IsReply sets (Del slot value) (flag removed) = removed ≡ sets slot (rank value)
   IsReply sets (Has slot value) (flag found) = found ≡ sets slot (rank value)
-  IsReply sets (Gap slot value) (piece first last present) =
-      IsPieceAround (sets slot) (rank value) first last present
+  IsReply sets (Gap slot value) reply = IsPieceReply (sets slot) (rank value) reply
   IsReply sets (Count slot) (number many) = many ≡ count value_count (sets slot)
   IsReply sets (Show slot) (ranges all) = AreRuns value_count (sets slot) (intervals_of rank all)
-  IsReply sets (Union target left right) (runs many) =
-      HasRuns (union (sets left) (sets right)) many
-  IsReply sets (Intersection target left right) (runs many) =
-      HasRuns (intersection (sets left) (sets right)) many
-  IsReply sets (Difference target left right) (runs many) =
-      HasRuns (difference (sets left) (sets right)) many
-  IsReply sets (SymmetricDifference target left right) (runs many) =
-      HasRuns (symmetric_difference (sets left) (sets right)) many
-  IsReply sets (Complement target source) (runs many) = HasRuns (left_out (sets source)) many
+  IsReply sets (Union target left right) reply = IsRunsReply (union (sets left) (sets right)) reply
+  IsReply sets (Intersection target left right) reply =
+      IsRunsReply (intersection (sets left) (sets right)) reply
+  IsReply sets (Difference target left right) reply =
+      IsRunsReply (difference (sets left) (sets right)) reply
+  IsReply sets (SymmetricDifference target left right) reply =
+      IsRunsReply (symmetric_difference (sets left) (sets right)) reply
+  IsReply sets (Complement target source) reply = IsRunsReply (left_out (sets source)) reply
   IsReply sets (Compare left right) (order is) = HasOrder value_count (sets left) (sets right) is
   IsReply sets _ _ = ⊥
 

@@ -3,7 +3,9 @@
 ghost use Rattle.std.specs.Prelude.{◌≡◌, ◌<◌, ◌⊎◌, [], IfErr, IfOk, IfSome, List, OnErr, OnOk, length, slice_get, slice_index_or, take, vec_len};
 ghost use Rattle.rsb_integer.specs.Rank.{intervals_of};
 ghost use Rattle.rsb_integer.specs.Runs.{AreRuns, members};
-ghost use Rattle.rsb_run.specs.Commands.{AreReplies, Content, IsReply, MayTakeMemory, after, content_of, contents_of, no_members, sets_of};
+ghost use Rattle.rsb_integer.specs.Selection.{Selection};
+ghost use Rattle.range_set_blaze.specs.Set.{IsSetOf};
+ghost use Rattle.rsb_run.specs.Commands.{AreReplies, Content, IsPieceReply, IsReply, IsRunsReply, MayTakeMemory, after, content_of, contents_of, no_members, put, sets_of};
 
 use crate::command::Command;
 use crate::set_no::SetNo;
@@ -169,8 +171,10 @@ fn put_set<T: Integer, A: Allocator>(
 ) -> Reply<T, A>
     requires { vec_len sets.old ≡ 10 }
     ensures ten { vec_len sets.new ≡ 10 }
-    ensures put { sets_of sets.new.items ≡ put (sets_of sets.old.items) slot (members set) }
-    ensures runs { content_of T.SafeLen.number result ≡ runs_content (length set) }
+    ensures put { (selected : Selection) → IsSetOf set selected
+        → sets_of sets.new.items ≡ put (sets_of sets.old.items) slot selected }
+    ensures runs { (selected : Selection) → IsSetOf set selected
+        → IsRunsReply T.rank T.value_count selected (content_of T.SafeLen.number result) }
 {
     let runs = set.ranges_len();
     sets[slot.index()] = set;
@@ -179,7 +183,7 @@ fn put_set<T: Integer, A: Allocator>(
 
 // The run or the gap that a value lies in.
 fn piece_at<T: Integer, A: Allocator>(set: &RangeSetBlaze<T, A>, value: T) -> Reply<T, A>
-    ensures { IsPieceAround T.rank T.value_count (members set.now) (T.rank value)
+    ensures { IsPieceReply T.rank T.value_count (members set.now) (T.rank value)
         (content_of T.SafeLen.number result) }
 {
     let (range, present) = set.range_or_gap_at(value);
