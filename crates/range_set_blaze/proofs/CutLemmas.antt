@@ -38,13 +38,13 @@ module _ {T : Type 0} (rank : T → ℕ) (n : ℕ) (entries : List (T × T))
       ∙ append_assoc found.front (entry_of run ∷ []) after
 
   -- all runs
-  cut-runs : runs_of rank entries
+  pub cut-runs : runs_of rank entries
       ≡ runs_of rank found.front ++ run_of rank run ∷ runs_of rank after
   cut-runs =
       ap (runs_of rank) cut-parts ∙ map-append (entry_run rank) found.front (entry_of run ∷ after)
 
   -- they are canonical in these parts
-  cut-canonical : IsCanonicalIn n
+  pub cut-canonical : IsCanonicalIn n
       (runs_of rank found.front ++ run_of rank run ∷ runs_of rank after)
   cut-canonical = subst (IsCanonicalIn n) cut-runs canonical
 
@@ -133,42 +133,63 @@ module _ {T : Type 0} (rank : T → ℕ) (n : ℕ) (entries : List (T × T))
 
   module _ (cmp : T → T → Ordering)
       (in_order : (x y : T) → rank x < n → rank y < n → cmp x y ≡ nat_cmp (rank x) (rank y)) where
+    module _ (more : point < rank run.end) (next : T) (is : rank next ≡ point + 1) where
+      -- all entries, with the run at the end of the first part
+      put-all : IsAscendingFrom rank n 0 ((found.front ++ entry_of run ∷ []) ++ after)
+      put-all =
+          subst (IsAscendingFrom rank n 0)
+          (cut-parts ∙ sym (append_assoc found.front (entry_of run ∷ []) after))
+          (kept-ascending rank n entries canonical)
+
+      -- the run and those before it start below the next value
+      pub put-earlier : All (λ (entry : T × T). rank entry.0 < rank next)
+          (found.front ++ entry_of run ∷ [])
+      put-earlier =
+          subst (All (λ (entry : T × T). rank entry.0 < rank next)) found.parts
+          (All-weaker (λ (entry : T × T). rank entry.0 ≤ point)
+          (λ (entry : T × T). rank entry.0 < rank next) (λ entry up_to. omega (arith, is))
+          (up_to rank point entries) (up_to-starts rank n point entries))
+
+      -- and those after it start past it
+      pub put-later : All (λ (entry : T × T). rank next < rank entry.0) after
+      put-later =
+          let ordered = cut-order in
+          ascending-past rank n (rank run.end + 2) (rank next) after
+          (canonical-entries rank n (rank run.end + 2) after ordered.2
+          (ends-rest n (run_of rank run ∷ []) (runs_of rank after)
+          (ends-rest n (runs_of rank found.front) (run_of rank run ∷ runs_of rank after)
+          cut-canonical.1)))
+          (omega (arith, is))
+
+      -- a new entry for the next value stands between them
+      pub put-after : insert_entry cmp entries next run.end
+          ≡ (found.front ++ entry_of run ∷ []) ++ (next, run.end) ∷ after
+      put-after =
+          let last = cut-order.1 in
+          ap (λ (each : List (T × T)). insert_entry cmp each next run.end)
+          (cut-parts ∙ sym (append_assoc found.front (entry_of run ∷ []) after))
+          ∙ insert_entry-between cmp rank n in_order 0 (found.front ++ entry_of run ∷ []) after next
+          run.end (omega (arith, is, last)) put-all put-earlier put-later
+
+      -- and they ascend with it
+      pub put-ascending : IsAscendingFrom rank n 0
+          ((found.front ++ entry_of run ∷ []) ++ (next, run.end) ∷ after)
+      put-ascending =
+          let last = cut-order.1 in
+          ascending-with rank n 0 (found.front ++ entry_of run ∷ []) (next, run.end) after put-all
+          (omega arith) (omega (arith, is, last)) put-earlier put-later
+
     -- where it goes on, a new entry has it
     pub split-some : point < rank run.end → (next : T) → rank next ≡ point + 1
         → (mid : List (T × T)) → mid ≡ insert_entry cmp entries next run.end → IsSplit mid
     split-some more next is mid put =
-        let starts = cut-starts in
-        let ordered = cut-order in
-        let last = ordered.1 in
-        let all : IsAscendingFrom rank n 0 ((found.front ++ entry_of run ∷ []) ++ after) =
-        subst (IsAscendingFrom rank n 0)
-        (cut-parts ∙ sym (append_assoc found.front (entry_of run ∷ []) after))
-        (kept-ascending rank n entries canonical) in
-        let earlier : All (λ (entry : T × T). rank entry.0 < rank next)
-        (found.front ++ entry_of run ∷ []) =
-        subst (All (λ (entry : T × T). rank entry.0 < rank next)) found.parts
-        (All-weaker (λ (entry : T × T). rank entry.0 ≤ point)
-        (λ (entry : T × T). rank entry.0 < rank next) (λ entry up_to. omega (arith, is))
-        (up_to rank point entries) (up_to-starts rank n point entries)) in
-        let rest_below = ends-rest n (run_of rank run ∷ []) (runs_of rank after)
-        (ends-rest n (runs_of rank found.front) (run_of rank run ∷ runs_of rank after)
-        cut-canonical.1) in
-        let later : All (λ (entry : T × T). rank next < rank entry.0) after =
-        ascending-past rank n (rank run.end + 2) (rank next) after
-        (canonical-entries rank n (rank run.end + 2) after ordered.2 rest_below)
-        (omega (arith, is)) in
-        let same : mid ≡ (found.front ++ entry_of run ∷ []) ++ (next, run.end) ∷ after =
-        put ∙ ap (λ (each : List (T × T)). insert_entry cmp each next run.end)
-        (cut-parts ∙ sym (append_assoc found.front (entry_of run ∷ []) after))
-        ∙ insert_entry-between cmp rank n in_order 0 (found.front ++ entry_of run ∷ []) after next
-        run.end (omega (arith, is, last)) all earlier later in
+        let last = cut-order.1 in
+        let same = put ∙ put-after more next is in
         let one = sum_by-cons length_of (entry_run rank (next, run.end)) [] in
         record {
           above = (next, run.end) ∷ [];
           parts = same ∙ append_assoc found.front (entry_of run ∷ []) ((next, run.end) ∷ after);
-          ascending = subst (IsAscendingFrom rank n 0) (sym same)
-              (ascending-with rank n 0 (found.front ++ entry_of run ∷ []) (next, run.end) after all
-              (omega arith) (omega (arith, is, last)) earlier later);
+          ascending = subst (IsAscendingFrom rank n 0) (sym same) (put-ascending more next is);
           rest = (omega (arith, is), omega (arith, is), tt);
           ends = omega arith;
           below = All-cons (λ (each : Interval). each.last < n) (entry_run rank (next, run.end)) []

@@ -1,7 +1,6 @@
 -- The order of two sets by the runs that they have.
-use Rattle.std.proofs.Common.{◌≡◌, ◌⊎◌, ℕ, Bool, true, false, ◌||◌, ◌+◌, ◌<◌, ◌≤◌, List, [], ◌∷◌, ◌++◌, refl, sym, ◌∙◌, ap, subst, inl, inr, arith}
+use Rattle.std.proofs.Common.{◌≡◌, ℕ, true, false, ◌||◌, ◌+◌, ◌<◌, ◌≤◌, List, [], ◌∷◌, ◌++◌, refl, sym, ◌∙◌, ap, subst, inl, inr, arith}
 use Rattle.std.proofs.lemmas.Bool.{cases_lt}
-use Rattle.std.specs.Prelude.{IsTrue}
 use Rattle.std.specs.declared.cmp.Ordering.{Ordering}
 use Rattle.std.specs.declared.cmp.Ordering.TheVariants.{Less, Equal, Greater}
 use Rattle.rsb_integer.specs.Runs.{Interval, members, IsCanonicalFrom}
@@ -9,7 +8,7 @@ use Rattle.rsb_integer.specs.Selection.{Selection, Agree}
 use Rattle.rsb_integer.proofs.CanonicalLemmas.{next_start}
 use Rattle.rsb_integer.proofs.ListLemmas.{not_both}
 use Rattle.rsb_integer.proofs.MembersLemmas.{members-append, members-below, members-head, members-tail}
-use Rattle.range_set_blaze.specs.Order.{DiffersAt, HasLater, ComesFirst, EndsFirst, IsLess, HasOrder}
+use Rattle.range_set_blaze.specs.Order.{DiffersAt, HasLater, IsLess, HasOrder}
 use Rattle.range_set_blaze.specs.OrderLaws.{less-not}
 use Rattle.range_set_blaze.proofs.InsertLemmas.{members-front}
 

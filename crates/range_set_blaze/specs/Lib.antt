@@ -1,6 +1,9 @@
 pub mod Algebra
+pub mod BothEnds
 pub mod Kept
 pub mod Order
 pub mod OrderLaws
 pub mod Places
+pub mod Retain
 pub mod Set
+pub mod Split

@@ -1,16 +1,16 @@
 -- Why the comparisons of sets keep their laws: a law cites no `proofs/`.
-use Rattle.std.specs.Prelude.{◌≡◌, ◌⊎◌, ℕ, zero, suc, Bool, true, false, cond, ◌+◌, ◌<◌, ◌≤◌, List, [], ◌∷◌, ◌++◌, Some}
-use Rattle.std.specs.Cmp.{IsEquivalence, IsPartialEquivalence, IsPartialOrder, IsTotalOrder, both_ways, eq_by_cmp_equiv, on_equiv, on_total, partial_equiv_from_equiv, po}
+use Rattle.std.specs.Prelude.{◌≡◌, ◌⊎◌, ℕ, zero, suc, Bool, true, false, cond, ◌+◌, ◌<◌, List, [], ◌∷◌, Some}
+use Rattle.std.specs.Cmp.{IsEquivalence, IsPartialEquivalence, IsPartialOrder, IsTotalOrder, both_ways, eq_by_cmp_equiv, on_total, partial_equiv_from_equiv, po}
 use Rattle.std.specs.Cmp.Lexicographic.{slice_cmp, nat_list_cmp_total}
-use Rattle.std.specs.Ordering.{is_eq, nat_cmp, eq_by_cmp, on}
+use Rattle.std.specs.Ordering.{is_eq, nat_cmp, eq_by_cmp}
 use Rattle.std.specs.declared.cmp.Ordering.{Ordering}
 use Rattle.std.specs.declared.cmp.Ordering.TheVariants.{Less, Equal, Greater}
-use Rattle.std.proofs.Common.{refl, sym, ap, ◌∙◌, subst, inl, inr, arith}
+use Rattle.std.proofs.Common.{refl, sym, ◌∙◌, subst, inl, inr, arith}
 use Rattle.std.proofs.lemmas.Bool.{cases_lt}
 use Rattle.std.proofs.lemmas.Bool.Decides.{nat_tests}
 use Rattle.rsb_integer.specs.Runs.{Interval, members}
 use Rattle.rsb_integer.specs.Selection.{Selection, Agree, exclusive_or}
-use Rattle.range_set_blaze.specs.Order.{same, elements_from, order, DiffersAt, HasLater, ComesFirst, EndsFirst, IsLess, HasOrder}
+use Rattle.range_set_blaze.specs.Order.{same, elements_from, order, DiffersAt, HasLater, IsLess, HasOrder}
 
 -- ---- tests
 
@@ -96,12 +96,15 @@ later-elements n low zero rank selected all past none = λ later.
     let within = later.in_type in
     not_both (selected later.later) later.here (none later.later beyond (omega arith))
 later-elements n low (suc more) rank selected all past none = elim (true_or_false (selected low)) [
-  | inl here ↦ rw here (past, record {
+  | inl here ↦ rw here (
+    past,
+    record {
       later = low;
       past = past;
       in_type = omega arith;
       here = here;
-    })
+    },
+  )
   | inr lacks ↦ rw lacks (later-elements n (suc low) more rank selected (omega arith) (omega arith)
       (λ other beyond within. elim (cases_lt other low) [
         | inl less ↦ none other beyond less

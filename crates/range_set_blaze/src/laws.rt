@@ -3,5 +3,6 @@
 
 pub use crate::set::order::cmp_counted;
 pub use rsb_integer::laws::{
-    canonical_lists_are_runs, equal_members_equal_lists, offsets_undo_length,
+    canonical_lists_are_runs, complement_twice, de_morgan, difference_by_complement,
+    equal_members_equal_lists, offsets_undo_length, symmetric_by_union,
 };

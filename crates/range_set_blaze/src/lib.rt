@@ -1,8 +1,10 @@
 //! Sets of integers, kept as their maximal runs.
 #![tactic(auto)]
 
+pub mod into_iter;
 pub mod into_range_set_blaze;
 pub mod into_ranges_iter;
+pub mod iter;
 pub mod laws;
 mod operators;
 pub mod prelude;
@@ -11,7 +13,8 @@ pub mod set;
 
 pub use crate::prelude::{
     AnythingGoes, AssumeSortedStarts, CheckSortedDisjoint, Difference, Draw, DrawDisjoint,
-    FillGapsIter, Integer, Intersection, IntoRangeSetBlaze, IntoRangesIter, Merge, NotIter,
-    NotSortedDisjoint, RangeOnce, RangeSetBlaze, RangesIter, SafeLength, SortedDisjoint,
-    SortedStarts, SymDiffIter, SymmetricDifference, UInt, UIntPlusOne, Union, UnionIter,
+    FillGapsIter, Integer, Intersection, IntoIter, IntoRangeSetBlaze, IntoRangesIter, Iter, Merge,
+    NotIter, NotSortedDisjoint, RangeOnce, RangeSetBlaze, RangesIter, SafeLength, SortedDisjoint,
+    SortedStarts, SortedStartsInVec, SymDiffIter, SymmetricDifference, UInt, UIntPlusOne, Union,
+    UnionIter,
 };

@@ -8,15 +8,18 @@ ghost use Rattle.range_set_blaze.specs.Set.{IsGreatest, IsLeast};
 
 mod algebra;
 mod bulk;
+mod elements;
 mod entries;
 mod extend;
 mod insert;
+mod keep;
 mod lengths;
 mod look_up;
 pub(crate) mod order;
 mod remove;
 mod retain;
 pub(crate) mod run;
+mod split;
 mod subsets;
 mod take_in;
 mod text;

@@ -4,7 +4,7 @@ ghost use Rattle.std.specs.Prelude.{◌≡◌, ◌↔◌, ℕ, ◌+◌, ◌<◌,
 ghost use Rattle.std.specs.declared.ops.RangeInclusive.{RangeInclusive};
 ghost use Rattle.rsb_integer.specs.Rank.{intervals_of};
 ghost use Rattle.rsb_integer.specs.Runs.{Interval, length_of, members, AllEndBelow, AreRuns, IsCanonical, IsCanonicalIn};
-ghost use Rattle.rsb_integer.specs.Selection.{Agree};
+ghost use Rattle.rsb_integer.specs.Selection.{Agree, Selection, complement, difference, intersection, symmetric_difference, union};
 
 use crate::integer::Integer;
 
@@ -37,4 +37,33 @@ pub fn offsets_undo_length<T: Integer>()
         → T.rank start ≤ T.rank end → T.rank end < T.value_count
         → length ≡ length_of (record { first = T.rank start; last = T.rank end })
         → T.rank found + length ≡ T.rank end + 1 → found ≡ start }
+{}
+
+/// What the complement leaves out is the set again. (Own.)
+pub fn complement_twice<T: Integer>()
+    ensures { (selected : Selection) (rank : ℕ)
+        → complement (complement selected) rank ≡ selected rank }
+{}
+
+/// What a union leaves out is what both leave out, and what an intersection leaves out is what one
+/// of the two leaves out. (Own.)
+pub fn de_morgan<T: Integer>()
+    ensures union { (left right : Selection) (rank : ℕ) → complement (union left right) rank
+        ≡ intersection (complement left) (complement right) rank }
+    ensures intersection { (left right : Selection) (rank : ℕ)
+        → complement (intersection left right) rank
+        ≡ union (complement left) (complement right) rank }
+{}
+
+/// What the left set has and the right one lacks is what the left set and the complement of the
+/// right one both have. (Own.)
+pub fn difference_by_complement<T: Integer>()
+    ensures { (left right : Selection) (rank : ℕ)
+        → difference left right rank ≡ intersection left (complement right) rank }
+{}
+
+/// What one of two sets alone has is what one of them has, less what both have. (Own.)
+pub fn symmetric_by_union<T: Integer>()
+    ensures { (left right : Selection) (rank : ℕ) → symmetric_difference left right rank
+        ≡ difference (union left right) (intersection left right) rank }
 {}

@@ -9,7 +9,7 @@ use Rattle.rsb_integer.proofs.CanonicalLemmas.{canonical-front}
 use Rattle.rsb_streams.specs.Calls.{Call, IsSource, calls-steps}
 use Rattle.rsb_streams.specs.Outcomes.{settled_canonical_in, settled_sorted}
 use Rattle.rsb_streams.specs.Stream.{◌⊆◌, HasSortedStarts, HasSortedStartsFrom}
-use Rattle.rsb_streams.proofs.Sources.{Source, IsLawful}
+use Rattle.rsb_streams.proofs.Sources.{Source, IsLawfulNext}
 
 -- a front of a list by starts is such a list
 pub sorted-front : (n low : ℕ) (runs others : List Interval)
@@ -20,7 +20,7 @@ sorted-front n low (run ∷ runs) others sorted =
     (sorted.0, sorted.1, sorted.2, sorted-front n run.first runs others sorted.3)
 
 module _ {S T : Type 0} (rank : T → ℕ) (n : ℕ) (source : Source S T)
-    (laws : IsLawful rank n source) where
+    (laws : IsLawfulNext rank n source) where
   -- what the contract of `next` says of a call of the stream
   abbrev CallOf : S → Option (RangeInclusive T) → S → Type 0
   CallOf = Call rank source.can_next source.steps source.remaining
@@ -31,7 +31,7 @@ module _ {S T : Type 0} (rank : T → ℕ) (n : ℕ) (source : Source S T)
       → source.may_give s (intervals_of rank ranges ++ rest)
   given-before [] s t rest all may = subst (λ each. source.may_give each rest) (sym all) may
   given-before (range ∷ ranges) s t rest all may =
-      laws.answers s all.0 (Some range) all.1 (intervals_of rank ranges ++ rest)
+      laws.answers s all.0 range all.1 (intervals_of rank ranges ++ rest)
       (given-before ranges all.0 t rest all.2 may)
 
   -- after calls that gave ranges the stream may be called

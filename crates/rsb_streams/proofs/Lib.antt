@@ -1,6 +1,8 @@
+pub mod ApartLemmas
 pub mod ArraySources
 pub mod CallerLemmas
 pub mod CheckLemmas
+pub mod CollectLemmas
 pub mod Compare
 pub mod EqualTurns
 pub mod FillLemmas
@@ -17,6 +19,9 @@ pub mod OddLemmas
 pub mod OddStates
 pub mod OddTurns
 pub mod OperationLemmas
+pub mod PieceLemmas
+pub mod SortLemmas
+pub mod SpanLemmas
 pub mod SourceLemmas
 pub mod Sources
 pub mod SymDiffLemmas
@@ -24,4 +29,6 @@ pub mod TestLemmas
 pub mod TryNewLemmas
 pub mod UnionLemmas
 pub mod UnionTurns
+pub mod UnsortedCalls
+pub mod UnsortedTurns
 pub mod VecSources

@@ -56,20 +56,27 @@ pub range-end : {T : Type 0} (rank : T → ℕ) (range : RangeInclusive T)
     → (interval_of rank range).last ≡ rank (range_inclusive_end range)
 range-end rank range ordered = ap (λ run. run.last) (interval_of-some rank range ordered)
 
+-- the laws of a stream by its `next`: what it answers before its end
+pub record IsLawfulNext {S T : Type 0} (rank : T → ℕ) (n : ℕ) (source : Source S T) : Type 0 where
+  pub answers : (s t : S) (range : RangeInclusive T) → source.steps s (Some range) t
+      → Answers rank source.may_give s (Some range) t
+  pub sorted : (s : S) → source.can_next s
+      → Keeps (HasSortedStarts n) (source.may_give s) (source.remaining s)
+
 -- a stream keeps by its `next` the laws that it keeps by its `draw`
 pub drawn-lawful : {S T : Type 0} (rank : T → ℕ) (n : ℕ) (source : Source S T)
     (can_next : S → Type 0) (next_gives : S → Option (RangeInclusive T) → S → Type 0)
     (remaining : S → Count)
     → IsDrawn source.can_next source.steps source.remaining can_next next_gives remaining
     → IsLawful rank n source
-    → IsLawful rank n (record {
+    → IsLawfulNext rank n (record {
       can_next = can_next;
       steps = next_gives;
       remaining = remaining;
       may_give = source.may_give;
     })
 drawn-lawful rank n source can_next next_gives remaining drawn laws = record {
-  answers = λ s t item call. laws.answers s t item (drawn.calls s t item call);
+  answers = λ s t range call. laws.answers s t (Some range) (drawn.gives s t range call);
   sorted = λ s can. subst (Keeps (HasSortedStarts n) (source.may_give s)) (sym (drawn.counts s))
       (laws.sorted s (drawn.drawable s can));
 }

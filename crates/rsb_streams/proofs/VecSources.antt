@@ -1,5 +1,5 @@
 -- What a `Vec` becomes by `into_iter`, as a source of a stream.
-use Rattle.std.proofs.Common.{◌≡◌, ℕ, ◌+◌, List, [], ◌∷◌, length, refl, sym, ap, ◌∙◌, subst, arith}
+use Rattle.std.proofs.Common.{◌≡◌, ℕ, ◌+◌, List, [], ◌∷◌, ◌++◌, length, refl, sym, ap, ◌∙◌, subst, arith}
 use Rattle.std.proofs.lemmas.List.{map-append, nil_from_length}
 use Rattle.std.specs.Prelude.{Some, None}
 use Rattle.std.specs.Iterator.{Count, at_most}
@@ -8,10 +8,11 @@ use Rattle.std.specs.declared.ops.RangeInclusive.{RangeInclusive}
 use Rattle.std.specs.declared.vec.IntoIter.{IntoIter}
 use Rattle.std.specs.VecDeque.Ownership.{in_place}
 use Rattle.rsb_integer.specs.Rank.{interval_of, intervals_of}
-use Rattle.rsb_integer.specs.Runs.{IsCanonicalIn}
+use Rattle.rsb_integer.specs.Runs.{Interval, IsCanonicalIn}
 use Rattle.rsb_integer.proofs.CanonicalLemmas.{canonical-front}
 use Rattle.rsb_streams.specs.Calls.{Call, IsSource, calls_give, calls-steps}
-use Rattle.rsb_streams.specs.Stream.{◌⊆◌, just}
+use Rattle.rsb_streams.specs.Stream.{◌⊆◌, just, HasSortedStarts}
+use Rattle.rsb_streams.proofs.LawfulSources.{sorted-front}
 use Rattle.rsb_streams.proofs.ListedSources.{listed-calls, listed-yields}
 
 -- what a `Vec` of ranges becomes
@@ -77,10 +78,12 @@ module _ {T Z : Type 0} (rank : T → ℕ) (n : ℕ) where
       listed-calls rank can (into_iter_steps {X = RangeInclusive T} {Z = Z}) left into_iter_items
       (λ s t range call. call.0) ended (λ s. tt) more s tt
 
-  -- and it is a source where they are canonical
-  pub vec-source : (s : Items T Z) → IsCanonicalIn n (intervals_of rank (into_iter_items s))
-      → IsSource rank can (into_iter_steps {X = RangeInclusive T} {Z = Z}) left (IsCanonicalIn n) s
-  vec-source s canonical = record {
+  -- and it is a source where they keep a law that fronts keep
+  vec-source_of : (law : List Interval → Type 0)
+      → ((runs others : List Interval) → law (runs ++ others) → law runs)
+      → (s : Items T Z) → law (intervals_of rank (into_iter_items s))
+      → IsSource rank can (into_iter_steps {X = RangeInclusive T} {Z = Z}) left law s
+  vec-source_of law front s lawful = record {
     callable = tt;
     finite = tt;
     fronts = λ ranges t all.
@@ -89,7 +92,17 @@ module _ {T Z : Type 0} (rank : T → ℕ) (n : ℕ) where
         (λ s t range call. call.0) ended ranges s t
         (calls-steps rank can (into_iter_steps {X = RangeInclusive T} {Z = Z}) left ranges s t
         all) in
-        canonical-front n (intervals_of rank ranges) (intervals_of rank (into_iter_items t))
-        (subst (IsCanonicalIn n) (ap (intervals_of rank) whole
-        ∙ map-append (interval_of rank) ranges (into_iter_items t)) canonical);
+        front (intervals_of rank ranges) (intervals_of rank (into_iter_items t))
+        (subst law (ap (intervals_of rank) whole
+        ∙ map-append (interval_of rank) ranges (into_iter_items t)) lawful);
   }
+
+  -- so where they are canonical
+  pub vec-source : (s : Items T Z) → IsCanonicalIn n (intervals_of rank (into_iter_items s))
+      → IsSource rank can (into_iter_steps {X = RangeInclusive T} {Z = Z}) left (IsCanonicalIn n) s
+  vec-source = vec-source_of (IsCanonicalIn n) (canonical-front n)
+
+  -- and where their starts do not fall
+  pub vec-sorted : (s : Items T Z) → HasSortedStarts n (intervals_of rank (into_iter_items s))
+      → IsSource rank can (into_iter_steps {X = RangeInclusive T} {Z = Z}) left (HasSortedStarts n) s
+  vec-sorted = vec-source_of (HasSortedStarts n) (sorted-front n 0)

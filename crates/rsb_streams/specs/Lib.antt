@@ -1,3 +1,6 @@
+pub mod AdapterCalls
+pub mod AdapterLaws
+pub mod Adapters
 pub mod Ascending
 pub mod AssumeSortedStarts
 pub mod Calls
@@ -15,7 +18,10 @@ pub mod NotSortedDisjoint
 pub mod OddPieces
 pub mod Outcomes
 pub mod PutBack
+pub mod SortedStartsInVec
 pub mod Stream
+pub mod Sublists
 pub mod SymDiffIter
 pub mod Union
 pub mod UnionIter
+pub mod UnsortedDisjoint

@@ -152,14 +152,18 @@ pub record IsReadyAnd {S : Type 0} (can_next : S → Type 0) (s : S) (Gives : Ty
 
 -- ---- `next` and `draw`
 
--- `next` may be called exactly where `draw` may, does what it does, and counts as many to come
+-- `next` may be called exactly where `draw` may, does what it does, and counts as many to come. (At
+-- the end that is said of calls that may be made alone: a closure in a stream can end it where
+-- nothing else is known.)
 pub record IsDrawn {S T : Type 0} (can_draw : S → Type 0)
     (draw_gives : S → Option (RangeInclusive T) → S → Type 0) (draws_left : S → Count)
     (can_next : S → Type 0) (next_gives : S → Option (RangeInclusive T) → S → Type 0)
     (remaining : S → Count) : Type 0 where
   pub drawable : (s : S) → can_next s → can_draw s
   pub callable : (s : S) → can_draw s → can_next s
-  pub calls : (s t : S) (item : Option (RangeInclusive T)) → next_gives s item t → draw_gives s item t
+  pub gives : (s t : S) (range : RangeInclusive T) → next_gives s (Some range) t
+      → draw_gives s (Some range) t
+  pub ends : (s t : S) → can_next s → next_gives s None t → draw_gives s None t
   pub counts : (s : S) → remaining s ≡ draws_left s
 
 -- so it is where both are given alike
@@ -169,6 +173,18 @@ pub drawn-itself : {S T : Type 0} {can_next : S → Type 0}
 drawn-itself = record {
   drawable = λ s can. can;
   callable = λ s can. can;
-  calls = λ s t item call. call;
+  gives = λ s t range call. call;
+  ends = λ s t can call. call;
   counts = λ s. refl;
 }
+
+module _ {S T : Type 0} {can_draw : S → Type 0}
+    {draw_gives : S → Option (RangeInclusive T) → S → Type 0} {draws_left : S → Count}
+    {can_next : S → Type 0} {next_gives : S → Option (RangeInclusive T) → S → Type 0}
+    {remaining : S → Count}
+    (drawn : IsDrawn can_draw draw_gives draws_left can_next next_gives remaining) where
+  -- a call of `next` is a draw
+  pub drawn-call : (s t : S) (item : Option (RangeInclusive T)) → can_draw s
+      → next_gives s item t → draw_gives s item t
+  drawn-call s t None can call = drawn.ends s t (drawn.callable s can) call
+  drawn-call s t (Some range) can call = drawn.gives s t range call

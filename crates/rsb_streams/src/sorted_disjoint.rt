@@ -30,6 +30,9 @@ use std::ops::RangeInclusive;
 /// `drawn-itself` here. After `None` the streams of this crate give `None` again; of others that is
 /// no law, so each is held in such a way that it is not asked again.
 pub trait SortedStarts<T: Integer>: Iterator<Item = RangeInclusive<T>> + FusedIterator + Draw<T> {
+    /// Nothing: an implementation for a type with a closure in it has a function of its own. (Own.)
+    fn mark_sorted(&self) {}
+
     // `next` is `draw`.
     ghost drawn: { IsDrawn Self.can_draw Self.draw_gives Self.draws_left
         Self.can_next Self.next_gives Self.remaining };
@@ -221,6 +224,9 @@ pub trait DrawDisjoint<T: Integer>: Draw<T> {
     {
         self.intersection(other).is_empty()
     }
+
+    /// Nothing: an implementation for a type with a closure in it has a function of its own. (Own.)
+    fn mark_disjoint(&self) {}
 
     // What may come of a stream that may be drawn from is canonical.
     ghost canonical: { (s : Self) → Self.can_draw s

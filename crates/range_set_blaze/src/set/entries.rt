@@ -11,7 +11,7 @@ use crate::set::run::{Run, reaches};
 use rsb_integer::Integer;
 use std::alloc::Allocator;
 use std::collections::BTreeMap;
-use std::collections::btree_map::Range;
+use std::collections::btree_map::{Iter, Range};
 use std::ops::Bound;
 
 /// Takes the last run off some entries.
@@ -20,6 +20,18 @@ pub(crate) fn last_run<T: Integer>(entries: &mut Range<'_, T, T>) -> Option<Run<
         (λ run. entries.old ≡ entries.new ++ entry_of run ∷ []) }
 {
     let (start, end) = entries.next_back()?;
+    Some(Run {
+        start: *start,
+        end: *end,
+    })
+}
+
+/// Takes the first run off some entries.
+pub(crate) fn next_run<T: Integer>(entries: &mut Iter<'_, T, T>) -> Option<Run<T>>
+    ensures { MatchOption result (entries.old ≡ [])
+        (λ run. entries.old ≡ entry_of run ∷ entries.new) }
+{
+    let (start, end) = entries.next()?;
     Some(Run {
         start: *start,
         end: *end,

@@ -77,8 +77,8 @@ impl<T: Integer, A: Allocator + Clone> RangeSetBlaze<T, A> {
         }
     }
 
-    // Adds the values of a run, and says whether one of them was new.
-    fn insert_run(&mut self, run: Run<T>) -> Result<bool, AllocError>
+    /// Adds the values of a run, and says whether one of them was new.
+    pub(crate) fn insert_run(&mut self, run: Run<T>) -> Result<bool, AllocError>
         requires order { T.rank run.start ≤ T.rank run.end }
         requires value { T.rank run.end < T.value_count }
         ensures members { OnOk result
@@ -98,7 +98,7 @@ impl<T: Integer, A: Allocator + Clone> RangeSetBlaze<T, A> {
 }
 
 // The values between two bounds as a run, or `None` where there are none.
-fn run_between<T: Integer, R: RangeBounds<T>>(range: &R) -> Option<Run<T>>
+pub(crate) fn run_between<T: Integer, R: RangeBounds<T>>(range: &R) -> Option<Run<T>>
     ensures none { R.has_bounds range.now → IsNone result →
         past_rank T.rank T.value_count (R.end_bound range.now)
         ≤ first_rank T.rank (R.start_bound range.now) }

@@ -1,20 +1,48 @@
-//! Runs that are kept by a test.
+//! Runs and values that are kept by a test.
 
-ghost use Rattle.std.specs.Prelude.{◌≡◌, Bool};
+ghost use Rattle.std.specs.Prelude.{◌≡◌, Bool, [], IsOk, OnErr, OnOk};
 ghost use Rattle.std.specs.Fn.{ComputesKey};
 ghost use Rattle.std.specs.List.{filter};
 ghost use Rattle.rsb_integer.specs.Rank.{interval_of};
-ghost use Rattle.rsb_integer.specs.Runs.{Interval};
+ghost use Rattle.rsb_integer.specs.Runs.{Interval, members};
+ghost use Rattle.rsb_integer.specs.Selection.{intersection, IsSubset, Selection};
 ghost use Rattle.range_set_blaze.specs.Kept.{runs_of, IsKept};
-ghost use Rattle.range_set_blaze.specs.Set.{IsSublist};
+ghost use Rattle.range_set_blaze.specs.Retain.{AnswersByRank, AsksAll, AsksFront};
+ghost use Rattle.range_set_blaze.specs.Set.{IsSetOf, IsSublist};
 
 use crate::set::RangeSetBlaze;
 use crate::set::entries::{first_run, run_after};
+use crate::set::keep::kept_values;
 use crate::set::lengths::take_off_length;
 use rsb_integer::Integer;
-use std::alloc::Allocator;
+use std::alloc::{AllocError, Allocator};
 use std::collections::BTreeMap;
 use std::ops::RangeInclusive;
+
+impl<T: Integer, A: Allocator + Copy> RangeSetBlaze<T, A> {
+    /// Asks about each member once, in ascending order, and keeps those with true. Without memory
+    /// the set is as it was, and some first members were asked about. (`RangeSetBlaze::retain`.)
+    pub fn retain<F: FnMut(&T) -> bool>(&mut self, f: F) -> Result<(), AllocError>
+        requires { F.IsAlwaysCallable f }
+        ensures within { OnOk result
+            (IsSubset T.value_count (members self.new) (members self.old)) }
+
+        // Where the answers depend on the value alone, the members are those that they select.
+        ensures exact { (keeps : Selection)
+            → AnswersByRank T.rank T.value_count F.FnMut keeps f
+            → OnOk result (IsSetOf self.new (intersection (members self.old) keeps)) }
+        ensures asked { OnOk result (AsksAll T.rank F.FnMut f self.old) }
+        ensures err { OnErr result (self.new ≡ self.old) }
+        ensures asked_some { OnErr result (AsksFront T.rank F.FnMut f self.old) }
+
+        // No memory is taken of the empty set.
+        ensures empty { self.old ≡ [] → IsOk result }
+    {
+        let kept = kept_values(&self.map, self.alloc, f)?;
+        *self = kept;
+        Ok(())
+    }
+}
 
 impl<T: Integer, A: Allocator> RangeSetBlaze<T, A> {
     /// Asks about each run once, in ascending order, and keeps those with true. It takes no memory.

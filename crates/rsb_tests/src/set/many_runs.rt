@@ -75,6 +75,27 @@ fn one_range_takes_thousands_in(rt: HostRuntime) -> Result<(), Fail> {
 }
 
 #[test]
+fn thousands_of_runs_are_parted(rt: HostRuntime) -> Result<(), Fail> {
+    let mut set = every_third(rt.alloc())?;
+    let split = set.split_off(6001)?;
+    assert!(rt; set.ranges_len() == 2001 && set.len() == 2001);
+    assert!(rt; split.ranges_len() == 2999 && split.len() == 2999);
+    assert!(rt; set.last() == Some(6000) && split.first() == Some(6003));
+    Ok(())
+}
+
+#[test]
+fn thousands_of_values_are_kept(rt: HostRuntime) -> Result<(), Fail> {
+    let mut set = every_third(rt.alloc())?;
+    set.retain(|value| *value % 2 == 0)?;
+    assert!(rt; set.ranges_len() == 2500 && set.len() == 2500);
+    assert!(rt; set.ranges_insert(0..=14997)?);
+    set.retain(|value| *value % 4 != 3)?;
+    assert!(rt; set.ranges_len() == 3750 && set.len() == 11249);
+    Ok(())
+}
+
+#[test]
 fn hints_are_the_lengths_to_come(rt: HostRuntime) -> Result<(), Fail> {
     let set = every_third(rt.alloc())?;
     let mut ranges = set.ranges();

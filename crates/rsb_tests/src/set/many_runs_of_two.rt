@@ -8,7 +8,7 @@ use std::test::*;
 fn every_third(alloc: Global, first: u32) -> Result<RangeSetBlaze<u32>, AllocError> {
     let mut set = RangeSetBlaze::new(alloc);
     for place in 0..5000u32 {
-        set.insert(first + 3 * (place * 1237 % 5000))?;
+        set.insert(first.saturating_add(3 * (place * 1237 % 5000)))?;
     }
     Ok(set)
 }

@@ -3,8 +3,8 @@
 ghost use Rattle.std.specs.Prelude.{◌≡◌, true};
 
 use crate::tables::set_of;
-use range_set_blaze::{Integer, RangeSetBlaze};
 use range_set_blaze::laws::cmp_counted;
+use range_set_blaze::{Integer, RangeSetBlaze};
 use std::alloc::{AllocError, Allocator, Global};
 use std::cmp::Ordering;
 use std::test::*;

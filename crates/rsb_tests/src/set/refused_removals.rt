@@ -72,7 +72,10 @@ fn a_single_member_is_popped_with_no_memory(rt: HostRuntime) -> Result<(), Fail>
 }
 
 /// The set of 0..=2, 8..=10 and so on.
-fn spaced<A: Allocator + Copy>(alloc: A, count: u16) -> Result<RangeSetBlaze<u16, A>, AllocError> {
+pub(crate) fn spaced<A: Allocator + Copy>(
+    alloc: A,
+    count: u16,
+) -> Result<RangeSetBlaze<u16, A>, AllocError> {
     let mut set = RangeSetBlaze::new(alloc);
     for place in 0..count {
         let start = place.saturating_mul(8);

@@ -172,7 +172,7 @@ fn each_growth_of_an_addition_is_refused_in_turn(rt: HostRuntime) -> Result<(), 
             for call in 0..4u8 {
                 let refused = refusals_of_an_addition(rt.alloc(), call, own, count)?;
                 assert!(rt; refused.is_some(), "of {own} and {count} runs, call {call}");
-                let is_grown = own == 1 && count == 100;
+                let is_grown = own == 1 && count == 100 && call < 3;
                 assert!(rt; !is_grown || refused > Some(2), "call {call}");
             }
         }

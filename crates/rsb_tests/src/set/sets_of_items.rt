@@ -24,7 +24,7 @@ fn all_wide_numbers_but_one_are_counted(rt: HostRuntime) -> Result<(), Fail> {
 fn emptied_ranges_make_no_members(rt: HostRuntime) -> Result<(), Fail> {
     let mut emptied = 3..=3_u8;
     assert!(rt; emptied.next() == Some(3));
-    let set = RangeSetBlaze::from_iter(rt.alloc(), [emptied.clone(), 7..=8])?;
+    let set = RangeSetBlaze::from_iter(rt.alloc(), [emptied.clone()?, 7..=8])?;
     assert!(rt; set.ranges().next() == Some(7..=8) && set.len() == 2);
     let mut more = RangeSetBlaze::<u8>::new(rt.alloc());
     more.extend([emptied, 5..=4])?;

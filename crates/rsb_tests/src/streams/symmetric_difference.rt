@@ -50,6 +50,15 @@ fn it_is_made_of_a_pair(rt: HostRuntime) {
 }
 
 #[test]
+fn an_end_is_held_between_two_answers(rt: HostRuntime) {
+    let cut = RangeOnce::new(3..=4).union(RangeOnce::new(7..=8));
+    let mut alone = RangeOnce::new(1..=10).symmetric_difference(cut);
+    assert!(rt; alone.next() == Some(1..=2));
+    assert!(rt; alone.pending_ends() == 1);
+    assert!(rt; gives(alone, &[(5, 6), (9, 10)]));
+}
+
+#[test]
 fn it_ends_for_good(rt: HostRuntime) {
     let mut alone = RangeOnce::new(1..=5).symmetric_difference(RangeOnce::new(1..=3));
     assert!(rt; alone.next() == Some(4..=5));

@@ -1,5 +1,5 @@
 use Rattle.rsb_streams.proofs.LawfulSources.{sorted-source}
-use Rattle.rsb_streams.proofs.Sources.{Source, IsLawful, drawn-lawful}
+use Rattle.rsb_streams.proofs.Sources.{Source, IsLawfulNext, drawn-lawful}
 use Rattle.std.proofs.Common.{sym, subst}
 use Rattle.rsb_tests.proofs.streams.nested.sorted.Given.{Over}
 use Rattle.rsb_tests.proofs.streams.nested.sorted.Goals as goal
@@ -22,7 +22,7 @@ source g = record {
   may_give = g.I.Draw.may_give;
 }
 
-laws : (g : Over) → IsLawful g.T.Integer.rank g.T.Integer.value_count (source g)
+laws : (g : Over) → IsLawfulNext g.T.Integer.rank g.T.Integer.value_count (source g)
 laws g = drawn-lawful g.T.Integer.rank g.T.Integer.value_count (drawn g) g.I.Iterator.can_next
     g.I.Iterator.next_gives g.I.Iterator.remaining g.met.I.SortedStarts.drawn
     (record { answers = g.met.I.Draw.answers; sorted = g.met.I.Draw.sorted })

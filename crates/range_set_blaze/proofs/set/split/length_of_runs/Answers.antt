@@ -1,0 +1,41 @@
+use Rattle.std.proofs.Common.{◌∙◌, ap, arith}
+use Rattle.rsb_integer.proofs.CanonicalLemmas.{canonical-tail}
+use Rattle.range_set_blaze.specs.Kept.{run_of, runs_of}
+use Rattle.range_set_blaze.proofs.KeptLemmas.{sum_by-canonical}
+use Rattle.range_set_blaze.proofs.PartingLemmas.{counted-next}
+use Rattle.range_set_blaze.proofs.set.split.length_of_runs.Goals as goal
+
+-- the runs that are left are canonical
+pub add_length-requires-clause-some : goal.add_length-requires-clause-some
+add_length-requires-clause-some g c κs within =
+    (rw c.in-Some.ensures at c.loop-run.invariant.canonical).0.1
+
+pub add_length-requires-clause-fits : goal.add_length-requires-clause-fits
+add_length-requires-clause-fits g c κs within =
+    let rank = g.T.Integer.rank in
+    (counted-next g.T.Integer.value_count _ (runs_of rank c.args.map.now.entries)
+    (runs_of rank c.next_run.new.entries) (run_of rank c.in-Some.run') c.requires
+    (rw c.in-Some.ensures at c.loop-run.invariant.counted)).0
+
+pub loop-run-preserved : goal.loop-run-preserved
+loop-run-preserved g c =
+    let rank = g.T.Integer.rank in
+    let n = g.T.Integer.value_count in
+    let rest = runs_of rank c.next_run.new.entries in
+    let run = run_of rank c.in-Some.run' in
+    let counted = (counted-next n _ (runs_of rank c.args.map.now.entries) rest run c.requires
+    (rw c.in-Some.ensures at c.loop-run.invariant.counted)).1 in
+    record {
+      canonical = canonical-tail n run rest
+          (rw c.in-Some.ensures at c.loop-run.invariant.canonical);
+      counted = omega (arith, counted, c.add_length.ensures);
+    }
+
+-- where none is left, all are counted
+pub returns : goal.returns
+returns g c =
+    let rank = g.T.Integer.rank in
+    let counted = rw c.in_default.ensures at c.loop-run.invariant.counted in
+    let all = sum_by-canonical g.T.Integer.value_count (runs_of rank c.args.map.now.entries)
+    c.requires in
+    omega (arith, counted, all)

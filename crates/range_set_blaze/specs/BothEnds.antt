@@ -1,0 +1,149 @@
+-- What iterators over elements stand for: a set of ranks, of which the least and the greatest are
+-- taken out.
+use Rattle.std.specs.Prelude.{◌≡◌, ◌↔◌, ℕ, ◌+◌, ◌*◌, cond, false, List, [], ◌∷◌, ◌++◌, Option, Some, None, IsNone, IfSome, MatchOption}
+use Rattle.std.specs.Iterator.{Count, YieldsLast, size}
+use Rattle.std.specs.declared.ops.RangeInclusive.{RangeInclusive}
+use Rattle.rsb_integer.specs.Rank.{interval_of, intervals_of}
+use Rattle.rsb_integer.specs.Runs.{Interval, length_of, members, IsCanonicalIn, IsEmpty}
+use Rattle.rsb_integer.specs.Selection.{Selection, difference, IsNothing}
+use Rattle.rsb_streams.specs.Fused.{Fused, fused_can, fused_may_give}
+use Rattle.rsb_streams.specs.Listed.{listed_may_give}
+use Rattle.rsb_streams.specs.Stream.{Outcomes, ◌⊆◌, run_if_any}
+use Rattle.range_set_blaze.specs.Set.{only, IsGreatest, IsLeast}
+use Rattle.range_set_blaze.specs.declared.iter.Iter.{Iter}
+
+-- ---- one element is taken out of a set
+
+-- the set without the value, if there is one
+abbrev pub without : {T : Type 0} → (T → ℕ) → Selection → Option T → Selection
+without rank selected None = selected
+without rank selected (Some value) = difference selected (only (rank value))
+
+module _ {T : Type 0} (rank : T → ℕ) (n : ℕ) (old : Selection) (item : Option T)
+    (new : Selection) where
+  -- the item is the least member of the old set, or `None` exactly where that has none, and the new
+  -- set is the old one without it
+  pub record TakesLeast : Type 0 where
+    pub none : IsNone item ↔ IsNothing old
+    pub least : IfSome item (λ value. IsLeast n old (rank value))
+    pub rest : (point : ℕ) → new point ≡ without rank old item point
+
+  -- the item is the greatest member of the old set, or `None` exactly where that has none, and the
+  -- new set is the old one without it
+  pub record TakesGreatest : Type 0 where
+    pub none : IsNone item ↔ IsNothing old
+    pub greatest : IfSome item (λ value. IsGreatest n old (rank value))
+    pub rest : (point : ℕ) → new point ≡ without rank old item point
+
+-- ---- what is left of an iterator over the elements of a stream
+
+-- the interval of a range, where it has a rank
+abbrev pub held : {T : Type 0} → (T → ℕ) → RangeInclusive T → List Interval
+held rank range = run_if_any (interval_of rank range)
+
+-- the stream, and whether it has ended
+abbrev pub stream_of : {T I : Type 0} → Iter T I → Fused I
+stream_of s = record { iter = s.ranges; done = s.done }
+
+-- nothing is taken of the stream yet
+pub record IsWhole {T I : Type 0} (rank : T → ℕ) (ranges : I) (s : Iter T I) : Type 0 where
+  pub source : s.ranges ≡ ranges
+  pub undone : s.done ≡ false
+  pub front : IsEmpty (interval_of rank s.front)
+  pub back : IsEmpty (interval_of rank s.back)
+
+-- these intervals, between what is held from the front and what is held from the back
+abbrev pub between_ends : {T I : Type 0} → (T → ℕ) → Iter T I → List Interval → List Interval
+between_ends rank s rest = held rank s.front ++ (rest ++ held rank s.back)
+
+-- what is held from both ends, and between it what the stream may still give
+abbrev pub left_between : {T I : Type 0} → (T → ℕ) → (I → Outcomes) → Iter T I → Outcomes
+left_between rank may_give s runs = (rest : List Interval)
+    × fused_may_give may_give (stream_of s) rest × (runs ≡ between_ends rank s rest)
+
+-- at most as many elements as are held, and as there are values for each range to come
+abbrev pub elements_left : {T I : Type 0} → (T → ℕ) → ℕ → (I → Count) → Iter T I → Count
+elements_left rank n left s = record {
+  bounded = (left s.ranges).bounded;
+  bound = length_of (interval_of rank s.front) + length_of (interval_of rank s.back)
+      + cond s.done 0 (size (left s.ranges) * n);
+}
+
+-- how many ranges the stream still gives
+abbrev pub ranges_left : {T I : Type 0} → (I → Count) → Iter T I → Count
+ranges_left left s = record {
+  bounded = (left s.ranges).bounded;
+  bound = cond s.done 0 (size (left s.ranges));
+}
+
+module _ {T I : Type 0} (rank : T → ℕ) (n : ℕ) (can_draw : I → Type 0)
+    (may_give : I → Outcomes) where
+  -- the stream may be drawn from or has ended, and what is left is canonical
+  pub record ElementsReady (s : Iter T I) : Type 0 where
+    pub callable : fused_can can_draw (stream_of s)
+    pub canonical : left_between rank may_give s ⊆ IsCanonicalIn n
+
+  -- whatever may be left after the call, something was left before it of which the item was the
+  -- least member, and the iterator may be called again
+  pub record GivesLeast (s : Iter T I) (item : Option T) (t : Iter T I) : Type 0 where
+    pub ready : ElementsReady t
+    pub takes : (after : List Interval) → left_between rank may_give t after
+        → (before : List Interval) × left_between rank may_give s before
+        × TakesLeast rank n (members before) item (members after)
+
+  -- the same of the greatest member
+  pub record GivesGreatest (s : Iter T I) (item : Option T) (t : Iter T I) : Type 0 where
+    pub ready : ElementsReady t
+    pub takes : (after : List Interval) → left_between rank may_give t after
+        → (before : List Interval) × left_between rank may_give s before
+        × TakesGreatest rank n (members before) item (members after)
+
+  -- ---- streams that go from both ends
+
+  -- what a call from the back answered comes last, after what may come once it is answered
+  abbrev pub AnswersLast : I → Option (RangeInclusive T) → I → Type 0
+  AnswersLast s item t = MatchOption item (may_give s [])
+      (λ range. (rest : List Interval) → may_give t rest
+      → may_give s (rest ++ interval_of rank range ∷ []))
+
+  module _ (can_next_back : I → Type 0) (back_gives : I → Option (RangeInclusive T) → I → Type 0)
+    where
+      -- the stream may be asked from the one end where it may be asked from the other, and answers
+      -- from the back what may come last
+      pub record GoesBack : Type 0 where
+        pub callable : (s : I) → can_draw s → can_next_back s
+        pub drawable : (s : I) → can_next_back s → can_draw s
+        pub answers : (s t : I) (item : Option (RangeInclusive T)) → back_gives s item t
+            → AnswersLast s item t
+
+      -- the stream goes from both ends, and the iterator may be called
+      pub record ElementsReadyBack (s : Iter T I) : Type 0 where
+        pub both_ends : GoesBack
+        pub ready : ElementsReady s
+
+-- ---- where the state of the stream shows the list of the ranges to come
+
+module _ {T : Type 0} (rank : T → ℕ) (n : ℕ) where
+  -- the list is canonical
+  abbrev pub IsListReady : List (RangeInclusive T) → Type 0
+  IsListReady ranges = IsCanonicalIn n (intervals_of rank ranges)
+
+  -- it may be called
+  abbrev pub ListedReady : Iter T (List (RangeInclusive T)) → Type 0
+  ListedReady = ElementsReady rank n IsListReady (listed_may_give rank (λ ranges. ranges))
+
+  -- it may be called from the back
+  abbrev pub ListedReadyBack : Iter T (List (RangeInclusive T)) → Type 0
+  ListedReadyBack = ElementsReadyBack rank n IsListReady (listed_may_give rank (λ ranges. ranges))
+      IsListReady (YieldsLast (λ ranges. ranges))
+
+-- what is left, as intervals in ascending order
+abbrev pub runs_left : {T : Type 0} → (T → ℕ) → Iter T (List (RangeInclusive T)) → List Interval
+runs_left rank s = between_ends rank s (cond s.done [] (intervals_of rank s.ranges))
+
+-- the iterator may be called from both ends, and has the members of the set
+pub record IsOverSet {T : Type 0} (rank : T → ℕ) (n : ℕ) (set : List Interval)
+    (elements : Iter T (List (RangeInclusive T))) : Type 0 where
+  pub runs : runs_left rank elements ≡ set
+  pub ready : ListedReady rank n elements
+  pub ready_back : ListedReadyBack rank n elements

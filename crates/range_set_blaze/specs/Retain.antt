@@ -1,0 +1,62 @@
+-- What `retain` asks about, and what it keeps.
+use Rattle.std.specs.Prelude.{◌≡◌, ℕ, zero, suc, Bool, ◌||◌, ◌+◌, ◌<◌, List, [], ◌∷◌, ◌++◌, map, Option, None, Some}
+use Rattle.std.specs.Fn.{AlwaysReturns, CalledAt, Mut}
+use Rattle.std.specs.List.{FoldsTo, sum_by}
+use denote.Ref.{Bor}
+use Rattle.rsb_integer.specs.Front.{IsFrontOf}
+use Rattle.rsb_integer.specs.Runs.{Interval, covers, length_of, members, AllEndBelow, IsCanonicalFrom}
+use Rattle.rsb_integer.specs.Selection.{Selection, union}
+use Rattle.range_set_blaze.specs.Kept.{run_of, runs_of}
+use Rattle.range_set_blaze.specs.Set.{only}
+use Rattle.range_set_blaze.specs.declared.set.run.Run.{Run}
+
+-- as many ranks as the number, from the first one on
+unfoldable pub ranks_from : ℕ → ℕ → List ℕ
+ranks_from first zero = []
+ranks_from first (suc more) = first ∷ ranks_from (first + 1) more
+
+-- the members of a set in ascending order
+abbrev pub ranks_of : List Interval → List ℕ
+ranks_of [] = []
+ranks_of (run ∷ runs) = ranks_from run.first (length_of run) ++ ranks_of runs
+
+module _ {F T : Type 0} (rank : T → ℕ) (n : ℕ) (g : Mut F (Bor T × Unit {0}) Bool) where
+  -- each call from f on answers at a value, of n, what `keeps` says of its rank
+  abbrev pub AnswersByRank : Selection → F → Type 0
+  AnswersByRank keeps = AlwaysReturns g (λ a r. rank a.0.now < n → r ≡ keeps (rank a.0.now))
+
+module _ {F T : Type 0} (rank : T → ℕ) (g : Mut F (Bor T × Unit {0}) Bool) where
+  -- calls from f on at these values, one after the other, lead to the last state
+  abbrev pub IsAsked : F → List T → F → Type 0
+  IsAsked f values last =
+      FoldsTo (λ before value after. (answer : Bool) × CalledAt g before value answer after)
+      f values last
+
+  -- from f on, each member of the set was asked about once, in ascending order
+  abbrev pub AsksAll : F → List Interval → Type 0
+  AsksAll f set = (values : List T) × (last : F) × IsAsked f values last
+      × (map rank values ≡ ranks_of set)
+
+  -- and so was a front of the members
+  abbrev pub AsksFront : F → List Interval → Type 0
+  AsksFront f set = (values : List T) × (last : F) × IsAsked f values last
+      × IsFrontOf (map rank values) (ranks_of set)
+
+module _ {T : Type 0} (rank : T → ℕ) where
+  -- the runs that are left: the rest of one, and those of the entries
+  abbrev pub left_runs : Option (Run T) → List (T × T) → List Interval
+  left_runs None entries = []
+  left_runs (Some run) entries = run_of rank run ∷ runs_of rank entries
+
+  -- the members of a set, and the ranks of a piece that is not in it yet
+  abbrev pub with_piece : List Interval → Option (Run T) → Selection
+  with_piece set None other = members set other
+  with_piece set (Some run) other = members set other || covers other (run_of rank run)
+
+-- the new runs have what the old ones have past their first rank
+pub record IsPastFirst (n : ℕ) (old new : List Interval) (first : ℕ) : Type 0 where
+  pub canonical : IsCanonicalFrom (first + 1) new
+  pub below : AllEndBelow n new
+  pub has : (other : ℕ) → members old other ≡ union (only first) (members new) other
+  pub fewer : sum_by length_of new + 1 ≡ sum_by length_of old
+  pub listed : ranks_of old ≡ first ∷ ranks_of new

@@ -1,0 +1,112 @@
+//! The elements of a set.
+
+ghost use Rattle.std.specs.Prelude.{◌≡◌, IfOk};
+ghost use Rattle.rsb_integer.specs.Runs.{members};
+ghost use Rattle.rsb_integer.specs.Selection.{intersection};
+ghost use Rattle.rsb_streams.specs.Stream.{runs_by_two};
+ghost use Rattle.range_set_blaze.specs.BothEnds.{runs_left, IsOverSet, ListedReady, ListedReadyBack};
+ghost use Rattle.range_set_blaze.specs.Set.{ranks_in, IsSetOf};
+
+use crate::into_iter::IntoIter;
+use crate::into_ranges_iter::IntoRangesIter;
+use crate::iter::Iter;
+use crate::ranges_iter::RangesIter;
+use crate::set::RangeSetBlaze;
+use crate::set::insert::run_between;
+use rsb_integer::Integer;
+use rsb_streams::{DrawDisjoint, RangeOnce};
+use std::alloc::{AllocError, Allocator};
+use std::ops::RangeBounds;
+
+impl<T: Integer, A: Allocator> RangeSetBlaze<T, A> {
+    /// The members in ascending order, from both ends. It takes no memory. (`RangeSetBlaze::iter`.)
+    pub fn iter(&self) -> Iter<T, RangesIter<'_, T>>
+        ensures runs { runs_left T.rank result ≡ self.now }
+        ensures ready { ListedReady T.rank T.value_count result }
+        ensures ready_back { ListedReadyBack T.rank T.value_count result }
+    {
+        Iter {
+            ranges: self.ranges(),
+            done: false,
+            front: T::exhausted_range(),
+            back: T::exhausted_range(),
+        }
+    }
+}
+
+impl<'a, T: Integer, A: Allocator> IntoIterator for &'a RangeSetBlaze<T, A> {
+    type Item = T;
+
+    type IntoIter = Iter<T, RangesIter<'a, T>>;
+
+    ghost into_iter_gives = { λ set elements.
+        IsOverSet T.rank T.value_count set.now elements };
+
+    fn into_iter(self) -> Iter<T, RangesIter<'a, T>> {
+        let ranges = RangesIter {
+            entries: self.map.iter(),
+        };
+        Iter {
+            ranges,
+            done: false,
+            front: T::exhausted_range(),
+            back: T::exhausted_range(),
+        }
+    }
+}
+
+impl<T: Integer, A: Allocator> IntoIterator for RangeSetBlaze<T, A> {
+    type Item = T;
+
+    type IntoIter = IntoIter<T, A>;
+
+    ghost into_iter_gives = { λ set elements. elements ≡ set };
+
+    fn into_iter(self) -> IntoIter<T, A> {
+        let ranges = IntoRangesIter {
+            entries: self.map.into_iter(),
+        };
+        IntoIter {
+            elements: Iter {
+                ranges,
+                done: false,
+                front: T::exhausted_range(),
+                back: T::exhausted_range(),
+            },
+        }
+    }
+}
+
+impl<T: Integer, A: Allocator + Copy> RangeSetBlaze<T, A> {
+    /// The members between two bounds in ascending order, from both ends, as an iterator that owns
+    /// them. Bounds with nothing between them give nothing. Without memory nothing is made.
+    /// (`RangeSetBlaze::range`.)
+    ///
+    /// Nothing is said of a `RangeInclusive` that was iterated to its end.
+    pub fn range<R: RangeBounds<T>>(&self, range: R) -> Result<IntoIter<T, A>, AllocError>
+        ensures members { R.has_bounds range → IfOk result (λ elements. IsSetOf elements
+            (intersection (members self.now)
+            (ranks_in T.rank T.value_count R.start_bound R.end_bound range))) }
+    {
+        let Some(run) = run_between(&range) else {
+            return Ok(Self::new(self.alloc).into_iter());
+        };
+        let bounds = RangeOnce::new(run.start..=run.end);
+        let set = set_of_both(self.alloc, self.ranges(), bounds)?;
+        Ok(set.into_iter())
+    }
+}
+
+// The set of what two streams both have.
+fn set_of_both<T: Integer, A: Allocator + Copy, L: DrawDisjoint<T>, R: DrawDisjoint<T>>(
+    alloc: A,
+    left: L,
+    right: R,
+) -> Result<RangeSetBlaze<T, A>, AllocError>
+    requires left { L.can_draw left }
+    requires right { R.can_draw right }
+    ensures runs { IfOk result (λ set.
+        runs_by_two T.value_count intersection (L.may_give left) (R.may_give right) set) }
+{
+    RangeSetBlaze::from_sorted_disjoint(alloc, left.intersection(right))
+}

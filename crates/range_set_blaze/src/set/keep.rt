@@ -1,0 +1,115 @@
+//! Values that are kept by a test.
+
+ghost use Rattle.std.specs.Prelude.{◌≡◌, ◌<◌, ◌≤◌, ℕ, [], ◌∷◌, None, Some, IfOk, IfSome, IsOk, IsTrue, OnErr, OnOk};
+ghost use Rattle.rsb_integer.specs.Runs.{members, IsCanonicalIn};
+ghost use Rattle.rsb_integer.specs.Selection.{intersection, union, Selection};
+ghost use Rattle.range_set_blaze.specs.Kept.{run_of, runs_of};
+ghost use Rattle.range_set_blaze.specs.Retain.{left_runs, with_piece, AnswersByRank, AsksAll, AsksFront, IsPastFirst};
+ghost use Rattle.range_set_blaze.specs.Set.{only, IsSetOf};
+
+use crate::set::RangeSetBlaze;
+use crate::set::entries::next_run;
+use crate::set::run::{Run, is_below, reaches};
+use rsb_integer::Integer;
+use std::alloc::{AllocError, Allocator};
+use std::collections::BTreeMap;
+use std::collections::btree_map::Iter;
+
+/// The set of the values of some runs that a test is true of. Each is asked about once, in ascending
+/// order.
+pub(crate) fn kept_values<T: Integer, A: Allocator + Copy, F: FnMut(&T) -> bool>(
+    map: &BTreeMap<T, T, A>,
+    alloc: A,
+    f: F,
+) -> Result<RangeSetBlaze<T, A>, AllocError>
+    requires canonical { IsCanonicalIn T.value_count (runs_of T.rank map.now.entries) }
+    requires callable { F.IsAlwaysCallable f }
+    ensures within { IfOk result (λ kept. (rank : ℕ) → IsTrue (members kept rank)
+        → IsTrue (members (runs_of T.rank map.now.entries) rank)) }
+    ensures exact { (keeps : Selection) → AnswersByRank T.rank T.value_count F.FnMut keeps f
+        → IfOk result (λ kept. IsSetOf kept
+        (intersection (members (runs_of T.rank map.now.entries)) keeps)) }
+    ensures asked { OnOk result (AsksAll T.rank F.FnMut f (runs_of T.rank map.now.entries)) }
+    ensures err { OnErr result (AsksFront T.rank F.FnMut f (runs_of T.rank map.now.entries)) }
+    ensures empty { runs_of T.rank map.now.entries ≡ [] → IsOk result }
+{
+    let mut f = f;
+    let mut kept = RangeSetBlaze::new(alloc);
+    let mut piece = None;
+    let mut entries = map.iter();
+    let mut left = next_run(&mut entries);
+    while let Some(run) = left {
+        let value = run.start;
+        if f(&value) {
+            let grown = grow(&mut kept, piece, value)?;
+            piece = Some(grown);
+        }
+        left = next_left(&mut entries, run);
+    }
+    put_last(&mut kept, piece)?;
+    Ok(kept)
+}
+
+// What is left of some runs once the first value of the first one is out.
+fn next_left<T: Integer>(entries: &mut Iter<'_, T, T>, run: Run<T>) -> Option<Run<T>>
+    requires { IsCanonicalIn T.value_count (run_of T.rank run ∷ runs_of T.rank entries.old) }
+    ensures { IsPastFirst T.value_count (run_of T.rank run ∷ runs_of T.rank entries.old)
+        (left_runs T.rank result entries.new) (T.rank run.start) }
+{
+    if is_below(run.start, run.end) {
+        return Some(Run {
+            start: run.start.add_one(),
+            end: run.end,
+        });
+    }
+    next_run(entries)
+}
+
+// Adds a value to a piece that ends below it. A piece that the value does not touch goes to the set.
+fn grow<T: Integer, A: Allocator + Clone>(
+    kept: &mut RangeSetBlaze<T, A>,
+    piece: Option<Run<T>>,
+    value: T,
+) -> Result<Run<T>, AllocError>
+    requires order { IfSome piece (λ run. T.rank run.start ≤ T.rank run.end) }
+    requires later { IfSome piece (λ run. T.rank run.end < T.rank value) }
+    requires value { T.rank value < T.value_count }
+    ensures order { IfOk result (λ run. T.rank run.start ≤ T.rank run.end) }
+    ensures last { IfOk result (λ run. T.rank run.end ≡ T.rank value) }
+    ensures added { IfOk result (λ run. (rank : ℕ) → with_piece T.rank kept.new (Some run) rank
+        ≡ union (with_piece T.rank kept.old piece) (only (T.rank value)) rank) }
+{
+    let Some(run) = piece else {
+        return Ok(Run {
+            start: value,
+            end: value,
+        });
+    };
+    if reaches(run.end, value) {
+        return Ok(Run {
+            start: run.start,
+            end: value,
+        });
+    }
+    kept.insert_run(run)?;
+    Ok(Run {
+        start: value,
+        end: value,
+    })
+}
+
+// Puts the last piece into the set, where there is one.
+fn put_last<T: Integer, A: Allocator + Clone>(
+    kept: &mut RangeSetBlaze<T, A>,
+    piece: Option<Run<T>>,
+) -> Result<(), AllocError>
+    requires order { IfSome piece (λ run. T.rank run.start ≤ T.rank run.end) }
+    requires value { IfSome piece (λ run. T.rank run.end < T.value_count) }
+    ensures added { OnOk result (IsSetOf kept.new (with_piece T.rank kept.old piece)) }
+    ensures none { piece ≡ None → IsOk result }
+{
+    if let Some(run) = piece {
+        kept.insert_run(run)?;
+    }
+    Ok(())
+}

@@ -1,0 +1,174 @@
+//! A set that is parted at a value.
+
+ghost use Rattle.std.specs.Prelude.{◌≡◌, ◌+◌, ◌-◌, ◌<◌, ◌≤◌, IfOk, IfSome, IsFalse, IsNone, IsOk, IsSome, OnErr, OnOk};
+ghost use Rattle.rsb_integer.specs.Runs.{members, IsCanonicalIn};
+ghost use Rattle.rsb_integer.specs.Selection.{count, intersection, IsNothing};
+ghost use Rattle.range_set_blaze.specs.Kept.{entry_of, runs_of};
+ghost use Rattle.range_set_blaze.specs.Places.{up_to, EndsWith, IsFree};
+ghost use Rattle.range_set_blaze.specs.Set.{IsSetOf, Removes};
+ghost use Rattle.range_set_blaze.specs.Split.{from_on, IsParting};
+
+use crate::set::RangeSetBlaze;
+use crate::set::entries::{move_end, next_run, run_up_to};
+use crate::set::lengths::add_length;
+use crate::set::run::{Run, is_below, known};
+use num_traits::Zero;
+use rsb_integer::Integer;
+use std::alloc::{AllocError, Allocator};
+use std::collections::BTreeMap;
+
+impl<T: Integer, A: Allocator + Copy> RangeSetBlaze<T, A> {
+    /// Takes out the members at a value or above it, and gives the set of them. Without memory the
+    /// set is as it was. (`RangeSetBlaze::split_off`.)
+    pub fn split_off(&mut self, key: T) -> Result<Self, AllocError>
+        ensures below { OnOk result (Removes self.old self.new (from_on (T.rank key))) }
+        ensures from { IfOk result (λ split.
+            IsSetOf split (intersection (members self.old) (from_on (T.rank key)))) }
+        ensures err { OnErr result (self.new ≡ self.old) }
+
+        // No memory is taken where no member is at the value or above it.
+        ensures succeeds { IsNothing (intersection (members self.old) (from_on (T.rank key)))
+            → IsOk result }
+    {
+        let key = known(key);
+        let alloc = self.alloc;
+        if !self.has_from(key) {
+            return Ok(Self::new(alloc));
+        }
+        let total = self.length;
+        let map = part(&mut self.map, key)?;
+        let (low, high) = lengths(&self.map, &map, total);
+        self.length = low;
+        Ok(RangeSetBlaze {
+            map,
+            length: high,
+            alloc,
+        })
+    }
+}
+
+impl<T: Integer, A: Allocator> RangeSetBlaze<T, A> {
+    // Whether some member is at a value or above it.
+    fn has_from(&self, key: T) -> bool
+        requires { T.rank key < T.value_count }
+        ensures none { IsFalse result
+            → IsNothing (intersection (members self.now) (from_on (T.rank key))) }
+        ensures some { IsNothing (intersection (members self.now) (from_on (T.rank key)))
+            → IsFalse result }
+    {
+        match self.last() {
+            Some(last) => !is_below(last, key),
+            None => false,
+        }
+    }
+}
+
+// Takes out what lies at a value or above it, and gives the runs of that.
+fn part<T: Integer, A: Allocator + Clone>(
+    map: &mut BTreeMap<T, T, A>,
+    key: T,
+) -> Result<BTreeMap<T, T, A>, AllocError>
+    requires canonical { IsCanonicalIn T.value_count (runs_of T.rank map.old.entries) }
+    requires value { T.rank key < T.value_count }
+    ensures parting { IfOk result (λ high. IsParting T.rank T.value_count
+        map.old.entries map.new.entries high.entries (T.rank key)) }
+    ensures err { OnErr result (map.new.entries ≡ map.old.entries) }
+{
+    if let Some(run) = run_over(map, key) {
+        return part_within(map, run, key);
+    }
+    let high = map.split_off(&key)?;
+    Ok(high)
+}
+
+// The run that starts below a value and goes on to it.
+fn run_over<T: Integer, A: Allocator>(map: &BTreeMap<T, T, A>, key: T) -> Option<Run<T>>
+    requires canonical { IsCanonicalIn T.value_count (runs_of T.rank map.now.entries) }
+    requires value { T.rank key < T.value_count }
+    ensures none { IsNone result → 0 < T.rank key
+        → IsFree T.rank (T.rank key + 1) (T.rank key - 1) map.now.entries }
+    ensures above { IsSome result → 0 < T.rank key }
+    ensures last { IfSome result (λ run.
+        EndsWith (up_to T.rank (T.rank key - 1) map.now.entries) (entry_of run)) }
+    ensures within { IfSome result (λ run. T.rank key ≤ T.rank run.end) }
+{
+    if !is_below(T::min_value(), key) {
+        return None;
+    }
+    let run = run_up_to(map, key.sub_one())?;
+    if is_below(run.end, key) {
+        return None;
+    }
+    Some(run)
+}
+
+// The same, where a run starts below the value and goes on to it.
+fn part_within<T: Integer, A: Allocator + Clone>(
+    map: &mut BTreeMap<T, T, A>,
+    run: Run<T>,
+    key: T,
+) -> Result<BTreeMap<T, T, A>, AllocError>
+    requires canonical { IsCanonicalIn T.value_count (runs_of T.rank map.old.entries) }
+    requires last { EndsWith (up_to T.rank (T.rank key - 1) map.old.entries) (entry_of run) }
+    requires above { 0 < T.rank key }
+    requires within { T.rank key ≤ T.rank run.end }
+    ensures parting { IfOk result (λ high. IsParting T.rank T.value_count
+        map.old.entries map.new.entries high.entries (T.rank key)) }
+    ensures err { OnErr result (map.new.entries ≡ map.old.entries) }
+{
+    // The part of the run from the value on becomes an entry first, since it may find no memory.
+    map.insert(key, run.end)?;
+    match map.split_off(&key) {
+        Ok(high) => {
+            move_end(map, run.start, key.sub_one());
+            Ok(high)
+        }
+        Err(error) => {
+            map.remove(&key);
+            Err(error)
+        }
+    }
+}
+
+// How many members the runs of two maps have, of which there are as many as `total`. The shorter
+// one is counted.
+fn lengths<T: Integer, A: Allocator>(
+    low: &BTreeMap<T, T, A>,
+    high: &BTreeMap<T, T, A>,
+    total: T::SafeLen,
+) -> (T::SafeLen, T::SafeLen)
+    requires low { IsCanonicalIn T.value_count (runs_of T.rank low.now.entries) }
+    requires high { IsCanonicalIn T.value_count (runs_of T.rank high.now.entries) }
+    requires total { count T.value_count (members (runs_of T.rank low.now.entries))
+        + count T.value_count (members (runs_of T.rank high.now.entries))
+        ≡ T.SafeLen.number total }
+    ensures low { T.SafeLen.number result.0
+        ≡ count T.value_count (members (runs_of T.rank low.now.entries)) }
+    ensures high { T.SafeLen.number result.1
+        ≡ count T.value_count (members (runs_of T.rank high.now.entries)) }
+{
+    let mut rest = total;
+    if low.len() < high.len() {
+        let counted = length_of_runs(low);
+        rest -= counted;
+        (counted, rest)
+    } else {
+        let counted = length_of_runs(high);
+        rest -= counted;
+        (rest, counted)
+    }
+}
+
+// How many members some runs have.
+fn length_of_runs<T: Integer, A: Allocator>(map: &BTreeMap<T, T, A>) -> T::SafeLen
+    requires { IsCanonicalIn T.value_count (runs_of T.rank map.now.entries) }
+    ensures { T.SafeLen.number result
+        ≡ count T.value_count (members (runs_of T.rank map.now.entries)) }
+{
+    let mut length = T::SafeLen::zero();
+    let mut entries = map.iter();
+    while let Some(run) = next_run(&mut entries) {
+        add_length(&mut length, run);
+    }
+    length
+}

@@ -1,0 +1,66 @@
+//! The ranges of a stream from the first on that fails a test are a stream.
+
+ghost use Rattle.std.specs.Iterator.Adapters.{skip_while_done_skipping, skip_while_source};
+ghost use Rattle.rsb_streams.specs.AdapterLaws.{skip_while-drawn, skip_while-keeps};
+ghost use Rattle.rsb_streams.specs.Adapters.{
+  part-canonical,
+  rest-is_part,
+  skip_while_can_draw,
+  skip_while_may_give,
+  IsCall,
+};
+
+use crate::draw::Draw;
+use crate::sorted_disjoint::{DrawDisjoint, SortedDisjoint, SortedStarts};
+use rsb_integer::Integer;
+use std::iter::SkipWhile;
+use std::ops::RangeInclusive;
+
+impl<
+    T: Integer,
+    I: Iterator<Item = RangeInclusive<T>> + Draw<T>,
+    P: FnMut(&RangeInclusive<T>) -> bool,
+> Draw<T> for SkipWhile<I, P> {
+    ghost can_draw = { skip_while_can_draw I.can_draw I.draw_gives I.draws_left I.can_next
+        I.next_gives I.remaining P.FnMut };
+
+    ghost draw_gives = { IsCall T.rank ⟦<SkipWhile<I, P> as Iterator>⟧.next_gives
+        (skip_while_may_give I.may_give) };
+
+    ghost draws_left = { ⟦<SkipWhile<I, P> as Iterator>⟧.remaining };
+
+    ghost may_give = { skip_while_may_give I.may_give };
+
+    fn draw(&mut self) -> Option<RangeInclusive<T>> {
+        self.next()
+    }
+
+    ghost answers = { λ s t item gives. gives.answers };
+
+    ghost sorted = { λ s ready. skip_while-keeps T.rank T.value_count I.may_give I.answers I.sorted
+        ready.drawn P.FnMut s ready };
+}
+
+impl<T: Integer, I: SortedStarts<T>, P: FnMut(&RangeInclusive<T>) -> bool> SortedStarts<T>
+    for SkipWhile<I, P> {
+    fn mark_sorted(&self) {}
+
+    ghost drawn = { skip_while-drawn T.rank T.value_count I.may_give I.answers I.sorted I.drawn
+        P.FnMut };
+}
+
+impl<
+    T: Integer,
+    I: Iterator<Item = RangeInclusive<T>> + DrawDisjoint<T>,
+    P: FnMut(&RangeInclusive<T>) -> bool,
+> DrawDisjoint<T> for SkipWhile<I, P> {
+    fn mark_disjoint(&self) {}
+
+    ghost canonical = { λ s ready. part-canonical T.value_count (rest-is_part (skip_while_done_skipping s))
+        (I.may_give (skip_while_source s)) (I.canonical (skip_while_source s) ready.source) };
+}
+
+impl<T: Integer, I: Drop, P: Drop> SortedDisjoint<T> for SkipWhile<I, P>
+where
+    SkipWhile<I, P>: SortedStarts<T> + DrawDisjoint<T>,
+{}

@@ -1,0 +1,108 @@
+//! Ranges in any order, joined where one follows another that it overlaps or touches.
+
+ghost use Rattle.std.specs.Prelude.{◌≡◌, false};
+ghost use Rattle.std.specs.Iterator.{IsFinite};
+ghost use Rattle.std.specs.Ordering.{ord_max, ord_min};
+ghost use Rattle.std.specs.Range.{
+  range_inclusive_end,
+  range_inclusive_exhausted,
+  range_inclusive_start,
+};
+ghost use Rattle.rsb_streams.specs.UnsortedDisjoint.{
+  starts_past,
+  unsorted_remaining,
+  GivesSpans,
+  UnsortedReady,
+  UnsortedSteps,
+};
+
+use rsb_integer::Integer;
+use std::iter::{Fuse, FusedIterator};
+use std::ops::RangeInclusive;
+
+/// The ranges of an iterator in their order, each joined with the range gathered so far where the
+/// two overlap or touch; else that one is given, and the range begins anew. So what comes nearly in
+/// order, or in clusters, becomes few ranges. Empty ranges are skipped. It holds one range at most.
+/// (`UnsortedDisjoint` of the Rust crate, where it is private.)
+#[derive(Drop)]
+pub struct UnsortedDisjoint<T, I> {
+    iter: Fuse<I>,
+    // The range gathered so far.
+    gathered: Option<RangeInclusive<T>>,
+}
+
+impl<T: Integer, I: Iterator<Item = RangeInclusive<T>>> UnsortedDisjoint<T, I> {
+    /// The joined ranges of an iterator that may be called and ends; nothing is drawn yet. It takes
+    /// no memory. (`UnsortedDisjoint::new`.)
+    pub fn new(iter: I) -> Self
+        requires callable { I.can_next iter }
+        requires finite { IsFinite (I.remaining iter) }
+        ensures ready { ⟦<UnsortedDisjoint<T, I> as Iterator>⟧.can_next result }
+        ensures gives { GivesSpans T.rank I.next_gives iter
+            ⟦<UnsortedDisjoint<T, I> as Iterator>⟧.next_gives result }
+    {
+        UnsortedDisjoint {
+            iter: iter.fuse(),
+            gathered: None,
+        }
+    }
+}
+
+impl<T: Integer, I: Iterator<Item = RangeInclusive<T>>> Iterator for UnsortedDisjoint<T, I> {
+    type Item = RangeInclusive<T>;
+
+    ghost can_next = { UnsortedReady T.rank T.value_count I.can_next I.remaining };
+
+    ghost next_gives = { UnsortedSteps T.rank T.value_count I.next_gives };
+
+    ghost remaining = { unsorted_remaining I.remaining };
+
+    fn next(&mut self) -> Option<RangeInclusive<T>> {
+        while let Some(range) = self.iter.next() {
+            // Its ends are known for values from here on.
+            range.start().checked_add_one();
+            let after = range.end().checked_add_one();
+            if range.is_empty() {
+                continue;
+            }
+            let Some(gathered) = self.gathered.take() else {
+                self.gathered = Some(range);
+                continue;
+            };
+            let past = is_past(gathered.end().checked_add_one(), range.start());
+            let before = is_past(after, gathered.start());
+            if past || before {
+                self.gathered = Some(range);
+                return Some(gathered);
+            }
+            self.gathered = Some(joined(&gathered, &range));
+        }
+        self.gathered.take()
+    }
+}
+
+impl<T: Integer, I: Iterator<Item = RangeInclusive<T>> + FusedIterator> FusedIterator
+    for UnsortedDisjoint<T, I> {}
+
+// Whether a start lies past the value after the end of another range, if there is one.
+fn is_past<T: PartialOrd + Copy>(after: Option<T>, start: &T) -> bool
+    ensures { result ≡ starts_past T.partial_cmp after start.now }
+{
+    match after {
+        Some(next) => next < *start,
+        None => false,
+    }
+}
+
+// The range from the lesser start of two to the greater end.
+fn joined<T: Ord + Copy>(one: &RangeInclusive<T>, other: &RangeInclusive<T>) -> RangeInclusive<T>
+    ensures start { range_inclusive_start result
+        ≡ ord_min T.cmp (range_inclusive_start one.now) (range_inclusive_start other.now) }
+    ensures end { range_inclusive_end result
+        ≡ ord_max T.cmp (range_inclusive_end one.now) (range_inclusive_end other.now) }
+    ensures exhausted { range_inclusive_exhausted result ≡ false }
+{
+    let start = (*one.start()).min(*other.start());
+    let end = (*one.end()).max(*other.end());
+    start..=end
+}
