@@ -125,19 +125,35 @@ pub(crate) fn run_command<T: Integer, A: Allocator + Copy>(
         Command::Gap { slot, value } => Ok(piece_at(set_at(sets, *slot), *value)),
         Command::Count { slot } => Ok(Reply::Count(set_at(sets, *slot).len())),
         Command::Show { slot } => Ok(Reply::Ranges(ranges_of(alloc, set_at(sets, *slot))?)),
-        Command::Union { target, left, right } => {
+        Command::Union {
+            target,
+            left,
+            right,
+        } => {
             let set = set_at(sets, *left).bitor(set_at(sets, *right))?;
             Ok(put_set(sets, *target, set))
         }
-        Command::Intersection { target, left, right } => {
+        Command::Intersection {
+            target,
+            left,
+            right,
+        } => {
             let set = set_at(sets, *left).bitand(set_at(sets, *right))?;
             Ok(put_set(sets, *target, set))
         }
-        Command::Difference { target, left, right } => {
+        Command::Difference {
+            target,
+            left,
+            right,
+        } => {
             let set = set_at(sets, *left).sub(set_at(sets, *right))?;
             Ok(put_set(sets, *target, set))
         }
-        Command::SymmetricDifference { target, left, right } => {
+        Command::SymmetricDifference {
+            target,
+            left,
+            right,
+        } => {
             let set = set_at(sets, *left).bitxor(set_at(sets, *right))?;
             Ok(put_set(sets, *target, set))
         }

@@ -5,7 +5,7 @@ use Rattle.rsb_run.proofs.commands.put_set.Goals as goal
 
 pub returns-clause-put : goal.returns-clause-put
 returns-clause-put g c = λ selected has.
-    rw ← c.index.ensures.place
+    rw (← c.index.ensures.place)
     (sets_of-put c.args.sets.now.items c.index.result c.args.set selected (omega arith) has)
 
 -- the runs of the set are those of each selection that it has

@@ -1,11 +1,11 @@
 use Rattle.std.proofs.Common.{◌≡◌, ◌∙◌, ◌&&◌, not, [], ap, get_or, subst, sym, arith}
 use Rattle.std.proofs.lemmas.List.{get_or_read}
 use Rattle.rsb_integer.specs.Runs.{members}
-use Rattle.rsb_integer.specs.Selection.{difference}
+use Rattle.rsb_integer.specs.Selection.{difference, intersection, symmetric_difference, union}
 use Rattle.range_set_blaze.specs.Order.{HasOrder}
 use Rattle.range_set_blaze.specs.OrderLaws.{order-holds}
 use Rattle.range_set_blaze.specs.Set.{only}
-use Rattle.rsb_run.specs.Commands.{sets_of}
+use Rattle.rsb_run.specs.Commands.{left_out, sets_of}
 use Rattle.rsb_run.proofs.SetsLemmas.{after-added, reply-added, sets_of-put}
 use Rattle.rsb_run.proofs.commands.run_command.Goals as goal
 
@@ -58,3 +58,39 @@ returns-in-Compare-clause-reply g c =
     rw (c.in-Compare.is, ← c.set_at-in-Compare.ensures, ← c.set_at-in-Compare-2.ensures)
     (subst (HasOrder g.T.Integer.value_count (members left) (members right))
     (sym c.cmp-order.ensures) (order-holds g.T.Integer.value_count (members left) (members right)))
+
+pub returns-in_ok-set-in-Union-clause-reply : goal.returns-in_ok-set-in-Union-clause-reply
+returns-in_ok-set-in-Union-clause-reply g c =
+    let left = members c.set_at-in-Union.result.now in
+    let right = members c.set_at-in-Union-2.result.now in
+    rw (c.in-Union.is, ← c.set_at-in-Union.ensures, ← c.set_at-in-Union-2.ensures)
+    (c.put_set.ensures.runs (union left right) c.in_ok-set-in-Union.ensures.members)
+
+pub returns-in_ok-set-in-Intersection-clause-reply : goal.returns-in_ok-set-in-Intersection-clause-reply
+returns-in_ok-set-in-Intersection-clause-reply g c =
+    let left = members c.set_at-in-Intersection.result.now in
+    let right = members c.set_at-in-Intersection-2.result.now in
+    rw (c.in-Intersection.is, ← c.set_at-in-Intersection.ensures, ← c.set_at-in-Intersection-2.ensures)
+    (c.put_set-in-Intersection.ensures.runs (intersection left right) c.in_ok-set-in-Intersection.ensures.members)
+
+pub returns-in_ok-set-in-Difference-clause-reply : goal.returns-in_ok-set-in-Difference-clause-reply
+returns-in_ok-set-in-Difference-clause-reply g c =
+    let left = members c.set_at-in-Difference.result.now in
+    let right = members c.set_at-in-Difference-2.result.now in
+    rw (c.in-Difference.is, ← c.set_at-in-Difference.ensures, ← c.set_at-in-Difference-2.ensures)
+    (c.put_set-in-Difference.ensures.runs (difference left right) c.in_ok-set-in-Difference.ensures.members)
+
+pub returns-in_ok-set-in-SymmetricDifference-clause-reply : goal.returns-in_ok-set-in-SymmetricDifference-clause-reply
+returns-in_ok-set-in-SymmetricDifference-clause-reply g c =
+    let left = members c.set_at-in-SymmetricDifference.result.now in
+    let right = members c.set_at-in-SymmetricDifference-2.result.now in
+    rw (c.in-SymmetricDifference.is, ← c.set_at-in-SymmetricDifference.ensures, ← c.set_at-in-SymmetricDifference-2.ensures)
+    (c.put_set-in-SymmetricDifference.ensures.runs (symmetric_difference left right) c.in_ok-set-in-SymmetricDifference.ensures.members)
+
+pub returns-in_ok-set-in-Complement-clause-reply : goal.returns-in_ok-set-in-Complement-clause-reply
+returns-in_ok-set-in-Complement-clause-reply g c =
+    let source = members c.set_at-in-Complement.result.now in
+    rw (c.in-Complement.is, ← c.set_at-in-Complement.ensures)
+    (c.put_set-in-Complement.ensures.runs
+    (left_out g.T.Integer.rank g.T.Integer.value_count source)
+    c.in_ok-set-in-Complement.ensures.members)
