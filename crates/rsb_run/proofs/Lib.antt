@@ -2,6 +2,7 @@ pub mod AnswerLemmas
 pub mod CutLemmas
 pub mod NumberLemmas
 pub mod ParseLemmas
+pub mod PieceLemmas
 pub mod ReplyLemmas
 pub mod RunLemmas
 pub mod SetsLemmas

@@ -3,12 +3,14 @@ use Rattle.std.proofs.Common.{◌≡◌, ◌∙◌, ◌↔◌, ℕ, zero, suc, B
 use Rattle.std.specs.declared.ops.RangeInclusive.{RangeInclusive}
 use Rattle.rsb_integer.specs.Rank.{intervals_of}
 use Rattle.rsb_integer.specs.Runs.{AreRuns}
-use Rattle.rsb_integer.specs.Selection.{Selection}
+use Rattle.rsb_integer.specs.Selection.{Selection, difference, intersection, symmetric_difference, union}
 use Rattle.rsb_integer.proofs.RangeLemmas.{same_ranges}
 use Rattle.rsb_integer.proofs.RunsLemmas.{runs-canonical, runs-same}
+use Rattle.range_set_blaze.proofs.OrderLemmas.{order-unique}
 use Rattle.rsb_run.specs.declared.command.Command.{Command}
-use Rattle.rsb_run.specs.declared.command.Command.TheVariants.{Add, Has, Count, Show}
-use Rattle.rsb_run.specs.Commands.{Content, flag, number, ranges, Sets, after, IsReply, AreRepliesFrom}
+use Rattle.rsb_run.specs.declared.command.Command.TheVariants.{Add, Del, Has, Gap, Count, Show, Union, Intersection, Difference, SymmetricDifference, Complement, Compare}
+use Rattle.rsb_run.specs.Commands.{Content, flag, number, order, piece, ranges, runs, Sets, after, left_out, IsReply, AreRepliesFrom}
+use Rattle.rsb_run.proofs.PieceLemmas.{one_many, one_piece}
 
 -- two answers to one question are equal
 same_answer : (left right : Bool) (Fact : Type 0) → IsTrue left ↔ Fact → IsTrue right ↔ Fact
@@ -36,14 +38,37 @@ module _ {T : Type 0} (rank : T → ℕ) (value_count : ℕ)
       → left ≡ right
   one_reply sets (Add slot first last) (flag l) (flag r) is also =
       ap flag (same_answer l r _ is also)
+  one_reply sets (Del slot value) (flag l) (flag r) is also = ap flag (is ∙ sym also)
   one_reply sets (Has slot value) (flag l) (flag r) is also = ap flag (is ∙ sym also)
+  one_reply sets (Gap slot value) (piece a b l) (piece c d r) is also =
+      one_piece rank value_count one_place (sets slot) (rank value) a b c d l r is also
   one_reply sets (Count slot) (number l) (number r) is also = ap number (is ∙ sym also)
   one_reply sets (Show slot) (ranges l) (ranges r) is also =
       ap ranges (one_ranges (sets slot) l r is also)
+  one_reply sets (Union target left right) (runs l) (runs r) is also =
+      ap runs (one_many rank value_count one_place (union (sets left) (sets right)) l r is also)
+  one_reply sets (Intersection target left right) (runs l) (runs r) is also =
+      ap runs (one_many rank value_count one_place (intersection (sets left) (sets right)) l r is also)
+  one_reply sets (Difference target left right) (runs l) (runs r) is also =
+      ap runs (one_many rank value_count one_place (difference (sets left) (sets right)) l r is also)
+  one_reply sets (SymmetricDifference target left right) (runs l) (runs r) is also =
+      ap runs (one_many rank value_count one_place (symmetric_difference (sets left) (sets right)) l r is also)
+  one_reply sets (Complement target source) (runs l) (runs r) is also =
+      ap runs (one_many rank value_count one_place (left_out rank value_count (sets source)) l r is also)
+  one_reply sets (Compare left right) (order l) (order r) is also =
+      ap order (order-unique value_count (sets left) (sets right) l r is also)
   one_reply sets (Add slot first last) (flag l) _ is also = absurd also
+  one_reply sets (Del slot value) (flag l) _ is also = absurd also
   one_reply sets (Has slot value) (flag l) _ is also = absurd also
+  one_reply sets (Gap slot value) (piece a b l) _ is also = absurd also
   one_reply sets (Count slot) (number l) _ is also = absurd also
   one_reply sets (Show slot) (ranges l) _ is also = absurd also
+  one_reply sets (Union target left right) (runs l) _ is also = absurd also
+  one_reply sets (Intersection target left right) (runs l) _ is also = absurd also
+  one_reply sets (Difference target left right) (runs l) _ is also = absurd also
+  one_reply sets (SymmetricDifference target left right) (runs l) _ is also = absurd also
+  one_reply sets (Complement target source) (runs l) _ is also = absurd also
+  one_reply sets (Compare left right) (order l) _ is also = absurd also
   one_reply sets _ _ _ is also = absurd is
 
   -- commands have one list of replies

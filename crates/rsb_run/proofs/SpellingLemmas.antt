@@ -2,7 +2,7 @@
 use Rattle.std.proofs.Common.{◌≡◌, ◌∙◌, ℕ, ℤ, ◌+◌, ◌*◌, Bool, true, false, List, [], ◌∷◌, get_or, map, arith, refl, sym, ap, subst}
 use Rattle.std.specs.List.{AllZip}
 use Rattle.rsb_run.specs.declared.command.Command.{Command}
-use Rattle.rsb_run.specs.declared.command.Command.TheVariants.{Add, Has, Count, Show}
+use Rattle.rsb_run.specs.declared.command.Command.TheVariants.{Add, Del, Has, Gap, Count, Show, Union, Intersection, Difference, SymmetricDifference, Complement, Compare}
 use Rattle.rsb_run.specs.Spelling.{Argument, slot, number, IsArgument, IsNumber, IsSlot, LacksFirst, Spells, line_of, words}
 
 -- ---- what a word stands for, by its kind
@@ -112,13 +112,29 @@ record AreAlike (left right : Command ℤ) : Type 0 where
 alike : (left right : Command ℤ) → (line_of left).keyword ≡ (line_of right).keyword
     → AreAlike left right
 alike (Add m v w) (Add n x y) is = record { same_kinds = refl; told_apart = λ same. cc }
+alike (Del m v) (Del n x) is = record { same_kinds = refl; told_apart = λ same. cc }
 alike (Has m v) (Has n x) is = record { same_kinds = refl; told_apart = λ same. cc }
+alike (Gap m v) (Gap n x) is = record { same_kinds = refl; told_apart = λ same. cc }
 alike (Count m) (Count n) is = record { same_kinds = refl; told_apart = λ same. cc }
 alike (Show m) (Show n) is = record { same_kinds = refl; told_apart = λ same. cc }
+alike (Union k l m) (Union n o p) is = record { same_kinds = refl; told_apart = λ same. cc }
+alike (Intersection k l m) (Intersection n o p) is = record { same_kinds = refl; told_apart = λ same. cc }
+alike (Difference k l m) (Difference n o p) is = record { same_kinds = refl; told_apart = λ same. cc }
+alike (SymmetricDifference k l m) (SymmetricDifference n o p) is = record { same_kinds = refl; told_apart = λ same. cc }
+alike (Complement l m) (Complement n o) is = record { same_kinds = refl; told_apart = λ same. cc }
+alike (Compare l m) (Compare n o) is = record { same_kinds = refl; told_apart = λ same. cc }
 alike (Add m v w) _ is = let e = ap letters is in absurd (omega (arith, e))
+alike (Del m v) _ is = let e = ap letters is in absurd (omega (arith, e))
 alike (Has m v) _ is = let e = ap letters is in absurd (omega (arith, e))
+alike (Gap m v) _ is = let e = ap letters is in absurd (omega (arith, e))
 alike (Count m) _ is = let e = ap letters is in absurd (omega (arith, e))
 alike (Show m) _ is = let e = ap letters is in absurd (omega (arith, e))
+alike (Union k l m) _ is = let e = ap letters is in absurd (omega (arith, e))
+alike (Intersection k l m) _ is = let e = ap letters is in absurd (omega (arith, e))
+alike (Difference k l m) _ is = let e = ap letters is in absurd (omega (arith, e))
+alike (SymmetricDifference k l m) _ is = let e = ap letters is in absurd (omega (arith, e))
+alike (Complement l m) _ is = let e = ap letters is in absurd (omega (arith, e))
+alike (Compare l m) _ is = let e = ap letters is in absurd (omega (arith, e))
 
 -- the first word is the command's keyword, and the others are its arguments
 record Spelled (keyword : List ℕ) (arguments : List (List ℕ)) (command : Command ℤ) : Type 0 where
@@ -183,3 +199,18 @@ pub slot_value_none : (words : List (List ℕ))
     → (xs : List Argument) → kinds xs ≡ true ∷ false ∷ [] → AllZip IsArgument words xs → ⊥
 slot_value_none words none (slot n ∷ number x ∷ []) same are = none (n, x) are
 slot_value_none words none _ same are = absurd cc
+
+-- words that are no two slots stand for no arguments of those kinds
+pub two_slots_none : (words : List (List ℕ))
+    → ((read : ℕ × ℕ) → AllZip IsArgument words (slot read.0 ∷ slot read.1 ∷ []) → ⊥)
+    → (xs : List Argument) → kinds xs ≡ true ∷ true ∷ [] → AllZip IsArgument words xs → ⊥
+two_slots_none words none (slot m ∷ slot n ∷ []) same are = none (m, n) are
+two_slots_none words none _ same are = absurd cc
+
+-- words that are no three slots stand for no arguments of those kinds
+pub three_slots_none : (words : List (List ℕ))
+    → ((read : ℕ × ℕ × ℕ)
+    → AllZip IsArgument words (slot read.0 ∷ slot read.1 ∷ slot read.2 ∷ []) → ⊥)
+    → (xs : List Argument) → kinds xs ≡ true ∷ true ∷ true ∷ [] → AllZip IsArgument words xs → ⊥
+three_slots_none words none (slot l ∷ slot m ∷ slot n ∷ []) same are = none (l, m, n) are
+three_slots_none words none _ same are = absurd cc

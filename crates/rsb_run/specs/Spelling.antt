@@ -1,5 +1,5 @@
 -- Which commands the lines of an input spell.
-use Rattle.std.specs.Prelude.{◌≡◌, ℕ, ℤ, ◌+◌, ◌<◌, ◌==◌, ◌||◌, ◌++◌, Bool, Option, List, [], ◌∷◌, All, IsTrue, MatchOption, codes, filter, length, map, nat_lt}
+use Rattle.std.specs.Prelude.{◌≡◌, ◌≢◌, ℕ, ℤ, ◌+◌, ◌<◌, ◌==◌, ◌||◌, ◌++◌, Bool, Option, List, [], ◌∷◌, All, IsTrue, MatchOption, codes, filter, length, map, nat_lt}
 use Rattle.std.specs.Borrow.{Bor}
 use Rattle.std.specs.Int.{w32}
 use Rattle.std.specs.Int.RustNames.{FitsSigned}
@@ -7,7 +7,7 @@ use Rattle.std.specs.List.{AllZip, slice_split}
 use Rattle.std.specs.Str.Lines.{lines}
 use Rattle.std.specs.Str.Parse.{IsNumeral, signed_digits_value, without_leading_sign}
 use Rattle.rsb_run.specs.declared.command.Command.{Command}
-use Rattle.rsb_run.specs.declared.command.Command.TheVariants.{Add, Has, Count, Show}
+use Rattle.rsb_run.specs.declared.command.Command.TheVariants.{Add, Del, Has, Gap, Count, Show, Union, Intersection, Difference, SymmetricDifference, Complement, Compare}
 
 -- ---- words
 
@@ -57,15 +57,45 @@ line_of (Add set first last) = record {
   keyword = codes "add";
   arguments = slot set ∷ number first ∷ number last ∷ [];
 }
+line_of (Del set value) = record { keyword = codes "del"; arguments = slot set ∷ number value ∷ [] }
 line_of (Has set value) = record { keyword = codes "has"; arguments = slot set ∷ number value ∷ [] }
+line_of (Gap set value) = record { keyword = codes "gap"; arguments = slot set ∷ number value ∷ [] }
 line_of (Count set) = record { keyword = codes "len"; arguments = slot set ∷ [] }
 line_of (Show set) = record { keyword = codes "show"; arguments = slot set ∷ [] }
+line_of (Union target left right) = record {
+  keyword = codes "or";
+  arguments = slot target ∷ slot left ∷ slot right ∷ [];
+}
+line_of (Intersection target left right) = record {
+  keyword = codes "and";
+  arguments = slot target ∷ slot left ∷ slot right ∷ [];
+}
+line_of (Difference target left right) = record {
+  keyword = codes "sub";
+  arguments = slot target ∷ slot left ∷ slot right ∷ [];
+}
+line_of (SymmetricDifference target left right) = record {
+  keyword = codes "xor";
+  arguments = slot target ∷ slot left ∷ slot right ∷ [];
+}
+line_of (Complement target source) = record {
+  keyword = codes "not";
+  arguments = slot target ∷ slot source ∷ [];
+}
+line_of (Compare left right) = record {
+  keyword = codes "cmp";
+  arguments = slot left ∷ slot right ∷ [];
+}
 
 -- the words are those of the command's line, a number in any of its spellings
 pub record Spells (line_words : List (List ℕ)) (command : Command ℤ) : Type 0 where
   pub arguments : List (List ℕ)
   pub parts : line_words ≡ (line_of command).keyword ∷ arguments
   pub stand_for : AllZip IsArgument arguments (line_of command).arguments
+
+-- the word is none of these
+abbrev pub IsNoneOf : List (List ℕ) → List ℕ → Type 0
+IsNoneOf others word = All (λ other. word ≢ other) others
 
 -- ---- inputs
 

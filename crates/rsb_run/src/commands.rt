@@ -3,13 +3,16 @@
 ghost use Rattle.std.specs.Prelude.{◌≡◌, ◌<◌, ◌⊎◌, [], IfErr, IfOk, IfSome, List, OnErr, OnOk, length, slice_get, slice_index_or, take, vec_len};
 ghost use Rattle.rsb_integer.specs.Rank.{intervals_of};
 ghost use Rattle.rsb_integer.specs.Runs.{AreRuns, members};
-ghost use Rattle.rsb_run.specs.Commands.{AreReplies, Content, IsReply, MayTakeMemory, after, content_of, contents_of, no_members, sets_of};
+ghost use Rattle.rsb_integer.specs.Selection.{Selection};
+ghost use Rattle.range_set_blaze.specs.Set.{IsSetOf};
+ghost use Rattle.rsb_run.specs.Commands.{AreReplies, Content, IsPieceReply, IsReply, IsRunsReply, MayTakeMemory, after, content_of, contents_of, no_members, put, sets_of};
 
 use crate::command::Command;
 use crate::set_no::SetNo;
 use range_set_blaze::RangeSetBlaze;
 use rsb_integer::Integer;
 use std::alloc::{AllocError, Allocator, Global};
+use std::cmp::Ordering;
 use std::ops::RangeInclusive;
 
 /// What a command replies.
@@ -18,10 +21,16 @@ use std::ops::RangeInclusive;
 pub enum Reply<T: Integer, A: Allocator = Global> {
     /// Whether something was so.
     Flag(bool),
+    /// The first and the last value of a run, with true, or of a gap, with false.
+    Piece { first: T, last: T, present: bool },
     /// How many values the set has.
     Count(T::SafeLen),
     /// The ranges of the set, ascending.
     Ranges(Vec<RangeInclusive<T>, A>),
+    /// How many runs the set has that was made.
+    Runs(usize),
+    /// How two sets compare.
+    Order(Ordering),
 }
 
 /// Commands that were stopped for want of memory.
@@ -108,9 +117,54 @@ pub(crate) fn run_command<T: Integer, A: Allocator + Copy>(
             let set = &mut sets[slot.index()];
             Ok(Reply::Flag(set.ranges_insert(*first..=*last)?))
         }
+        Command::Del { slot, value } => {
+            let set = &mut sets[slot.index()];
+            Ok(Reply::Flag(set.remove(*value)?))
+        }
         Command::Has { slot, value } => Ok(Reply::Flag(set_at(sets, *slot).contains(*value))),
+        Command::Gap { slot, value } => Ok(piece_at(set_at(sets, *slot), *value)),
         Command::Count { slot } => Ok(Reply::Count(set_at(sets, *slot).len())),
         Command::Show { slot } => Ok(Reply::Ranges(ranges_of(alloc, set_at(sets, *slot))?)),
+        Command::Union {
+            target,
+            left,
+            right,
+        } => {
+            let set = set_at(sets, *left).bitor(set_at(sets, *right))?;
+            Ok(put_set(sets, *target, set))
+        }
+        Command::Intersection {
+            target,
+            left,
+            right,
+        } => {
+            let set = set_at(sets, *left).bitand(set_at(sets, *right))?;
+            Ok(put_set(sets, *target, set))
+        }
+        Command::Difference {
+            target,
+            left,
+            right,
+        } => {
+            let set = set_at(sets, *left).sub(set_at(sets, *right))?;
+            Ok(put_set(sets, *target, set))
+        }
+        Command::SymmetricDifference {
+            target,
+            left,
+            right,
+        } => {
+            let set = set_at(sets, *left).bitxor(set_at(sets, *right))?;
+            Ok(put_set(sets, *target, set))
+        }
+        Command::Complement { target, source } => {
+            let set = set_at(sets, *source).not()?;
+            Ok(put_set(sets, *target, set))
+        }
+        Command::Compare { left, right } => {
+            let order = set_at(sets, *left).cmp(set_at(sets, *right));
+            Ok(Reply::Order(order))
+        }
     }
 }
 
@@ -123,6 +177,38 @@ fn set_at<T: Integer, A: Allocator>(
     ensures { result.now ≡ slice_index_or sets.now.items slot [] }
 {
     &sets[slot.index()]
+}
+
+// Puts a set in a slot, and replies how many runs it has.
+fn put_set<T: Integer, A: Allocator>(
+    sets: &mut Vec<RangeSetBlaze<T, A>, A>,
+    slot: SetNo,
+    set: RangeSetBlaze<T, A>,
+) -> Reply<T, A>
+    requires { vec_len sets.old ≡ 10 }
+    ensures ten { vec_len sets.new ≡ 10 }
+    ensures put { (selected : Selection) → IsSetOf set selected
+        → sets_of sets.new.items ≡ put (sets_of sets.old.items) slot selected }
+    ensures runs { (selected : Selection) → IsSetOf set selected
+        → IsRunsReply T.rank T.value_count selected (content_of T.SafeLen.number result) }
+{
+    let runs = set.ranges_len();
+    sets[slot.index()] = set;
+    Reply::Runs(runs)
+}
+
+// The run or the gap that a value lies in.
+fn piece_at<T: Integer, A: Allocator>(set: &RangeSetBlaze<T, A>, value: T) -> Reply<T, A>
+    ensures { IsPieceReply T.rank T.value_count (members set.now) (T.rank value)
+        (content_of T.SafeLen.number result) }
+{
+    let (range, present) = set.range_or_gap_at(value);
+    let (first, last) = range.into_inner();
+    Reply::Piece {
+        first,
+        last,
+        present,
+    }
 }
 
 // The ranges of a set.

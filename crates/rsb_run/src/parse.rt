@@ -1,12 +1,12 @@
 //! Lines, words and commands in bytes. A line is read in place, with no memory of its own.
 
-ghost use Rattle.std.specs.Prelude.{◌≡◌, ◌≢◌, ◌↔◌, ℕ, ℤ, ◌^◌, ◌<◌, ◌≤◌, ◌==◌, [], ◌∷◌, Err, IfOk, IfSome, IsTrue, List, MatchOption, Some, SomeIff, length, position};
+ghost use Rattle.std.specs.Prelude.{◌≡◌, ◌≢◌, ◌↔◌, ℕ, ℤ, ◌^◌, ◌<◌, ◌≤◌, ◌==◌, [], ◌∷◌, Err, IfOk, IfSome, IsTrue, List, MatchOption, Some, SomeIff, codes, length, position};
 ghost use Rattle.std.specs.Char.{digit_value};
 ghost use Rattle.std.specs.List.{AllZip};
 ghost use Rattle.std.specs.Str.Lines.{lines, strip_carriage_return};
 ghost use Rattle.std.specs.Str.Parse.{IsNumeral, digits_value};
 ghost use Rattle.rsb_run.specs.declared.command.Command.{Command};
-ghost use Rattle.rsb_run.specs.Spelling.{AreCommands, IsArgument, IsFirstBadLine, IsNumber, IsSlot, Reads, ReadsFirst, Spells, is_blank, number, slot, words};
+ghost use Rattle.rsb_run.specs.Spelling.{AreCommands, IsArgument, IsFirstBadLine, IsNoneOf, IsNumber, IsSlot, Reads, ReadsFirst, Spells, is_blank, number, slot, words};
 
 use crate::command::Command;
 use crate::fault::Fault;
@@ -131,9 +131,17 @@ fn command_of(keyword: &[u8], arguments: &[u8]) -> Option<Command<i32>>
             let (slot, first, last) = slot_and_range(arguments)?;
             Some(Command::Add { slot, first, last })
         }
+        b"del" => {
+            let (slot, value) = slot_and_value(arguments)?;
+            Some(Command::Del { slot, value })
+        }
         b"has" => {
             let (slot, value) = slot_and_value(arguments)?;
             Some(Command::Has { slot, value })
+        }
+        b"gap" => {
+            let (slot, value) = slot_and_value(arguments)?;
+            Some(Command::Gap { slot, value })
         }
         b"len" => {
             let slot = one_slot(arguments)?;
@@ -142,6 +150,57 @@ fn command_of(keyword: &[u8], arguments: &[u8]) -> Option<Command<i32>>
         b"show" => {
             let slot = one_slot(arguments)?;
             Some(Command::Show { slot })
+        }
+        _ => operation_of(keyword, arguments),
+    }
+}
+
+// The command on several sets that a keyword and the words of its arguments spell.
+fn operation_of(keyword: &[u8], arguments: &[u8]) -> Option<Command<i32>>
+    requires { IsNoneOf (codes "add" ∷ codes "del" ∷ codes "has" ∷ codes "gap" ∷ codes "len"
+        ∷ codes "show" ∷ []) keyword.now }
+    ensures { Reads result (Spells (keyword.now ∷ words arguments.now)) }
+{
+    match keyword {
+        b"or" => {
+            let (target, left, right) = three_slots(arguments)?;
+            Some(Command::Union {
+                target,
+                left,
+                right,
+            })
+        }
+        b"and" => {
+            let (target, left, right) = three_slots(arguments)?;
+            Some(Command::Intersection {
+                target,
+                left,
+                right,
+            })
+        }
+        b"sub" => {
+            let (target, left, right) = three_slots(arguments)?;
+            Some(Command::Difference {
+                target,
+                left,
+                right,
+            })
+        }
+        b"xor" => {
+            let (target, left, right) = three_slots(arguments)?;
+            Some(Command::SymmetricDifference {
+                target,
+                left,
+                right,
+            })
+        }
+        b"not" => {
+            let (target, source) = two_slots(arguments)?;
+            Some(Command::Complement { target, source })
+        }
+        b"cmp" => {
+            let (left, right) = two_slots(arguments)?;
+            Some(Command::Compare { left, right })
         }
         _ => None,
     }
@@ -193,6 +252,30 @@ fn one_slot(arguments: &[u8]) -> Option<SetNo>
     } else {
         None
     }
+}
+
+// Two sets, and nothing after them.
+#[inline(always)]
+fn two_slots(arguments: &[u8]) -> Option<(SetNo, SetNo)>
+    ensures { Reads result (λ read. AllZip IsArgument (words arguments.now)
+        (slot read.0 ∷ slot read.1 ∷ [])) }
+{
+    let (word, rest) = first_word(arguments)?;
+    let left = slot(word)?;
+    let right = one_slot(rest)?;
+    Some((left, right))
+}
+
+// Three sets, and nothing after them.
+#[inline(always)]
+fn three_slots(arguments: &[u8]) -> Option<(SetNo, SetNo, SetNo)>
+    ensures { Reads result (λ read. AllZip IsArgument (words arguments.now)
+        (slot read.0 ∷ slot read.1 ∷ slot read.2 ∷ [])) }
+{
+    let (word, rest) = first_word(arguments)?;
+    let target = slot(word)?;
+    let (left, right) = two_slots(rest)?;
+    Some((target, left, right))
 }
 
 // The number that the first word of a line spells, and what comes after it.

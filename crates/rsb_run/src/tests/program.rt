@@ -49,9 +49,63 @@ fn commands_are_answered(rt: HostRuntime) {
     }
 }
 
+const ALL_COMMANDS: &[u8] = b"add 0 1 5\nadd 0 6 9\ndel 0 3\nshow 0\nlen 0\ngap 0 3\nadd 1 4 4\n\
+sub 2 0 1\nshow 2\nxor 3 2 1\nshow 3\nnot 4 0\nshow 4\ncmp 0 1\nhas 0 4\nadd 0 9 8\nshow 5\n";
+
+const ALL_REPLIES: &[u8] = b"true\ntrue\ntrue\n1..=2, 4..=9\n8\n3..=3 false\ntrue\n\
+2\n1..=2, 5..=9\n2\n1..=2, 4..=9\n3\n-2147483648..=0, 3..=3, 10..=2147483647\nless\ntrue\nfalse\n\n";
+
+#[test]
+fn operations_are_answered(rt: HostRuntime) {
+    let rows: [(&str, &[u8], &[u8]); 8] = [
+        (
+            "the worked session of all commands",
+            ALL_COMMANDS,
+            ALL_REPLIES,
+        ),
+        (
+            "a gap to both ends",
+            b"gap 9 0\n",
+            b"-2147483648..=2147483647 false\n",
+        ),
+        (
+            "a run",
+            b"add 0 1 5\ngap 0 1\ngap 0 6\n",
+            b"true\n1..=5 true\n6..=2147483647 false\n",
+        ),
+        (
+            "a set less itself",
+            b"add 0 1 5\nsub 0 0 0\ncmp 0 1\n",
+            b"true\n0\nequal\n",
+        ),
+        ("a sign and a carriage return", b"has 0 +5\r\n", b"false\n"),
+        (
+            "values taken out",
+            b"add 0 1 3\ndel 0 2\ndel 0 2\nshow 0\n",
+            b"true\ntrue\nfalse\n1..=1, 3..=3\n",
+        ),
+        (
+            "targets that are sources",
+            b"add 0 1 5\nadd 1 4 9\nor 0 0 1\nshow 0\nand 0 1 0\nshow 0\nxor 1 1 0\nsub 0 0 1\nnot 1 1\nshow 1\n",
+            b"true\ntrue\n1\n1..=9\n1\n4..=9\n0\n1\n1\n-2147483648..=2147483647\n",
+        ),
+        (
+            "the order of elements",
+            b"add 0 5 5\nadd 1 1 1\ncmp 0 1\ncmp 1 0\n",
+            b"true\ntrue\ngreater\nless\n",
+        ),
+    ];
+    for (what, input, wanted) in rows {
+        let mut rest = input;
+        let mut output = Vec::new(rt.alloc());
+        assert!(rt; run(rt.alloc(), &mut rest, &mut output) == Ok(()), "{what}");
+        assert!(rt; output.as_slice() == wanted, "{what}");
+    }
+}
+
 #[test]
 fn bad_lines_are_told_by_their_number(rt: HostRuntime) {
-    let rows: [(&[u8], u64); 38] = [
+    let rows: [(&[u8], u64); 31] = [
         (b"len 0\nlen 10\n", 2),
         (b"\n\t\nlen 0\nlen\nlen\n", 4),
         (b"plus 0 1 2\n", 1),
@@ -83,13 +137,35 @@ fn bad_lines_are_told_by_their_number(rt: HostRuntime) {
         (b"len 0\0\n", 1),
         (b"len 0\r", 1),
         (b"len 0\r\r\n", 1),
-        (b"del 0 1\n", 1),
-        (b"gap 0 1\n", 1),
-        (b"or 0 1 2\n", 1),
-        (b"sub 0 1 2\n", 1),
-        (b"xor 0 1 2\n", 1),
-        (b"not 0 1\n", 1),
-        (b"cmp 0 1\n", 1),
+    ];
+    for (row, (input, number)) in rows.iter().enumerate() {
+        let mut rest = *input;
+        let mut output = Vec::new(rt.alloc());
+        let told = run(rt.alloc(), &mut rest, &mut output);
+        assert!(rt; told == Err(Fault::BadLine(*number)), "row {row}");
+        assert!(rt; output.is_empty(), "row {row}");
+    }
+}
+
+#[test]
+fn bad_lines_of_each_operation_are_told(rt: HostRuntime) {
+    let rows: [(&[u8], u64); 16] = [
+        (b"\t\nnot 10 0\n", 2),
+        (b"del 0\n", 1),
+        (b"del 0 1 2\n", 1),
+        (b"del a 1\n", 1),
+        (b"gap 0 1 2\n", 1),
+        (b"gap 0 2147483648\n", 1),
+        (b"or 0 1\n", 1),
+        (b"and 0 1 2 3\n", 1),
+        (b"and 0 1 x\n", 1),
+        (b"sub 0 1 -2\n", 1),
+        (b"xor 0 1 10\n", 1),
+        (b"xor\n", 1),
+        (b"not 0\n", 1),
+        (b"not 0 1 2\n", 1),
+        (b"cmp 0\n", 1),
+        (b"most 0 1 2\n", 1),
     ];
     for (row, (input, number)) in rows.iter().enumerate() {
         let mut rest = *input;

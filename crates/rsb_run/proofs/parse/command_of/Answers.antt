@@ -1,7 +1,7 @@
 use Rattle.std.proofs.Common.{◌≡◌, arith, pos, refl}
 use Rattle.std.proofs.lemmas.Grind.{common_steps}
 use Rattle.std.specs.Prelude.{codes}
-use Rattle.rsb_run.specs.declared.command.Command.TheVariants.{Add, Has}
+use Rattle.rsb_run.specs.declared.command.Command.TheVariants.{Add, Del, Has, Gap}
 use Rattle.rsb_run.proofs.SpellingLemmas.{no_arguments, slot_range_none, slot_value_none}
 use Rattle.rsb_run.proofs.parse.command_of.Goals as goal
 
@@ -18,3 +18,17 @@ returns-in_err-slot-in-has c =
     rw c.from_residual-in_err-slot-in-has.ensures
     (no_arguments _ _ _ (Has 0 (pos 0)) refl is_has
     (slot_value_none _ c.in_err-slot-in-has.ensures))
+
+pub returns-in_err-slot-in-del : goal.returns-in_err-slot-in-del
+returns-in_err-slot-in-del c =
+    let is_del : c.args.keyword.now ≡ codes "del" = grind (arith, common_steps) in
+    rw c.from_residual-in_err-slot-in-del.ensures
+    (no_arguments _ _ _ (Del 0 (pos 0)) refl is_del
+    (slot_value_none _ c.in_err-slot-in-del.ensures))
+
+pub returns-in_err-slot-in-gap : goal.returns-in_err-slot-in-gap
+returns-in_err-slot-in-gap c =
+    let is_gap : c.args.keyword.now ≡ codes "gap" = grind (arith, common_steps) in
+    rw c.from_residual-in_err-slot-in-gap.ensures
+    (no_arguments _ _ _ (Gap 0 (pos 0)) refl is_gap
+    (slot_value_none _ c.in_err-slot-in-gap.ensures))
