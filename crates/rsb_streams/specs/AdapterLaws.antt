@@ -119,7 +119,8 @@ module _ {S T : Type 0} (rank : T → ℕ) (n : ℕ) {can_draw : S → Type 0}
         → take_while_can_draw can_draw draw_gives draws_left can_next next_gives remaining call s
         → Keeps (HasSortedStarts n) (take_while_may_give may_give s) (remaining (take_while_source s))
     take_while-keeps s ready = part-keeps n (front-is_part (take_while_done s)) (may_give (take_while_source s))
-        (draws_left (take_while_source s)) (remaining (take_while_source s)) (finite (take_while_source s) ready.source) (sorted (take_while_source s) ready.source)
+        (draws_left (take_while_source s)) (remaining (take_while_source s))
+        (finite (take_while_source s) ready.source) (sorted (take_while_source s) ready.source)
 
     -- a `SkipWhile` that ended, by whether it passed over no more
     skip_while-none : (started : Bool) (s t : S) → can_next s
@@ -178,7 +179,8 @@ module _ {S T : Type 0} (rank : T → ℕ) (n : ℕ) {can_draw : S → Type 0}
         → skip_while_can_draw can_draw draw_gives draws_left can_next next_gives remaining call s
         → Keeps (HasSortedStarts n) (skip_while_may_give may_give s) (remaining (skip_while_source s))
     skip_while-keeps s ready = part-keeps n (rest-is_part (skip_while_done_skipping s)) (may_give (skip_while_source s))
-        (draws_left (skip_while_source s)) (remaining (skip_while_source s)) (finite (skip_while_source s) ready.source) (sorted (skip_while_source s) ready.source)
+        (draws_left (skip_while_source s)) (remaining (skip_while_source s))
+        (finite (skip_while_source s) ready.source) (sorted (skip_while_source s) ready.source)
 
   -- a `Take` that ended, by how many more it gives
   take-none : (count : ℕ) (s t : S) → can_next s → (0 < count → next_gives s None t)
@@ -258,7 +260,8 @@ module _ {S T : Type 0} (rank : T → ℕ) (n : ℕ) {can_draw : S → Type 0}
       → skip_can_draw can_draw draw_gives draws_left can_next next_gives remaining s
       → Keeps (HasSortedStarts n) (skip_may_give next_gives may_give s) (count_map (λ left. left - skip_count s) (remaining (skip_source s)))
   skip-keeps s ready = part-keeps n (skip-is_part next_gives (skip_source s) (skip_count s)) (may_give (skip_source s))
-      (draws_left (skip_source s)) (count_map (λ left. left - skip_count s) (remaining (skip_source s))) (finite (skip_source s) ready.source) (sorted (skip_source s) ready.source)
+      (draws_left (skip_source s)) (count_map (λ left. left - skip_count s) (remaining (skip_source s)))
+      (finite (skip_source s) ready.source) (sorted (skip_source s) ready.source)
 
   -- a `Fuse` that answered `None`, by whether it had ended before
   fuse-none : (done : Bool) (s t : S) → (done ≡ false → can_next s)
