@@ -8,12 +8,12 @@ use Rattle.std.proofs.lemmas.List.Elements.{filter-append}
 use Rattle.std.specs.declared.ops.RangeInclusive.{RangeInclusive}
 use Rattle.rsb_integer.specs.Rank.{interval_of}
 use Rattle.rsb_integer.specs.Runs.{Interval, length_of, IsCanonicalIn}
+use Rattle.rsb_streams.specs.Sublists.{sublist-canonical, IsSublist}
 use Rattle.range_set_blaze.specs.Kept.{entry_of, entry_run, run_of, runs_of, IsKept}
-use Rattle.range_set_blaze.specs.Set.{IsSublist}
 use Rattle.range_set_blaze.specs.declared.set.run.Run.{Run}
 use Rattle.range_set_blaze.proofs.KeptLemmas.{sum_by-canonical}
 use Rattle.range_set_blaze.proofs.RetainLemmas.{asked-coming, to_come, IsRetaining}
-use Rattle.range_set_blaze.proofs.SublistLemmas.{sublist-below, sublist-canonical, sublist-map}
+use Rattle.range_set_blaze.proofs.SublistLemmas.{sublist-map}
 
 -- the ranks of a range that was made of a run
 pub range-run : {T : Type 0} (rank : T → ℕ) (range : RangeInclusive T) (run : Run T)
@@ -115,10 +115,8 @@ module _ {T : Type 0} (rank : T → ℕ) (n total number : ℕ) (old now : List 
   -- so it is a set that is kept
   pub retained-kept : IsKept rank n now number
   retained-kept =
-      let canonical : IsCanonicalIn n (runs_of rank now) = (
-        sublist-canonical 0 (runs_of rank now) (runs_of rank old) kept.canonical.0 retained-runs,
-        sublist-below n (runs_of rank now) (runs_of rank old) kept.canonical.1 retained-runs,
-      ) in
+      let canonical =
+      sublist-canonical n (runs_of rank now) (runs_of rank old) kept.canonical retained-runs in
       let old_sum = sum_by-canonical n (runs_of rank old) kept.canonical in
       let new_sum = sum_by-canonical n (runs_of rank now) canonical in
       let old_done = ap (λ (items : List (T × T)). sum_by length_of (runs_of rank items)) all-done.0

@@ -12,7 +12,7 @@ use Rattle.rsb_integer.proofs.CanonicalLemmas.{canonical-lower}
 use Rattle.rsb_integer.proofs.ListLemmas.{not_both}
 use Rattle.rsb_integer.proofs.MembersLemmas.{covers-inside, members-below, members-cons, members-head}
 use Rattle.range_set_blaze.specs.Kept.{entry_of, run_of, runs_of}
-use Rattle.range_set_blaze.specs.Retain.{left_runs, ranks_from, ranks_of, with_piece, IsPastFirst}
+use Rattle.range_set_blaze.specs.Retain.{left_runs, ranks_from, ascending_ranks, with_piece, IsPastFirst}
 use Rattle.range_set_blaze.specs.Set.{only}
 use Rattle.range_set_blaze.specs.declared.set.run.Run.{Run}
 
@@ -57,8 +57,8 @@ module _ (n : ℕ) (run : Interval) (rest : List Interval) (canonical : IsCanoni
               ∙ or-later (only run.first point) (covers point next) (members rest point)
               ∙ ap (λ test. only run.first point || test) (sym (members-cons next rest point));
           fewer = omega (arith, one, other, more, starts, ends);
-          listed = ap (λ count. ranks_from run.first count ++ ranks_of rest) count
-              ∙ ap (λ start. run.first ∷ (ranks_from start (length_of next) ++ ranks_of rest))
+          listed = ap (λ count. ranks_from run.first count ++ ascending_ranks rest) count
+              ∙ ap (λ start. run.first ∷ (ranks_from start (length_of next) ++ ascending_ranks rest))
               (sym starts);
         }
 
@@ -78,7 +78,7 @@ module _ (n : ℕ) (run : Interval) (rest : List Interval) (canonical : IsCanoni
               grind (arith, nat_tests, least, ordered) in
               members-cons run rest point ∙ ap (λ test. test || members rest point) covered;
           fewer = omega (arith, one, least, ordered);
-          listed = ap (λ count. ranks_from run.first count ++ ranks_of rest) count;
+          listed = ap (λ count. ranks_from run.first count ++ ascending_ranks rest) count;
         }
 
 -- the next entry is the first of those that are left
@@ -190,13 +190,13 @@ module _ (n : ℕ) (todo rest : List Interval) (first : ℕ) (past : IsPastFirst
 
   -- the members that were asked about, and the first of the others
   pub left-listed : {T : Type 0} (rank : T → ℕ) (old : List Interval) (asked : List T) (value : T)
-      → rank value ≡ first → ranks_of old ≡ map rank asked ++ ranks_of todo
-      → ranks_of old ≡ map rank (asked ++ value ∷ []) ++ ranks_of rest
+      → rank value ≡ first → ascending_ranks old ≡ map rank asked ++ ascending_ranks todo
+      → ascending_ranks old ≡ map rank (asked ++ value ∷ []) ++ ascending_ranks rest
   left-listed rank old asked value is listed =
       listed ∙ ap (λ items. map rank asked ++ items) past.listed
-      ∙ ap (λ point. map rank asked ++ point ∷ ranks_of rest) (sym is)
-      ∙ sym (ap (λ items. items ++ ranks_of rest) (map-append rank asked (value ∷ []))
-      ∙ append_assoc (map rank asked) (rank value ∷ []) (ranks_of rest))
+      ∙ ap (λ point. map rank asked ++ point ∷ ascending_ranks rest) (sym is)
+      ∙ sym (ap (λ items. items ++ ascending_ranks rest) (map-append rank asked (value ∷ []))
+      ∙ append_assoc (map rank asked) (rank value ∷ []) (ascending_ranks rest))
 
 -- the piece ends below what is left
 pub piece-below : {T : Type 0} (rank : T → ℕ) (piece : Option (Run T)) (first : Interval)

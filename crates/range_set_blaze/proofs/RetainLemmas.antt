@@ -11,15 +11,15 @@ use Rattle.std.proofs.lemmas.List.Sums.{sum_by-append, sum_by-cons}
 use Rattle.rsb_integer.specs.Runs.{Interval, length_of, members, IsCanonicalIn}
 use Rattle.rsb_integer.specs.Selection.{count}
 use Rattle.rsb_integer.proofs.CanonicalLemmas.{canonical-parts}
+use Rattle.rsb_streams.specs.Sublists.{IsSublist}
 use Rattle.range_set_blaze.specs.Kept.{entry_of, entry_run, run_of, runs_of, IsAscendingFrom}
 use Rattle.range_set_blaze.specs.Places.{past, StartsWith}
-use Rattle.range_set_blaze.specs.Set.{IsSublist}
 use Rattle.range_set_blaze.specs.declared.set.run.Run.{Run}
 use Rattle.range_set_blaze.proofs.EntriesLemmas.{ascending-past, ascending-without, canonical-entries, past-all, past-none, remove_entry-at}
 use Rattle.range_set_blaze.proofs.InsertLemmas.{ends-rest}
 use Rattle.range_set_blaze.proofs.KeptLemmas.{sum_by-canonical}
 use Rattle.range_set_blaze.proofs.PartsLemmas.{ascending-before}
-use Rattle.range_set_blaze.proofs.SublistLemmas.{sublist-skip, sublist-take}
+use Rattle.range_set_blaze.proofs.SublistLemmas.{sublist-next, sublist-skip}
 
 module _ {T : Type 0} (rank : T → ℕ) (n : ℕ) where
   -- how many runs are to come
@@ -199,7 +199,7 @@ module _ {T : Type 0} (rank : T → ℕ) (n total number : ℕ) (old now : List 
       old_parts = asked-old ∙ sym (append_assoc retaining.done (entry_of run ∷ []) rest);
       new_parts = keep-parts;
       ascending = retaining.ascending;
-      sub = sublist-take retaining.kept retaining.done (entry_of run) retaining.sub;
+      sub = sublist-next retaining.kept retaining.done (entry_of run) retaining.sub;
       counted = keep-counted;
       fits = retaining.fits;
       next_is = next-rest (retaining.kept ++ entry_of run ∷ []) now next keep-parts keep-starts

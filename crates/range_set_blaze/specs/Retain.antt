@@ -16,9 +16,9 @@ ranks_from first zero = []
 ranks_from first (suc more) = first ∷ ranks_from (first + 1) more
 
 -- the members of a set in ascending order
-abbrev pub ranks_of : List Interval → List ℕ
-ranks_of [] = []
-ranks_of (run ∷ runs) = ranks_from run.first (length_of run) ++ ranks_of runs
+abbrev pub ascending_ranks : List Interval → List ℕ
+ascending_ranks [] = []
+ascending_ranks (run ∷ runs) = ranks_from run.first (length_of run) ++ ascending_ranks runs
 
 module _ {F T : Type 0} (rank : T → ℕ) (n : ℕ) (g : Mut F (Bor T × Unit {0}) Bool) where
   -- each call from f on answers at a value, of n, what `keeps` says of its rank
@@ -35,12 +35,12 @@ module _ {F T : Type 0} (rank : T → ℕ) (g : Mut F (Bor T × Unit {0}) Bool) 
   -- from f on, each member of the set was asked about once, in ascending order
   abbrev pub AsksAll : F → List Interval → Type 0
   AsksAll f set = (values : List T) × (last : F) × IsAsked f values last
-      × (map rank values ≡ ranks_of set)
+      × (map rank values ≡ ascending_ranks set)
 
   -- and so was a front of the members
   abbrev pub AsksFront : F → List Interval → Type 0
   AsksFront f set = (values : List T) × (last : F) × IsAsked f values last
-      × IsFrontOf (map rank values) (ranks_of set)
+      × IsFrontOf (map rank values) (ascending_ranks set)
 
 module _ {T : Type 0} (rank : T → ℕ) where
   -- the runs that are left: the rest of one, and those of the entries
@@ -59,4 +59,4 @@ pub record IsPastFirst (n : ℕ) (old new : List Interval) (first : ℕ) : Type 
   pub below : AllEndBelow n new
   pub has : (other : ℕ) → members old other ≡ union (only first) (members new) other
   pub fewer : sum_by length_of new + 1 ≡ sum_by length_of old
-  pub listed : ranks_of old ≡ first ∷ ranks_of new
+  pub listed : ascending_ranks old ≡ first ∷ ascending_ranks new

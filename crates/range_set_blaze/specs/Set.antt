@@ -1,6 +1,6 @@
 -- What the contracts of a set say. A set is seen as the list of its runs, each the interval of its
 -- ranks.
-use Rattle.std.specs.Prelude.{◌≡◌, ◌⊎◌, ℕ, ◌&&◌, ◌==◌, ◌+◌, ◌<◌, ◌≤◌, nat_le, nat_lt, List, [], ◌∷◌, IsTrue, IsFalse}
+use Rattle.std.specs.Prelude.{◌≡◌, ℕ, ◌&&◌, ◌==◌, ◌+◌, ◌<◌, ◌≤◌, nat_le, nat_lt, List, IsTrue, IsFalse}
 use Rattle.std.specs.declared.ops.Bound.{Bound}
 use Rattle.std.specs.declared.ops.Bound.TheVariants.{Included, Excluded, Unbounded}
 use Rattle.rsb_integer.specs.Runs.{Interval, covers, members, IsMaximalRun}
@@ -46,12 +46,6 @@ Removes old new removed = (rank : ℕ) → members new rank ≡ difference (memb
 -- the set has the selected ranks as its members, and no others
 abbrev pub IsSetOf : List Interval → Selection → Type 0
 IsSetOf set selected = (rank : ℕ) → members set rank ≡ selected rank
-
--- the first list has items of the second, in their order, and no others
-abbrev pub IsSublist : {X : Type 0} → List X → List X → Type 0
-IsSublist items [] = items ≡ []
-IsSublist {X} items (first ∷ others) = IsSublist items others
-    ⊎ ((rest : List X) × (items ≡ first ∷ rest) × IsSublist rest others)
 
 -- the set has the ranks of the interval, and no others
 abbrev pub HasExactly : List Interval → Interval → Type 0

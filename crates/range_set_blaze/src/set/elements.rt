@@ -3,7 +3,6 @@
 ghost use Rattle.std.specs.Prelude.{◌≡◌, IfOk};
 ghost use Rattle.rsb_integer.specs.Runs.{members};
 ghost use Rattle.rsb_integer.specs.Selection.{intersection};
-ghost use Rattle.rsb_streams.specs.Stream.{runs_by_two};
 ghost use Rattle.range_set_blaze.specs.BothEnds.{runs_left, IsOverSet, ListedReady, ListedReadyBack};
 ghost use Rattle.range_set_blaze.specs.Set.{ranks_in, IsSetOf};
 
@@ -12,9 +11,10 @@ use crate::into_ranges_iter::IntoRangesIter;
 use crate::iter::Iter;
 use crate::ranges_iter::RangesIter;
 use crate::set::RangeSetBlaze;
+use crate::set::algebra::intersection_of;
 use crate::set::insert::run_between;
 use rsb_integer::Integer;
-use rsb_streams::{DrawDisjoint, RangeOnce};
+use rsb_streams::RangeOnce;
 use std::alloc::{AllocError, Allocator};
 use std::ops::RangeBounds;
 
@@ -92,21 +92,7 @@ impl<T: Integer, A: Allocator + Copy> RangeSetBlaze<T, A> {
             return Ok(Self::new(self.alloc).into_iter());
         };
         let bounds = RangeOnce::new(run.start..=run.end);
-        let set = set_of_both(self.alloc, self.ranges(), bounds)?;
+        let set = intersection_of(self.alloc, self.ranges(), bounds)?;
         Ok(set.into_iter())
     }
-}
-
-// The set of what two streams both have.
-fn set_of_both<T: Integer, A: Allocator + Copy, L: DrawDisjoint<T>, R: DrawDisjoint<T>>(
-    alloc: A,
-    left: L,
-    right: R,
-) -> Result<RangeSetBlaze<T, A>, AllocError>
-    requires left { L.can_draw left }
-    requires right { R.can_draw right }
-    ensures runs { IfOk result (λ set.
-        runs_by_two T.value_count intersection (L.may_give left) (R.may_give right) set) }
-{
-    RangeSetBlaze::from_sorted_disjoint(alloc, left.intersection(right))
 }

@@ -6,9 +6,10 @@ ghost use Rattle.std.specs.List.{filter};
 ghost use Rattle.rsb_integer.specs.Rank.{interval_of};
 ghost use Rattle.rsb_integer.specs.Runs.{Interval, members};
 ghost use Rattle.rsb_integer.specs.Selection.{intersection, IsSubset, Selection};
+ghost use Rattle.rsb_streams.specs.Sublists.{IsSublist};
 ghost use Rattle.range_set_blaze.specs.Kept.{runs_of, IsKept};
 ghost use Rattle.range_set_blaze.specs.Retain.{AnswersByRank, AsksAll, AsksFront};
-ghost use Rattle.range_set_blaze.specs.Set.{IsSetOf, IsSublist};
+ghost use Rattle.range_set_blaze.specs.Set.{IsSetOf};
 
 use crate::set::RangeSetBlaze;
 use crate::set::entries::{first_run, run_after};

@@ -4,7 +4,7 @@ use denote.Param.Always.{mut_next}
 use Rattle.rsb_integer.specs.Runs.{Interval, members, IsCanonicalFrom}
 use Rattle.rsb_integer.proofs.ListLemmas.{not_both}
 use Rattle.range_set_blaze.specs.Kept.{run_of, runs_of}
-use Rattle.range_set_blaze.specs.Retain.{left_runs, ranks_of, with_piece}
+use Rattle.range_set_blaze.specs.Retain.{left_runs, ascending_ranks, with_piece}
 use Rattle.range_set_blaze.proofs.AnswerLemmas.{computes-next}
 use Rattle.range_set_blaze.proofs.KeepLemmas.{exact-false, exact-none, exact-true, first-left, grown-within, head-order, left-canonical, left-later, left-listed, left-next, left-within, piece-below, piece-none}
 use Rattle.range_set_blaze.proofs.set.keep.kept_values.Goals as goal
@@ -32,7 +32,7 @@ loop-left-init g c =
           (answers, exact-none old todo c.new-kept.result keeps c.new-kept.ensures all);
       asked = [];
       calls = refl;
-      listed = ap ranks_of (sym all);
+      listed = ap ascending_ranks (sym all);
     }
 
 -- the next value lies in the type

@@ -5,7 +5,7 @@ use denote.Param.Always.{always_mut}
 use Rattle.rsb_integer.specs.Runs.{length_of, members, IsCanonicalFrom, IsCanonicalIn}
 use Rattle.rsb_integer.specs.Selection.{difference, intersection, Selection}
 use Rattle.range_set_blaze.specs.Kept.{runs_of}
-use Rattle.range_set_blaze.specs.Retain.{left_runs, ranks_of, with_piece, AnswersByRank, IsAsked}
+use Rattle.range_set_blaze.specs.Retain.{left_runs, ascending_ranks, with_piece, AnswersByRank, IsAsked}
 use Rattle.range_set_blaze.proofs.set.keep.kept_values.Given as goal
 
 abbrev pub invariant-loop-left : goal.invariant-loop-left
@@ -29,7 +29,7 @@ invariant-loop-left g l =
           ≡ intersection (difference (members old) (members todo)) keeps point);
       asked : List g.row.T.Denot;
       calls : IsAsked rank g.F.FnMut l.initial.f asked l.f;
-      listed : ranks_of old ≡ map rank asked ++ ranks_of todo;
+      listed : ascending_ranks old ≡ map rank asked ++ ascending_ranks todo;
     }
 
 abbrev pub decreases-loop-left : goal.decreases-loop-left
