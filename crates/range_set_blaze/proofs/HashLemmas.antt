@@ -7,9 +7,10 @@ use Rattle.std.specs.Hash.{HashWrites}
 use Rattle.std.specs.Prelude.{flat_map}
 use Rattle.rsb_integer.specs.Runs.{Interval, members, AllEndBelow, IsCanonicalFrom, IsCanonicalIn}
 use Rattle.rsb_integer.specs.Selection.{Selection, count}
+use Rattle.rsb_integer.proofs.CanonicalLemmas.{canonical-lower}
 use Rattle.rsb_integer.proofs.CountLemmas.{count-within}
 use Rattle.rsb_integer.proofs.MembersLemmas.{members-below, members-end, members-head, members-tail}
-use Rattle.range_set_blaze.specs.Hash.{below, bounds_at, bounds_by, bounds_from, ends_of, hashed_runs, run_bounds}
+use Rattle.range_set_blaze.specs.Hash.{before, below, bounds_at, bounds_by, bounds_from, ends_of, hashed_runs, run_bounds}
 use Rattle.range_set_blaze.specs.HashLaws.{nat_lt-past}
 use Rattle.range_set_blaze.specs.Kept.{runs_of, IsKept}
 
@@ -19,7 +20,7 @@ use Rattle.range_set_blaze.specs.Kept.{runs_of, IsKept}
 bounds_at-none : (selected : Selection) (rank : ℕ) → selected rank ≡ false
     → bounds_at selected rank ≡ []
 bounds_at-none selected rank none = λ i.
-    bounds_by (none i) (nat_lt 0 rank && selected (rank - 1)) (selected (suc rank)) rank
+    bounds_by (none i) (before selected rank) (selected (suc rank)) rank
 
 -- and none is among ranks where none does
 bounds_from-none : (selected : Selection) (low more high rest : ℕ) → low + more ≡ high + rest
@@ -50,7 +51,7 @@ bounds_from-suc selected low more left is = ap (bounds_from selected low) is
 -- a rank that no selected one comes right before
 not_before : (selected : Selection) (rank : ℕ)
     → ((other : ℕ) → other + 1 ≡ rank → selected other ≡ false)
-    → (nat_lt 0 rank && selected (rank - 1)) ≡ false
+    → before selected rank ≡ false
 not_before selected zero quiet = refl
 not_before selected (suc rank) quiet = quiet rank (omega arith)
 
@@ -59,8 +60,7 @@ module _ (selected : Selection) (first last : ℕ) (ordered : first ≤ last)
     (quiet : (rank : ℕ) → rank + 1 ≡ first → selected rank ≡ false)
     (after : selected (suc last) ≡ false) where
   -- a rank of the run past its first one has one before it
-  run-before : (rank : ℕ) → first < rank → rank ≤ last → (nat_lt 0 rank && selected (rank - 1))
-      ≡ true
+  run-before : (rank : ℕ) → first < rank → rank ≤ last → before selected rank ≡ true
   run-before zero past to = absurd (omega arith)
   run-before (suc rank) past to = here rank (omega arith) (omega arith)
 
@@ -139,21 +139,21 @@ canonical-bounds n selected (run ∷ runs) low more all canonical within same qu
     let after : selected (suc run.last) ≡ false =
     past (suc run.last) (omega arith)
     ∙ members-below (run.last + 2) runs (suc run.last) canonical.2 (omega arith) in
-    let before : (rank : ℕ) → rank + 1 ≡ run.first → selected rank ≡ false =
-    λ rank next. elim (cases_lt rank low) [
+    let next = canonical-lower (run.last + 2) (suc (suc run.last)) runs (omega arith) canonical.2 in
+    let lacks_before : (rank : ℕ) → rank + 1 ≡ run.first → selected rank ≡ false =
+    λ rank beside. elim (cases_lt rank low) [
       | inl less ↦ quiet rank (omega arith)
       | inr most ↦ lacks rank most (omega arith)
     ] in
     bounds_from-none selected low more run.first (n - run.first) (omega arith) starts
     (λ rank from to. bounds_at-none selected rank (lacks rank from to))
     ∙ run-bounds selected run.first run.last ordered
-    (λ rank from to. same rank (omega arith) ∙ members-head run runs rank from to) before after
+    (λ rank from to. same rank (omega arith) ∙ members-head run runs rank from to) lacks_before after
     (n - run.first) (n - suc run.last) (omega arith)
     ∙ ap (λ bounds. run.first ∷ run.last ∷ bounds)
-    (bounds_from-next n selected runs (suc run.last) (n - suc run.last) (omega arith) canonical.2
-    later after
-    (λ left is. canonical-bounds n selected runs (run.last + 2) left (omega arith) canonical.2 later
-    (λ rank from. past rank (omega arith)) (λ rank next.
+    (bounds_from-next n selected runs (suc run.last) (n - suc run.last) (omega arith) next later after
+    (λ left is. canonical-bounds n selected runs (suc (suc run.last)) left (omega arith) next later
+    (λ rank from. past rank (omega arith)) (λ rank beside.
     let at : suc run.last ≡ rank = omega arith in
     subst (λ each. selected each ≡ false) at after)))
 
@@ -180,7 +180,8 @@ run_bounds-canonical n runs canonical =
     let same : below n (members runs) ≡ members runs =
     λ i rank. below-members n runs canonical.1 rank i in
     ap (λ selected. bounds_from selected 0 n) same
-    ∙ canonical-bounds n (members runs) runs 0 n refl canonical.0 canonical.1 (λ rank from. refl)
+    ∙ canonical-bounds n (members runs) runs 0 n (omega arith) canonical.0 canonical.1
+    (λ rank from. refl)
     (λ rank next. absurd (omega arith))
 
 -- ---- what is fed

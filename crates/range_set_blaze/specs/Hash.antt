@@ -1,6 +1,6 @@
 -- What a set feeds a hasher: its length, and the start and the end of each run.
 use Rattle.std.specs.Hash.{HashWrites}
-use Rattle.std.specs.Prelude.{ℕ, zero, suc, Bool, not, ◌&&◌, cond, nat_lt, ◌-◌, List, [], ◌∷◌, ◌++◌, flat_map}
+use Rattle.std.specs.Prelude.{ℕ, zero, suc, Bool, false, not, ◌&&◌, cond, nat_lt, List, [], ◌∷◌, ◌++◌, flat_map}
 use Rattle.rsb_integer.specs.Runs.{Interval, members}
 use Rattle.rsb_integer.specs.Selection.{Selection, count}
 
@@ -8,16 +8,21 @@ use Rattle.rsb_integer.specs.Selection.{Selection, count}
 abbrev pub below : ℕ → Selection → Selection
 below n selected rank = nat_lt rank n && selected rank
 
--- a rank, twice where it is a whole run, once where a run begins or ends there: whether the rank, the
--- one before it and the one after it are selected
-abbrev pub bounds_by : Bool → Bool → Bool → ℕ → List ℕ
-bounds_by here before after rank =
-    cond (here && not before) (rank ∷ []) [] ++ cond (here && not after) (rank ∷ []) []
+-- whether the rank right before is selected: no rank is before the first
+abbrev pub before : Selection → ℕ → Bool
+before selected zero = false
+before selected (suc rank) = selected rank
 
--- the rank as the first one of a maximal run of the set, and as the last one
+-- a rank, once where a run begins there and once where one ends: by whether it is selected, and the
+-- one before it, and the one after it
+abbrev pub bounds_by : Bool → Bool → Bool → ℕ → List ℕ
+bounds_by here earlier later rank =
+    cond (here && not earlier) (rank ∷ []) [] ++ cond (here && not later) (rank ∷ []) []
+
+-- the rank, once where a maximal run of the set begins there and once where one ends
 abbrev pub bounds_at : Selection → ℕ → List ℕ
 bounds_at selected rank =
-    bounds_by (selected rank) (nat_lt 0 rank && selected (rank - 1)) (selected (suc rank)) rank
+    bounds_by (selected rank) (before selected rank) (selected (suc rank)) rank
 
 -- the first and the last rank of each maximal run of the set, in ascending order, among so many
 -- ranks from `low` on

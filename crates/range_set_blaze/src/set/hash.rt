@@ -6,6 +6,7 @@ ghost use Rattle.range_set_blaze.specs.Hash.{ends_of, hashed_runs, run_bounds};
 ghost use Rattle.range_set_blaze.specs.HashLaws.{hashed_runs-same};
 
 use crate::set::RangeSetBlaze;
+use crate::set::order::next_run;
 use rsb_integer::Integer;
 use std::alloc::Allocator;
 use std::collections::BTreeMap;
@@ -34,12 +35,13 @@ pub fn run_bounds_are_ends<T: Integer>()
 {}
 
 // Feeds the start and the end of each run.
-fn feed_runs<T: Ord + Hash, A: Allocator, H: Hasher>(map: &BTreeMap<T, T, A>, state: &mut H)
+fn feed_runs<T: Copy + Ord + Hash, A: Allocator, H: Hasher>(map: &BTreeMap<T, T, A>, state: &mut H)
     ensures { state.new ≡ fold H.write state.old
         (flat_map (λ run. T.hash_input run.0 ++ T.hash_input run.1) map.now.entries) }
 {
-    for (start, end) in map {
-        start.hash(state);
-        end.hash(state);
+    let mut rest = map.iter();
+    while let Some(run) = next_run(&mut rest) {
+        run.start.hash(state);
+        run.end.hash(state);
     }
 }
