@@ -74,8 +74,8 @@ module _ (selected : Selection) (first last : ℕ) (ordered : first ≤ last)
         bounds_by (here first (omega arith) ordered i) (not_before selected first quiet i)
         (here (suc first) (omega arith) less i) first in
         let stops : bounds_at selected last ≡ last ∷ [] = λ i.
-        bounds_by (here last ordered (omega arith) i) (run-before last less (omega arith) i) (after i)
-        last in
+        bounds_by (here last ordered (omega arith) i) (run-before last less (omega arith) i)
+        (after i) last in
         bounds_from-suc selected first (suc more) more refl
         ∙ ap (λ bounds. bounds ++ bounds_from selected (suc first) more) begins
         ∙ ap (λ bounds. first ∷ bounds)
@@ -148,10 +148,11 @@ canonical-bounds n selected (run ∷ runs) low more all canonical within same qu
     bounds_from-none selected low more run.first (n - run.first) (omega arith) starts
     (λ rank from to. bounds_at-none selected rank (lacks rank from to))
     ∙ run-bounds selected run.first run.last ordered
-    (λ rank from to. same rank (omega arith) ∙ members-head run runs rank from to) lacks_before after
-    (n - run.first) (n - suc run.last) (omega arith)
+    (λ rank from to. same rank (omega arith) ∙ members-head run runs rank from to) lacks_before
+    after (n - run.first) (n - suc run.last) (omega arith)
     ∙ ap (λ bounds. run.first ∷ run.last ∷ bounds)
-    (bounds_from-next n selected runs (suc run.last) (n - suc run.last) (omega arith) next later after
+    (bounds_from-next n selected runs (suc run.last) (n - suc run.last) (omega arith) next later
+    after
     (λ left is. canonical-bounds n selected runs (suc (suc run.last)) left (omega arith) next later
     (λ rank from. past rank (omega arith)) (λ rank beside.
     let at : suc run.last ≡ rank = omega arith in
@@ -181,8 +182,7 @@ run_bounds-canonical n runs canonical =
     λ i rank. below-members n runs canonical.1 rank i in
     ap (λ selected. bounds_from selected 0 n) same
     ∙ canonical-bounds n (members runs) runs 0 n (omega arith) canonical.0 canonical.1
-    (λ rank from. refl)
-    (λ rank next. absurd (omega arith))
+    (λ rank from. refl) (λ rank beside. absurd (omega arith))
 
 -- ---- what is fed
 

@@ -39,8 +39,8 @@ run_bounds n selected = bounds_from (below n selected) 0 n
 abbrev pub ends_of : List Interval → List ℕ
 ends_of runs = flat_map (λ (run : Interval). run.first ∷ run.last ∷ []) runs
 
--- what a set feeds, by what lengths and values feed: its length, and the start and the end of each of
--- its runs in ascending order
+-- what a set feeds, by what lengths and values feed: its length, and the start and the end of each
+-- of its runs in ascending order
 abbrev pub hashed_runs : (ℕ → HashWrites) → (ℕ → HashWrites) → ℕ → List Interval → HashWrites
 hashed_runs length_fed value_fed n set =
     length_fed (count n (members set)) ++ flat_map value_fed (run_bounds n (members set))
