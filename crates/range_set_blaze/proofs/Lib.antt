@@ -12,6 +12,7 @@ pub mod EndLemmas
 pub mod EntriesLemmas
 pub mod ExtendLemmas
 pub mod FrontTurns
+pub mod HashLemmas
 pub mod HeldLemmas
 pub mod InsertLemmas
 pub mod InsertedLemmas

@@ -1,5 +1,7 @@
 pub mod Algebra
 pub mod BothEnds
+pub mod Hash
+pub mod HashLaws
 pub mod Kept
 pub mod Order
 pub mod OrderLaws

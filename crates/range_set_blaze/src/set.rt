@@ -11,6 +11,7 @@ mod bulk;
 mod elements;
 mod entries;
 mod extend;
+pub(crate) mod hash;
 mod insert;
 mod keep;
 mod lengths;

@@ -40,6 +40,13 @@ module _ {T : Type 0} (rank : T → ℕ) where
       (rank (range_inclusive_end range)))
       (exhausted-some range ordered)
 
+-- where each of n values is the one at its place, no two have one place
+pub one_place : {T : Type 0} (rank : T → ℕ) (n : ℕ) (value_at : ℕ → T)
+    → ((x : T) → rank x < n → value_at (rank x) ≡ x)
+    → (x y : T) → rank x < n → rank x ≡ rank y → x ≡ y
+one_place rank n value_at places x y below same =
+    sym (places x below) ∙ ap value_at same ∙ places y (omega (arith, same))
+
 -- in a type of n values, each of which has a place of its own
 module _ {T : Type 0} (rank : T → ℕ) (n : ℕ)
     (one_place : (x y : T) → rank x < n → rank x ≡ rank y → x ≡ y) where

@@ -22,7 +22,17 @@ signed_rank width (pos n) = 2 ^ hbits width + n
 signed_rank width (negsuc n) =
     cond (nat_lt n (2 ^ hbits width)) (2 ^ hbits width - 1 - n) (2 * 2 ^ hbits width)
 
+-- the signed number of a rank
+abbrev pub signed_value : Width → ℕ → ℤ
+signed_value width rank =
+    cond (nat_lt rank (2 ^ hbits width)) (negsuc (2 ^ hbits width - 1 - rank))
+    (pos (rank - 2 ^ hbits width))
+
 -- the rank of a character, by its code: past the 2048 codes that are no characters, that many less;
 -- those codes themselves are past all
 abbrev pub scalar_rank : ℕ → ℕ
 scalar_rank code = cond (nat_lt code 0xD800) code (cond (nat_lt code 0xE000) 1112064 (code - 2048))
+
+-- the code of the character of a rank
+abbrev pub scalar_value : ℕ → ℕ
+scalar_value rank = cond (nat_lt rank 0xD800) rank (rank + 2048)

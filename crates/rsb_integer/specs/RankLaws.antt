@@ -1,15 +1,15 @@
 -- Why the given types keep the laws of `Integer`.
-use Rattle.std.specs.Prelude.{◌≡◌, ℕ, ℤ, pos, negsuc, ◌-◌, ◌*◌, ◌^◌, ◌<◌, ◌<ℤ◌}
+use Rattle.std.specs.Prelude.{◌≡◌, ℕ, ℤ, pos, negsuc, ◌+◌, ◌-◌, ◌*◌, ◌^◌, ◌<◌, ◌<ℤ◌}
 use Rattle.std.specs.Cmp.{int_ranked, nat_cmp_is, ranked}
 use Rattle.std.specs.Int.{Width}
 use Rattle.std.specs.Ordering.{MatchOrdering, nat_cmp, int_cmp}
 use Rattle.std.specs.declared.cmp.Ordering.{Ordering}
 use Rattle.std.specs.declared.cmp.Ordering.TheVariants.{Less, Equal, Greater}
-use Rattle.std.proofs.Common.{arith, refl, ap}
+use Rattle.std.proofs.Common.{arith, refl, ap, ◌∙◌}
 use Rattle.std.proofs.lemmas.Bool.Decides.{nat_tests}
 use Rattle.std.proofs.lemmas.Int.{ints}
 use Rattle.std.proofs.lemmas.Nat.{pow_pos}
-use Rattle.rsb_integer.specs.Rank.{scalar_rank, signed_rank}
+use Rattle.rsb_integer.specs.Rank.{scalar_rank, scalar_value, signed_rank, signed_value}
 use mir.Val.{hbits}
 
 -- ---- signed types: 2 ^ hbits width is half as many as there are values
@@ -19,22 +19,25 @@ negative : (width : Width) (n : ℕ) → signed_rank width (negsuc n) < 2 * 2 ^ 
     → (n < 2 ^ hbits width) × (signed_rank width (negsuc n) ≡ 2 ^ hbits width - 1 - n)
 negative width n value = grind (arith, nat_tests)
 
--- ranks tell signed values apart
-pub signed-one_place : (width : Width) (x y : ℤ) → signed_rank width x < 2 * 2 ^ hbits width
-    → signed_rank width x ≡ signed_rank width y → x ≡ y
-signed-one_place width (pos m) (pos n) value same = ap pos (omega arith)
-signed-one_place width (pos m) (negsuc n) value same =
+-- a rank below the half is that of a negative number, and one from the half on of another
+below-half : (width : Width) (rank : ℕ) → rank < 2 ^ hbits width
+    → signed_value width rank ≡ negsuc (2 ^ hbits width - 1 - rank)
+below-half width rank below = grind (arith, nat_tests)
+
+past-half : (width : Width) (n : ℕ)
+    → signed_value width (2 ^ hbits width + n) ≡ pos (2 ^ hbits width + n - 2 ^ hbits width)
+past-half width n = grind (arith, nat_tests)
+
+-- each signed value is the one at its rank
+pub signed-places : (width : Width) (x : ℤ) → signed_rank width x < 2 * 2 ^ hbits width
+    → signed_value width (signed_rank width x) ≡ x
+signed-places width (pos n) value = past-half width n ∙ ap pos (omega arith)
+signed-places width (negsuc n) value =
     let some = pow_pos (hbits width) in
-    let right = negative width n (omega arith) in
-    absurd (omega (arith, right.0, right.1))
-signed-one_place width (negsuc m) (pos n) value same =
-    let some = pow_pos (hbits width) in
-    let left = negative width m value in
-    absurd (omega (arith, left.0, left.1))
-signed-one_place width (negsuc m) (negsuc n) value same =
-    let left = negative width m value in
-    let right = negative width n (omega arith) in
-    ap negsuc (omega (arith, left.0, left.1, right.0, right.1))
+    let told = negative width n value in
+    ap (signed_value width) told.1
+    ∙ below-half width (2 ^ hbits width - 1 - n) (omega (arith, told.0))
+    ∙ ap negsuc (omega (arith, told.0))
 
 -- a lower signed value has a lower rank
 signed-less : (width : Width) (x y : ℤ)
@@ -69,9 +72,9 @@ signed-in_order width x y left right =
 
 -- ---- characters: 1112064 is how many there are
 
--- ranks tell characters apart
-pub scalar-one_place : (c d : ℕ) → scalar_rank c < 1112064 → scalar_rank c ≡ scalar_rank d → c ≡ d
-scalar-one_place c d value same = grind (arith, nat_tests)
+-- each character is the one at its rank
+pub scalar-places : (c : ℕ) → scalar_rank c < 1112064 → scalar_value (scalar_rank c) ≡ c
+scalar-places c value = grind (arith, nat_tests)
 
 -- a lower character has a lower rank
 scalar-less : (c d : ℕ) → scalar_rank c < 1112064 → scalar_rank d < 1112064 → c < d

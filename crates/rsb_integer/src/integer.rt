@@ -15,7 +15,8 @@ use std::ops::{AddAssign, RangeInclusive, SubAssign};
 /// A type of elements: finitely many values in a row, each one step from the next. The rank of a
 /// value is its place in that row, from 0 on. (`Integer` of the Rust crate.)
 ///
-/// An own type says its `rank` and its `value_count`, and proves the five laws below.
+/// An own type says its `rank`, its `value_count` and its `value_at`, and proves the five laws
+/// below.
 pub trait Integer: Copy + PartialEq + PartialOrd + Ord + Debug + Send + Sync {
     /// The lengths of ranges of the type. (`Integer::SafeLen`.)
     type SafeLen: SafeLength
@@ -34,6 +35,9 @@ pub trait Integer: Copy + PartialEq + PartialOrd + Ord + Debug + Send + Sync {
 
     // How many values there are.
     ghost value_count: { ℕ };
+
+    // The value at a place. (What is told of no place is left open.)
+    ghost value_at: { ℕ → Self };
 
     /// The value one rank higher, or `None` exactly at the greatest. (`Integer::checked_add_one`.)
     fn checked_add_one(self) -> Option<Self>
@@ -145,8 +149,8 @@ pub trait Integer: Copy + PartialEq + PartialOrd + Ord + Debug + Send + Sync {
         Some(end)
     }
 
-    // Each value has a place of its own.
-    ghost one_place: { (x y : Self) → rank x < value_count → rank x ≡ rank y → x ≡ y };
+    // Each value is the one at its place, so no two have one place.
+    ghost places: { (x : Self) → rank x < value_count → value_at (rank x) ≡ x };
 
     // Values are ordered as their places are.
     ghost in_order: { (x y : Self) → rank x < value_count → rank y < value_count

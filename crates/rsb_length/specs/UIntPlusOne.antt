@@ -23,6 +23,10 @@ abbrev pub number_of : {T : Type 0} → (T → ℕ) → ℕ → UIntPlusOne T �
 number_of number limit (UInt value) = stretched limit (number value)
 number_of number limit MaxPlusOne = limit + 1
 
+-- the `UIntPlusOne` that means a number: one past the limit, at each number past it
+abbrev pub plus_one_at : {T : Type 0} → (ℕ → T) → ℕ → ℕ → UIntPlusOne T
+plus_one_at value_at limit n = cond (nat_le n limit) (UInt (value_at n)) MaxPlusOne
+
 -- the text of a `UIntPlusOne`, from the texts of the values and that of the number past the limit
 abbrev pub text_of : {T : Type 0} → (T → Option (List ℕ)) → List ℕ → UIntPlusOne T → Option (List ℕ)
 text_of output past_text (UInt value) = output value
@@ -78,6 +82,28 @@ module _ {T : Type 0} (number : T → ℕ) (limit : ℕ) (equal : T → T → Bo
       (λ h. absurd (stretched-not_past limit (number b) (sym h))),
     )
     same-number_of MaxPlusOne MaxPlusOne = ((λ h. refl), (λ h. of_past))
+
+-- a number that `UInt` means and that is not past the one after the limit is within the limit
+stretched-limited : (limit n : ℕ) → stretched limit n ≤ limit + 1 → n ≤ limit
+stretched-limited limit n h = grind (arith, nat_tests)
+
+-- a number is within the limit, or it is not
+le-within : (n limit : ℕ) → n ≤ limit → nat_le n limit ≡ true
+le-within n limit h = grind (arith, nat_tests)
+
+le-past : (limit : ℕ) → nat_le (limit + 1) limit ≡ false
+le-past limit = grind (arith, nat_tests)
+
+-- where each value is the one at its number, so is each `UIntPlusOne`
+pub plus_one_at-number : {T : Type 0} (number : T → ℕ) (limit : ℕ) (value_at : ℕ → T)
+    → ((a : T) → number a ≤ limit → value_at (number a) ≡ a)
+    → (x : UIntPlusOne T) → number_of number limit x ≤ limit + 1
+    → plus_one_at value_at limit (number_of number limit x) ≡ x
+plus_one_at-number number limit value_at numbers (UInt a) h =
+    let within = stretched-limited limit (number a) h in
+    rw (stretched-within limit (number a) (number a) refl within, le-within (number a) limit within)
+    (ap UInt (numbers a within))
+plus_one_at-number number limit value_at numbers MaxPlusOne h = rw (le-past limit) refl
 
 -- what means numbers is ordered as they are, where `==` tells equal numbers
 pub order-by_number : {A : Type 0} (number : A → ℕ) (same : A → A → Bool)

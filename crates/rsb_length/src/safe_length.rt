@@ -18,6 +18,9 @@ pub trait SafeLength: Copy + PartialOrd + Zero + One + AddAssign + SubAssign {
     // The number of the greatest length.
     ghost limit: { ℕ };
 
+    // The length that means a whole number up to the limit.
+    ghost length_at: { ℕ → Self };
+
     /// The greatest length. (Own.)
     fn greatest() -> Self
         ensures { number result ≡ limit };
@@ -50,12 +53,17 @@ pub trait SafeLength: Copy + PartialOrd + Zero + One + AddAssign + SubAssign {
     ghost equal: { (a b : Self) → IsTrue (Self.eq a b) ↔ (number a ≡ number b) };
 
     ghost in_order: { (a b : Self) → Self.partial_cmp a b ≡ Some (nat_cmp (number a) (number b)) };
+
+    // Each length is the one at its number.
+    ghost lengths: { (a : Self) → number a ≤ limit → length_at (number a) ≡ a };
 }
 
 impl SafeLength for u16 {
     ghost number = { λ a. a };
 
     ghost limit = { 2 ^ 16 - 1 };
+
+    ghost length_at = { λ n. n };
 
     fn greatest() -> u16 {
         u16::MAX
@@ -82,12 +90,16 @@ impl SafeLength for u16 {
     ghost equal = { unsigned-equal };
 
     ghost in_order = { λ a b. refl };
+
+    ghost lengths = { λ a within. refl };
 }
 
 impl SafeLength for u32 {
     ghost number = { λ a. a };
 
     ghost limit = { 2 ^ 32 - 1 };
+
+    ghost length_at = { λ n. n };
 
     fn greatest() -> u32 {
         u32::MAX
@@ -114,12 +126,16 @@ impl SafeLength for u32 {
     ghost equal = { unsigned-equal };
 
     ghost in_order = { λ a b. refl };
+
+    ghost lengths = { λ a within. refl };
 }
 
 impl SafeLength for u64 {
     ghost number = { λ a. a };
 
     ghost limit = { 2 ^ 64 - 1 };
+
+    ghost length_at = { λ n. n };
 
     fn greatest() -> u64 {
         u64::MAX
@@ -146,12 +162,16 @@ impl SafeLength for u64 {
     ghost equal = { unsigned-equal };
 
     ghost in_order = { λ a b. refl };
+
+    ghost lengths = { λ a within. refl };
 }
 
 impl SafeLength for u128 {
     ghost number = { λ a. a };
 
     ghost limit = { 2 ^ 128 - 1 };
+
+    ghost length_at = { λ n. n };
 
     fn greatest() -> u128 {
         u128::MAX
@@ -178,4 +198,6 @@ impl SafeLength for u128 {
     ghost equal = { unsigned-equal };
 
     ghost in_order = { λ a b. refl };
+
+    ghost lengths = { λ a within. refl };
 }

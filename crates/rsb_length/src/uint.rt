@@ -18,6 +18,9 @@ pub trait UInt: Zero + One + PartialOrd + Copy + Display + Debug {
     // The number of the greatest value.
     ghost limit: { ℕ };
 
+    // The value that means a whole number up to the limit.
+    ghost value_at: { ℕ → Self };
+
     // The text of the number one past the limit.
     ghost past_text: { List ℕ };
 
@@ -62,12 +65,17 @@ pub trait UInt: Zero + One + PartialOrd + Copy + Display + Debug {
     ghost equal: { (a b : Self) → IsTrue (Self.eq a b) ↔ (number a ≡ number b) };
 
     ghost in_order: { (a b : Self) → Self.partial_cmp a b ≡ Some (nat_cmp (number a) (number b)) };
+
+    // Each value is the one at its number.
+    ghost numbers: { (a : Self) → number a ≤ limit → value_at (number a) ≡ a };
 }
 
 impl UInt for u8 {
     ghost number = { λ a. a };
 
     ghost limit = { 2 ^ 8 - 1 };
+
+    ghost value_at = { λ n. n };
 
     ghost past_text = { codes "256" };
 
@@ -104,12 +112,16 @@ impl UInt for u8 {
     ghost equal = { unsigned-equal };
 
     ghost in_order = { λ a b. refl };
+
+    ghost numbers = { λ a within. refl };
 }
 
 impl UInt for u128 {
     ghost number = { λ a. a };
 
     ghost limit = { 2 ^ 128 - 1 };
+
+    ghost value_at = { λ n. n };
 
     ghost past_text = { codes "(u128::MAX + 1)" };
 
@@ -146,4 +158,6 @@ impl UInt for u128 {
     ghost equal = { unsigned-equal };
 
     ghost in_order = { λ a b. refl };
+
+    ghost numbers = { λ a within. refl };
 }

@@ -4,7 +4,7 @@ ghost use Rattle.std.specs.Prelude.{◌≡◌, ◌≢◌, ℕ, ◌+◌, ◌*◌,
 ghost use Rattle.std.specs.Ordering.{nat_cmp};
 ghost use Rattle.std.proofs.Common.{ap, refl};
 ghost use Rattle.num_traits.specs.Ints.{unsigned-order};
-ghost use Rattle.rsb_length.specs.UIntPlusOne.{IsUpTo, IsUpTo-between, number_of, one-le_next, order-by_number, same-integers, same-number_of, stretched-within, text_of, zero-le};
+ghost use Rattle.rsb_length.specs.UIntPlusOne.{IsUpTo, IsUpTo-between, number_of, one-le_next, order-by_number, plus_one_at, plus_one_at-number, same-integers, same-number_of, stretched-within, text_of, zero-le};
 
 use crate::safe_length::SafeLength;
 use crate::uint::UInt;
@@ -206,6 +206,8 @@ impl<T: UInt> SafeLength for UIntPlusOne<T> {
 
     ghost limit = { T.limit + 1 };
 
+    ghost length_at = { plus_one_at T.value_at T.limit };
+
     fn greatest() -> Self {
         Self::MaxPlusOne
     }
@@ -234,6 +236,8 @@ impl<T: UInt> SafeLength for UIntPlusOne<T> {
         (λ a b. refl) (λ a. refl) (λ b. refl) refl };
 
     ghost in_order = { λ a b. refl };
+
+    ghost lengths = { plus_one_at-number T.number T.limit T.value_at T.numbers };
 }
 
 /// A number that `T` has is written as `T` writes it, and the one past them as `one_past_text`

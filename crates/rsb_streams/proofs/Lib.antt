@@ -20,6 +20,7 @@ pub mod OddStates
 pub mod OddTurns
 pub mod OperationLemmas
 pub mod PieceLemmas
+pub mod PutBackLemmas
 pub mod SortLemmas
 pub mod SpanLemmas
 pub mod SourceLemmas

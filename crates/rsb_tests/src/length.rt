@@ -1,6 +1,6 @@
 //! Lengths.
 
-mod recorder;
+pub(crate) mod recorder;
 mod safe_length;
 mod uint;
 mod uint_plus_one;

@@ -4,6 +4,7 @@ mod element_types;
 mod elements;
 mod empty_sets;
 mod growths;
+mod hashes;
 mod insertions;
 mod into_ranges_iter;
 mod lacking;

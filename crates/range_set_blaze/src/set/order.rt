@@ -126,8 +126,8 @@ fn compare_runs<T: Ranked, A: Allocator, B: Allocator>(
     }
 }
 
-// Takes the first run off some entries.
-fn next_run<T: Copy>(entries: &mut Iter<'_, T, T>) -> Option<Run<T>>
+/// Takes the first run off some entries.
+pub(crate) fn next_run<T: Copy>(entries: &mut Iter<'_, T, T>) -> Option<Run<T>>
     ensures { MatchOption result (entries.old ≡ [])
         (λ run. entries.old ≡ entry_of run ∷ entries.new) }
 {

@@ -1,8 +1,8 @@
 //! `char` as an element type of 1112064 values, with lengths in `u32`.
 
 ghost use Rattle.std.proofs.Common.{lit≤};
-ghost use Rattle.rsb_integer.specs.Rank.{scalar_rank};
-ghost use Rattle.rsb_integer.specs.RankLaws.{scalar-one_place, scalar-in_order};
+ghost use Rattle.rsb_integer.specs.Rank.{scalar_rank, scalar_value};
+ghost use Rattle.rsb_integer.specs.RankLaws.{scalar-places, scalar-in_order};
 
 use crate::integer::Integer;
 use std::ops::RangeInclusive;
@@ -20,6 +20,8 @@ impl Integer for char {
     ghost rank = { scalar_rank };
 
     ghost value_count = { 1112064 };
+
+    ghost value_at = { scalar_value };
 
     fn checked_add_one(self) -> Option<char> {
         match self {
@@ -81,7 +83,7 @@ impl Integer for char {
         char::from_u32(start).unwrap()
     }
 
-    ghost one_place = { scalar-one_place };
+    ghost places = { scalar-places };
 
     ghost in_order = { scalar-in_order };
 

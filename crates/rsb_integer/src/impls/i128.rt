@@ -3,8 +3,8 @@
 ghost use Rattle.std.specs.Prelude.{◌^◌};
 ghost use Rattle.std.specs.Int.{w128};
 ghost use Rattle.std.proofs.Common.{lit≤};
-ghost use Rattle.rsb_integer.specs.Rank.{signed_rank};
-ghost use Rattle.rsb_integer.specs.RankLaws.{signed-one_place, signed-in_order};
+ghost use Rattle.rsb_integer.specs.Rank.{signed_rank, signed_value};
+ghost use Rattle.rsb_integer.specs.RankLaws.{signed-places, signed-in_order};
 
 use crate::integer::Integer;
 use rsb_length::UIntPlusOne;
@@ -16,6 +16,8 @@ impl Integer for i128 {
     ghost rank = { signed_rank w128 };
 
     ghost value_count = { 2 ^ 128 };
+
+    ghost value_at = { signed_value w128 };
 
     fn checked_add_one(self) -> Option<i128> {
         self.checked_add(1)
@@ -57,7 +59,7 @@ impl Integer for i128 {
         }
     }
 
-    ghost one_place = { signed-one_place w128 };
+    ghost places = { signed-places w128 };
 
     ghost in_order = { signed-in_order w128 };
 

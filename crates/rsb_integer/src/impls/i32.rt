@@ -3,8 +3,8 @@
 ghost use Rattle.std.specs.Prelude.{◌^◌};
 ghost use Rattle.std.specs.Int.{w32};
 ghost use Rattle.std.proofs.Common.{lit≤};
-ghost use Rattle.rsb_integer.specs.Rank.{signed_rank};
-ghost use Rattle.rsb_integer.specs.RankLaws.{signed-one_place, signed-in_order};
+ghost use Rattle.rsb_integer.specs.Rank.{signed_rank, signed_value};
+ghost use Rattle.rsb_integer.specs.RankLaws.{signed-places, signed-in_order};
 
 use crate::integer::Integer;
 use std::ops::RangeInclusive;
@@ -15,6 +15,8 @@ impl Integer for i32 {
     ghost rank = { signed_rank w32 };
 
     ghost value_count = { 2 ^ 32 };
+
+    ghost value_at = { signed_value w32 };
 
     fn checked_add_one(self) -> Option<i32> {
         self.checked_add(1)
@@ -48,7 +50,7 @@ impl Integer for i32 {
         self.checked_sub_unsigned((b - 1) as u32).unwrap()
     }
 
-    ghost one_place = { signed-one_place w32 };
+    ghost places = { signed-places w32 };
 
     ghost in_order = { signed-in_order w32 };
 

@@ -14,6 +14,8 @@ impl Integer for u128 {
 
     ghost value_count = { 2 ^ 128 };
 
+    ghost value_at = { λ n. n };
+
     fn checked_add_one(self) -> Option<u128> {
         self.checked_add(1)
     }
@@ -54,7 +56,7 @@ impl Integer for u128 {
         }
     }
 
-    ghost one_place = { λ x y value same. same };
+    ghost places = { λ x value. refl };
 
     ghost in_order = { λ x y left right. refl };
 

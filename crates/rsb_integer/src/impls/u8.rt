@@ -13,6 +13,8 @@ impl Integer for u8 {
 
     ghost value_count = { 2 ^ 8 };
 
+    ghost value_at = { λ n. n };
+
     fn checked_add_one(self) -> Option<u8> {
         self.checked_add(1)
     }
@@ -45,7 +47,7 @@ impl Integer for u8 {
         self - (b - 1) as u8
     }
 
-    ghost one_place = { λ x y value same. same };
+    ghost places = { λ x value. refl };
 
     ghost in_order = { λ x y left right. refl };
 

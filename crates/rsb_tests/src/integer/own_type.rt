@@ -1,6 +1,6 @@
 //! An own element type.
 
-ghost use Rattle.std.specs.Prelude.{◌≡◌};
+ghost use Rattle.std.specs.Prelude.{◌≡◌, ◌==◌, cond};
 ghost use Rattle.std.specs.Ordering.{nat_cmp};
 ghost use Rattle.std.proofs.Common.{arith, lit≤, refl};
 ghost use Rattle.rsb_tests.specs.declared.integer.own_type.Side.{Side};
@@ -10,7 +10,7 @@ use rsb_integer::Integer;
 use std::ops::RangeInclusive;
 
 /// A type of two values, as few as an element type may have.
-#[derive(Clone, Copy, Debug, PartialEq, Eq, PartialOrd, Ord)]
+#[derive(Clone, Copy, Debug, PartialEq, Eq, PartialOrd, Ord, Hash)]
 pub(crate) enum Side {
     Lo,
     Hi,
@@ -22,6 +22,8 @@ impl Integer for Side {
     ghost rank = { λ side. elim side [ Lo ↦ 0 | Hi ↦ 1 ] };
 
     ghost value_count = { 2 };
+
+    ghost value_at = { λ n. cond (n == 0) Lo Hi };
 
     fn checked_add_one(self) -> Option<Side> {
         match self {
@@ -58,15 +60,9 @@ impl Integer for Side {
         if b == 1 { self } else { Side::Lo }
     }
 
-    ghost one_place = { λ x y value. elim x as (λ x. Self.rank x ≡ Self.rank y → x ≡ y) [
-      | Lo ↦ elim y as (λ y. 0 ≡ Self.rank y → Lo ≡ y) [
-        | Lo ↦ λ same. refl
-        | Hi ↦ λ same. absurd (omega arith)
-      ]
-      | Hi ↦ elim y as (λ y. 1 ≡ Self.rank y → Hi ≡ y) [
-        | Lo ↦ λ same. absurd (omega arith)
-        | Hi ↦ λ same. refl
-      ]
+    ghost places = { λ x value. elim x as (λ x. Self.value_at (Self.rank x) ≡ x) [
+      | Lo ↦ refl
+      | Hi ↦ refl
     ] };
 
     ghost in_order = { λ x y left right.

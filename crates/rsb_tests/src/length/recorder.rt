@@ -36,3 +36,10 @@ pub(crate) fn fed_by<T: Hash>(value: &T) -> u128 {
     value.hash(&mut recorder);
     recorder.digits
 }
+
+/// What these bytes are to the hasher.
+pub(crate) fn fed_by_bytes(bytes: &[u8]) -> u128 {
+    let mut recorder = Recorder { digits: 0 };
+    recorder.write(bytes);
+    recorder.digits
+}

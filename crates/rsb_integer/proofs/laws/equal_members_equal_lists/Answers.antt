@@ -1,9 +1,10 @@
 -- The theorem on lists of ranges, by the law that each value has a place of its own.
-use Rattle.rsb_integer.proofs.RangeLemmas.{same_members}
+use Rattle.rsb_integer.proofs.RangeLemmas.{one_place, same_members}
 use Rattle.rsb_integer.proofs.laws.equal_members_equal_lists.Goals as goal
 
 pub returns : goal.returns
 returns g c =
     let laws = g.met.T.Integer g.world.𝓛 g.world.𝓜 g.world.𝓡
     ((λ s x. x), (λ x. x), (λ x. x), λ x. x) in
-    same_members g.T.Integer.rank g.T.Integer.value_count laws.one_place
+    same_members g.T.Integer.rank g.T.Integer.value_count
+    (one_place g.T.Integer.rank g.T.Integer.value_count g.T.Integer.value_at laws.places)

@@ -1,15 +1,18 @@
 -- Each value has a place of its own.
 use Rattle.std.proofs.Common.{arith}
+use Rattle.rsb_integer.proofs.RangeLemmas.{one_place}
 use Rattle.rsb_integer.proofs.laws.offsets_undo_length.Goals as goal
 
 pub returns-clause-end : goal.returns-clause-end
 returns-clause-end g c start end found length ordered value is leads =
     let laws = g.met.T.Integer g.world.𝓛 g.world.𝓜 g.world.𝓡
     ((λ s x. x), (λ x. x), (λ x. x), λ x. x) in
-    laws.one_place found end (omega arith) (omega arith)
+    one_place g.T.Integer.rank g.T.Integer.value_count g.T.Integer.value_at laws.places
+    found end (omega arith) (omega arith)
 
 pub returns-clause-start : goal.returns-clause-start
 returns-clause-start g c start end found length ordered value is leads =
     let laws = g.met.T.Integer g.world.𝓛 g.world.𝓜 g.world.𝓡
     ((λ s x. x), (λ x. x), (λ x. x), λ x. x) in
-    laws.one_place found start (omega arith) (omega arith)
+    one_place g.T.Integer.rank g.T.Integer.value_count g.T.Integer.value_at laws.places
+    found start (omega arith) (omega arith)

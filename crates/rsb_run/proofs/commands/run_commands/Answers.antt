@@ -1,6 +1,7 @@
 use Rattle.std.proofs.Common.{vec_len, ◌+◌, ◌≡◌, ◌∷◌, ◌++◌, [], ap, subst, ◌∙◌}
 use Rattle.std.proofs.Math.Nat.{le_trans}
 use Rattle.std.proofs.lemmas.List.{map-append, take_all}
+use Rattle.rsb_integer.proofs.RangeLemmas.{one_place}
 use Rattle.rsb_run.specs.Commands.{AreReplies, content_of, contents_of, no_members}
 use Rattle.rsb_run.proofs.ReplyLemmas.{replies_unique}
 use Rattle.rsb_run.proofs.RunLemmas.{has_run_more}
@@ -37,5 +38,5 @@ returns-clause-only g c = λ others are.
     let found = contents_of g.T.SafeLen.SafeLength.number c.loop-at.replies.items in
     let all = subst (λ commands. AreReplies rank value_count commands found)
     (take_all c.loop-at.at c.args.commands.now c.loop-at-test.false) c.loop-at.invariant.0.replied in
-    replies_unique rank value_count laws.one_place no_members c.args.commands.now others found
-    are all
+    replies_unique rank value_count (one_place rank value_count g.T.Integer.value_at laws.places)
+    no_members c.args.commands.now others found are all

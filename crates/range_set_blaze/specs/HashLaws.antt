@@ -1,0 +1,36 @@
+-- Why equal sets feed a hasher the same: a law cites no `proofs/`.
+use Rattle.std.specs.Hash.{HashWrites}
+use Rattle.std.specs.Prelude.{◌≡◌, ℕ, true, false, ◌&&◌, nat_lt, ◌++◌, ◌<◌, ◌≤◌, List, flat_map}
+use Rattle.std.proofs.Common.{refl, sym, ◌∙◌, ap, inl, inr, arith}
+use Rattle.std.proofs.lemmas.Bool.{cases_lt}
+use Rattle.std.proofs.lemmas.Bool.Decides.{nat_tests}
+use Rattle.rsb_integer.specs.Runs.{Interval, members}
+use Rattle.rsb_integer.specs.Selection.{Selection, Agree}
+use Rattle.rsb_integer.proofs.CountLemmas.{count-agree}
+use Rattle.range_set_blaze.specs.Hash.{below, bounds_from, hashed_runs}
+use Rattle.range_set_blaze.specs.OrderLaws.{set_eq, same-agree}
+
+-- a rank from n on is not below n
+pub nat_lt-past : (rank n : ℕ) → n ≤ rank → nat_lt rank n ≡ false
+nat_lt-past rank n most = grind (arith, nat_tests)
+
+-- sets that agree have the same ranks below n
+below-agree : (n : ℕ) (left right : Selection) → Agree n left right → (rank : ℕ)
+    → below n left rank ≡ below n right rank
+below-agree n left right same rank = elim (cases_lt rank n) [
+  | inl less ↦ ap (λ here. nat_lt rank n && here) (same rank less)
+  | inr most ↦
+      let past = nat_lt-past rank n most in
+      ap (λ test. test && left rank) past ∙ sym (ap (λ test. test && right rank) past)
+]
+
+-- sets that `==` finds equal feed the same
+pub hashed_runs-same : (length_fed value_fed : ℕ → HashWrites) (n : ℕ) (left right : List Interval)
+    → set_eq n left right ≡ true
+    → hashed_runs length_fed value_fed n left ≡ hashed_runs length_fed value_fed n right
+hashed_runs-same length_fed value_fed n left right is =
+    let same = same-agree n (members left) (members right) is in
+    let counted = count-agree n (members left) (members right) same in
+    let ranks : below n (members left) ≡ below n (members right) =
+    λ i rank. below-agree n (members left) (members right) same rank i in
+    λ i. length_fed (counted i) ++ flat_map value_fed (bounds_from (ranks i) 0 n)

@@ -1,0 +1,47 @@
+//! What sets feed a hasher.
+
+ghost use Rattle.std.specs.Prelude.{◌≡◌, ◌++◌, List, flat_map, fold};
+ghost use Rattle.rsb_integer.specs.Runs.{Interval, members, IsCanonicalIn};
+ghost use Rattle.range_set_blaze.specs.Hash.{ends_of, hashed_runs, run_bounds};
+ghost use Rattle.range_set_blaze.specs.HashLaws.{hashed_runs-same};
+
+use crate::set::RangeSetBlaze;
+use crate::set::order::next_run;
+use rsb_integer::Integer;
+use std::alloc::Allocator;
+use std::collections::BTreeMap;
+use std::hash::{Hash, Hasher};
+
+/// A set feeds its length, and then the start and the end of each run in ascending order. How it is
+/// kept is not fed, and nor is how many runs there are. So equal sets feed the same.
+impl<T: Integer + Hash, A: Allocator> Hash for RangeSetBlaze<T, A> {
+    ghost hash_input = { hashed_runs (λ n. T.SafeLen.hash_input (T.SafeLen.length_at n))
+        (λ rank. T.hash_input (T.value_at rank)) T.value_count };
+
+    ghost respects_eq = { hashed_runs-same (λ n. T.SafeLen.hash_input (T.SafeLen.length_at n))
+        (λ rank. T.hash_input (T.value_at rank)) T.value_count };
+
+    fn hash<H: Hasher>(&self, state: &mut H) {
+        self.length.hash(state);
+        feed_runs(&self.map, state);
+    }
+}
+
+/// What a set feeds by `run_bounds`, after its length, are the ends of its runs, one run after the
+/// other: of a canonical list, as `ranges` tells it of a set. (Own.)
+pub fn run_bounds_are_ends<T: Integer>()
+    ensures { (runs : List Interval) → IsCanonicalIn T.value_count runs
+        → run_bounds T.value_count (members runs) ≡ ends_of runs }
+{}
+
+// Feeds the start and the end of each run.
+fn feed_runs<T: Copy + Ord + Hash, A: Allocator, H: Hasher>(map: &BTreeMap<T, T, A>, state: &mut H)
+    ensures { state.new ≡ fold H.write state.old
+        (flat_map (λ run. T.hash_input run.0 ++ T.hash_input run.1) map.now.entries) }
+{
+    let mut rest = map.iter();
+    while let Some(run) = next_run(&mut rest) {
+        run.start.hash(state);
+        run.end.hash(state);
+    }
+}
