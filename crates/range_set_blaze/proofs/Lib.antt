@@ -11,6 +11,7 @@ pub mod ElementsLeft
 pub mod EndLemmas
 pub mod EntriesLemmas
 pub mod ExtendLemmas
+pub mod FilledLemmas
 pub mod FrontTurns
 pub mod HeldLemmas
 pub mod InsertLemmas

@@ -11,6 +11,7 @@ mod bulk;
 mod elements;
 mod entries;
 mod extend;
+mod fill;
 mod insert;
 mod keep;
 mod lengths;
