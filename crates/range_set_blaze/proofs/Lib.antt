@@ -30,6 +30,7 @@ pub mod PutOverLemmas
 pub mod RangesLemmas
 pub mod RemoveLemmas
 pub mod RetainLemmas
+pub mod SinglesLemmas
 pub mod SplitLemmas
 pub mod SublistLemmas
 pub mod SubsetLemmas

@@ -20,6 +20,7 @@ pub(crate) mod order;
 mod remove;
 mod retain;
 pub(crate) mod run;
+pub(crate) mod singles;
 mod split;
 mod subsets;
 mod take_in;
