@@ -1,4 +1,4 @@
-use Rattle.std.proofs.Common.{List, ◌++◌, ◌∷◌, [], ◌∙◌, append_assoc, append-nil, arith, subst}
+use Rattle.std.proofs.Common.{List, ◌∷◌, [], ◌∙◌, append_assoc, append-nil, arith, subst}
 use Rattle.std.proofs.lemmas.List.Sums.{sum_by-append}
 use Rattle.std.specs.Prelude.{Some, None}
 use Rattle.rsb_integer.specs.Rank.{interval_of}
