@@ -16,6 +16,6 @@ returns g c =
     let ran = c.in_ok-map.ensures.ran in
     let last = ran.3.2 tt in
     made-entries g.T.Ord.cmp order.total rank n laws.in_order laws.one_place
-    ran.1 c.args.entries.items c.in_ok-map.map ran.4 
+    ran.1 c.args.entries.items c.in_ok-map.map ran.4
     (All-taken ran.0 ran.1 (last.0, (ran.3.0, ran.3.1, last.1)) ∙ ran.2.0)
     (kept-ascending rank n c.args.entries.items c.requires) c.know_starts.ensures
