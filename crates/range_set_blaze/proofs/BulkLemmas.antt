@@ -1,14 +1,10 @@
 -- Runs that are taken from a stream, one after the other.
-use Rattle.std.proofs.Common.{◌≡◌, ℕ, Bool, true, false, cond, nat_le, ◌+◌, ◌<◌, ◌≤◌, List, [], ◌∷◌, ◌++◌, append_assoc, append-nil, refl, sym, ap, ◌∙◌, subst, arith}
+use Rattle.std.proofs.Common.{◌≡◌, ℕ, Bool, true, false, cond, nat_le, ◌+◌, ◌≤◌, List, [], ◌∷◌, ◌++◌, append_assoc, refl, sym, ap, ◌∙◌, subst, arith}
 use Rattle.std.proofs.Math.Bool.{or-false}
 use Rattle.std.proofs.lemmas.Bool.Decides.{nat_tests}
 use Rattle.std.proofs.lemmas.List.{map-append}
-use Rattle.std.proofs.lemmas.List.Elements.{All-nil}
 use Rattle.std.proofs.lemmas.List.Sums.{sum_by-append}
 use Rattle.std.specs.List.{sum_by}
-use Rattle.std.specs.Ordering.{nat_cmp}
-use Rattle.std.specs.BTreeMap.{insert_entry}
-use Rattle.std.specs.declared.cmp.Ordering.{Ordering}
 use Rattle.std.specs.Range.{range_inclusive_start, range_inclusive_end}
 use Rattle.std.specs.declared.ops.RangeInclusive.{RangeInclusive}
 use Rattle.rsb_integer.specs.Rank.{interval_of}
@@ -18,11 +14,8 @@ use Rattle.rsb_integer.proofs.CanonicalLemmas.{canonical-front, canonical-parts}
 use Rattle.rsb_integer.proofs.MembersLemmas.{members-cons}
 use Rattle.rsb_streams.specs.Outcomes.{settled_canonical_in}
 use Rattle.rsb_streams.specs.Stream.{Outcomes, ◌⊆◌, run_if_any, HasOutcome}
-use Rattle.range_set_blaze.specs.Kept.{entry_run, runs_of, IsAscendingFrom}
-use Rattle.range_set_blaze.proofs.EntriesLemmas.{insert_entry-between}
+use Rattle.range_set_blaze.specs.Kept.{entry_run, runs_of}
 use Rattle.range_set_blaze.proofs.KeptLemmas.{sum_by-within}
-use Rattle.range_set_blaze.proofs.PartsLemmas.{All-last, front-starts}
-use Rattle.range_set_blaze.proofs.PointLemmas.{kept-ascending}
 
 -- the streams before and after a call that answered the run: what was taken before it is `taken`
 module _ (n : ℕ) (all after : Outcomes) (canonical : all ⊆ IsCanonicalIn n)
@@ -46,24 +39,6 @@ module _ (n : ℕ) (all after : Outcomes) (canonical : all ⊆ IsCanonicalIn n)
       let all_of = sum_by-within n (taken ++ run ∷ []) taken-canonical in
       let sum = sum_by-append length_of taken (run ∷ []) in
       omega (arith, all_of, sum)
-
--- a run past all others comes last
-pub put-last : {T : Type 0} (cmp : T → T → Ordering) (rank : T → ℕ) (n : ℕ)
-    (in_order : (x y : T) → rank x < n → rank y < n → cmp x y ≡ nat_cmp (rank x) (rank y))
-    (taken : List (T × T)) (run : Interval) → IsCanonicalIn n (runs_of rank taken ++ run ∷ [])
-    → (start end : T) → rank start ≡ run.first → (new : List (T × T))
-    → new ≡ insert_entry cmp taken start end → new ≡ taken ++ (start, end) ∷ []
-put-last {T} cmp rank n in_order taken run canonical start end starts new is =
-    let parts = canonical-parts 0 (runs_of rank taken) (run ∷ []) canonical.0 in
-    let front = canonical-front n (runs_of rank taken) (run ∷ []) canonical in
-    let ends = All-last (λ (each : Interval). each.last < n) (runs_of rank taken) run canonical.1 in
-    let all : taken ≡ taken ++ [] = sym (append-nil taken) in
-    is ∙ ap (λ (entries : List (T × T)). insert_entry cmp entries start end) all
-    ∙ insert_entry-between cmp rank n in_order 0 taken [] start end
-    (omega (arith, parts.1.1, ends, starts))
-    (subst (IsAscendingFrom rank n 0) all (kept-ascending rank n taken front))
-    (front-starts rank n 0 (rank start) taken front.0 (omega (arith, parts.1.0, starts)))
-    (All-nil (λ (entry : T × T). rank start < rank entry.0))
 
 -- a run that is kept has the ranks of its range
 pub runs_of-taken : {T : Type 0} (rank : T → ℕ) (runs new : List (T × T)) (run : T × T)

@@ -1,13 +1,11 @@
 -- Ranges and values that are added one after the other.
-use Rattle.std.proofs.Common.{◌≡◌, ◌↔◌, ℕ, Bool, true, false, ◌&&◌, ◌||◌, nat_le, nat_lt, ◌+◌, ◌<◌, ◌≤◌, List, [], ◌∷◌, ◌++◌, append-nil, refl, sym, ◌∙◌, ap, subst, inl, inr, arith}
+use Rattle.std.proofs.Common.{◌≡◌, ◌↔◌, ℕ, Bool, false, ◌&&◌, ◌||◌, nat_le, nat_lt, ◌+◌, List, [], ◌∷◌, ◌++◌, append-nil, refl, sym, ◌∙◌, ap, subst, inl, inr, arith}
 use Rattle.std.proofs.Math.Bool.{or-false, or_assoc, or_comm}
 use Rattle.std.proofs.lemmas.Bool.{cases_lt}
 use Rattle.std.proofs.lemmas.Bool.Decides.{nat_tests}
 use Rattle.std.proofs.lemmas.List.{map-append}
 use Rattle.std.specs.Iterator.{Drains, ExtendsWithItems, Yields, YieldsFirst}
 use Rattle.std.specs.Prelude.{IsTrue, OnErr, OnOk, Option, None, Some, Result, Ok, Err}
-use Rattle.std.specs.declared.alloc.AllocError.{AllocError}
-use Rattle.rsb_streams.specs.Items.{GaveAll}
 use Rattle.std.specs.Range.{range_inclusive_start, range_inclusive_end}
 use Rattle.std.specs.declared.ops.RangeInclusive.{RangeInclusive}
 use Rattle.rsb_integer.specs.Rank.{interval_of, intervals_of}
@@ -16,7 +14,7 @@ use Rattle.rsb_integer.specs.Selection.{Selection}
 use Rattle.rsb_integer.proofs.MembersLemmas.{covers-outside, members-append, members-cons}
 use Rattle.rsb_integer.proofs.RangeLemmas.{interval_of-some}
 use Rattle.range_set_blaze.specs.Algebra.{ranks_of, AddsFrontOf, AddsItems, AddsValues}
-use Rattle.range_set_blaze.specs.Set.{only, Adds, IsSetOf}
+use Rattle.range_set_blaze.specs.Set.{only, Adds}
 use Rattle.range_set_blaze.proofs.KeptLemmas.{le-fails}
 
 -- the members of nothing more are those of the set
@@ -162,18 +160,3 @@ module _ {T E : Type 0} (rank : T → ℕ) (given : List (RangeInclusive T)) (ru
 pub on_err-holds : {T E P : Type 0} (result : Result T E) → P → OnErr result P
 on_err-holds (Ok done) holds = tt
 on_err-holds (Err error) holds = holds
-
--- an empty set that was extended by all items has what they add
-pub made-of_items : {J I X : Type 0} (becomes : J → I → Type 0) (steps : I → Option X → I → Type 0)
-    (selects : List X → Selection) (source : J) (empty set : List Interval) (done : Unit {0})
-    → empty ≡ []
-    → ExtendsWithItems {E = AllocError} becomes steps
-    (λ old items new. Adds old new (selects items)) source empty set (Ok done)
-    → GaveAll becomes steps source (λ items. IsSetOf set (selects items))
-made-of_items becomes steps selects source empty set done is extends = (
-  extends.0,
-  extends.1,
-  extends.2,
-  extends.4,
-  subst (λ (each : List Interval). Adds each set (selects extends.1)) is extends.3,
-)

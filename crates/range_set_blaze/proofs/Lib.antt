@@ -11,6 +11,7 @@ pub mod ElementsLeft
 pub mod EndLemmas
 pub mod EntriesLemmas
 pub mod ExtendLemmas
+pub mod FilledLemmas
 pub mod FrontTurns
 pub mod HashLemmas
 pub mod HeldLemmas
@@ -30,6 +31,7 @@ pub mod PutOverLemmas
 pub mod RangesLemmas
 pub mod RemoveLemmas
 pub mod RetainLemmas
+pub mod SinglesLemmas
 pub mod SplitLemmas
 pub mod SublistLemmas
 pub mod SubsetLemmas

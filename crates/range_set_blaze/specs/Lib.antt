@@ -8,4 +8,5 @@ pub mod OrderLaws
 pub mod Places
 pub mod Retain
 pub mod Set
+pub mod Singles
 pub mod Split

@@ -1,5 +1,6 @@
 -- Ranges that are collected and sorted, and the members of those that came.
-use Rattle.std.proofs.Common.{◌≡◌, ℕ, List, subst, sym, ◌∙◌}
+use Rattle.std.proofs.Common.{◌≡◌, ℕ, ◌<◌, ◌≤◌, false, List, subst, sym, ◌∙◌}
+use Rattle.std.proofs.lemmas.List.Elements.{All-map, All-weaker}
 use Rattle.std.proofs.lemmas.List.Sorted.{All-permutation, IsPermutation-map}
 use Rattle.std.specs.List.{All}
 use Rattle.std.specs.List.Sorted.{IsPermutation}
@@ -10,6 +11,7 @@ use Rattle.std.specs.declared.ops.RangeInclusive.{RangeInclusive}
 use Rattle.rsb_integer.specs.Rank.{interval_of, intervals_of}
 use Rattle.rsb_integer.specs.Runs.{Interval, members, AreRuns}
 use Rattle.rsb_integer.specs.Selection.{Selection}
+use Rattle.rsb_integer.proofs.MembersLemmas.{members-end}
 use Rattle.rsb_integer.proofs.RunsLemmas.{runs-along}
 use Rattle.rsb_streams.specs.UnsortedDisjoint.{non_empty, AreSpans, GivesSpans, IsProper, UnsortedSteps}
 use Rattle.rsb_streams.specs.declared.unsorted_disjoint.UnsortedDisjoint.{UnsortedDisjoint}
@@ -36,6 +38,16 @@ module _ {T : Type 0} (rank : T → ℕ) (n : ℕ) where
     proper = proper;
     same = λ place. spans-members (intervals_of rank items) (intervals_of rank kept) place are;
   }
+
+  -- they end in the type, so the items have no member past it
+  pub collects-end : (items kept : List (RangeInclusive T)) → Collects items kept → (place : ℕ)
+      → n ≤ place → of items place ≡ false
+  collects-end items kept collects place past =
+      sym (collects.same place)
+      ∙ members-end n (intervals_of rank kept) place
+      (All-map (λ (run : Interval). run.last < n) (interval_of rank) kept
+      (All-weaker (IsProper rank n) (λ range. (interval_of rank range).last < n)
+      (λ range proper. proper.in_type) kept collects.proper)) past
 
   module _ {I : Type 0} (input : I → Option (RangeInclusive T) → I → Type 0) (iter : I) where
     -- the calls of an iterator drained to items, of which these were kept

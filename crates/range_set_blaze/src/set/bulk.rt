@@ -8,11 +8,10 @@ ghost use Rattle.range_set_blaze.specs.Set.{HasExactly};
 
 use crate::into_ranges_iter::IntoRangesIter;
 use crate::set::RangeSetBlaze;
-use num_traits::Zero;
+use crate::set::fill::{gathered, map_of};
 use rsb_integer::Integer;
 use rsb_streams::{DrawDisjoint, RangeOnce};
 use std::alloc::{AllocError, Allocator};
-use std::collections::BTreeMap;
 use std::ops::RangeInclusive;
 
 impl<T: Integer, A: Allocator + Copy> RangeSetBlaze<T, A> {
@@ -22,14 +21,8 @@ impl<T: Integer, A: Allocator + Copy> RangeSetBlaze<T, A> {
         requires { I.can_draw iter }
         ensures runs { IfOk result (λ set. I.may_give iter set) }
     {
-        let mut iter = iter;
-        let mut map = BTreeMap::new(alloc);
-        let mut length = T::SafeLen::zero();
-        while let Some(range) = iter.draw() {
-            length += T::safe_len(&range);
-            let (start, end) = range.into_inner();
-            map.insert(start, end)?;
-        }
+        let (entries, length) = gathered(alloc, iter)?;
+        let map = map_of(alloc, entries)?;
         Ok(RangeSetBlaze { map, length, alloc })
     }
 

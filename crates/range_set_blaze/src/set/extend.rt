@@ -10,7 +10,9 @@ ghost use Rattle.range_set_blaze.specs.Set.{Adds, IsSetOf};
 
 use crate::set::RangeSetBlaze;
 use crate::set::run::known;
+use crate::set::singles::Singles;
 use rsb_integer::Integer;
+use rsb_streams::UnionIter;
 use std::alloc::{AllocError, Allocator};
 use std::ops::RangeInclusive;
 
@@ -58,7 +60,8 @@ impl<T: Integer, A: Allocator + Clone> RangeSetBlaze<T, A> {
 }
 
 impl<T: Integer, A: Allocator + Copy> RangeSetBlaze<T, A> {
-    /// The set of ranges in any order, of which some may be empty. Without memory nothing is made.
+    /// The set of ranges in any order, of which some may be empty, by one sort and one pass. Without
+    /// memory nothing is made.
     /// (`FromIterator<RangeInclusive<T>>` of `RangeSetBlaze`.)
     pub fn from_iter<J: IntoIterator<Item = RangeInclusive<T>>>(
         alloc: A,
@@ -69,13 +72,12 @@ impl<T: Integer, A: Allocator + Copy> RangeSetBlaze<T, A> {
             GaveAll J.into_iter_gives J.IntoIter.next_gives ranges
             (λ items. IsSetOf set (members (intervals_of T.rank items)))) }
     {
-        let mut set = Self::new(alloc);
-        set.extend(ranges)?;
-        Ok(set)
+        let union = UnionIter::from_iter(alloc, ranges)?;
+        Self::from_sorted_disjoint(alloc, union)
     }
 
-    /// The set of values in any order. Without memory nothing is made. (`FromIterator<T>` of
-    /// `RangeSetBlaze`.)
+    /// The set of values in any order, by one sort and one pass. Without memory nothing is made.
+    /// (`FromIterator<T>` of `RangeSetBlaze`.)
     pub fn from_iter_values<J: IntoIterator<Item = T>>(
         alloc: A,
         values: J,
@@ -85,9 +87,8 @@ impl<T: Integer, A: Allocator + Copy> RangeSetBlaze<T, A> {
             GaveAll J.into_iter_gives J.IntoIter.next_gives values
             (λ items. IsSetOf set (ranks_of T.rank items))) }
     {
-        let mut set = Self::new(alloc);
-        set.extend_values(values)?;
-        Ok(set)
+        let singles = Singles::new(values.into_iter());
+        Self::from_iter(alloc, singles)
     }
 
     /// The set of the values of an array, in any order, which are moved into a list first. Without

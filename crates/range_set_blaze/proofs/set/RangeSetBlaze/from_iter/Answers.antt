@@ -1,12 +1,22 @@
+use Rattle.std.proofs.lemmas.Result.{IfOk-weaker}
 use Rattle.rsb_integer.specs.Rank.{intervals_of}
 use Rattle.rsb_integer.specs.Runs.{members}
-use Rattle.range_set_blaze.proofs.ExtendLemmas.{made-of_items}
+use Rattle.range_set_blaze.proofs.SinglesLemmas.{set-of_runs}
 use Rattle.range_set_blaze.proofs.set.RangeSetBlaze.from_iter.Goals as goal
 
--- the empty set was extended by all items
+-- the union of the ranges gives the runs of their members
 pub returns : goal.returns
-returns g c = record {
-  members = made-of_items g.J.IntoIterator.into_iter_gives g.J.IntoIter.Iterator.next_gives
-      (λ items. members (intervals_of g.T.Integer.rank items)) c.args.ranges _ _
-      c.in_ok-extend.field-0 c.new-set.ensures c.in_ok-extend.ensures.members;
-}
+returns g c =
+    let gave = c.in_ok-union.ensures.gives in
+    record {
+      members = IfOk-weaker c.from_sorted_disjoint.result _ _
+          (λ set may. (
+            gave.0,
+            gave.1,
+            gave.2,
+            gave.3,
+            set-of_runs g.T.Integer.value_count (members (intervals_of g.T.Integer.rank gave.1)) set
+                gave.4.ends (gave.4.runs set may),
+          ))
+          c.from_sorted_disjoint.ensures.runs;
+    }

@@ -3,7 +3,7 @@ use Rattle.std.proofs.lemmas.Fn.{always_returns_same}
 use Rattle.std.specs.Range.{range_inclusive_start}
 use Rattle.rsb_integer.specs.Rank.{intervals_of}
 use Rattle.rsb_streams.specs.Stream.{HasSortedStarts}
-use Rattle.rsb_streams.proofs.CollectLemmas.{collects-sorted, gathered, runs-sorted}
+use Rattle.rsb_streams.proofs.CollectLemmas.{collects-end, collects-sorted, gathered, runs-sorted}
 use Rattle.rsb_streams.proofs.SortLemmas.{IsInOrder, StartsAscend}
 use Rattle.rsb_streams.proofs.VecSources.{vec-calls, vec-sorted}
 use Rattle.rsb_streams.proofs.sorted_starts_in_vec.UnionIter+T+SortedStartsInVec+T+A.from_iter.Given.{Over}
@@ -50,13 +50,16 @@ returns-clause-gives g c =
       came.items,
       c.into_iter.ensures.into_iter_gives,
       came.drains,
-      λ runs may.
-          runs-sorted rank n came.items c.in_ok-kept.kept.items
-          c.sort_unstable_by_key.new.self.items came.collects
-          c.sort_unstable_by_key.ensures.permutation runs
-          (λ nothing. c.new-2.ensures.gives runs may (λ given at all.
-          let may_come = c.new.ensures.gives given at in
-          nothing given
-          (vec-calls rank n may_come.0 given may_come.2
-          ∙ ap (intervals_of rank) may_come.1.0) all)),
+      record {
+        runs = λ runs may.
+            runs-sorted rank n came.items c.in_ok-kept.kept.items
+            c.sort_unstable_by_key.new.self.items came.collects
+            c.sort_unstable_by_key.ensures.permutation runs
+            (λ nothing. c.new-2.ensures.gives runs may (λ given at all.
+            let may_come = c.new.ensures.gives given at in
+            nothing given
+            (vec-calls rank n may_come.0 given may_come.2
+            ∙ ap (intervals_of rank) may_come.1.0) all));
+        ends = collects-end rank n came.items c.in_ok-kept.kept.items came.collects;
+      },
     )

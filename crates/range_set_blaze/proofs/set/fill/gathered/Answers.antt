@@ -1,13 +1,12 @@
-use Rattle.std.proofs.Common.{List, ◌++◌, ◌∷◌, [], ◌∙◌, append_assoc, append-nil, ap, arith, subst, sym}
+use Rattle.std.proofs.Common.{List, ◌∷◌, [], ◌∙◌, append_assoc, append-nil, arith, subst}
 use Rattle.std.proofs.lemmas.List.Sums.{sum_by-append}
 use Rattle.std.specs.Prelude.{Some, None}
 use Rattle.rsb_integer.specs.Rank.{interval_of}
-use Rattle.rsb_integer.specs.Runs.{Interval, length_of, IsCanonicalIn}
-use Rattle.rsb_integer.proofs.RangeLemmas.{interval_of-some}
+use Rattle.rsb_integer.specs.Runs.{Interval, length_of}
 use Rattle.range_set_blaze.specs.Kept.{runs_of}
-use Rattle.range_set_blaze.proofs.BulkLemmas.{put-last, runs_of-taken, taken-canonical, taken-ordered, taken-within}
+use Rattle.range_set_blaze.proofs.BulkLemmas.{runs_of-taken, taken-canonical, taken-ordered, taken-within}
 use Rattle.range_set_blaze.proofs.KeptLemmas.{sum_by-canonical}
-use Rattle.range_set_blaze.proofs.set.RangeSetBlaze.from_sorted_disjoint.Goals as goal
+use Rattle.range_set_blaze.proofs.set.fill.gathered.Goals as goal
 
 -- what may come after the range lies in order, after what was taken
 pub safe_len-requires : goal.safe_len-requires
@@ -18,7 +17,7 @@ safe_len-requires g c =
     taken-ordered g.T.Integer.value_count (g.I.Draw.may_give c.args.iter)
     (g.I.Draw.may_give t)
     (g.met.I.DrawDisjoint.canonical c.args.iter c.requires)
-    (runs_of g.T.Integer.rank c.loop-range.map.entries) run
+    (runs_of g.T.Integer.rank c.loop-range.entries.items) run
     (λ rest may. c.loop-range.invariant.given (run ∷ rest)
     (g.met.I.Draw.answers s t (Some c.in-Some.range) c.in-Some.ensures.steps rest may))
     (g.met.I.Draw.sorted t c.in-Some.ensures.goes.keeps).some
@@ -33,7 +32,7 @@ add_assign-requires g c =
     let run = interval_of g.T.Integer.rank c.in-Some.range in
     let fits = taken-within g.T.Integer.value_count (g.I.Draw.may_give c.args.iter)
     (g.I.Draw.may_give t) (g.met.I.DrawDisjoint.canonical c.args.iter c.requires)
-    (runs_of g.T.Integer.rank c.loop-range.map.entries) run
+    (runs_of g.T.Integer.rank c.loop-range.entries.items) run
     (λ rest may. c.loop-range.invariant.given (run ∷ rest)
     (g.met.I.Draw.answers s t (Some c.in-Some.range) c.in-Some.ensures.steps rest may))
     (g.met.I.Draw.sorted t c.in-Some.ensures.goes.keeps).some in
@@ -49,7 +48,7 @@ loop-range-preserved g c =
     let rank = g.T.Integer.rank in
     let n = g.T.Integer.value_count in
     let run = interval_of rank c.in-Some.range in
-    let taken = runs_of rank c.loop-range.map.entries in
+    let taken = runs_of rank c.loop-range.entries.items in
     let given = λ (rest : List Interval) (may : g.I.Draw.may_give t rest).
     c.loop-range.invariant.given (run ∷ rest)
     (g.met.I.Draw.answers s t (Some c.in-Some.range) c.in-Some.ensures.steps rest may) in
@@ -59,13 +58,9 @@ loop-range-preserved g c =
     let both = taken-canonical n (g.I.Draw.may_give c.args.iter)
     (g.I.Draw.may_give t) (g.met.I.DrawDisjoint.canonical c.args.iter c.requires)
     taken run given (g.met.I.Draw.sorted t c.in-Some.ensures.goes.keeps).some in
-    let same = interval_of-some rank c.in-Some.range ordered in
-    let last = put-last g.T.Ord.cmp rank n laws.in_order c.loop-range.map.entries run both
-    c.into_inner-start.result.0 c.into_inner-start.result.1
-    (ap rank c.into_inner-start.ensures.start ∙ sym (ap (λ (each : Interval). each.first) same))
-    c.insert.new.self.entries c.in_ok-insert.ensures.entries in
-    let more = runs_of-taken rank c.loop-range.map.entries c.insert.new.self.entries
-    (c.into_inner-start.result.0, c.into_inner-start.result.1) c.in-Some.range last c.into_inner-start.ensures.start c.into_inner-start.ensures.end
+    let more = runs_of-taken rank c.loop-range.entries.items c.push.new.self.items
+    (c.into_inner-start.result.0, c.into_inner-start.result.1) c.in-Some.range
+    c.in_ok-push.ensures.items c.into_inner-start.ensures.start c.into_inner-start.ensures.end
     ordered in
     let exact = g.met.T.SafeLen.SafeLength.sum_exact c.loop-range.length c.safe_len.result
     c.add_assign.new.self c.add_assign.ensures.after in
@@ -85,27 +80,19 @@ loop-range-preserved g c =
     }
 
 -- where the stream ends, what was taken is one of the lists that might come
-pub invariant_of-result : goal.invariant_of-result
-invariant_of-result g c =
-    let n = g.T.Integer.value_count in
-    let taken = runs_of g.T.Integer.rank c.loop-range.map.entries in
-    let last = g.met.I.Draw.answers c.loop-range.iter c.draw.new.self None
-    c.in_default.ensures.steps in
-    let canonical : IsCanonicalIn n taken = subst (IsCanonicalIn n) (append-nil taken)
-    (g.met.I.DrawDisjoint.canonical c.args.iter c.requires (taken ++ [])
-    (c.loop-range.invariant.given [] last)) in
-    record {
-      canonical = canonical;
-      length = c.loop-range.invariant.length ∙ sum_by-canonical n taken canonical;
-    }
-
--- so the set is one of them
 pub returns : goal.returns
 returns g c =
-    let taken = runs_of g.T.Integer.rank c.loop-range.map.entries in
+    let n = g.T.Integer.value_count in
+    let taken = runs_of g.T.Integer.rank c.loop-range.entries.items in
     let last = g.met.I.Draw.answers c.loop-range.iter c.draw.new.self None
     c.in_default.ensures.steps in
+    let may = subst (g.I.Draw.may_give c.args.iter) (append-nil taken)
+    (c.loop-range.invariant.given [] last) in
+    let canonical = g.met.I.DrawDisjoint.canonical c.args.iter c.requires taken may in
     record {
-      runs = subst (g.I.Draw.may_give c.args.iter) (append-nil taken)
-          (c.loop-range.invariant.given [] last);
+      runs = may;
+      kept = record {
+        canonical = canonical;
+        length = c.loop-range.invariant.length ∙ sum_by-canonical n taken canonical;
+      };
     }

@@ -4,7 +4,7 @@ use Rattle.std.specs.Iterator.{IsFinite, size}
 use Rattle.std.specs.List.{sum_by}
 use Rattle.rsb_integer.specs.Runs.{Interval, length_of}
 use Rattle.range_set_blaze.specs.Kept.{runs_of}
-use Rattle.range_set_blaze.proofs.set.RangeSetBlaze.from_sorted_disjoint.Given as goal
+use Rattle.range_set_blaze.proofs.set.fill.gathered.Given as goal
 
 abbrev pub invariant-loop-range : goal.invariant-loop-range
 invariant-loop-range g l =
@@ -13,9 +13,9 @@ invariant-loop-range g l =
       ready : g.I.Draw.can_draw l.iter;
       finite : IsFinite (g.I.Draw.draws_left l.iter);
       given : (rest : List Interval) → g.I.Draw.may_give l.iter rest
-          → g.I.Draw.may_give l.fn.iter (runs_of rank l.map.entries ++ rest);
+          → g.I.Draw.may_give l.fn.iter (runs_of rank l.entries.items ++ rest);
       length : g.T.SafeLen.SafeLength.number l.length
-          ≡ sum_by length_of (runs_of rank l.map.entries);
+          ≡ sum_by length_of (runs_of rank l.entries.items);
     }
 
 abbrev pub decreases-loop-range : goal.decreases-loop-range

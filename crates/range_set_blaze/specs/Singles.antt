@@ -1,0 +1,14 @@
+-- The values of an iterator as ranges.
+use Rattle.std.specs.Prelude.{◌≡◌, false, Option, Some, None, MatchOption}
+use Rattle.std.specs.declared.ops.RangeInclusive.{RangeInclusive}
+use Rattle.range_set_blaze.specs.declared.set.singles.Singles.{Singles}
+
+-- the range of one value
+abbrev pub range_of_one : {T : Type 0} → T → RangeInclusive T
+range_of_one value = record { start = value; end = value; exhausted = false }
+
+-- a call answers the range of what a call of the iterator inside answers
+abbrev pub singles_steps : {T I : Type 0} → (I → Option T → I → Type 0) → Singles I
+    → Option (RangeInclusive T) → Singles I → Type 0
+singles_steps {T} steps s answer t = MatchOption answer (steps s.values None t.values) (λ range.
+    (value : T) × steps s.values (Some value) t.values × (range ≡ range_of_one value))

@@ -1,0 +1,59 @@
+//! What a set keeps, made of a stream in one pass and of a list in order.
+
+ghost use Rattle.std.specs.Prelude.{◌≡◌, ◌<◌, IfOk};
+ghost use Rattle.std.specs.List.{All};
+ghost use Rattle.rsb_integer.specs.Runs.{IsCanonicalIn};
+ghost use Rattle.range_set_blaze.specs.Kept.{runs_of, IsKept};
+
+use crate::set::entries::next_run;
+use crate::set::run::known;
+use num_traits::Zero;
+use rsb_integer::Integer;
+use rsb_streams::DrawDisjoint;
+use std::alloc::{AllocError, Allocator};
+use std::collections::BTreeMap;
+
+/// The runs of a stream as entries, and how many members they have.
+pub(crate) fn gathered<T: Integer, A: Allocator, I: DrawDisjoint<T>>(
+    alloc: A,
+    iter: I,
+) -> Result<(Vec<(T, T), A>, T::SafeLen), AllocError>
+    requires { I.can_draw iter }
+    ensures runs { IfOk result (λ gathered. I.may_give iter (runs_of T.rank gathered.0.items)) }
+    ensures kept { IfOk result (λ gathered.
+        IsKept T.rank T.value_count gathered.0.items (T.SafeLen.number gathered.1)) }
+{
+    let mut iter = iter;
+    let mut entries = Vec::new(alloc);
+    let mut length = T::SafeLen::zero();
+    while let Some(range) = iter.draw() {
+        length += T::safe_len(&range);
+        let (start, end) = range.into_inner();
+        entries.push((start, end))?;
+    }
+    Ok((entries, length))
+}
+
+/// The map of entries that come in order, built in one pass.
+pub(crate) fn map_of<T: Integer, A: Allocator + Clone>(
+    alloc: A,
+    entries: Vec<(T, T), A>,
+) -> Result<BTreeMap<T, T, A>, AllocError>
+    requires { IsCanonicalIn T.value_count (runs_of T.rank entries.items) }
+    ensures { IfOk result (λ map. map.entries ≡ entries.items) }
+{
+    let map = BTreeMap::from_iter(alloc, entries)?;
+    know_starts(&map);
+    Ok(map)
+}
+
+// The starts of the entries are known for values from here on. (That the map finds at each key what
+// the list has there doesn't tell it of the keys themselves.)
+fn know_starts<T: Integer, A: Allocator>(map: &BTreeMap<T, T, A>)
+    ensures { All (λ entry. T.rank entry.0 < T.value_count) map.now.entries }
+{
+    let mut entries = map.iter();
+    while let Some(run) = next_run(&mut entries) {
+        known(run.start);
+    }
+}
