@@ -5,6 +5,7 @@ mod arrays;
 mod clones;
 mod complements;
 mod deep_complements;
+mod deep_five_operations;
 mod deep_generic;
 mod deep_intersections;
 mod deep_mixed;
