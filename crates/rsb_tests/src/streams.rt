@@ -33,6 +33,7 @@ mod refused_lists;
 mod set_algebra;
 mod six_operations;
 mod std_markers;
+mod symmetric_algebra;
 mod symmetric_difference;
 mod texts;
 mod two_ranges;

@@ -133,12 +133,13 @@ fn a_symmetric_difference_of_seven_operations(rt: HostRuntime) {
 
 /// Whether seven operations on a symmetric difference give the ranges with these ends.
 fn innermost_gives(wanted: &[(u8, u8)]) -> bool {
-    gives(innermost(two_streams(), two_others(), three_others()), wanted)
+    gives(
+        innermost(two_streams(), two_others(), three_others()),
+        wanted,
+    )
 }
 
 #[test]
 fn seven_operations_on_a_symmetric_difference(rt: HostRuntime) {
-    assert!(rt;
-        innermost_gives(&[(0, 9), (20, 24), (30, 30), (35, 40), (60, 69), (201, 255)])
-    );
+    assert!(rt; innermost_gives(&[(0, 9), (20, 24), (30, 30), (35, 40), (60, 69), (201, 255)]));
 }
