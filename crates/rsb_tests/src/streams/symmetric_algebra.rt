@@ -14,8 +14,8 @@ use rsb_streams::{
     Union,
 };
 
-/// What one of two streams has alone, as what either has, less what both have: where both pairs give
-/// the same two lists, it gives the runs of their symmetric difference.
+/// What lies in one of two streams alone, as what either has, less what both have: where both pairs
+/// give the same two lists, it gives the runs of their symmetric difference.
 fn unshared<T: Integer, L: SortedDisjoint<T>, R: SortedDisjoint<T>>(
     some: (L, R),
     again: (L, R),
@@ -35,8 +35,8 @@ fn unshared<T: Integer, L: SortedDisjoint<T>, R: SortedDisjoint<T>>(
     either.difference(common)
 }
 
-/// Whether both ways to what lies in one of two streams alone give the same list: so it is where the
-/// three pairs give the same two lists.
+/// Whether both ways to what lies in one of two streams alone give the same list: so it is where
+/// the three pairs give the same two lists.
 fn alone_is_the_same<T: Integer, L: SortedDisjoint<T>, R: SortedDisjoint<T>>(
     first: (L, R),
     some: (L, R),

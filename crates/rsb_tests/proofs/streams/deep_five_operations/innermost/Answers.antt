@@ -1,5 +1,6 @@
 use Rattle.rsb_tests.proofs.streams.deep_five_operations.innermost.Goals as goal
 
+-- a symmetric difference of the two fits, as the function requires
 pub from-requires : goal.from-requires
 from-requires g c = c.requires.fits
 
