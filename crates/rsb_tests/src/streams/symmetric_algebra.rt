@@ -1,0 +1,86 @@
+//! What lies in one of two streams alone, by two ways, on any lawful streams.
+
+ghost use Rattle.std.specs.Mem.{FitsInMemory};
+ghost use Rattle.std.specs.Prelude.{IsTrue, List};
+ghost use Rattle.rsb_integer.specs.Runs.{Interval};
+ghost use Rattle.rsb_integer.specs.Selection.{symmetric_difference};
+ghost use Rattle.rsb_streams.specs.contracts.sym_diff_iter.SymDiffIter.{the_row};
+ghost use Rattle.rsb_streams.specs.Stream.{◌⊆◌, just, runs_by_two};
+
+use crate::tables::gives;
+use rsb_integer::Integer;
+use rsb_streams::{
+    Difference, Draw, DrawDisjoint, Intersection, RangeOnce, SortedDisjoint, SymmetricDifference,
+    Union,
+};
+
+/// What lies in one of two streams alone, as what either has, less what both have: where both pairs
+/// give the same two lists, it gives the runs of their symmetric difference.
+fn unshared<T: Integer, L: SortedDisjoint<T>, R: SortedDisjoint<T>>(
+    some: (L, R),
+    again: (L, R),
+) -> Difference<T, Union<T, L, R>, Intersection<T, L, R>>
+    requires some { (L.can_draw some.0) × (R.can_draw some.1) }
+    requires again { (L.can_draw again.0) × (R.can_draw again.1) }
+    ensures ready { ⟦<Difference<T, Union<T, L, R>, Intersection<T, L, R>> as Draw<T>>⟧.can_draw
+        result }
+    ensures gives { (these those : List Interval)
+        → L.may_give some.0 ⊆ just these → R.may_give some.1 ⊆ just those
+        → L.may_give again.0 ⊆ just these → R.may_give again.1 ⊆ just those
+        → ⟦<Difference<T, Union<T, L, R>, Intersection<T, L, R>> as Draw<T>>⟧.may_give result
+        ⊆ runs_by_two T.value_count symmetric_difference (just these) (just those) }
+{
+    let either = some.0.union(some.1);
+    let common = again.0.intersection(again.1);
+    either.difference(common)
+}
+
+/// Whether both ways to what lies in one of two streams alone give the same list: so it is where
+/// the three pairs give the same two lists.
+fn alone_is_the_same<T: Integer, L: SortedDisjoint<T>, R: SortedDisjoint<T>>(
+    first: (L, R),
+    some: (L, R),
+    again: (L, R),
+) -> bool
+    requires fits { FitsInMemory (the_row T.row L.row R.row) }
+    requires first { (L.can_draw first.0) × (R.can_draw first.1) }
+    requires some { (L.can_draw some.0) × (R.can_draw some.1) }
+    requires again { (L.can_draw again.0) × (R.can_draw again.1) }
+    ensures { (these those : List Interval)
+        → L.may_give first.0 ⊆ just these → R.may_give first.1 ⊆ just those
+        → L.may_give some.0 ⊆ just these → R.may_give some.1 ⊆ just those
+        → L.may_give again.0 ⊆ just these → R.may_give again.1 ⊆ just those
+        → IsTrue result }
+{
+    let alone = SymmetricDifference::from(first);
+    let parts = unshared(some, again);
+    alone.equal(parts)
+}
+
+/// The ranges 3..=5 and 5..=9.
+fn three_to_nine() -> (RangeOnce<u8>, RangeOnce<u8>)
+    ensures low { ⟦<RangeOnce<u8> as Draw<u8>>⟧.can_draw result.0 }
+    ensures high { ⟦<RangeOnce<u8> as Draw<u8>>⟧.can_draw result.1 }
+{
+    (RangeOnce::new(3..=5), RangeOnce::new(5..=9))
+}
+
+/// Whether they are the same of 3..=5 and 5..=9.
+fn is_the_same_of_bytes() -> bool {
+    alone_is_the_same(three_to_nine(), three_to_nine(), three_to_nine())
+}
+
+#[test]
+fn what_lies_in_one_alone_is_the_same_both_ways(rt: HostRuntime) {
+    assert!(rt; is_the_same_of_bytes());
+}
+
+#[test]
+fn what_lies_in_one_alone_is_what_is_not_shared(rt: HostRuntime) {
+    assert!(rt;
+        gives(
+            unshared(three_to_nine(), three_to_nine()),
+            &[(3, 4), (6, 9)]
+        )
+    );
+}
