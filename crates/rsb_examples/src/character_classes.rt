@@ -1,0 +1,42 @@
+//! The character classes of a lexer: every character is in one class or the other.
+
+ghost use Rattle.std.specs.Prelude.{◌≡◌, ℕ, not, ◌<◌, IfOk};
+ghost use Rattle.rsb_integer.specs.Runs.{members};
+
+use range_set_blaze::RangeSetBlaze;
+use std::alloc::{AllocError, Global};
+use std::io;
+
+/// Words and the rest of a line.
+pub fn show(alloc: Global, rt: &impl Print) -> io::Result<()> {
+    let (word, rest) = classes(alloc)?;
+    println!(rt; "word: {word}")?;
+    println!(rt; "rest: {rest}")?;
+    let line = "let größe_2 = 7;";
+    println!(rt; "{line}")?;
+    for c in line.chars() {
+        rt.print(if word.contains(c) { 'w' } else { '.' })?;
+    }
+    println!(rt; "")
+}
+
+/// The characters of words, and all others. Without memory nothing is made.
+pub fn classes(alloc: Global) -> Result<(RangeSetBlaze<char>, RangeSetBlaze<char>), AllocError>
+    ensures { IfOk result (λ both. (rank : ℕ) → rank < 1112064
+        → members both.1 rank ≡ not (members both.0 rank)) }
+{
+    let letters = letters(alloc)?;
+    let mut digits = RangeSetBlaze::from(alloc, '0'..='9')?;
+    digits.insert('_')?;
+    let word = letters.bitor(&digits)?;
+    let rest = word.not()?;
+    Ok((word, rest))
+}
+
+// The letters of Latin and German words.
+fn letters(alloc: Global) -> Result<RangeSetBlaze<char>, AllocError> {
+    let mut letters = RangeSetBlaze::from(alloc, 'a'..='z')?;
+    letters.ranges_insert('A'..='Z')?;
+    letters.extend_values(['ä', 'ö', 'ü', 'ß', 'Ä', 'Ö', 'Ü'])?;
+    Ok(letters)
+}

@@ -1,0 +1,55 @@
+//! The calls that most programs make, and a caller with a promise of its own.
+
+ghost use Rattle.std.specs.Prelude.{◌≡◌, ◌⊎◌, IsTrue, OnErr, OnOk};
+ghost use Rattle.rsb_integer.specs.Runs.{members};
+ghost use Rattle.range_set_blaze.specs.Set.{only, Adds};
+
+use range_set_blaze::{IntoRangeSetBlaze, RangeSetBlaze};
+use std::alloc::{AllocError, Global};
+use std::io;
+
+/// Hours at which a shop is open: asked, walked over and combined with others.
+pub fn show(alloc: Global, rt: &impl Print) -> io::Result<()> {
+    let open = opening_hours(alloc)?;
+    println!(rt;
+        "{open}, {} hours, at 12: {}",
+        open.len(),
+        open.contains(12)
+    )?;
+    for run in open.ranges() {
+        println!(rt; "from {} to {}", run.start(), run.end())?;
+    }
+    let busy = RangeSetBlaze::from(alloc, 10..=14)?;
+    println!(rt; "free: {}", open.sub(&busy)?)?;
+    println!(rt; "idle: {}", idle_hours(alloc, &open, &busy)?)
+}
+
+// Two runs, and the two values between them.
+fn opening_hours(alloc: Global) -> Result<RangeSetBlaze<u32>, AllocError> {
+    let mut open = RangeSetBlaze::new(alloc);
+    open.ranges_insert(9..=10)?;
+    open.ranges_insert(13..=18)?;
+    add_both(&mut open, 11, 12)?;
+    Ok(open)
+}
+
+// The hours of a day in neither set, by a chain of streams.
+fn idle_hours(
+    alloc: Global,
+    open: &RangeSetBlaze<u32>,
+    busy: &RangeSetBlaze<u32>,
+) -> Result<RangeSetBlaze<u32>, AllocError> {
+    let day = RangeSetBlaze::from(alloc, 0..=23)?;
+    let idle = day.ranges() - (open.ranges() | busy.ranges());
+    idle.into_range_set_blaze(alloc)
+}
+
+/// Adds two values. Without memory the set is as it was, or has the first one more.
+pub fn add_both(set: &mut RangeSetBlaze<u32>, a: u32, b: u32) -> Result<(), AllocError>
+    ensures both { OnOk result (IsTrue (members set.new a) × IsTrue (members set.new b)) }
+    ensures err { OnErr result ((set.new ≡ set.old) ⊎ Adds set.old set.new (only a)) }
+{
+    set.insert(a)?;
+    set.insert(b)?;
+    Ok(())
+}

@@ -1,0 +1,54 @@
+//! Acknowledged packets: they come in any order, and what is missing is asked for again.
+
+ghost use Rattle.std.specs.Prelude.{◌↔◌, ℕ, ◌^◌, ◌<◌, IfOk, IfSome, IsFalse, IsNone, IsTrue};
+ghost use Rattle.rsb_integer.specs.Runs.{members};
+ghost use Rattle.rsb_integer.specs.Selection.{difference, IsEverything};
+ghost use Rattle.range_set_blaze.specs.Set.{IsSetOf};
+
+use range_set_blaze::{DrawDisjoint, IntoRangeSetBlaze, RangeSetBlaze};
+use std::alloc::{AllocError, Global};
+use std::io;
+
+/// Eight packets come out of order, one of them twice.
+pub fn show(alloc: Global, rt: &impl Print) -> io::Result<()> {
+    let mut acked = RangeSetBlaze::<u32>::new(alloc);
+    for number in [0, 1, 5, 2, 9, 5, 6, 8] {
+        if !acked.insert(number)? {
+            println!(rt; "{number} came twice")?;
+        }
+    }
+    println!(rt; "acknowledged: {acked}")?;
+    if let Some(next) = next_wanted(&acked) {
+        println!(rt; "next wanted: {next}")?;
+    }
+    let sent = RangeSetBlaze::from(alloc, 0..=9)?;
+    println!(rt; "missing of {sent}: {}", missing(alloc, &sent, &acked)?)
+}
+
+/// The first number that is missing, or `None` where all have come.
+pub fn next_wanted(acked: &RangeSetBlaze<u32>) -> Option<u32>
+    ensures none { IsNone result ↔ IsEverything (2 ^ 32) (members acked.now) }
+    ensures missing { IfSome result (λ next. IsFalse (members acked.now next)) }
+    ensures before { IfSome result (λ next. (number : ℕ) → number < next
+        → IsTrue (members acked.now number)) }
+{
+    let (run, is_acked) = acked.range_or_gap_at(0);
+    if is_acked {
+        run.end().checked_add(1)
+    } else {
+        Some(0)
+    }
+}
+
+/// The numbers that were sent and have not come. Without memory nothing is made.
+pub fn missing(
+    alloc: Global,
+    sent: &RangeSetBlaze<u32>,
+    acked: &RangeSetBlaze<u32>,
+) -> Result<RangeSetBlaze<u32>, AllocError>
+    ensures { IfOk result (λ missing.
+        IsSetOf missing (difference (members sent.now) (members acked.now))) }
+{
+    let unanswered = sent.ranges().difference(acked.ranges());
+    unanswered.into_range_set_blaze(alloc)
+}
