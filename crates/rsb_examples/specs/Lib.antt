@@ -1,1 +1,2 @@
 pub mod FreeSpace
+pub mod Slots

@@ -2,6 +2,7 @@
 
 ghost use Rattle.std.specs.Prelude.{◌≡◌, ◌<◌};
 ghost use Rattle.std.proofs.Common.{lit≤, refl};
+ghost use Rattle.rsb_examples.specs.Slots.{quarter_at, quarter_at-below, quarter_at-same};
 ghost use Rattle.rsb_examples.specs.declared.calendar.slot.TheConstants.{QUARTERS};
 ghost use Rattle.std.proofs.Props.{props};
 ghost use mathlib.Core.HLevel.{is_prop→PathP};
@@ -47,6 +48,11 @@ impl Integer for Slot {
     ghost rank = { λ slot. slot.quarter };
 
     ghost value_count = { QUARTERS };
+
+    ghost value_at = { λ place. record {
+      quarter = quarter_at place;
+      in_day = quarter_at-below place;
+    } };
 
     fn checked_add_one(self) -> Option<Slot> {
         if self.quarter + 1 < QUARTERS {
@@ -94,11 +100,15 @@ impl Integer for Slot {
         }
     }
 
-    // Two slots with one number are one slot, whatever shows that the number lies in the day.
-    ghost one_place = { λ x y value same i. record {
-      quarter = same i;
-      in_day = is_prop→PathP (λ i. same i < 96) (λ i. Prim.hlevel props) x.in_day y.in_day i;
-    } };
+    // The slot at the place of another has its number, and so is that slot, whatever shows that the
+    // number lies in the day.
+    ghost places = { λ x value i.
+        let same = quarter_at-same x.quarter value in
+        record {
+          quarter = same i;
+          in_day = is_prop→PathP (λ i. same i < 96) (λ i. Prim.hlevel props)
+              (quarter_at-below x.quarter) x.in_day i;
+        } };
 
     ghost in_order = { λ x y left right. refl };
 
