@@ -175,33 +175,25 @@ fn hundred_runs(alloc: Global) -> Result<Vec<(i32, i32)>, AllocError> {
     Ok(runs)
 }
 
-/// Blocks of growing size in a heap, each before a small one that keeps it apart, and then blocks
-/// that take all that is left.
+/// Blocks in a heap, one after the other, and then blocks that take all that is left.
 #[derive(Drop)]
 struct Rooms<'a> {
     rooms: Filler<'a>,
-    walls: Filler<'a>,
     filler: Filler<'a>,
 }
 
 /// Fills a heap.
 fn rooms_in<'a>(alloc: Global, heap: &'a LocalHeap) -> Result<Rooms<'a>, AllocError> {
     let mut rooms = Vec::new(alloc);
-    let mut walls = Vec::new(alloc);
-    for _ in 0..12u8 {
+    for _ in 0..24u8 {
         rooms.push(Vec::<u8, &LocalHeap>::with_capacity(heap, 256)?)?;
-        walls.push(Vec::<u8, &LocalHeap>::with_capacity(heap, 16)?)?;
     }
     let filler = filled(alloc, heap)?;
-    Ok(Rooms {
-        rooms,
-        walls,
-        filler,
-    })
+    Ok(Rooms { rooms, filler })
 }
 
-/// How many growths are refused while rooms are given back one after the other: 0 where a room
-/// doesn't let one more growth pass, or where a refused growth keeps some room.
+/// How many sets are refused while rooms are given back one after the other, each beside those
+/// before it: 0 where a room more lets fewer runs pass, or where a refused growth keeps some room.
 fn refused_in_turn<D: Drop>(
     alloc: Global,
     heap: &LocalHeap,
@@ -217,7 +209,7 @@ fn refused_in_turn<D: Drop>(
             break;
         };
         let is_refused = is_copied_whole(alloc, heap, set, runs).is_err();
-        if count <= last_count || !is_refused || heap.free() != free {
+        if count < last_count || !is_refused || heap.free() != free {
             return Ok(0);
         }
         refusals = refusals.saturating_add(1);
@@ -243,6 +235,5 @@ fn each_growth_of_a_new_set_is_refused_in_turn(rt: HostRuntime) -> Result<(), Fa
     let made = RangeSetBlaze::from_sorted_disjoint(&heap, set.ranges())?;
     assert!(rt; runs_of(rt.alloc(), &made)?.as_slice() == runs.as_slice());
     drop(full.filler);
-    drop(full.walls);
     Ok(())
 }
