@@ -221,6 +221,19 @@ fn drawn_set(
     Ok(others)
 }
 
+/// Adds a set to another by one of the calls.
+fn join(
+    set: &mut RangeSetBlaze<u8>,
+    others: &mut RangeSetBlaze<u8>,
+    kind: u8,
+) -> Result<(), AllocError> {
+    match kind {
+        16 => set.append(others),
+        17 => set.extend(others.ranges()),
+        _ => set.bitor_assign(others),
+    }
+}
+
 /// Adds another set, and says whether just the call that is to empty it did.
 fn joined(
     alloc: Global,
@@ -231,11 +244,7 @@ fn joined(
     other: u8,
 ) -> Result<bool, AllocError> {
     let mut others = drawn_set(alloc, flags, value, other % 16)?;
-    match kind {
-        16 => set.append(&mut others)?,
-        17 => set.extend(others.ranges())?,
-        _ => set.bitor_assign(&others)?,
-    }
+    join(set, &mut others, kind)?;
     Ok(others.is_empty() == (kind == 16))
 }
 

@@ -51,6 +51,23 @@ fn two_sets_make_others(rt: HostRuntime) {
 }
 
 /// Adds one set to another by one of the calls.
+fn join(
+    call: u8,
+    set: &mut RangeSetBlaze<i32>,
+    other: &mut RangeSetBlaze<i32>,
+) -> Result<(), AllocError> {
+    match call {
+        0 => set.bitor_assign(other),
+        1 => set.append(other),
+        2 => set.extend(other.ranges()),
+        _ => {
+            let owned = other.clone()?;
+            set.bitor_assign_owned(owned)
+        }
+    }
+}
+
+/// Adds the set of a table to another, and says whether just the call that is to empty it did.
 fn add(
     alloc: Global,
     call: u8,
@@ -58,15 +75,7 @@ fn add(
     added: Table<'_>,
 ) -> Result<bool, AllocError> {
     let mut other = set_of(alloc, added)?;
-    match call {
-        0 => set.bitor_assign(&other)?,
-        1 => set.append(&mut other)?,
-        2 => set.extend(other.ranges())?,
-        _ => {
-            set.bitor_assign_owned(other)?;
-            return Ok(true);
-        }
-    }
+    join(call, set, &mut other)?;
     Ok(other.is_empty() == (call == 1))
 }
 
