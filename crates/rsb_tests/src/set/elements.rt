@@ -2,31 +2,42 @@
 
 ghost use Rattle.std.specs.Prelude.{◌≡◌};
 
-use crate::tables::{runs_of, set_of};
+use crate::set::rows::has;
+use crate::tables::set_of;
 use range_set_blaze::RangeSetBlaze;
 use std::alloc::{AllocError, Global};
 use std::test::*;
 
+/// Whether the elements of 1..=3 come from both ends in turn.
+fn come_in_turn(set: &RangeSetBlaze<i32>) -> bool {
+    let mut elements = set.iter();
+    elements.next() == Some(1)
+        && elements.next_back() == Some(3)
+        && elements.next() == Some(2)
+        && elements.next_back() == None
+        && elements.next() == None
+}
+
+/// Whether the back gives what the front of 1..=3 left.
+fn come_from_the_back(set: &RangeSetBlaze<i32>) -> bool {
+    let mut elements = set.iter();
+    elements.next() == Some(1)
+        && elements.next_back() == Some(3)
+        && elements.next_back() == Some(2)
+        && elements.next() == None
+}
+
 #[test]
 fn each_element_comes_once_from_either_end(rt: HostRuntime) -> Result<(), Fail> {
     let set = set_of(rt.alloc(), &[(1, 3)])?;
-    let mut elements = set.iter();
-    assert!(rt; elements.next() == Some(1));
-    assert!(rt; elements.next_back() == Some(3));
-    assert!(rt; elements.next() == Some(2));
-    assert!(rt; elements.next_back() == None);
-    assert!(rt; elements.next() == None);
+    assert!(rt; come_in_turn(&set));
     Ok(())
 }
 
 #[test]
 fn the_back_takes_what_is_left_of_the_front(rt: HostRuntime) -> Result<(), Fail> {
     let set = set_of(rt.alloc(), &[(1, 3)])?;
-    let mut elements = set.iter();
-    assert!(rt; elements.next() == Some(1));
-    assert!(rt; elements.next_back() == Some(3));
-    assert!(rt; elements.next_back() == Some(2));
-    assert!(rt; elements.next() == None);
+    assert!(rt; come_from_the_back(&set));
     Ok(())
 }
 
@@ -68,14 +79,16 @@ fn elements_have_a_text(rt: HostRuntime) -> Result<(), Fail> {
     Ok(())
 }
 
+/// Whether an element comes from either end of a set of 1..=3 and 7..=8, no more being asked for.
+fn come_once(set: &RangeSetBlaze<i32>) -> bool {
+    let mut elements = set.iter();
+    elements.next() == Some(1) && elements.next_back() == Some(8)
+}
+
 #[test]
 fn elements_dropped_half_way_leave_the_set(rt: HostRuntime) -> Result<(), Fail> {
     let set = set_of(rt.alloc(), &[(1, 3), (7, 8)])?;
-    let mut elements = set.iter();
-    assert!(rt; elements.next() == Some(1));
-    assert!(rt; elements.next_back() == Some(8));
-    drop(elements);
-    assert!(rt; runs_of(rt.alloc(), &set)?[..] == [(1, 3), (7, 8)]);
+    assert!(rt; come_once(&set) && has(&set, &[(1, 3), (7, 8)]));
     Ok(())
 }
 

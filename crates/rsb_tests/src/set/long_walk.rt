@@ -1,7 +1,7 @@
 //! Some thousand calls of each kind that changes a set, drawn by a fixed seed, beside 256 flags.
 
 use range_set_blaze::RangeSetBlaze;
-use std::alloc::AllocError;
+use std::alloc::{AllocError, Global};
 use std::test::*;
 
 /// For each value whether it is a member.
@@ -206,6 +206,48 @@ fn cleared(set: &mut RangeSetBlaze<u8>, flags: &mut Flags) -> bool {
     set.is_empty()
 }
 
+/// Five ranges as a set of their own, whose values get flags.
+fn drawn_set(
+    alloc: Global,
+    flags: &mut Flags,
+    first: u8,
+    more: u8,
+) -> Result<RangeSetBlaze<u8>, AllocError> {
+    let mut others = RangeSetBlaze::new(alloc);
+    for place in 0..5u8 {
+        let start = first.wrapping_add(51 * place);
+        let _ = range_inserted(&mut others, flags, start, start.saturating_add(more))?;
+    }
+    Ok(others)
+}
+
+/// Adds a set to another by one of the calls.
+fn join(
+    set: &mut RangeSetBlaze<u8>,
+    others: &mut RangeSetBlaze<u8>,
+    kind: u8,
+) -> Result<(), AllocError> {
+    match kind {
+        16 => set.append(others),
+        17 => set.extend(others.ranges()),
+        _ => set.bitor_assign(others),
+    }
+}
+
+/// Adds another set, and says whether just the call that is to empty it did.
+fn joined(
+    alloc: Global,
+    set: &mut RangeSetBlaze<u8>,
+    flags: &mut Flags,
+    kind: u8,
+    value: u8,
+    other: u8,
+) -> Result<bool, AllocError> {
+    let mut others = drawn_set(alloc, flags, value, other % 16)?;
+    join(set, &mut others, kind)?;
+    Ok(others.is_empty() == (kind == 16))
+}
+
 /// One call on one value or none, and whether its answer is right.
 fn called_with_one(
     set: &mut RangeSetBlaze<u8>,
@@ -225,6 +267,7 @@ fn called_with_one(
 
 /// One call, and whether its answer is right. A new kind of call gets a number here.
 fn called(
+    alloc: Global,
     set: &mut RangeSetBlaze<u8>,
     flags: &mut Flags,
     kind: u8,
@@ -238,6 +281,7 @@ fn called(
         9 => Ok(other > 40 || cleared(set, flags)),
         10 | 11 | 12 | 13 => range_inserted(set, flags, value, value.saturating_add(other / 8)),
         14 | 15 => range_inserted(set, flags, value, other),
+        16 | 17 | 18 => joined(alloc, set, flags, kind, value, other),
         _ => called_with_one(set, flags, kind, value),
     }
 }
@@ -249,10 +293,10 @@ fn thousands_of_changes_leave_what_flags_tell(rt: HostRuntime) -> Result<(), Fai
     let mut drawn = 20240229u32;
     for turn in 0..6000u16 {
         drawn = next_drawn(drawn);
-        let kind = byte_of(drawn, 24) % 16;
+        let kind = byte_of(drawn, 24) % 19;
         let value = byte_of(drawn, 16);
         let other = byte_of(drawn, 8);
-        let is_right = called(&mut set, &mut flags, kind, value, other)?;
+        let is_right = called(rt.alloc(), &mut set, &mut flags, kind, value, other)?;
         assert!(rt; is_right, "the answer of turn {turn}, call {kind}");
         assert!(rt;
             agrees(&set, &flags),

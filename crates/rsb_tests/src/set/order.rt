@@ -2,6 +2,7 @@
 
 ghost use Rattle.std.specs.Prelude.{◌≡◌, true};
 
+use crate::set::rows::Table;
 use crate::tables::set_of;
 use range_set_blaze::laws::cmp_counted;
 use range_set_blaze::{Integer, RangeSetBlaze};
@@ -9,11 +10,34 @@ use std::alloc::{AllocError, Allocator, Global};
 use std::cmp::Ordering;
 use std::test::*;
 
-type Ranges<'a> = &'a [(i32, i32)];
+/// Whether two sets have this order by each call, and so many turns tell it.
+fn stand(
+    one: &RangeSetBlaze<i32>,
+    other: &RangeSetBlaze<i32>,
+    order: Ordering,
+    turns: u128,
+) -> bool {
+    let (found, taken) = cmp_counted(one, other);
+    let is_told = found == order && taken == turns;
+    is_told && one.cmp(other) == order && one.partial_cmp(other) == Some(order)
+}
+
+/// Whether the sets of two tables have this order, and so many turns tell it.
+fn are(
+    alloc: Global,
+    left: Table<'_>,
+    right: Table<'_>,
+    order: Ordering,
+    turns: u128,
+) -> Result<bool, AllocError> {
+    let one = set_of(alloc, left)?;
+    let other = set_of(alloc, right)?;
+    Ok(stand(&one, &other, order, turns))
+}
 
 #[test]
-fn sets_are_ordered_in_so_many_turns(rt: HostRuntime) -> Result<(), Fail> {
-    let rows: [(Ranges<'_>, Ranges<'_>, Ordering, u128); 8] = [
+fn sets_are_ordered_in_so_many_turns(rt: HostRuntime) {
+    let rows: [(Table<'_>, Table<'_>, Ordering, u128); 8] = [
         (&[(1, 3)], &[(1, 2), (5, 5)], Ordering::Less, 2),
         (&[(1, 2), (5, 5)], &[(1, 3)], Ordering::Greater, 2),
         (&[(1, 2)], &[(1, 3)], Ordering::Less, 2),
@@ -24,12 +48,9 @@ fn sets_are_ordered_in_so_many_turns(rt: HostRuntime) -> Result<(), Fail> {
         (&[(1, 2), (4, 5)], &[(1, 2)], Ordering::Greater, 2),
     ];
     for (left, right, order, turns) in rows {
-        let (one, other) = (set_of(rt.alloc(), left)?, set_of(rt.alloc(), right)?);
-        let (found, taken) = cmp_counted(&one, &other);
-        assert!(rt; found == order && taken == turns, "{one} and {other}");
-        assert!(rt; one.cmp(&other) == order && one.partial_cmp(&other) == Some(order));
+        let answer = are(rt.alloc(), left, right, order, turns);
+        assert!(rt; answer == Ok(true), "{left:?} and {right:?}");
     }
-    Ok(())
 }
 
 #[test]
@@ -70,19 +91,23 @@ fn set_of_members(alloc: Global, members: &[u8]) -> Result<RangeSetBlaze<u8>, Al
     Ok(set)
 }
 
+/// Whether two sets have the order of their sorted members, and are equal where these are.
+fn are_as_members(alloc: Global, bits: u8, others: u8) -> Result<bool, AllocError> {
+    let left = members_of(alloc, bits)?;
+    let right = members_of(alloc, others)?;
+    let one = set_of_members(alloc, &left)?;
+    let other = set_of_members(alloc, &right)?;
+    Ok(one.cmp(&other) == left.cmp(&right) && (one == other) == (bits == others))
+}
+
 #[test]
-fn sets_are_ordered_as_their_sorted_members_are(rt: HostRuntime) -> Result<(), Fail> {
+fn sets_are_ordered_as_their_sorted_members_are(rt: HostRuntime) {
     for bits in 0..64 {
-        let left = members_of(rt.alloc(), bits)?;
-        let one = set_of_members(rt.alloc(), &left)?;
         for others in 0..64 {
-            let right = members_of(rt.alloc(), others)?;
-            let other = set_of_members(rt.alloc(), &right)?;
-            assert!(rt; one.cmp(&other) == left.cmp(&right), "{one} and {other}");
-            assert!(rt; (one == other) == (bits == others), "{one} and {other}");
+            let answer = are_as_members(rt.alloc(), bits, others);
+            assert!(rt; answer == Ok(true), "{bits} and {others}");
         }
     }
-    Ok(())
 }
 
 // From public contracts alone: at every element type `cmp` answers `Equal` where `==` is true.

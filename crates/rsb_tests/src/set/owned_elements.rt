@@ -1,6 +1,6 @@
 //! The elements of a set that is given up, and those between two bounds.
 
-use crate::set::refusals::filled;
+use crate::set::full_heaps::filled;
 use crate::tables::set_of;
 use linked_list_allocator::LocalHeap;
 use range_set_blaze::{IntoIter, RangeSetBlaze};
@@ -8,34 +8,54 @@ use std::alloc::{AllocError, Allocator, Global};
 use std::ops::Bound;
 use std::test::*;
 
+/// Whether the elements of 1..=2 and 5..=5 come from both ends.
+fn come_from_both_ends(set: RangeSetBlaze<i32>) -> bool {
+    let mut elements = set.into_iter();
+    elements.next_back() == Some(5)
+        && elements.next() == Some(1)
+        && elements.next() == Some(2)
+        && elements.next() == None
+        && elements.next_back() == None
+}
+
 #[test]
 fn owned_elements_come_from_both_ends(rt: HostRuntime) -> Result<(), Fail> {
-    let mut elements = set_of(rt.alloc(), &[(1, 2), (5, 5)])?.into_iter();
-    assert!(rt; elements.next_back() == Some(5));
-    assert!(rt; elements.next() == Some(1));
-    assert!(rt; elements.next() == Some(2));
-    assert!(rt; elements.next() == None);
-    assert!(rt; elements.next_back() == None);
+    let set = set_of(rt.alloc(), &[(1, 2), (5, 5)])?;
+    assert!(rt; come_from_both_ends(set));
     Ok(())
+}
+
+/// Whether all bytes come from the front in order, and then nothing.
+fn ascend(set: RangeSetBlaze<u8>) -> bool {
+    let mut elements = set.into_iter();
+    let mut is_right = true;
+    for value in 0..=255u8 {
+        is_right = elements.next() == Some(value) && is_right;
+    }
+    is_right && elements.next() == None
 }
 
 #[test]
 fn the_universe_comes_from_its_least_to_its_greatest(rt: HostRuntime) -> Result<(), Fail> {
-    let mut elements = RangeSetBlaze::<u8>::universe(rt.alloc())?.into_iter();
-    for value in 0..=255u8 {
-        assert!(rt; elements.next() == Some(value));
-    }
-    assert!(rt; elements.next() == None);
+    let set = RangeSetBlaze::<u8>::universe(rt.alloc())?;
+    assert!(rt; ascend(set));
     Ok(())
+}
+
+/// Whether all bytes come from the back in order, and then nothing.
+fn descend(set: RangeSetBlaze<u8>) -> bool {
+    let mut elements = set.into_iter();
+    let mut is_right = true;
+    for below in 0..=255u8 {
+        is_right = elements.next_back() == Some(255 - below) && is_right;
+    }
+    is_right && elements.next_back() == None
 }
 
 #[test]
 fn the_universe_comes_from_its_greatest_to_its_least(rt: HostRuntime) -> Result<(), Fail> {
-    let mut elements = RangeSetBlaze::<u8>::universe(rt.alloc())?.into_iter();
-    for below in 0..=255u8 {
-        assert!(rt; elements.next_back() == Some(255 - below));
-    }
-    assert!(rt; elements.next_back() == None);
+    let set = RangeSetBlaze::<u8>::universe(rt.alloc())?;
+    assert!(rt; descend(set));
     Ok(())
 }
 
@@ -47,34 +67,45 @@ fn is_true_of(hint: (usize, Option<usize>), left: usize) -> bool {
     }
 }
 
-#[test]
-fn hints_are_true_at_each_step(rt: HostRuntime) -> Result<(), Fail> {
-    let mut elements = set_of(rt.alloc(), &[(1, 2), (5, 5), (7, 9)])?.into_iter();
+/// Whether the hints are true while six elements are taken from both ends in turn.
+fn are_six_told(set: RangeSetBlaze<i32>) -> bool {
+    let mut elements = set.into_iter();
+    let mut is_right = true;
     for taken in 0..6usize {
-        assert!(rt; is_true_of(elements.size_hint(), 6 - taken));
+        is_right = is_true_of(elements.size_hint(), 6 - taken) && is_right;
         let item = if taken % 2 == 0 {
             elements.next()
         } else {
             elements.next_back()
         };
-        assert!(rt; item.is_some());
+        is_right = item.is_some() && is_right;
     }
-    assert!(rt; is_true_of(elements.size_hint(), 0));
-    assert!(rt; elements.next() == None);
+    is_right && is_true_of(elements.size_hint(), 0) && elements.next() == None
+}
+
+#[test]
+fn hints_are_true_at_each_step(rt: HostRuntime) -> Result<(), Fail> {
+    let set = set_of(rt.alloc(), &[(1, 2), (5, 5), (7, 9)])?;
+    assert!(rt; are_six_told(set));
     Ok(())
+}
+
+/// Whether the hints are true while the elements of 1..=2 and 5..=5 are taken.
+fn are_three_told(set: &RangeSetBlaze<i32>) -> bool {
+    let mut elements = set.iter();
+    is_true_of(elements.size_hint(), 3)
+        && elements.next() == Some(1)
+        && is_true_of(elements.size_hint(), 2)
+        && elements.next_back() == Some(5)
+        && is_true_of(elements.size_hint(), 1)
+        && elements.next_back() == Some(2)
+        && is_true_of(elements.size_hint(), 0)
 }
 
 #[test]
 fn hints_of_borrowed_elements_are_true(rt: HostRuntime) -> Result<(), Fail> {
     let set = set_of(rt.alloc(), &[(1, 2), (5, 5)])?;
-    let mut elements = set.iter();
-    assert!(rt; is_true_of(elements.size_hint(), 3));
-    assert!(rt; elements.next() == Some(1));
-    assert!(rt; is_true_of(elements.size_hint(), 2));
-    assert!(rt; elements.next_back() == Some(5));
-    assert!(rt; is_true_of(elements.size_hint(), 1));
-    assert!(rt; elements.next_back() == Some(2));
-    assert!(rt; is_true_of(elements.size_hint(), 0));
+    assert!(rt; are_three_told(&set));
     Ok(())
 }
 
@@ -123,15 +154,18 @@ fn number_between<A: Allocator + Copy>(set: &RangeSetBlaze<i32, A>) -> Result<us
     Ok(number)
 }
 
-#[test]
-fn a_refused_growth_leaves_the_set(rt: HostRuntime) -> Result<(), Fail> {
-    let heap = LocalHeap::new(rt.alloc(), 8192)?;
+/// Whether a call that is refused in a full heap leaves the set, and passes once there is room.
+fn is_left(alloc: Global) -> Result<bool, AllocError> {
+    let heap = LocalHeap::new(alloc, 8192)?;
     let mut set = RangeSetBlaze::<i32, &LocalHeap>::new(&heap);
     set.ranges_insert(3..=5)?;
-    let filler = filled(rt.alloc(), &heap)?;
-    assert!(rt; number_between(&set).is_err());
-    assert!(rt; set.len() == 3 && set.contains(4));
+    let filler = filled(alloc, &heap)?;
+    let is_refused = number_between(&set).is_err() && set.len() == 3 && set.contains(4);
     drop(filler);
-    assert!(rt; number_between(&set)? == 2);
-    Ok(())
+    Ok(is_refused && number_between(&set)? == 2)
+}
+
+#[test]
+fn a_refused_growth_leaves_the_set(rt: HostRuntime) {
+    assert!(rt; is_left(rt.alloc()) == Ok(true));
 }

@@ -1,6 +1,6 @@
 //! Removals while memory is refused.
 
-use crate::set::refusals::filled;
+use crate::set::full_heaps::filled;
 use linked_list_allocator::LocalHeap;
 use range_set_blaze::RangeSetBlaze;
 use std::alloc::{AllocError, Allocator, Global};
@@ -19,24 +19,35 @@ fn first_refused<A: Allocator + Copy>(set: &mut RangeSetBlaze<u16, A>) -> Option
     None
 }
 
-#[test]
-fn a_refused_removal_leaves_the_set_as_it_was(rt: HostRuntime) -> Result<(), Fail> {
-    let heap = LocalHeap::new(rt.alloc(), 8192)?;
+/// Whether a set of 0..=1999 lacks the odd numbers below a value, and then that value too.
+fn goes_on<A: Allocator + Copy>(
+    set: &mut RangeSetBlaze<u16, A>,
+    value: u16,
+) -> Result<bool, AllocError> {
+    let gone = value / 2;
+    let left = 2000u32.saturating_sub(u32::from(gone));
+    let is_left = gone > 0 && set.contains(value) && set.len() == left;
+    let is_counted = set.ranges_len() == usize::from(gone) + 1;
+    let is_removed = set.remove(value)? && !set.contains(value);
+    Ok(is_left && is_counted && is_removed && set.len() == left.saturating_sub(1))
+}
+
+/// Whether a removal that is refused leaves the set as it was, and then goes on.
+fn is_left_as_it_was(alloc: Global) -> Result<bool, AllocError> {
+    let heap = LocalHeap::new(alloc, 8192)?;
     let mut set = RangeSetBlaze::<u16, &LocalHeap>::from(&heap, 0..=1999)?;
-    let filler = filled(rt.alloc(), &heap)?;
+    let filler = filled(alloc, &heap)?;
     let refused = first_refused(&mut set);
     drop(filler);
-    assert!(rt; refused.is_some());
-    if let Some(value) = refused {
-        let gone = value / 2;
-        assert!(rt;
-            gone > 0 && set.contains(value) && set.len() == 2000u32.saturating_sub(u32::from(gone))
-        );
-        assert!(rt; set.ranges_len() == usize::from(gone) + 1);
-        assert!(rt; set.remove(value)?);
-        assert!(rt; !set.contains(value) && set.len() == 1999u32.saturating_sub(u32::from(gone)));
+    match refused {
+        Some(value) => goes_on(&mut set, value),
+        None => Ok(false),
     }
-    Ok(())
+}
+
+#[test]
+fn a_refused_removal_leaves_the_set_as_it_was(rt: HostRuntime) {
+    assert!(rt; is_left_as_it_was(rt.alloc()) == Ok(true));
 }
 
 /// Whether what takes no memory succeeds on the set of 1..=5 and 7..=7.
@@ -49,122 +60,38 @@ fn is_taken_without_memory<A: Allocator + Copy>(
     Ok(is_end_taken && is_stranger_left && is_last_popped && set.range_at(1) == Some(1..=3))
 }
 
-#[test]
-fn the_end_of_a_run_goes_with_no_memory(rt: HostRuntime) -> Result<(), Fail> {
-    let heap = LocalHeap::new(rt.alloc(), 8192)?;
+/// Whether what takes no memory succeeds in a full heap.
+fn is_end_taken(alloc: Global) -> Result<bool, AllocError> {
+    let heap = LocalHeap::new(alloc, 8192)?;
     let mut set = RangeSetBlaze::<u16, &LocalHeap>::from(&heap, 1..=5)?;
     set.insert(7)?;
-    let filler = filled(rt.alloc(), &heap)?;
-    assert!(rt; is_taken_without_memory(&mut set)?);
+    let filler = filled(alloc, &heap)?;
+    let is_taken = is_taken_without_memory(&mut set);
     drop(filler);
-    Ok(())
+    is_taken
 }
 
 #[test]
-fn a_single_member_is_popped_with_no_memory(rt: HostRuntime) -> Result<(), Fail> {
-    let heap = LocalHeap::new(rt.alloc(), 8192)?;
+fn the_end_of_a_run_goes_with_no_memory(rt: HostRuntime) {
+    assert!(rt; is_end_taken(rt.alloc()) == Ok(true));
+}
+
+/// Whether 7 is popped of a set, and then nothing.
+fn is_popped<A: Allocator + Copy>(set: &mut RangeSetBlaze<u16, A>) -> Result<bool, AllocError> {
+    Ok(set.pop_first()? == Some(7) && set.is_empty() && set.pop_first()? == None)
+}
+
+/// Whether a single member is popped in a full heap.
+fn is_single_popped(alloc: Global) -> Result<bool, AllocError> {
+    let heap = LocalHeap::new(alloc, 8192)?;
     let mut set = RangeSetBlaze::<u16, &LocalHeap>::from(&heap, 7..=7)?;
-    let filler = filled(rt.alloc(), &heap)?;
-    assert!(rt; set.pop_first()? == Some(7));
-    assert!(rt; set.is_empty() && set.pop_first()? == None);
+    let filler = filled(alloc, &heap)?;
+    let is_popped = is_popped(&mut set);
     drop(filler);
-    Ok(())
-}
-
-/// The set of 0..=2, 8..=10 and so on.
-pub(crate) fn spaced<A: Allocator + Copy>(
-    alloc: A,
-    count: u16,
-) -> Result<RangeSetBlaze<u16, A>, AllocError> {
-    let mut set = RangeSetBlaze::new(alloc);
-    for place in 0..count {
-        let start = place.saturating_mul(8);
-        set.ranges_insert(start..=start.saturating_add(2))?;
-    }
-    Ok(set)
-}
-
-/// Takes a value out by one of the calls.
-fn taken_by_a_call<A: Allocator + Copy>(
-    set: &mut RangeSetBlaze<u16, A>,
-    call: u8,
-    value: u16,
-) -> Result<bool, AllocError> {
-    match call {
-        0 => set.remove(value),
-        1 => set.take(value).map(|found| found == Some(value)),
-        _ => set.pop_first().map(|found| found == Some(value)),
-    }
-}
-
-/// How many growths are refused before a value is out: the heap has room for some bytes more a
-/// turn. `None` where a refused one changes the set.
-fn refusals_of_a_removal(
-    alloc: Global,
-    heap: &LocalHeap,
-    set: &mut RangeSetBlaze<u16, &LocalHeap>,
-    call: u8,
-    value: u16,
-) -> Result<Option<u8>, AllocError> {
-    let runs = set.ranges_len();
-    let members = set.len();
-    let mut refused = 0u8;
-    for room in [16, 64, 128, 256, 512, 1024] {
-        let hole = Vec::<u8, &LocalHeap>::with_capacity(heap, room)?;
-        let wall = Vec::<u8, &LocalHeap>::with_capacity(heap, 16)?;
-        let filler = filled(alloc, heap)?;
-        drop(hole);
-        let answer = taken_by_a_call(set, call, value);
-        drop(filler);
-        drop(wall);
-        if let Ok(taken) = answer {
-            let is_out = taken && !set.contains(value);
-            return Ok(is_out.then_some(refused));
-        }
-        if set.ranges_len() != runs || set.len() != members || !set.contains(value) {
-            return Ok(None);
-        }
-        refused = refused.saturating_add(1);
-    }
-    Ok(None)
+    is_popped
 }
 
 #[test]
-fn each_growth_of_a_removal_is_refused_in_turn(rt: HostRuntime) -> Result<(), Fail> {
-    for count in [1, 3, 100u16] {
-        for call in 0..2u8 {
-            let heap = LocalHeap::new(rt.alloc(), 16384)?;
-            let mut set = spaced(&heap, count)?;
-            let mut refused = 0u8;
-            for place in 0..count {
-                let value = 8 * place + 1;
-                match refusals_of_a_removal(rt.alloc(), &heap, &mut set, call, value)? {
-                    Some(more) => refused = refused.saturating_add(more),
-                    None => assert!(rt; false, "of {count} runs, call {call}, at {value}"),
-                }
-            }
-            assert!(rt;
-                (refused > 0) == (count == 100),
-                "of {count} runs, call {call}"
-            );
-        }
-    }
-    Ok(())
-}
-
-#[test]
-fn each_growth_of_a_pop_is_refused_in_turn(rt: HostRuntime) -> Result<(), Fail> {
-    for count in [1, 3, 100u16] {
-        let heap = LocalHeap::new(rt.alloc(), 16384)?;
-        let mut set = spaced(&heap, count)?;
-        for _ in 0..3 * count {
-            let Some(value) = set.first() else {
-                break;
-            };
-            let refused = refusals_of_a_removal(rt.alloc(), &heap, &mut set, 2, value)?;
-            assert!(rt; refused.is_some(), "of {count} runs, at {value}");
-        }
-        assert!(rt; set.is_empty(), "of {count} runs");
-    }
-    Ok(())
+fn a_single_member_is_popped_with_no_memory(rt: HostRuntime) {
+    assert!(rt; is_single_popped(rt.alloc()) == Ok(true));
 }

@@ -1,8 +1,8 @@
 //! Each growth of each call that makes a set of others or adds many, refused in turn.
 
-use crate::set::refusals::filled;
+use crate::set::full_heaps::filled_but;
 use linked_list_allocator::LocalHeap;
-use range_set_blaze::RangeSetBlaze;
+use range_set_blaze::{IntoRangeSetBlaze, RangeSetBlaze};
 use std::alloc::{AllocError, Allocator, Global};
 use std::test::*;
 
@@ -20,25 +20,36 @@ fn spaced<A: Allocator + Copy>(
     Ok(set)
 }
 
-/// Makes a set by one of the calls, and says how many members it has.
+/// How many members a set has whose ranges are those of another; none where they are not.
+fn alike<A: Allocator + Copy>(made: &RangeSetBlaze<u16, A>, other: &RangeSetBlaze<u16>) -> u32 {
+    for range in made.ranges() {
+        if other.range_at(*range.start()) != Some(range) {
+            return 0;
+        }
+    }
+    made.len()
+}
+
+/// Makes a set by one of the calls.
 fn made<A: Allocator + Copy>(
     alloc: A,
     call: u8,
     set: &RangeSetBlaze<u16, A>,
     other: &RangeSetBlaze<u16>,
-) -> Result<u32, AllocError> {
-    let made = match call {
-        0 => set.clone()?,
-        1 => set.bitor(other)?,
-        2 => set.bitand(other)?,
-        3 => set.sub(other)?,
-        4 => set.bitxor(other)?,
-        5 => set.not()?,
-        6 => RangeSetBlaze::from_iter(alloc, other.ranges())?,
-        7 => RangeSetBlaze::from_iter_values(alloc, 0..9u16)?,
-        _ => RangeSetBlaze::from_array(alloc, [7, 1, 4, 7, 9])?,
-    };
-    Ok(made.len())
+) -> Result<RangeSetBlaze<u16, A>, AllocError> {
+    match call {
+        0 => set.clone(),
+        1 => set.bitor(other),
+        2 => set.bitand(other),
+        3 => set.sub(other),
+        4 => set.bitxor(other),
+        5 => set.not(),
+        6 => RangeSetBlaze::from_iter(alloc, other.ranges()),
+        7 => RangeSetBlaze::from_iter_values(alloc, 0..9u16),
+        8 => RangeSetBlaze::from_array(alloc, [7, 1, 4, 7, 9]),
+        9 => RangeSetBlaze::from_sorted_disjoint(alloc, other.ranges()),
+        _ => other.ranges().into_range_set_blaze(alloc),
+    }
 }
 
 /// How many members a set has that one of the calls makes of two sets of so many, of which none is
@@ -46,7 +57,7 @@ fn made<A: Allocator + Copy>(
 fn wanted(call: u8, count: u16) -> u32 {
     let count = u32::from(count);
     match call {
-        0 | 3 | 6 => count,
+        0 | 3 | 6 | 9 | 10 => count,
         1 | 4 => count.saturating_mul(2),
         2 => 0,
         5 => 65536u32.saturating_sub(count),
@@ -55,26 +66,44 @@ fn wanted(call: u8, count: u16) -> u32 {
     }
 }
 
+/// Tries a call while a heap has some bytes left, and says how many members the set has that it
+/// makes: `None` where it is refused.
+fn tried<'a>(
+    alloc: Global,
+    heap: &'a LocalHeap,
+    call: u8,
+    set: &RangeSetBlaze<u16, &'a LocalHeap>,
+    other: &RangeSetBlaze<u16>,
+    room: usize,
+) -> Result<Option<u32>, AllocError> {
+    let filler = filled_but(alloc, heap, room)?;
+    let answer = made(heap, call, set, other);
+    drop(filler);
+    Ok(match answer {
+        Ok(made) if call < 9 => Some(made.len()),
+        Ok(made) => Some(alike(&made, other)),
+        Err(AllocError) => None,
+    })
+}
+
 /// How many growths of a call are refused before it passes: a heap has room for some bytes more a
 /// turn. `None` where a refused call keeps room, or another set is made.
-fn refusals_of_a_set(alloc: Global, call: u8, count: u16) -> Result<Option<u8>, AllocError> {
-    let heap = LocalHeap::new(alloc, 16384)?;
-    let set = spaced(&heap, 5, 10, count)?;
-    let other = spaced(alloc, 10, 10, count)?;
+fn refusals<'a>(
+    alloc: Global,
+    heap: &'a LocalHeap,
+    call: u8,
+    set: &RangeSetBlaze<u16, &'a LocalHeap>,
+    other: &RangeSetBlaze<u16>,
+    wanted: u32,
+) -> Result<Option<u8>, AllocError> {
     let free = heap.free();
+    let runs = set.ranges_len();
     let mut refused = 0u8;
     for step in 0..100usize {
-        let hole = Vec::<u8, &LocalHeap>::with_capacity(&heap, step.saturating_mul(64))?;
-        let wall = Vec::<u8, &LocalHeap>::with_capacity(&heap, 16)?;
-        let filler = filled(alloc, &heap)?;
-        drop(hole);
-        let answer = made(&heap, call, &set, &other);
-        drop(filler);
-        drop(wall);
-        if let Ok(length) = answer {
-            return Ok((length == wanted(call, count)).then_some(refused));
+        if let Some(length) = tried(alloc, heap, call, set, other, 64 * step)? {
+            return Ok((length == wanted).then_some(refused));
         }
-        if heap.free() != free || set.ranges_len() != usize::from(count) {
+        if heap.free() != free || set.ranges_len() != runs {
             return Ok(None);
         }
         refused = refused.saturating_add(1);
@@ -82,25 +111,39 @@ fn refusals_of_a_set(alloc: Global, call: u8, count: u16) -> Result<Option<u8>, 
     Ok(None)
 }
 
-#[test]
-fn each_growth_of_a_set_of_others_is_refused_in_turn(rt: HostRuntime) -> Result<(), Fail> {
-    for count in [0, 1, 3, 100u16] {
-        for call in 0..9u8 {
-            let refused = refusals_of_a_set(rt.alloc(), call, count)?;
-            let Some(refused) = refused else {
-                assert!(rt; false, "of {count} runs, call {call}");
-                return Ok(());
-            };
-            assert!(rt;
-                wanted(call, count) == 0 || refused > 0,
-                "of {count} runs, call {call}"
-            );
-        }
-    }
-    Ok(())
+/// Whether a call is refused before it makes a set of two that have so many runs, if it wants any
+/// memory.
+fn is_refused_first(alloc: Global, call: u8, count: u16) -> Result<bool, AllocError> {
+    let heap = LocalHeap::new(alloc, 16384)?;
+    let set = spaced(&heap, 5, 10, count)?;
+    let other = spaced(alloc, 10, 10, count)?;
+    let wanted = wanted(call, count);
+    let refused = refusals(alloc, &heap, call, &set, &other, wanted)?;
+    Ok(refused.is_some() && (wanted == 0 || refused > Some(0)))
 }
 
-/// Adds a set to another by one of the calls; the last takes a set for its own.
+#[test]
+fn each_growth_of_a_set_of_others_is_refused_in_turn(rt: HostRuntime) {
+    for count in [0, 1, 3, 100u16] {
+        for call in 0..9u8 {
+            let answer = is_refused_first(rt.alloc(), call, count);
+            assert!(rt; answer == Ok(true), "of {count} runs, call {call}");
+        }
+    }
+}
+
+#[test]
+fn each_growth_of_a_set_of_a_stream_is_refused_in_turn(rt: HostRuntime) {
+    for count in [0, 1, 3, 100u16] {
+        for call in 9..11u8 {
+            let answer = is_refused_first(rt.alloc(), call, count);
+            assert!(rt; answer == Ok(true), "of {count} runs, call {call}");
+        }
+    }
+}
+
+/// Adds a set to another by one of the calls; one takes a set for its own, and the last adds
+/// values.
 fn add<A: Allocator + Copy>(
     call: u8,
     set: &mut RangeSetBlaze<u16, A>,
@@ -111,7 +154,8 @@ fn add<A: Allocator + Copy>(
         0 => set.extend(other.ranges()),
         1 => set.bitor_assign(other),
         2 => set.append(other),
-        _ => set.bitor_assign_owned(owned),
+        3 => set.bitor_assign_owned(owned),
+        _ => set.extend_values((10..=1000u16).step_by(10)),
     }
 }
 
@@ -131,6 +175,28 @@ fn front<A: Allocator + Copy>(set: &RangeSetBlaze<u16, A>, own: u16) -> Option<u
     is_all.then_some(front)
 }
 
+/// Tries an addition of so many values while a heap has some bytes left: whether it passes, and
+/// whether the other set is then as it should be, empty or as it was.
+fn tried_to_add<'a>(
+    alloc: Global,
+    heap: &'a LocalHeap,
+    call: u8,
+    set: &mut RangeSetBlaze<u16, &'a LocalHeap>,
+    count: u16,
+    room: usize,
+) -> Result<(bool, bool), AllocError> {
+    let mut other = spaced(heap, 10, 10, count)?;
+    let owned = spaced(heap, 10, 10, count)?;
+    let filler = filled_but(alloc, heap, room)?;
+    let passes = add(call, set, &mut other, owned).is_ok();
+    drop(filler);
+    let is_emptied = passes && call == 2;
+    Ok((
+        passes,
+        other.ranges_len() == if is_emptied { 0 } else { usize::from(count) },
+    ))
+}
+
 /// How many growths of an addition are refused before it passes. `None` where a refused one adds
 /// what is no front of the other set, or changes that.
 fn refusals_of_an_addition(
@@ -143,22 +209,10 @@ fn refusals_of_an_addition(
     let mut set = spaced(&heap, 2001, 4, own)?;
     let mut refused = 0u8;
     for step in 0..100usize {
-        let mut other = spaced(&heap, 10, 10, count)?;
-        let owned = spaced(&heap, 10, 10, count)?;
-        let hole = Vec::<u8, &LocalHeap>::with_capacity(&heap, step.saturating_mul(64))?;
-        let wall = Vec::<u8, &LocalHeap>::with_capacity(&heap, 16)?;
-        let filler = filled(alloc, &heap)?;
-        drop(hole);
-        let answer = add(call, &mut set, &mut other, owned);
-        drop(filler);
-        drop(wall);
+        let (passes, is_left) = tried_to_add(alloc, &heap, call, &mut set, count, 64 * step)?;
         let front = front(&set, own);
-        if answer.is_ok() {
-            let is_emptied = other.is_empty() == (call == 2 || count == 0);
-            return Ok((is_emptied && front == Some(count)).then_some(refused));
-        }
-        if front.is_none() || other.ranges_len() != usize::from(count) {
-            return Ok(None);
+        if passes || !is_left || front.is_none() {
+            return Ok((is_left && front == Some(count)).then_some(refused));
         }
         refused = refused.saturating_add(1);
     }
@@ -171,44 +225,21 @@ fn each_growth_of_an_addition_is_refused_in_turn(rt: HostRuntime) -> Result<(), 
         for count in [0, 1, 3, 100u16] {
             for call in 0..4u8 {
                 let refused = refusals_of_an_addition(rt.alloc(), call, own, count)?;
-                assert!(rt; refused.is_some(), "of {own} and {count} runs, call {call}");
                 let is_grown = own == 1 && count == 100 && call < 3;
-                assert!(rt; !is_grown || refused > Some(2), "call {call}");
+                assert!(rt;
+                    refused.is_some() && (!is_grown || refused > Some(2)),
+                    "of {own} and {count} runs, call {call}"
+                );
             }
         }
     }
     Ok(())
 }
 
-/// How many growths of an addition of values are refused before it passes.
-fn refusals_of_values(alloc: Global, own: u16) -> Result<Option<u8>, AllocError> {
-    let heap = LocalHeap::new(alloc, 16384)?;
-    let mut set = spaced(&heap, 2001, 4, own)?;
-    let mut refused = 0u8;
-    for step in 0..100usize {
-        let hole = Vec::<u8, &LocalHeap>::with_capacity(&heap, step.saturating_mul(64))?;
-        let wall = Vec::<u8, &LocalHeap>::with_capacity(&heap, 16)?;
-        let filler = filled(alloc, &heap)?;
-        drop(hole);
-        let answer = set.extend_values((10..=1000u16).step_by(10));
-        drop(filler);
-        drop(wall);
-        let front = front(&set, own);
-        if answer.is_ok() {
-            return Ok((front == Some(100)).then_some(refused));
-        }
-        if front.is_none() {
-            return Ok(None);
-        }
-        refused = refused.saturating_add(1);
-    }
-    Ok(None)
-}
-
 #[test]
 fn each_growth_of_an_addition_of_values_is_refused_in_turn(rt: HostRuntime) -> Result<(), Fail> {
     for own in [0, 1, 3, 100u16] {
-        let refused = refusals_of_values(rt.alloc(), own)?;
+        let refused = refusals_of_an_addition(rt.alloc(), 4, own, 100)?;
         assert!(rt; refused > Some(2), "to {own} runs");
     }
     Ok(())

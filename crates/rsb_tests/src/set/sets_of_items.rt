@@ -1,14 +1,19 @@
 //! Sets of ranges and values that come in any order.
 
-use crate::tables::runs_of;
+use crate::set::rows::{Table, has};
 use range_set_blaze::{RangeSetBlaze, UIntPlusOne};
+use std::alloc::{AllocError, Global};
 use std::test::*;
 
+/// Whether ranges in any order make the set of a table.
+fn make(alloc: Global, wanted: Table<'_>) -> Result<bool, AllocError> {
+    let set = RangeSetBlaze::from_iter(alloc, [1..=2, 2..=2, -10..=-5, 1..=0])?;
+    Ok(has(&set, wanted))
+}
+
 #[test]
-fn ranges_in_any_order_make_a_set(rt: HostRuntime) -> Result<(), Fail> {
-    let set = RangeSetBlaze::from_iter(rt.alloc(), [1..=2, 2..=2, -10..=-5, 1..=0])?;
-    assert!(rt; runs_of(rt.alloc(), &set)?.as_slice() == [(-10, -5), (1, 2)].as_slice());
-    Ok(())
+fn ranges_in_any_order_make_a_set(rt: HostRuntime) {
+    assert!(rt; make(rt.alloc(), &[(-10, -5), (1, 2)]) == Ok(true));
 }
 
 #[test]
@@ -32,12 +37,22 @@ fn emptied_ranges_make_no_members(rt: HostRuntime) -> Result<(), Fail> {
     Ok(())
 }
 
+/// Whether five values make the set of a table.
+fn values_make(alloc: Global, values: [i32; 5], wanted: Table<'_>) -> Result<bool, AllocError> {
+    let set = RangeSetBlaze::from_array(alloc, values)?;
+    Ok(has(&set, wanted))
+}
+
+/// Whether the values from -1 to 2 make the set of a table.
+fn values_make_a_run(alloc: Global, wanted: Table<'_>) -> Result<bool, AllocError> {
+    let set = RangeSetBlaze::from_iter_values(alloc, -1..3)?;
+    Ok(has(&set, wanted))
+}
+
 #[test]
 fn values_in_any_order_make_a_set(rt: HostRuntime) -> Result<(), Fail> {
-    let set = RangeSetBlaze::from_array(rt.alloc(), [5, 1, 5, 2, 4])?;
-    assert!(rt; runs_of(rt.alloc(), &set)?.as_slice() == [(1, 2), (4, 5)].as_slice());
-    let some = RangeSetBlaze::from_iter_values(rt.alloc(), -1..3)?;
-    assert!(rt; runs_of(rt.alloc(), &some)?.as_slice() == [(-1, 2)].as_slice());
+    assert!(rt; values_make(rt.alloc(), [5, 1, 5, 2, 4], &[(1, 2), (4, 5)]) == Ok(true));
+    assert!(rt; values_make_a_run(rt.alloc(), &[(-1, 2)]) == Ok(true));
     assert!(rt; RangeSetBlaze::<i32>::from_array(rt.alloc(), [])?.is_empty());
     Ok(())
 }

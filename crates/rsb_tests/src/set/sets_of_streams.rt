@@ -1,30 +1,39 @@
 //! Sets made of streams, of a range and of every value.
 
-use crate::tables::{runs_of, set_of};
+use crate::set::rows::{Table, has};
+use crate::tables::set_of;
 use range_set_blaze::{DrawDisjoint, IntoRangeSetBlaze, RangeSetBlaze, UIntPlusOne};
+use std::alloc::{AllocError, Global};
 use std::test::*;
 
-#[test]
-fn a_union_makes_a_set(rt: HostRuntime) -> Result<(), Fail> {
-    let left = set_of(rt.alloc(), &[(100, 499), (501, 999)])?;
-    let right = set_of(rt.alloc(), &[(-20, -20), (400, 599)])?;
-    let union = left.ranges().union(right.ranges());
-    let both = union.into_range_set_blaze(rt.alloc())?;
-    assert!(rt; runs_of(rt.alloc(), &both)?.as_slice() == [(-20, -20), (100, 999)].as_slice());
-    assert!(rt; both.len() == 901);
-    Ok(())
+/// Whether the union of two sets makes that of a table.
+fn union_makes(alloc: Global, wanted: Table<'_>) -> Result<bool, AllocError> {
+    let left = set_of(alloc, &[(100, 499), (501, 999)])?;
+    let right = set_of(alloc, &[(-20, -20), (400, 599)])?;
+    let both = left
+        .ranges()
+        .union(right.ranges())
+        .into_range_set_blaze(alloc)?;
+    Ok(has(&both, wanted) && both.len() == 901)
 }
 
 #[test]
-fn a_complement_makes_a_set(rt: HostRuntime) -> Result<(), Fail> {
+fn a_union_makes_a_set(rt: HostRuntime) {
+    assert!(rt; union_makes(rt.alloc(), &[(-20, -20), (100, 999)]) == Ok(true));
+}
+
+/// Whether what a set of bytes lacks makes the set of one gap.
+fn gaps_make(alloc: Global, bytes: &mut RangeSetBlaze<u8>) -> Result<bool, AllocError> {
+    let is_new = bytes.ranges_insert(0..=9)? && bytes.ranges_insert(20..=255)?;
+    let gaps = RangeSetBlaze::from_sorted_disjoint(alloc, bytes.ranges().complement())?;
+    let is_gap = bytes.range_or_gap_at(15) == (10..=19, false);
+    Ok(is_new && is_gap && gaps.range_at(15) == Some(10..=19) && gaps.len() == 10)
+}
+
+#[test]
+fn a_complement_makes_a_set(rt: HostRuntime) {
     let mut bytes = RangeSetBlaze::<u8>::new(rt.alloc());
-    bytes.ranges_insert(0..=9)?;
-    bytes.ranges_insert(20..=255)?;
-    let gaps = RangeSetBlaze::from_sorted_disjoint(rt.alloc(), bytes.ranges().complement())?;
-    assert!(rt; gaps.range_at(15) == Some(10..=19));
-    assert!(rt; bytes.range_or_gap_at(15) == (10..=19, false));
-    assert!(rt; gaps.len() == 10);
-    Ok(())
+    assert!(rt; gaps_make(rt.alloc(), &mut bytes) == Ok(true));
 }
 
 #[test]
