@@ -7,8 +7,8 @@ use rsb_integer::Integer;
 use rsb_streams::DrawDisjoint;
 use std::alloc::{AllocError, Allocator};
 
-/// Every stream of the runs of a set can be made that set. (Own: in the Rust crate the method is
-/// one of `SortedDisjoint`.)
+/// Every stream of the runs of a set can be made that set, where a file names this trait. (Own: in
+/// the Rust crate the method is one of `SortedDisjoint`.)
 pub trait IntoRangeSetBlaze<T: Integer>: DrawDisjoint<T> {
     /// The set of the ranges of the stream. Without memory nothing is made.
     final fn into_range_set_blaze<A: Allocator + Copy>(

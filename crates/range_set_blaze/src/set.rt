@@ -69,7 +69,8 @@ impl<T: Integer, A: Allocator + Copy> RangeSetBlaze<T, A> {
         }
     }
 
-    /// The empty set. It takes no memory. (`Default` of `RangeSetBlaze`.)
+    /// The empty set. It takes no memory. (`Default` of `RangeSetBlaze`, which is given no
+    /// allocator.)
     pub fn default(alloc: A) -> Self
         ensures { result ≡ [] }
     {

@@ -18,7 +18,8 @@ use rsb_streams::DrawDisjoint;
 use std::alloc::{AllocError, Allocator};
 
 impl<T: Integer, A: Allocator + Copy> RangeSetBlaze<T, A> {
-    /// A copy of the set. Without memory nothing is made. (`Clone` of `RangeSetBlaze`.)
+    /// A copy of the set. Without memory nothing is made. (`Clone` of `RangeSetBlaze`:
+    /// `set.clone()?`.)
     pub fn clone(&self) -> Result<Self, AllocError>
         ensures same { IfOk result (λ set. set ≡ self.now) }
     {
@@ -26,7 +27,7 @@ impl<T: Integer, A: Allocator + Copy> RangeSetBlaze<T, A> {
     }
 
     /// What lies in either of two sets, by one pass over both. Without memory nothing is made.
-    /// (`BitOr` of `RangeSetBlaze`.)
+    /// (`BitOr` of `RangeSetBlaze`: `a.bitor(&b)?` for `&a | &b`.)
     pub fn bitor<B: Allocator>(&self, other: &RangeSetBlaze<T, B>) -> Result<Self, AllocError>
         ensures members { IfOk result (λ set.
             IsSetOf set (union (members self.now) (members other.now))) }
@@ -35,7 +36,7 @@ impl<T: Integer, A: Allocator + Copy> RangeSetBlaze<T, A> {
     }
 
     /// What two sets both have, by one pass over both. Without memory nothing is made.
-    /// (`BitAnd` of `RangeSetBlaze`.)
+    /// (`BitAnd` of `RangeSetBlaze`: `a.bitand(&b)?` for `&a & &b`.)
     pub fn bitand<B: Allocator>(&self, other: &RangeSetBlaze<T, B>) -> Result<Self, AllocError>
         ensures members { IfOk result (λ set.
             IsSetOf set (intersection (members self.now) (members other.now))) }
@@ -44,7 +45,7 @@ impl<T: Integer, A: Allocator + Copy> RangeSetBlaze<T, A> {
     }
 
     /// What this set has and the other lacks, by one pass over both. Without memory nothing is
-    /// made. (`Sub` of `RangeSetBlaze`.)
+    /// made. (`Sub` of `RangeSetBlaze`: `a.sub(&b)?` for `&a - &b`.)
     pub fn sub<B: Allocator>(&self, other: &RangeSetBlaze<T, B>) -> Result<Self, AllocError>
         ensures members { IfOk result (λ set.
             IsSetOf set (difference (members self.now) (members other.now))) }
@@ -53,7 +54,7 @@ impl<T: Integer, A: Allocator + Copy> RangeSetBlaze<T, A> {
     }
 
     /// What lies in one of two sets alone, by one pass over both. Without memory nothing is made.
-    /// (`BitXor` of `RangeSetBlaze`.)
+    /// (`BitXor` of `RangeSetBlaze`: `a.bitxor(&b)?` for `&a ^ &b`.)
     pub fn bitxor<B: Allocator>(&self, other: &RangeSetBlaze<T, B>) -> Result<Self, AllocError>
         ensures members { IfOk result (λ set.
             IsSetOf set (symmetric_difference (members self.now) (members other.now))) }
@@ -62,7 +63,8 @@ impl<T: Integer, A: Allocator + Copy> RangeSetBlaze<T, A> {
         symmetric_difference_of(self.alloc, left, right, self.ranges(), other.ranges())
     }
 
-    /// The values that the set lacks. Without memory nothing is made. (`Not` of `RangeSetBlaze`.)
+    /// The values that the set lacks. Without memory nothing is made. (`Not` of `RangeSetBlaze`:
+    /// `a.not()?` for `!&a`.)
     pub fn not(&self) -> Result<Self, AllocError>
         ensures members { IfOk result (λ set. IsComplementOf T.value_count set self.now) }
     {

@@ -27,7 +27,8 @@ impl<T: Integer, A: Allocator + Copy> RangeSetBlaze<T, A> {
     }
 
     /// The set of the values of a range: the empty set where the range is reversed or was iterated
-    /// to its end. Without memory nothing is made. (`From<RangeInclusive>` of `RangeSetBlaze`.)
+    /// to its end. Without memory nothing is made. Of an array, write `from_array`.
+    /// (`From<RangeInclusive>` of `RangeSetBlaze`.)
     pub fn from(alloc: A, range: RangeInclusive<T>) -> Result<Self, AllocError>
         ensures members { IfOk result (λ set. HasExactly set (interval_of T.rank range)) }
     {

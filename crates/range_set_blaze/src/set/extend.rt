@@ -18,7 +18,8 @@ use std::ops::RangeInclusive;
 
 impl<T: Integer, A: Allocator + Clone> RangeSetBlaze<T, A> {
     /// Adds the values of ranges in any order; an empty one adds nothing. Without memory those of
-    /// the ranges that came before stay added. (`Extend<RangeInclusive>` of `RangeSetBlaze`.)
+    /// the ranges that came before stay added. Of values, write `extend_values`.
+    /// (`Extend<RangeInclusive>` of `RangeSetBlaze`.)
     pub fn extend<J: IntoIterator<Item = RangeInclusive<T>>>(
         &mut self,
         ranges: J,
@@ -101,7 +102,7 @@ impl<T: Integer, A: Allocator + Copy> RangeSetBlaze<T, A> {
 
     /// Adds the members of another set: one run after the other where these are few, else by one
     /// pass over both sets. Without memory a front of the other's runs is added.
-    /// (`BitOrAssign` of `RangeSetBlaze`.)
+    /// (`BitOrAssign` of `RangeSetBlaze`: `a.bitor_assign(&b)?` for `a |= &b`.)
     pub fn bitor_assign<B: Allocator>(
         &mut self,
         other: &RangeSetBlaze<T, B>,
