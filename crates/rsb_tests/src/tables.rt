@@ -2,8 +2,9 @@
 
 ghost use Rattle.std.specs.Prelude.{◌≡◌};
 
-use range_set_blaze::{RangeSetBlaze, SortedStarts};
+use range_set_blaze::RangeSetBlaze;
 use rsb_integer::Integer;
+use rsb_streams::Draw;
 use std::alloc::{AllocError, Allocator, Global};
 
 /// The set of the ranges of a table.
@@ -30,28 +31,29 @@ pub(crate) fn runs_of<A: Allocator + Copy>(
     Ok(runs)
 }
 
-/// Whether a stream gives the ranges with these ends, and then nothing.
-pub(crate) fn gives<T: Integer, I: SortedStarts<T>>(stream: I, wanted: &[(T, T)]) -> bool
-    requires { I.can_next stream }
+/// Whether a stream gives the ranges with these ends, and then nothing. It asks the least that a
+/// stream has, so a nest of streams costs little to pass.
+pub(crate) fn gives<T: Integer, I: Draw<T>>(stream: I, wanted: &[(T, T)]) -> bool
+    requires { I.can_draw stream }
 {
     let mut stream = stream;
     for pair in wanted {
-        let Some(range) = stream.next() else {
+        let Some(range) = stream.draw() else {
             return false;
         };
         if range != (pair.0..=pair.1) {
             return false;
         }
     }
-    stream.next().is_none()
+    stream.draw().is_none()
 }
 
 /// Whether a stream and a copy of it give the ranges with these ends, and then nothing.
-pub(crate) fn both_give<T: Integer, I: SortedStarts<T> + Clone>(
+pub(crate) fn both_give<T: Integer, I: Draw<T> + Clone>(
     stream: I,
     wanted: &[(T, T)],
 ) -> Result<bool, AllocError>
-    requires ready { I.can_next stream }
+    requires ready { I.can_draw stream }
     requires copies { (stream copy : I) → I.is_clone stream copy → copy ≡ stream }
 {
     let copy = stream.clone()?;

@@ -2,57 +2,7 @@
 
 use crate::tables::gives;
 use rsb_integer::Integer;
-use rsb_streams::{
-    Difference, Draw, DrawDisjoint, Intersection, NotIter, RangeOnce, SortedDisjoint, Union,
-};
-
-#[test]
-fn eight_intersections_keep_what_all_have(rt: HostRuntime) {
-    let five = RangeOnce::new(0u8..=200)
-        .intersection(RangeOnce::new(1..=255))
-        .intersection(RangeOnce::new(2..=255))
-        .intersection(RangeOnce::new(3..=255))
-        .intersection(RangeOnce::new(4..=255));
-    let nine = five
-        .intersection(RangeOnce::new(5..=255))
-        .intersection(RangeOnce::new(6..=255))
-        .intersection(RangeOnce::new(7..=255))
-        .intersection(RangeOnce::new(0..=9));
-    assert!(rt; gives(nine, &[(7, 9)]));
-}
-
-#[test]
-fn eight_differences_leave_what_all_lack(rt: HostRuntime) {
-    let five = RangeOnce::new(0u8..=255)
-        - RangeOnce::new(0..=0)
-        - RangeOnce::new(2..=2)
-        - RangeOnce::new(4..=4)
-        - RangeOnce::new(6..=6);
-    let nine = five
-        - RangeOnce::new(8..=8)
-        - RangeOnce::new(10..=10)
-        - RangeOnce::new(12..=253)
-        - RangeOnce::new(255..=255);
-    assert!(rt;
-        gives(
-            nine,
-            &[(1, 1), (3, 3), (5, 5), (7, 7), (9, 9), (11, 11), (254, 254)]
-        )
-    );
-}
-
-#[test]
-fn eight_operations_by_the_operators_nest(rt: HostRuntime) {
-    // 50..=100
-    let first = RangeOnce::new(0u8..=100) & RangeOnce::new(50..=200);
-    // 50..=59, 70..=120
-    let third = (first - RangeOnce::new(60..=69)) | RangeOnce::new(101..=120);
-    // 10..=49, 60..=69, 121..=130
-    let fifth = !third & RangeOnce::new(10..=130);
-    // 10..=19, 65..=69, 121..=131
-    let seventh = (fifth - RangeOnce::new(20..=64)) | RangeOnce::new(131..=131);
-    assert!(rt; gives(!seventh, &[(0, 9), (20, 64), (70, 120), (132, 255)]));
-}
+use rsb_streams::{Difference, Draw, DrawDisjoint, Intersection, NotIter, RangeOnce, Union};
 
 #[test]
 fn operations_nest_on_the_right(rt: HostRuntime) {
@@ -66,7 +16,7 @@ fn operations_nest_on_the_right(rt: HostRuntime) {
 type Mixed<T, L, I> = NotIter<T, Union<T, Difference<T, Intersection<T, L, I>, I>, I>>;
 
 /// Four operations on a stream.
-fn mixed<T: Integer, L: SortedDisjoint<T>, I: SortedDisjoint<T>>(
+fn mixed<T: Integer, L: DrawDisjoint<T>, I: DrawDisjoint<T>>(
     stream: L,
     others: (I, I, I),
 ) -> Mixed<T, L, I>
@@ -80,8 +30,23 @@ fn mixed<T: Integer, L: SortedDisjoint<T>, I: SortedDisjoint<T>>(
     !((stream.intersection(both) - without) | with)
 }
 
+/// Four operations on a stream, by the operators alone.
+fn mixed_by_operators<T: Integer, L: DrawDisjoint<T>, I: DrawDisjoint<T>>(
+    stream: NotIter<T, L>,
+    others: (I, I, I),
+) -> Mixed<T, NotIter<T, L>, I>
+    requires stream { ⟦<NotIter<T, L> as Draw<T>>⟧.can_draw stream }
+    requires first { I.can_draw others.0 }
+    requires second { I.can_draw others.1 }
+    requires third { I.can_draw others.2 }
+    ensures { ⟦<Mixed<T, NotIter<T, L>, I> as Draw<T>>⟧.can_draw result }
+{
+    let (both, without, with) = others;
+    !(((stream & both) - without) | with)
+}
+
 /// Eight operations on a stream.
-fn mixed_twice<T: Integer, I: SortedDisjoint<T>>(
+fn mixed_twice<T: Integer, I: DrawDisjoint<T>>(
     stream: I,
     some: (I, I, I),
     others: (I, I, I),
@@ -91,7 +56,7 @@ fn mixed_twice<T: Integer, I: SortedDisjoint<T>>(
     requires others { (I.can_draw others.0) × (I.can_draw others.1) × (I.can_draw others.2) }
     ensures { ⟦<Mixed<T, Mixed<T, I, I>, I> as Draw<T>>⟧.can_draw result }
 {
-    mixed(mixed(stream, some), others)
+    mixed_by_operators(mixed(stream, some), others)
 }
 
 #[test]

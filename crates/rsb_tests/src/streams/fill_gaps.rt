@@ -1,5 +1,6 @@
 //! Runs and gaps in one.
 
+use crate::streams::listed::stream_of;
 use crate::streams::own_stream::Tens;
 use rsb_integer::Integer;
 use rsb_streams::{Draw, DrawDisjoint, FillGapsIter, RangeOnce};
@@ -18,6 +19,11 @@ fn fills<T: Integer, I: Draw<T>>(pairs: FillGapsIter<T, I>, wanted: &[(T, T, boo
         }
     }
     pairs.next().is_none()
+}
+
+/// Whether the runs of a table are filled to these runs and gaps.
+fn filled_gives(ranges: &[(u8, u8)], wanted: &[(u8, u8, bool)]) -> bool {
+    fills(stream_of(ranges).fill_gaps(), wanted)
 }
 
 #[test]
@@ -46,15 +52,14 @@ fn nothing_is_one_gap(rt: HostRuntime) {
 
 #[test]
 fn the_universe_is_one_run(rt: HostRuntime) {
-    assert!(rt; fills(RangeOnce::new(0u8..=255).fill_gaps(), &[(0, 255, true)]));
+    assert!(rt; filled_gives(&[(0, 255)], &[(0, 255, true)]));
 }
 
 #[test]
 fn a_run_may_begin_and_end_the_type(rt: HostRuntime) {
-    let ends = RangeOnce::new(0u8..=0).union(RangeOnce::new(255..=255));
     assert!(rt;
-        fills(
-            ends.fill_gaps(),
+        filled_gives(
+            &[(0, 0), (255, 255)],
             &[(0, 0, true), (1, 254, false), (255, 255, true)]
         )
     );

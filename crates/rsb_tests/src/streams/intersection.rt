@@ -1,66 +1,44 @@
 //! Intersections.
 
+use crate::streams::listed::stream_of;
 use crate::streams::own_stream::Tens;
 use crate::tables::gives;
-use rsb_streams::{Difference, Draw, DrawDisjoint, Intersection, RangeOnce, Union};
+use rsb_streams::{Difference, DrawDisjoint, Intersection, RangeOnce};
 
-/// The ranges 1..=2 and 5..=100.
-fn low_and_high() -> Union<i32, RangeOnce<i32>, RangeOnce<i32>>
-    ensures { ⟦<Union<i32, RangeOnce<i32>, RangeOnce<i32>> as Draw<i32>>⟧.can_draw result }
-{
-    RangeOnce::new(1..=2).union(RangeOnce::new(5..=100))
+/// Whether the ranges of two tables have in common what the third has.
+fn intersection_gives(left: &[(u8, u8)], right: &[(u8, u8)], wanted: &[(u8, u8)]) -> bool {
+    gives(stream_of(left).intersection(stream_of(right)), wanted)
 }
 
 #[test]
 fn intersection_is_what_both_have(rt: HostRuntime) {
-    let both = low_and_high().intersection(RangeOnce::new(2..=6));
-    assert!(rt; gives(both, &[(2, 2), (5, 6)]));
+    assert!(rt; intersection_gives(&[(1, 2), (5, 100)], &[(2, 6)], &[(2, 2), (5, 6)]));
 }
 
 #[test]
 fn intersection_by_the_operator_is_what_both_have(rt: HostRuntime) {
-    assert!(rt; gives(low_and_high() & RangeOnce::new(2..=6), &[(2, 2), (5, 6)]));
+    let low_and_high = RangeOnce::new(1..=2) | RangeOnce::new(5..=100);
+    assert!(rt; gives(low_and_high & RangeOnce::new(2..=6), &[(2, 2), (5, 6)]));
 }
 
 #[test]
 fn ranges_that_touch_have_nothing_in_common(rt: HostRuntime) {
-    assert!(rt;
-        gives(
-            RangeOnce::new(0u8..=4).intersection(RangeOnce::new(5..=9)),
-            &[]
-        )
-    );
+    assert!(rt; intersection_gives(&[(0, 4)], &[(5, 9)], &[]));
 }
 
 #[test]
 fn ranges_that_meet_in_one_value_have_it_in_common(rt: HostRuntime) {
-    assert!(rt;
-        gives(
-            RangeOnce::new(0u8..=5).intersection(RangeOnce::new(5..=9)),
-            &[(5, 5)]
-        )
-    );
+    assert!(rt; intersection_gives(&[(0, 5)], &[(5, 9)], &[(5, 5)]));
 }
 
 #[test]
 fn intersection_reaches_both_ends_of_the_type(rt: HostRuntime) {
-    let ends = RangeOnce::new(0u8..=1).union(RangeOnce::new(254..=255));
-    assert!(rt;
-        gives(
-            ends.intersection(RangeOnce::new(0..=255)),
-            &[(0, 1), (254, 255)]
-        )
-    );
+    assert!(rt; intersection_gives(&[(0, 1), (254, 255)], &[(0, 255)], &[(0, 1), (254, 255)]));
 }
 
 #[test]
 fn intersection_with_nothing_is_nothing(rt: HostRuntime) {
-    assert!(rt;
-        gives(
-            RangeOnce::new(0u8..=255).intersection(RangeOnce::new(1..=0)),
-            &[]
-        )
-    );
+    assert!(rt; intersection_gives(&[(0, 255)], &[], &[]));
 }
 
 #[test]

@@ -8,14 +8,14 @@ ghost use Rattle.rsb_streams.specs.Stream.{◌⊆◌, just, runs_by_two};
 
 use crate::tables::gives;
 use rsb_integer::Integer;
-use rsb_streams::{Difference, Draw, DrawDisjoint, Intersection, RangeOnce, SortedDisjoint, Union};
+use rsb_streams::{Difference, Draw, DrawDisjoint, Intersection, RangeOnce, Union};
 
 /// What two streams have and do not share.
 type Unshared<T, L, R> = Difference<T, Union<T, L, R>, Intersection<T, L, R>>;
 
 /// What two streams have and do not share: where both pairs give the same two lists, that is what
 /// lies in one of them alone.
-fn unshared<T: Integer, L: SortedDisjoint<T>, R: SortedDisjoint<T>>(
+fn unshared<T: Integer, L: DrawDisjoint<T>, R: DrawDisjoint<T>>(
     some: (L, R),
     again: (L, R),
 ) -> Unshared<T, L, R>

@@ -18,6 +18,16 @@ fn high() -> RangeOnce<u8>
     RangeOnce::new(200..=255)
 }
 
+/// Two ranges that are merged and joined.
+type TwoJoined = UnionIter<u8, Merge<u8, RangeOnce<u8>, RangeOnce<u8>>>;
+
+/// The ranges 0..=9 and 200..=255, joined.
+fn joined() -> TwoJoined
+    ensures { ⟦<TwoJoined as Draw<u8>>⟧.can_draw result }
+{
+    UnionIter::new(Merge::new(low(), high()))
+}
+
 #[test]
 fn operators_of_a_range(rt: HostRuntime) {
     assert!(rt; gives(low() | high(), &[(0, 9), (200, 255)]));
@@ -45,14 +55,12 @@ fn operators_of_a_union(rt: HostRuntime) {
 
 #[test]
 fn union_operator_of_a_joined_stream(rt: HostRuntime) {
-    let joined = UnionIter::new(Merge::new(low(), high()));
-    assert!(rt; gives(joined | low(), &[(0, 9), (200, 255)]));
+    assert!(rt; gives(joined() | low(), &[(0, 9), (200, 255)]));
 }
 
 #[test]
 fn complement_operator_of_a_joined_stream(rt: HostRuntime) {
-    let joined = UnionIter::new(Merge::new(low(), high()));
-    assert!(rt; gives(!joined, &[(10, 199)]));
+    assert!(rt; gives(!joined(), &[(10, 199)]));
 }
 
 #[test]
@@ -138,15 +146,45 @@ fn union_and_complement_of_a_difference(rt: HostRuntime) {
 }
 
 #[test]
+fn operators_of_a_symmetric_difference(rt: HostRuntime) {
+    assert!(rt;
+        gives(
+            (low() ^ RangeOnce::new(5..=20)) & RangeOnce::new(2..=12),
+            &[(2, 4), (10, 12)]
+        )
+    );
+    assert!(rt;
+        gives(
+            (low() ^ RangeOnce::new(5..=20)) - RangeOnce::new(2..=12),
+            &[(0, 1), (13, 20)]
+        )
+    );
+}
+
+#[test]
+fn symmetric_differences_of_an_intersection_and_a_difference(rt: HostRuntime) {
+    assert!(rt;
+        gives(
+            (low() & RangeOnce::new(5..=20)) ^ RangeOnce::new(2..=6),
+            &[(2, 4), (7, 9)]
+        )
+    );
+    assert!(rt;
+        gives(
+            (low() - RangeOnce::new(5..=20)) ^ RangeOnce::new(2..=6),
+            &[(0, 1), (5, 6)]
+        )
+    );
+}
+
+#[test]
 fn intersection_operator_of_a_joined_stream(rt: HostRuntime) {
-    let joined = UnionIter::new(Merge::new(low(), high()));
-    assert!(rt; gives(joined & RangeOnce::new(5..=220), &[(5, 9), (200, 220)]));
+    assert!(rt; gives(joined() & RangeOnce::new(5..=220), &[(5, 9), (200, 220)]));
 }
 
 #[test]
 fn difference_operator_of_a_joined_stream(rt: HostRuntime) {
-    let joined = UnionIter::new(Merge::new(low(), high()));
-    assert!(rt; gives(joined - RangeOnce::new(5..=220), &[(0, 4), (221, 255)]));
+    assert!(rt; gives(joined() - RangeOnce::new(5..=220), &[(0, 4), (221, 255)]));
 }
 
 #[test]

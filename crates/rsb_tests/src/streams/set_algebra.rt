@@ -7,13 +7,11 @@ ghost use Rattle.rsb_streams.specs.Stream.{◌⊆◌, joined, just, runs_by_two}
 
 use crate::tables::gives;
 use rsb_integer::Integer;
-use rsb_streams::{
-    Difference, Draw, DrawDisjoint, Intersection, NotIter, RangeOnce, SortedDisjoint, Union,
-};
+use rsb_streams::{Difference, Draw, DrawDisjoint, Intersection, NotIter, RangeOnce, Union};
 
 /// What the first stream has in common with the second, and what it has and the second lacks: where
 /// both pairs give the same two lists, that has the members of the first list.
-fn parts_joined<T: Integer, A: SortedDisjoint<T>, B: SortedDisjoint<T>>(
+fn parts_joined<T: Integer, A: DrawDisjoint<T>, B: DrawDisjoint<T>>(
     some: (A, B),
     again: (A, B),
 ) -> Union<T, Intersection<T, A, B>, Difference<T, A, B>>
@@ -33,7 +31,7 @@ fn parts_joined<T: Integer, A: SortedDisjoint<T>, B: SortedDisjoint<T>>(
 }
 
 /// What is in neither of two streams, by the complement of their union.
-fn outside_union<T: Integer, L: SortedDisjoint<T>, R: SortedDisjoint<T>>(
+fn outside_union<T: Integer, L: DrawDisjoint<T>, R: DrawDisjoint<T>>(
     left: L,
     right: R,
 ) -> NotIter<T, Union<T, L, R>>
@@ -49,7 +47,7 @@ fn outside_union<T: Integer, L: SortedDisjoint<T>, R: SortedDisjoint<T>>(
 }
 
 /// What is in neither of two streams, by the intersection of their complements.
-fn inside_complements<T: Integer, L: SortedDisjoint<T>, R: SortedDisjoint<T>>(
+fn inside_complements<T: Integer, L: DrawDisjoint<T>, R: DrawDisjoint<T>>(
     left: L,
     right: R,
 ) -> Intersection<T, NotIter<T, L>, NotIter<T, R>>
@@ -67,7 +65,7 @@ fn inside_complements<T: Integer, L: SortedDisjoint<T>, R: SortedDisjoint<T>>(
 
 /// Whether both ways to what is in neither of two streams give the same list: so it is where both
 /// pairs give the same two lists.
-fn neither_is_the_same<T: Integer, L: SortedDisjoint<T>, R: SortedDisjoint<T>>(
+fn neither_is_the_same<T: Integer, L: DrawDisjoint<T>, R: DrawDisjoint<T>>(
     some: (L, R),
     again: (L, R),
 ) -> bool

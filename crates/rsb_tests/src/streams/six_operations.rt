@@ -1,17 +1,34 @@
 //! Six operations on any lawful streams, proved of their public contracts alone.
 
-ghost use Rattle.rsb_integer.specs.Selection.{intersection};
-ghost use Rattle.rsb_streams.specs.Stream.{◌⊆◌, runs_by_two};
+ghost use Rattle.rsb_integer.specs.Selection.{complement, intersection};
+ghost use Rattle.rsb_streams.specs.Stream.{◌⊆◌, runs_by, runs_by_two};
 
 use crate::tables::gives;
 use rsb_integer::Integer;
-use rsb_streams::{Draw, DrawDisjoint, NotIter, RangeOnce, SortedDisjoint, Union};
+use rsb_streams::{Draw, DrawDisjoint, NotIter, RangeOnce, Union};
+
+/// What one of two streams leaves out: the gaps of what both have.
+fn left_out_of_two<T: Integer, A: DrawDisjoint<T>, B: DrawDisjoint<T>>(
+    first: A,
+    second: B,
+) -> Union<T, NotIter<T, A>, NotIter<T, B>>
+    requires first { A.can_draw first }
+    requires second { B.can_draw second }
+    ensures ready { ⟦<Union<T, NotIter<T, A>, NotIter<T, B>> as Draw<T>>⟧.can_draw result }
+    ensures gives { ⟦<Union<T, NotIter<T, A>, NotIter<T, B>> as Draw<T>>⟧.may_give result
+        ⊆ runs_by T.value_count complement
+        (runs_by_two T.value_count intersection (A.may_give first) (B.may_give second)) }
+{
+    let gaps = first.complement();
+    let others = second.complement();
+    gaps.union(others)
+}
 
 /// What one or two of three streams leave out.
 type LeftOut<T, A, B, C> = Union<T, Union<T, NotIter<T, A>, NotIter<T, B>>, NotIter<T, C>>;
 
 /// What lies in all of three streams: no gap of one of them.
-fn in_all_three<T: Integer, A: SortedDisjoint<T>, B: SortedDisjoint<T>, C: SortedDisjoint<T>>(
+fn in_all_three<T: Integer, A: DrawDisjoint<T>, B: DrawDisjoint<T>, C: DrawDisjoint<T>>(
     first: A,
     second: B,
     third: C,
@@ -25,10 +42,8 @@ fn in_all_three<T: Integer, A: SortedDisjoint<T>, B: SortedDisjoint<T>, C: Sorte
         (runs_by_two T.value_count intersection (A.may_give first) (B.may_give second))
         (C.may_give third) }
 {
-    let gaps = first.complement();
-    let others = second.complement();
+    let either = left_out_of_two(first, second);
     let last = third.complement();
-    let either = gaps.union(others);
     let any = either.union(last);
     any.complement()
 }

@@ -1,39 +1,42 @@
 //! Symmetric differences.
 
+use crate::streams::listed::stream_of;
 use crate::streams::nested::known;
 use crate::streams::own_stream::Tens;
 use crate::tables::gives;
 use rsb_streams::{DrawDisjoint, Merge, RangeOnce, SymDiffIter, UnionIter};
 
+/// Whether the ranges of the third table are what lies in one of the other two alone.
+fn alone_gives(left: &[(u8, u8)], right: &[(u8, u8)], wanted: &[(u8, u8)]) -> bool {
+    gives(
+        stream_of(left).symmetric_difference(stream_of(right)),
+        wanted,
+    )
+}
+
 #[test]
 fn what_both_have_is_left_out(rt: HostRuntime) {
-    let left = RangeOnce::new(1..=2).union(RangeOnce::new(5..=100));
-    let alone = left.symmetric_difference(RangeOnce::new(2..=6));
-    assert!(rt; gives(alone, &[(1, 1), (3, 4), (7, 100)]));
+    assert!(rt; alone_gives(&[(1, 2), (5, 100)], &[(2, 6)], &[(1, 1), (3, 4), (7, 100)]));
 }
 
 #[test]
 fn equal_ends_leave_what_lies_before(rt: HostRuntime) {
-    let alone = RangeOnce::new(1..=5).symmetric_difference(RangeOnce::new(3..=5));
-    assert!(rt; gives(alone, &[(1, 2)]));
+    assert!(rt; alone_gives(&[(1, 5)], &[(3, 5)], &[(1, 2)]));
 }
 
 #[test]
 fn what_touches_is_joined(rt: HostRuntime) {
-    let alone = RangeOnce::new(1..=4).symmetric_difference(RangeOnce::new(5..=8));
-    assert!(rt; gives(alone, &[(1, 8)]));
+    assert!(rt; alone_gives(&[(1, 4)], &[(5, 8)], &[(1, 8)]));
 }
 
 #[test]
 fn the_greatest_value_may_be_in_both(rt: HostRuntime) {
-    let alone = RangeOnce::new(0u8..=255).symmetric_difference(RangeOnce::new(255..=255));
-    assert!(rt; gives(alone, &[(0, 254)]));
+    assert!(rt; alone_gives(&[(0, 255)], &[(255, 255)], &[(0, 254)]));
 }
 
 #[test]
 fn a_stream_and_itself_leave_nothing(rt: HostRuntime) {
-    let alone = RangeOnce::new(0u8..=255).symmetric_difference(RangeOnce::new(0..=255));
-    assert!(rt; gives(alone, &[]));
+    assert!(rt; alone_gives(&[(0, 255)], &[(0, 255)], &[]));
 }
 
 #[test]
@@ -51,8 +54,8 @@ fn it_is_made_of_a_pair(rt: HostRuntime) {
 
 #[test]
 fn an_end_is_held_between_two_answers(rt: HostRuntime) {
-    let cut = RangeOnce::new(3..=4).union(RangeOnce::new(7..=8));
-    let mut alone = RangeOnce::new(1..=10).symmetric_difference(cut);
+    let cut = stream_of(&[(3, 4), (7, 8)]);
+    let mut alone = stream_of(&[(1, 10)]).symmetric_difference(cut);
     assert!(rt; alone.next() == Some(1..=2));
     assert!(rt; alone.pending_ends() == 1);
     assert!(rt; gives(alone, &[(5, 6), (9, 10)]));

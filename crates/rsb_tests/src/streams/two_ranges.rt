@@ -1,7 +1,7 @@
 //! Operations on all pairs of lists of two ranges near the ends of `u8`, each against the plain
 //! answer, member by member.
 
-use rsb_streams::{Draw, DrawDisjoint, RangeOnce, SortedDisjoint, Union};
+use rsb_streams::{Draw, DrawDisjoint, RangeOnce, Union};
 use std::alloc::{AllocError, Global};
 use std::test::Fail;
 
@@ -66,38 +66,64 @@ fn stream_of(ranges: &Ranges) -> Union<u8, RangeOnce<u8>, RangeOnce<u8>>
 }
 
 /// Which values the first eight ranges of a stream have: more than it is to give.
-fn marks<I: SortedDisjoint<u8>>(stream: I) -> [bool; 256]
-    requires { I.can_next stream }
+fn marks<I: Draw<u8>>(stream: I) -> [bool; 256]
+    requires { I.can_draw stream }
 {
     let mut stream = stream;
     let mut marks = [false; 256];
     for _ in 0..8 {
-        let Some(range) = stream.next() else {
+        let Some(range) = stream.draw() else {
             break;
         };
         for value in range {
-            marks[value as usize] = true;
+            marks[usize::from(value)] = true;
         }
     }
     marks
 }
 
+/// Which values the intersection of two streams has.
+fn intersection_of(left: &Ranges, right: &Ranges) -> [bool; 256] {
+    marks(stream_of(left) & stream_of(right))
+}
+
 /// Whether the intersection of two streams has the members that both have.
 fn intersection_is_right(left: &Ranges, right: &Ranges) -> bool {
-    let marks = marks(stream_of(left) & stream_of(right));
+    let marks = intersection_of(left, right);
     for value in 0..=255u8 {
-        if marks[value as usize] != (has(left, value) && has(right, value)) {
+        if marks[usize::from(value)] != (has(left, value) && has(right, value)) {
             return false;
         }
     }
     true
 }
 
+/// Which values the difference of two streams has.
+fn difference_of(left: &Ranges, right: &Ranges) -> [bool; 256] {
+    marks(stream_of(left) - stream_of(right))
+}
+
 /// Whether the difference of two streams has the members that the left has and the right lacks.
 fn difference_is_right(left: &Ranges, right: &Ranges) -> bool {
-    let marks = marks(stream_of(left) - stream_of(right));
+    let marks = difference_of(left, right);
     for value in 0..=255u8 {
-        if marks[value as usize] != (has(left, value) && !has(right, value)) {
+        if marks[usize::from(value)] != (has(left, value) && !has(right, value)) {
+            return false;
+        }
+    }
+    true
+}
+
+/// Which values the symmetric difference of two streams has.
+fn symmetric_difference_of(left: &Ranges, right: &Ranges) -> [bool; 256] {
+    marks(stream_of(left) ^ stream_of(right))
+}
+
+/// Whether the symmetric difference of two streams has the members that one of them has alone.
+fn symmetric_difference_is_right(left: &Ranges, right: &Ranges) -> bool {
+    let marks = symmetric_difference_of(left, right);
+    for value in 0..=255u8 {
+        if marks[usize::from(value)] != (has(left, value) != has(right, value)) {
             return false;
         }
     }
@@ -161,6 +187,22 @@ fn differences_near_the_ends_have_the_members_that_the_right_lacks(
     for left in &lists {
         for right in &lists {
             assert!(rt; difference_is_right(left, right), "at {left:?}, {right:?}");
+        }
+    }
+    Ok(())
+}
+
+#[test]
+fn symmetric_differences_near_the_ends_have_what_one_has_alone(
+    rt: HostRuntime,
+) -> Result<(), Fail> {
+    let lists = lists(rt.alloc())?;
+    for left in &lists {
+        for right in &lists {
+            assert!(rt;
+                symmetric_difference_is_right(left, right),
+                "at {left:?}, {right:?}"
+            );
         }
     }
     Ok(())

@@ -1,10 +1,8 @@
-use Rattle.rsb_streams.proofs.CallerLemmas.{intersection-by_complements, union-of_complements}
+use Rattle.rsb_streams.proofs.CallerLemmas.{intersection-by_complements}
 use Rattle.rsb_tests.proofs.streams.six_operations.in_all_three.Goals as goal
 
 pub returns-clause-gives : goal.returns-clause-gives
 returns-clause-gives g c = λ runs may.
     intersection-by_complements g.T.Integer.value_count _ _ _ _ _
-    (λ each at. union-of_complements g.T.Integer.value_count _ _ _ _ c.complement-gaps.ensures.gives
-    c.complement-others.ensures.gives each (c.union-either.ensures.gives each at))
-    c.complement-last.ensures.gives c.union-any.ensures.gives runs
-    (c.complement.ensures.gives runs may)
+    c.left_out_of_two-either.ensures.gives c.complement-last.ensures.gives
+    c.union-any.ensures.gives runs (c.complement.ensures.gives runs may)
