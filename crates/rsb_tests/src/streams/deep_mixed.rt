@@ -2,9 +2,7 @@
 
 use crate::tables::gives;
 use rsb_integer::Integer;
-use rsb_streams::{
-    Difference, Draw, DrawDisjoint, Intersection, NotIter, RangeOnce, Union,
-};
+use rsb_streams::{Difference, Draw, DrawDisjoint, Intersection, NotIter, RangeOnce, Union};
 
 #[test]
 fn operations_nest_on_the_right(rt: HostRuntime) {

@@ -1,4 +1,4 @@
-//! Chains of eight symmetric_differences, by the method and by the operator.
+//! Chains of eight symmetric differences, by the method and by the operator.
 
 use crate::tables::gives;
 use rsb_streams::{Draw, DrawDisjoint, RangeOnce, SymmetricDifference};

@@ -65,7 +65,8 @@ impl<'a> Draw<u8> for Listed<'a> {
         self.next()
     }
 
-    ghost answers = { gives_by-answers ⟦<u8 as Integer>⟧.rank ⟦<Listed<'a> as Iterator>⟧.next_gives };
+    ghost answers = { gives_by-answers ⟦<u8 as Integer>⟧.rank
+        ⟦<Listed<'a> as Iterator>⟧.next_gives };
 
     // No range starts before the least value.
     ghost sorted = { λ s can. canonical-starts ⟦<u8 as Integer>⟧.value_count _ _

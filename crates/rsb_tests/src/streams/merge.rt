@@ -11,7 +11,13 @@ fn merge_gives(left: &[(u8, u8)], right: &[(u8, u8)], wanted: &[(u8, u8)]) -> bo
 
 #[test]
 fn merge_gives_each_range_as_it_stands(rt: HostRuntime) {
-    assert!(rt; merge_gives(&[(1, 2), (10, 11)], &[(2, 12)], &[(1, 2), (2, 12), (10, 11)]));
+    assert!(rt;
+        merge_gives(
+            &[(1, 2), (10, 11)],
+            &[(2, 12)],
+            &[(1, 2), (2, 12), (10, 11)]
+        )
+    );
 }
 
 #[test]

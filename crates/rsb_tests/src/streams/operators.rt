@@ -18,9 +18,12 @@ fn high() -> RangeOnce<u8>
     RangeOnce::new(200..=255)
 }
 
+/// Two ranges that are merged and joined.
+type TwoJoined = UnionIter<u8, Merge<u8, RangeOnce<u8>, RangeOnce<u8>>>;
+
 /// The ranges 0..=9 and 200..=255, joined.
-fn joined() -> UnionIter<u8, Merge<u8, RangeOnce<u8>, RangeOnce<u8>>>
-    ensures { ⟦<UnionIter<u8, Merge<u8, RangeOnce<u8>, RangeOnce<u8>>> as Draw<u8>>⟧.can_draw result }
+fn joined() -> TwoJoined
+    ensures { ⟦<TwoJoined as Draw<u8>>⟧.can_draw result }
 {
     UnionIter::new(Merge::new(low(), high()))
 }

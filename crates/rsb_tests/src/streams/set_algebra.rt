@@ -7,9 +7,7 @@ ghost use Rattle.rsb_streams.specs.Stream.{◌⊆◌, joined, just, runs_by_two}
 
 use crate::tables::gives;
 use rsb_integer::Integer;
-use rsb_streams::{
-    Difference, Draw, DrawDisjoint, Intersection, NotIter, RangeOnce, Union,
-};
+use rsb_streams::{Difference, Draw, DrawDisjoint, Intersection, NotIter, RangeOnce, Union};
 
 /// What the first stream has in common with the second, and what it has and the second lacks: where
 /// both pairs give the same two lists, that has the members of the first list.

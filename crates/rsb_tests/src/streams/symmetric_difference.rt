@@ -8,7 +8,10 @@ use rsb_streams::{DrawDisjoint, Merge, RangeOnce, SymDiffIter, UnionIter};
 
 /// Whether the ranges of the third table are what lies in one of the other two alone.
 fn alone_gives(left: &[(u8, u8)], right: &[(u8, u8)], wanted: &[(u8, u8)]) -> bool {
-    gives(stream_of(left).symmetric_difference(stream_of(right)), wanted)
+    gives(
+        stream_of(left).symmetric_difference(stream_of(right)),
+        wanted,
+    )
 }
 
 #[test]
