@@ -115,8 +115,8 @@ fn difference_of<T: Integer, A: Allocator + Copy, L: DrawDisjoint<T>, R: DrawDis
     RangeSetBlaze::from_sorted_disjoint(alloc, left.difference(right))
 }
 
-// The set of what lies in one of two streams alone, each of which is given twice. (That sizes fit is
-// not found of a set made of a `SymmetricDifference`, which holds more structs in each other.)
+// The set of what lies in one of two streams alone, each of which is given twice. (That a
+// `SymmetricDifference` fits in memory is known only where a signature names it.)
 fn symmetric_difference_of<T: Integer, A: Allocator + Copy, L: DrawDisjoint<T>, R: DrawDisjoint<T>>(
     alloc: A,
     left: L,

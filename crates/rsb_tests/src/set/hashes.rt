@@ -54,7 +54,10 @@ fn what_was_removed_is_not_fed(rt: HostRuntime) -> Result<(), Fail> {
 fn a_set_made_of_a_stream_feeds_the_same(rt: HostRuntime) -> Result<(), Fail> {
     let set = bytes_of(rt.alloc(), &[(1, 3), (7, 10)])?;
     let lacking = bytes_of(rt.alloc(), &[(0, 0), (4, 6), (11, 255)])?;
-    let streamed = lacking.ranges().complement().into_range_set_blaze(rt.alloc())?;
+    let streamed = lacking
+        .ranges()
+        .complement()
+        .into_range_set_blaze(rt.alloc())?;
     assert!(rt; fed_by(&set) == fed_by(&streamed));
     Ok(())
 }

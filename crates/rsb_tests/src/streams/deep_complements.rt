@@ -39,3 +39,8 @@ fn eight_complements<T: Integer, I: SortedDisjoint<T>>(stream: I) -> FourTimes<T
 fn eight_complements_of_any_stream_give_it_back(rt: HostRuntime) {
     assert!(rt; gives(eight_complements(RangeOnce::new(3u8..=5)), &[(3, 5)]));
 }
+
+#[test]
+fn eight_complements_in_one_expression_give_the_range_back(rt: HostRuntime) {
+    assert!(rt; gives(!!!!!!!!RangeOnce::new(3u8..=5), &[(3, 5)]));
+}
