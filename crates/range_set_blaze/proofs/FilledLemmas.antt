@@ -37,8 +37,7 @@ module _ {T : Type 0} (cmp : T → T → Ordering) (order : IsTotalOrder cmp) (r
       → AllByRecursion (λ key. cmp value key ≡ Less) (keys_of entries)
   later value low [] valued below ascending = tt
   later value low (entry ∷ entries) valued below ascending =
-      let from = ascending.0 in
-      (
+      let from = ascending.0 in (
         in_order value entry.0 valued ascending.1
             ∙ nat_cmp-less (rank value) (rank entry.0) (omega (arith, below, from)),
         later value (rank entry.0 + 1) entries valued (omega (arith, below, from)) ascending.2,
