@@ -1,8 +1,10 @@
 //! Laws that callers cite.
 
 use range_set_blaze::laws::{
-    canonical_lists_are_runs, equal_members_equal_lists, offsets_undo_length,
+    canonical_lists_are_runs, complement_twice, de_morgan, difference_by_complement,
+    equal_members_equal_lists, offsets_undo_length, run_bounds_are_ends, symmetric_by_union,
 };
+use rsb_streams::laws::one_filled_list;
 
 // The clause of each law is proved at any element type. Here they are only named at one.
 #[test]
@@ -10,4 +12,14 @@ fn laws_can_be_cited_at_a_type() {
     canonical_lists_are_runs::<u8>();
     equal_members_equal_lists::<u8>();
     offsets_undo_length::<u8>();
+    run_bounds_are_ends::<u8>();
+    one_filled_list::<u8>();
+}
+
+#[test]
+fn laws_of_the_algebra_can_be_cited_at_a_type() {
+    complement_twice::<u8>();
+    de_morgan::<u8>();
+    difference_by_complement::<u8>();
+    symmetric_by_union::<u8>();
 }
