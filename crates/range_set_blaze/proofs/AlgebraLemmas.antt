@@ -1,7 +1,9 @@
 -- Sets made of one list of runs or two by an operation.
 use Rattle.std.proofs.Common.{◌≡◌, ℕ, Bool, true, false, not, ◌&&◌, nat_lt, ◌<◌, ◌≤◌, List, refl, sym, ◌∙◌, ap, subst, inl, inr, arith}
+use Rattle.std.specs.Prelude.{IfOk, Result}
 use Rattle.std.proofs.lemmas.Bool.{cases_lt}
 use Rattle.std.proofs.lemmas.Bool.Decides.{nat_tests}
+use Rattle.std.proofs.lemmas.Result.{IfOk-weaker}
 use Rattle.rsb_integer.specs.Runs.{Interval, members, AllEndBelow, IsCanonicalIn}
 use Rattle.rsb_integer.specs.Selection.{Selection, complement, difference, intersection, symmetric_difference, union}
 use Rattle.rsb_integer.proofs.MembersLemmas.{members-end}
@@ -60,6 +62,15 @@ module _ (n : ℕ) where
         members-end n set rank canonical.1 past
         ∙ sym (ap (λ test. test && not (members given rank)) is)
   ]
+
+  -- the same of a set that is made of a stream over the ranges of a set, as the clauses say it
+  pub set-of_complement : {E : Type 0} {ranges : List Interval} (given : List Interval)
+      (gaps : Outcomes) (result : Result (List Interval) E) → ranges ≡ given
+      → gaps ⊆ runs_by n complement (just ranges) → IfOk result gaps
+      → IfOk result (λ set. IsComplementOf n set given)
+  set-of_complement given gaps result is gives = IfOk-weaker result _ _ (λ set may.
+      set-of_gaps given set
+      (subst (λ (runs : List Interval). runs_by n complement (just runs) set) is (gives set may)))
 
   -- the set of what lies in either of two
   pub union-of_sets : (these those left right : List Interval) → left ≡ these → right ≡ those

@@ -10,7 +10,7 @@ use std::alloc::{AllocError, Allocator};
 /// Every stream of the runs of a set can be made that set, where a file names this trait. (Own: in
 /// the Rust crate the method is one of `SortedDisjoint`.)
 pub trait IntoRangeSetBlaze<T: Integer>: DrawDisjoint<T> {
-    /// The set of the ranges of the stream. Without memory nothing is made.
+    /// The set of the ranges of the stream, which may be drawn from. Without memory nothing is made.
     final fn into_range_set_blaze<A: Allocator + Copy>(
         self,
         alloc: A,

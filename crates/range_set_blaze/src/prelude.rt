@@ -1,4 +1,5 @@
-//! All public types and traits of this crate and of those below it. The laws are in `laws`.
+//! All public types and traits of this crate and of those below it, but `UnsortedDisjoint`. The laws
+//! are in `laws`.
 
 pub use crate::into_iter::IntoIter;
 pub use crate::into_range_set_blaze::IntoRangeSetBlaze;

@@ -2,6 +2,7 @@
 use Rattle.std.proofs.Common.{◌≡◌, ◌⊎◌, ℕ, zero, suc, ◌<◌, ◌≤◌, List, [], ◌∷◌, refl, sym, ap, subst, inl, inr, arith}
 use Rattle.std.specs.Prelude.{Option, Some, None, OnSome}
 use Rattle.std.specs.Iterator.{Count, IsFinite, IsNearerEnd, Yields, size}
+use Rattle.std.specs.declared.iter.Iterator.{Ghosts}
 use Rattle.std.specs.declared.ops.RangeInclusive.{RangeInclusive}
 use Rattle.rsb_integer.specs.Rank.{interval_of, intervals_of}
 use Rattle.rsb_integer.specs.Runs.{Interval}
@@ -110,9 +111,9 @@ module _ {S T : Type 0} (rank : T → ℕ) (can_next : S → Type 0)
   calls-steps [] s t all = all
   calls-steps (range ∷ ranges) s t all = (all.0, all.1.gives, calls-steps ranges all.0 t all.2)
 
--- whatever a value becomes as an iterator may be called, ends, and gives what keeps the law
-abbrev pub GivesOnly : {J I T : Type 0} → (J → I → Type 0) → (T → ℕ) → (I → Type 0)
-    → (I → Option (RangeInclusive T) → I → Type 0) → (I → Count) → (List Interval → Type 0) → J
-    → Type 0
-GivesOnly {I = I} becomes rank can_next steps remaining law value = (iter : I) → becomes value iter
-    → IsSource rank can_next steps remaining law iter
+-- whatever a value becomes as an iterator may be called, ends, and gives what keeps the law; `source`
+-- is the members of `Iterator` at the iterator's type
+abbrev pub GivesOnly : {J I T : Type 0} → (J → I → Type 0) → (T → ℕ)
+    → Ghosts I (RangeInclusive T) → (List Interval → Type 0) → J → Type 0
+GivesOnly {I = I} becomes rank source law value = (iter : I) → becomes value iter
+    → IsSource rank source.can_next source.next_gives source.remaining law iter

@@ -31,7 +31,7 @@ impl<T: Integer, I: Iterator> AssumeSortedStarts<T, I> {
     /// The items of what becomes an iterator that may be called and gives finitely many ranges, which
     /// are non-empty, and by their starts. It takes no memory. (`AssumeSortedStarts::new`.)
     pub fn new<J: IntoIterator<Item = RangeInclusive<T>, IntoIter = I>>(iter: J) -> Self
-        requires { GivesOnly J.into_iter_gives T.rank I.can_next I.next_gives I.remaining
+        requires { GivesOnly J.into_iter_gives T.rank ⟦<I as Iterator>⟧
             (HasSortedStarts T.value_count) iter }
         ensures ready { ⟦<AssumeSortedStarts<T, I> as Draw<T>>⟧.can_draw result }
         ensures gives { ⟦<AssumeSortedStarts<T, I> as Draw<T>>⟧.may_give result

@@ -40,7 +40,7 @@ impl<T: Integer, I: Iterator> CheckSortedDisjoint<T, I> {
     /// The items of what becomes an iterator that may be called and gives finitely many ranges,
     /// which are canonical. It takes no memory. (`CheckSortedDisjoint::new`.)
     pub fn new<J: IntoIterator<Item = RangeInclusive<T>, IntoIter = I>>(iter: J) -> Self
-        requires { GivesOnly J.into_iter_gives T.rank I.can_next I.next_gives I.remaining
+        requires { GivesOnly J.into_iter_gives T.rank ⟦<I as Iterator>⟧
             (IsCanonicalIn T.value_count) iter }
         ensures ready { ⟦<CheckSortedDisjoint<T, I> as Draw<T>>⟧.can_draw result }
         ensures gives { ⟦<CheckSortedDisjoint<T, I> as Draw<T>>⟧.may_give result

@@ -26,7 +26,7 @@ pub trait Draw<T: Integer>: Drop {
     // The lists that may still come, as intervals of ranks.
     ghost may_give: { Self → Outcomes };
 
-    /// The next range, or `None` at the end.
+    /// The next range of a stream that may be drawn from, or `None` at the end.
     fn draw(&mut self) -> Option<RangeInclusive<T>>
         requires { can_draw self.old }
         ensures steps { draw_gives self.old result self.new }

@@ -65,7 +65,7 @@ impl<T: Integer, SS: Draw<T>> UnionIter<T, SS> {
 }
 
 impl<T: Integer, L: Draw<T>, R: Draw<T>> From<(L, R)> for UnionIter<T, Merge<T, L, R>> {
-    // The union of two streams that may be called, of which nothing is drawn yet.
+    // The union of two streams that may be called, of which nothing is drawn yet. (Own.)
     ghost from_gives = { λ streams result. L.can_draw streams.0 → R.can_draw streams.1
         → IsReadyAnd ⟦<UnionIter<T, Merge<T, L, R>> as Draw<T>>⟧.can_draw result
         (GivesUnion T.value_count (L.may_give streams.0) (R.may_give streams.1)

@@ -15,7 +15,7 @@ use std::alloc::{AllocError, Allocator};
 use std::ops::RangeInclusive;
 
 impl<T: Integer, A: Allocator + Copy> RangeSetBlaze<T, A> {
-    /// The set of the ranges of a stream. Without memory nothing is made.
+    /// The set of the ranges of a stream that may be drawn from. Without memory nothing is made.
     /// (`RangeSetBlaze::from_sorted_disjoint`.)
     pub fn from_sorted_disjoint<I: DrawDisjoint<T>>(alloc: A, iter: I) -> Result<Self, AllocError>
         requires { I.can_draw iter }

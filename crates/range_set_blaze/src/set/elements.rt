@@ -82,7 +82,8 @@ impl<T: Integer, A: Allocator + Copy> RangeSetBlaze<T, A> {
     /// them. Bounds with nothing between them give nothing. Without memory nothing is made.
     /// (`RangeSetBlaze::range`.)
     ///
-    /// Nothing is said of a `RangeInclusive` that was iterated to its end.
+    /// Nothing is said of a type that does not tell its bounds, nor of a `RangeInclusive` that was
+    /// iterated to its end.
     pub fn range<R: RangeBounds<T>>(&self, range: R) -> Result<IntoIter<T, A>, AllocError>
         ensures members { R.has_bounds range → IfOk result (λ elements. IsSetOf elements
             (intersection (members self.now)

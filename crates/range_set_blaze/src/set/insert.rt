@@ -22,7 +22,8 @@ impl<T: Integer, A: Allocator + Clone> RangeSetBlaze<T, A> {
     /// nothing between them add nothing. Without memory the set is as it was.
     /// (`RangeSetBlaze::ranges_insert`.)
     ///
-    /// Nothing is said of a `RangeInclusive` that was iterated to its end.
+    /// Nothing is said of a type that does not tell its bounds, nor of a `RangeInclusive` that was
+    /// iterated to its end.
     pub fn ranges_insert<R: RangeBounds<T>>(&mut self, range: R) -> Result<bool, AllocError>
         ensures members { R.has_bounds range → OnOk result (Adds self.old self.new
             (ranks_in T.rank T.value_count R.start_bound R.end_bound range)) }

@@ -9,6 +9,7 @@ use crate::set_no::SetNo;
 use std::process::Abort;
 use std::test::*;
 
+// The set of a number up to nine.
 fn slot(rt: &impl Abort, n: u8) -> SetNo {
     SetNo::new(n).expect(rt, "a set number")
 }

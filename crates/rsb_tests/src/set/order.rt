@@ -83,6 +83,7 @@ fn members_of(alloc: Global, bits: u8) -> Result<Vec<u8>, AllocError> {
     Ok(members)
 }
 
+/// The set of these members.
 fn set_of_members(alloc: Global, members: &[u8]) -> Result<RangeSetBlaze<u8>, AllocError> {
     let mut set = RangeSetBlaze::new(alloc);
     for member in members {
