@@ -11,7 +11,6 @@ use Rattle.rsb_integer.proofs.RunsLemmas.{runs-canonical}
 use Rattle.rsb_streams.specs.Outcomes.{settled_canonical_in}
 use Rattle.rsb_streams.specs.Stream.{Outcomes, ◌⊆◌, just, runs_by, runs_by_two}
 use Rattle.rsb_streams.proofs.CallerLemmas.{members-runs_by, members-runs_by_two}
-use Rattle.rsb_streams.proofs.NestedLemmas.{difference-respects, runs_by_two-same, two-of_both, unshared-alone}
 use Rattle.range_set_blaze.specs.Algebra.{IsComplementOf}
 use Rattle.range_set_blaze.specs.Set.{IsSetOf}
 
@@ -93,26 +92,10 @@ module _ (n : ℕ) where
       → IsSetOf set (difference (members these) (members those))
   difference-of_sets = set-of_sets difference (λ these those rank none no. rw none refl)
 
-  -- and of what lies in one of them alone: in the union, and not in both
-  pub symmetric_difference-of_sets : (these those left right again others : List Interval)
-      → left ≡ these → right ≡ those → again ≡ these → others ≡ those
-      → IsCanonicalIn n left → IsCanonicalIn n right → (set : List Interval)
-      → runs_by_two n difference (runs_by_two n union (just left) (just right))
-      (runs_by_two n intersection (just again) (just others)) set
+  -- and of what lies in one of them alone
+  pub symmetric_difference-of_sets : (these those left right : List Interval) → left ≡ these
+      → right ≡ those → IsCanonicalIn n left → IsCanonicalIn n right → (set : List Interval)
+      → runs_by_two n symmetric_difference (just left) (just right) set
       → IsSetOf set (symmetric_difference (members these) (members those))
-  symmetric_difference-of_sets these those left right again others is also is_again also_again
-      one other set may =
-      set-of_sets symmetric_difference (λ _ _ rank none no. rw (none, no) refl)
-      these those left right is also one other set
-      (runs_by_two-same n (λ x y. difference (union x y) (intersection x y)) symmetric_difference
-      (just left) (just right) (λ x y rank. unshared-alone (x rank) (y rank)) set
-      (two-of_both n left right difference union intersection
-      (runs_by_two n union (just left) (just right))
-      (runs_by_two n intersection (just left) (just right))
-      (difference-respects n) (λ runs at. at) (λ runs at. at) set
-      (subst (λ (each : List Interval). runs_by_two n difference
-      (runs_by_two n union (just left) (just right))
-      (runs_by_two n intersection (just each) (just right)) set) (is_again ∙ sym is)
-      (subst (λ (each : List Interval). runs_by_two n difference
-      (runs_by_two n union (just left) (just right))
-      (runs_by_two n intersection (just again) (just each)) set) (also_again ∙ sym also) may))))
+  symmetric_difference-of_sets =
+      set-of_sets symmetric_difference (λ these those rank none no. rw (none, no) refl)

@@ -116,6 +116,10 @@ module _ {T I : Type 0} (rank : T → ℕ) (n : ℕ) (can_draw : I → Type 0) (
               (subst (IsCanonicalIn n) (sym stands) known)));
         })
 
+    -- a stream that has ended may give nothing more
+    pub over-nothing : s.done ≡ true → fused_may_give may_give (stream_of s) []
+    over-nothing done = subst (λ each. unless each (may_give s.ranges) []) (sym done) refl
+
     -- the item is the last of what is held from the front, or there is none
     pub greatest-ended : (t : Iter T I) (item : Option T)
         → fused_may_give may_give (stream_of s) [] → t.done ≡ true

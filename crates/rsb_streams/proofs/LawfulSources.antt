@@ -1,7 +1,7 @@
 -- Streams that keep a law, as sources of streams whose maker knows the law.
 use Rattle.std.proofs.Common.{ℕ, List, [], ◌∷◌, ◌++◌, sym, subst}
 use Rattle.std.specs.Iterator.{IsFinite, Yields}
-use Rattle.std.specs.Prelude.{Option, Some}
+use Rattle.std.specs.Prelude.{Option}
 use Rattle.std.specs.declared.ops.RangeInclusive.{RangeInclusive}
 use Rattle.rsb_integer.specs.Rank.{intervals_of}
 use Rattle.rsb_integer.specs.Runs.{Interval, IsCanonicalIn}

@@ -1,24 +1,21 @@
 -- The states of the pieces that an odd number of ranges covers.
-use Rattle.std.proofs.Common.{◌≡◌, ◌⊎◌, ℕ, ◌+◌, ◌<◌, ◌≤◌, true, false, cond, max, min, nat_le, List, [], ◌∷◌, length, sym, ap, ◌∙◌, inl, inr, arith}
+use Rattle.std.proofs.Common.{◌≡◌, ℕ, ◌+◌, ◌<◌, ◌≤◌, true, false, cond, max, min, nat_le, [], ◌∷◌, length, sym, ap, ◌∙◌, arith}
 use Rattle.std.proofs.lemmas.Bool.Decides.{nat_tests}
 use Rattle.std.specs.Prelude.{Option, Some, None}
 use Rattle.rsb_integer.specs.Runs.{Interval}
 use Rattle.rsb_integer.proofs.MembersLemmas.{same_interval}
-use Rattle.rsb_streams.specs.OddPieces.{begun_from, pending, HasOneEndAtMost}
+use Rattle.rsb_streams.specs.OddPieces.{begun_from, ends_of, pending}
 use Rattle.rsb_streams.specs.Stream.{run_if_any}
 use Rattle.rsb_streams.specs.declared.odd_pieces.OddPieces.{OddPieces}
 
 -- a state of the pieces that is not at its end
-abbrev pub state : {T I : Type 0} → I → T → List (Option T) → OddPieces T I
-state iter start items =
-    record { iter = iter; done = false; start = start; ends = record { items = items } }
+abbrev pub state : {T I : Type 0} → I → T → Option T → OddPieces T I
+state iter start held = record { iter = iter; done = false; start = start; end = held }
 
--- by its parts
-pub state-is : {T I : Type 0} (s : OddPieces T I) (iter : I) (start : T)
-    (items : List (Option T)) → s.iter ≡ iter → s.done ≡ false → s.start ≡ start
-    → s.ends.items ≡ items → state iter start items ≡ s
-state-is s iter start items iters undone starts ends = sym (λ k.
-    record { iter = iters k; done = undone k; start = starts k; ends = record { items = ends k } })
+-- one end is pending at most
+pub one-held : {T : Type 0} (held : Option T) → length (ends_of held) ≤ 1
+one-held None = omega arith
+one-held (Some end) = omega arith
 
 -- the ranks from a value to another
 abbrev pub between : {T : Type 0} → (T → ℕ) → T → T → Interval
@@ -34,8 +31,6 @@ pub record HasPassed {T I : Type 0} (rank : T → ℕ) (j : I) (end other : T)
     (s : OddPieces T I) : Type 0 where
   pub iter : s.iter ≡ j
   pub undone : s.done ≡ false
-  pub ends : HasOneEndAtMost s
-  pub short : length s.ends.items ≤ 1
   pub left : pending rank s ≡ run_if_any (past_both rank end other)
 
 -- an interval with members stands
@@ -48,65 +43,37 @@ one-run run other ordered first last =
 
 -- the first one ends first
 pub passed-first : {T I : Type 0} (rank : T → ℕ) (j : I) (end other : T) (s : OddPieces T I)
-    → s.iter ≡ j → s.done ≡ false → s.ends.items ≡ Some other ∷ [] → rank s.start ≡ rank end + 1
+    → s.iter ≡ j → s.done ≡ false → s.end ≡ Some other → rank s.start ≡ rank end + 1
     → rank end < rank other → HasPassed rank j end other s
-passed-first rank j end other s same undone items start less = record {
+passed-first rank j end other s same undone held start less = record {
   iter = same;
   undone = undone;
-  ends = inr (other, items);
-  short = rw items (omega arith);
-  left = ap (begun_from rank s.start) items
+  left = ap (begun_from rank s.start) held
       ∙ one-run (between rank s.start other) (past_both rank end other) (omega arith) (omega arith)
       (omega arith);
 }
 
 -- the second one does
 pub passed-second : {T I : Type 0} (rank : T → ℕ) (j : I) (end other : T) (s : OddPieces T I)
-    → s.iter ≡ j → s.done ≡ false → s.ends.items ≡ Some end ∷ [] → rank s.start ≡ rank other + 1
+    → s.iter ≡ j → s.done ≡ false → s.end ≡ Some end → rank s.start ≡ rank other + 1
     → rank other < rank end → HasPassed rank j end other s
-passed-second rank j end other s same undone items start less = record {
+passed-second rank j end other s same undone held start less = record {
   iter = same;
   undone = undone;
-  ends = inr (end, items);
-  short = rw items (omega arith);
-  left = ap (begun_from rank s.start) items
+  left = ap (begun_from rank s.start) held
       ∙ one-run (between rank s.start end) (past_both rank end other) (omega arith) (omega arith)
       (omega arith);
 }
 
 -- both end at once
 pub passed-both : {T I : Type 0} (rank : T → ℕ) (j : I) (end other : T) (s : OddPieces T I)
-    → s.iter ≡ j → s.done ≡ false → s.ends.items ≡ [] → rank end ≤ rank other → rank other ≤ rank end
+    → s.iter ≡ j → s.done ≡ false → s.end ≡ None → rank end ≤ rank other → rank other ≤ rank end
     → HasPassed rank j end other s
-passed-both rank j end other s same undone items most least =
+passed-both rank j end other s same undone held most least =
     let past = past_both rank end other in
     let test : nat_le past.first past.last ≡ false = grind (arith, nat_tests) in
     record {
       iter = same;
       undone = undone;
-      ends = inl items;
-      short = rw items (omega arith);
-      left = ap (begun_from rank s.start) items ∙ sym (ap (λ each. cond each (past ∷ []) []) test);
+      left = ap (begun_from rank s.start) held ∙ sym (ap (λ each. cond each (past ∷ []) []) test);
     }
-
--- the end that is answered is pending, alone
-pub is-pending : {T : Type 0} (items : List (Option T)) (found : Option T) (end : T)
-    → (items ≡ []) ⊎ ((last : T) × (items ≡ Some last ∷ []))
-    → (items ≡ [] → found ≡ None) → ((last : T) → items ≡ Some last ∷ [] → found ≡ Some last)
-    → found ≡ Some end → items ≡ Some end ∷ []
-is-pending items found end ends none some is = elim ends [
-  | inl empty ↦ let no = none empty in absurd (cc)
-  | inr one ↦
-      let same = some one.0 one.1 in
-      let end_is : one.0 ≡ end = cc in
-      one.1 ∙ ap (λ each. Some each ∷ []) end_is
-]
-
--- where none is answered, none is pending
-pub none-pending : {T : Type 0} (items : List (Option T)) (found : Option T)
-    → (items ≡ []) ⊎ ((last : T) × (items ≡ Some last ∷ []))
-    → ((last : T) → items ≡ Some last ∷ [] → found ≡ Some last) → found ≡ None → items ≡ []
-none-pending items found ends some is = elim ends [
-  | inl empty ↦ empty
-  | inr one ↦ let same = some one.0 one.1 in absurd (cc)
-]

@@ -1,6 +1,6 @@
 -- One more range, for the pieces that an odd number of ranges covers.
-use Rattle.std.proofs.Common.{◌≡◌, ℕ, ◌+◌, ◌<◌, ◌≤◌, Bool, true, false, List, [], ◌∷◌, ◌++◌, length, refl, sym, ap, ◌∙◌, subst, inr, arith}
-use Rattle.std.specs.Prelude.{Option, Some}
+use Rattle.std.proofs.Common.{◌≡◌, ℕ, ◌+◌, ◌<◌, ◌≤◌, true, false, List, ◌∷◌, ◌++◌, length, refl, sym, ap, ◌∙◌, subst, arith}
+use Rattle.std.specs.Prelude.{Option, Some, None}
 use Rattle.std.specs.Ordering.{partial_lt}
 use Rattle.std.specs.declared.cmp.Ordering.{Ordering}
 use Rattle.std.specs.Iterator.{Count, IsFinite, MakesProgress, size}
@@ -9,7 +9,7 @@ use Rattle.std.specs.declared.ops.RangeInclusive.{RangeInclusive}
 use Rattle.rsb_integer.specs.Rank.{interval_of}
 use Rattle.rsb_integer.specs.Runs.{Interval}
 use Rattle.rsb_integer.proofs.MembersLemmas.{same_interval}
-use Rattle.rsb_streams.specs.OddPieces.{odd_may_give, odd_remaining, oddly_covered, pieces_of, pending, ArePieces, IsGoing, IsTwofold, OddAnswers, OddReady, OddSoFar}
+use Rattle.rsb_streams.specs.OddPieces.{odd_may_give, odd_remaining, oddly_covered, pieces_of, pending, ends_of, ArePieces, IsGoing, IsTwofold, OddAnswers, OddReady, OddSoFar}
 use Rattle.rsb_streams.specs.Stream.{Outcomes, ◌⊆◌, run_if_any, unless, HasOutcome}
 use Rattle.rsb_streams.specs.declared.odd_pieces.OddPieces.{OddPieces}
 use Rattle.rsb_streams.proofs.Compare.{IsRanked, less-rank, not_less-rank}
@@ -18,7 +18,7 @@ use Rattle.rsb_streams.proofs.OddLemmas.{past-twofold, pieces-before, pieces-fir
 use Rattle.rsb_streams.proofs.Sources.{Source, IsLawful, range-start, range-end}
 use Rattle.rsb_streams.proofs.UnionLemmas.{head-sorted}
 use Rattle.rsb_streams.proofs.OddEnds.{so-by}
-use Rattle.rsb_streams.proofs.OddStates.{state, between, past_both, HasPassed}
+use Rattle.rsb_streams.proofs.OddStates.{state, between, one-held, passed-both, passed-first, passed-second, past_both, HasPassed}
 
 module _ {I T : Type 0} (rank : T → ℕ) (n : ℕ) (source : Source I T) where
   -- the pieces may be drawn
@@ -41,14 +41,13 @@ module _ {I T : Type 0} (rank : T → ℕ) (n : ℕ) (source : Source I T) where
   abbrev Answered : OddPieces T I → Option (RangeInclusive T) → OddPieces T I → Type 0
   Answered = OddAnswers rank n source.can_next source.may_give
 
-  module _ (laws : IsLawful rank n source) where
+  -- the values are told apart by their ranks
+  module _ (laws : IsLawful rank n source) (partial_cmp : T → T → Option Ordering)
+      (cmp : T → T → Ordering) (ranked : IsRanked rank n partial_cmp cmp) where
     -- ---- one more range
-    module _ (entry : OddPieces T I) (i j : I) (done : Bool) (start : T) (items : List (Option T))
-        (next next_end : T) (range : RangeInclusive T)
-        (so_now : SoFar entry
-        (record { iter = i; done = done; start = start; ends = record { items = items } }))
-        (call : source.steps i (Some range) j)
-        (goes : MakesProgress source.can_next source.remaining i (Some range) j)
+    module _ (entry was : OddPieces T I) (j : I) (next next_end : T) (range : RangeInclusive T)
+        (so_now : SoFar entry was) (call : source.steps was.iter (Some range) j)
+        (goes : MakesProgress source.can_next source.remaining was.iter (Some range) j)
         (from : next ≡ range_inclusive_start range) (to : next_end ≡ range_inclusive_end range)
       where
         -- something may come after it
@@ -57,15 +56,15 @@ module _ {I T : Type 0} (rank : T → ℕ) (n : ℕ) (source : Source I T) where
 
         -- it comes first
         before : (given : List Interval) → source.may_give j given
-            → source.may_give i (interval_of rank range ∷ given)
-        before given at = laws.answers i j (Some range) call given at
+            → source.may_give was.iter (interval_of rank range ∷ given)
+        before given at = laws.answers was.iter j (Some range) call given at
 
         -- it is non-empty, and lies in the type
         facts : (0 ≤ (interval_of rank range).first)
             × ((interval_of rank range).first ≤ (interval_of rank range).last)
             × ((interval_of rank range).last < n)
         facts = head-sorted n 0 (interval_of rank range) (source.may_give j) some
-            (λ given at. (laws.sorted i so_now.going.callable).all
+            (λ given at. (laws.sorted was.iter so_now.going.callable).all
             (interval_of rank range ∷ given) (before given at))
 
         -- its ranks
@@ -76,18 +75,18 @@ module _ {I T : Type 0} (rank : T → ℕ) (n : ℕ) (source : Source I T) where
 
         -- so it comes first by its ends
         comes : (given : List Interval) → source.may_give j given
-            → source.may_give i (between rank next next_end ∷ given)
+            → source.may_give was.iter (between rank next next_end ∷ given)
         comes given at =
-            subst (λ run. source.may_give i (run ∷ given)) is_run (before given at)
+            subst (λ run. source.may_give was.iter (run ∷ given)) is_run (before given at)
 
         -- fewer are to come
-        pub fewer : IsFinite (source.remaining j) × (size (source.remaining j) < size (source.remaining i))
+        pub fewer : IsFinite (source.remaining j) × (size (source.remaining j) < size (source.remaining was.iter))
         fewer =
-            let on = goes.on (laws.sorted i so_now.going.callable).ends in
+            let on = goes.on (laws.sorted was.iter so_now.going.callable).ends in
             (on.1, on.2)
 
         -- its ends are values
-        pub next-values : (rank next < n) × (rank next_end < n)
+        next-values : (rank next < n) × (rank next_end < n)
         next-values =
             let all = facts in
             let low = ap (λ run. run.first) is_run in
@@ -97,42 +96,37 @@ module _ {I T : Type 0} (rank : T → ℕ) (n : ℕ) (source : Source I T) where
         -- where it alone is pending, the pieces may be drawn
         going-next : ((given : List Interval) → source.may_give j given
             → IsTwofold n (between rank next next_end ∷ given))
-            → IsGoing rank n source.can_next source.may_give (state j next (Some next_end ∷ []))
+            → IsGoing rank n source.can_next source.may_give (state j next (Some next_end))
         going-next twofold = record {
           callable = goes.keeps;
-          ends = inr (next_end, refl);
           twofold = twofold;
         }
 
-        -- it begins where none is pending
-        pub so-begins : items ≡ [] → SoFar entry (state j next (Some next_end ∷ []))
-        so-begins is =
-            let so = so-by rank n source entry i done start items [] so_now is in
-            let less = fewer in
-            let nearer = so.nearer in
-            record {
-              undone = refl;
-              going = going-next (λ given at.
-                  so.going.twofold (between rank next next_end ∷ given) (comes given at));
-              same = λ pieces at. so.same pieces (λ nothing. at (λ given might all.
-                  nothing (between rank next next_end ∷ given) (comes given might) all));
-              nearer = omega (arith, less.1, nearer);
-            }
+        -- the state where it alone is pending
+        abbrev next_state : OddPieces T I
+        next_state = record { iter = j; done = was.done; start = next; end = Some next_end }
+
+        -- it is not at its end
+        from-state : (Holds : OddPieces T I → Type 0) → Holds (state j next (Some next_end))
+            → Holds next_state
+        from-state Holds at = subst
+            (λ done. Holds (record { iter = j; done = done; start = next; end = Some next_end }))
+            (sym so_now.undone) at
 
         -- one is pending
-        module _ (end : T) (is : items ≡ Some end ∷ []) where
+        module _ (end : T) (is : was.end ≡ Some end) where
           -- so it was before
-          so : SoFar entry (state i start (Some end ∷ []))
-          so = so-by rank n source entry i done start items (Some end ∷ []) so_now is
+          so : SoFar entry (state was.iter was.start (Some end))
+          so = so-by rank n source entry was (Some end) so_now is
 
           -- both, and what comes after them
           twofold : (given : List Interval) → source.may_give j given
-              → IsTwofold n (between rank start end ∷ between rank next next_end ∷ given)
+              → IsTwofold n (between rank was.start end ∷ between rank next next_end ∷ given)
           twofold given at = so.going.twofold (between rank next next_end ∷ given) (comes given at)
 
           -- the pending one is non-empty and lies in the type
-          pending-facts : (0 ≤ rank start) × (rank start ≤ rank end) × (rank end < n)
-          pending-facts = head-sorted n 0 (between rank start end)
+          pending-facts : (0 ≤ rank was.start) × (rank was.start ≤ rank end) × (rank end < n)
+          pending-facts = head-sorted n 0 (between rank was.start end)
               (λ given. (rest : List Interval) × source.may_give j rest
               × (given ≡ between rank next next_end ∷ rest))
               (λ never. some (λ given at. never (between rank next next_end ∷ given)
@@ -140,36 +134,73 @@ module _ {I T : Type 0} (rank : T → ℕ) (n : ℕ) (source : Source I T) where
               (λ given at. rw at.2 (twofold at.0 at.1).sorted)
 
           -- all four ends are values
-          pub both-values : (rank start < n) × (rank end < n) × (rank next < n) × (rank next_end < n)
+          both-values : (rank was.start < n) × (rank end < n) × (rank next < n) × (rank next_end < n)
           both-values =
               let all = pending-facts in
               let low = all.1 in
               let high = all.2 in
               (omega (arith, low, high), high, next-values.0, next-values.1)
 
-          -- the values are told apart by their ranks
-          module _ (partial_cmp : T → T → Option Ordering) (cmp : T → T → Ordering)
-              (ranked : IsRanked rank n partial_cmp cmp) where
-            -- where the pending end is less than the next start, so is its rank
-            pub end-less : true ≡ partial_lt partial_cmp end next → rank end < rank next
-            end-less test = less-rank rank n partial_cmp cmp ranked end next pending-facts.2
-                next-values.0 test
+          -- where the pending end is less than the next one, it is not the greatest value
+          pub end-below : true ≡ partial_lt partial_cmp end next_end → rank end + 1 < n
+          end-below test =
+              let less = less-rank rank n partial_cmp cmp ranked end next_end both-values.1
+              both-values.3 test in
+              omega (arith, less, both-values.3)
 
-            -- and else it is not
-            pub end-most : false ≡ partial_lt partial_cmp end next → rank next ≤ rank end
-            end-most test = not_less-rank rank n partial_cmp cmp ranked end next pending-facts.2
-                next-values.0 test
+          -- nor is the next one, where it is less
+          pub next_end-below : true ≡ partial_lt partial_cmp next_end end → rank next_end + 1 < n
+          next_end-below test =
+              let less = less-rank rank n partial_cmp cmp ranked next_end end both-values.3
+              both-values.1 test in
+              omega (arith, less, both-values.1)
+
+          -- where the pending one starts before the next one, so do others
+          pub next-above : true ≡ partial_lt partial_cmp was.start next → 0 < rank next
+          next-above test =
+              let less = less-rank rank n partial_cmp cmp ranked was.start next both-values.0
+              both-values.2 test in
+              omega (arith, less)
+
+          -- the pending one ends first
+          pub first-ends : (now : OddPieces T I) → now.iter ≡ j → now.done ≡ was.done
+              → now.end ≡ Some next_end → rank now.start ≡ rank end + 1
+              → true ≡ partial_lt partial_cmp end next_end → HasPassed rank j end next_end now
+          first-ends now same done held start test =
+              passed-first rank j end next_end now same (done ∙ so_now.undone) held start
+              (less-rank rank n partial_cmp cmp ranked end next_end both-values.1 both-values.3 test)
+
+          -- the next one does
+          pub second-ends : (now : OddPieces T I) → now.iter ≡ j → now.done ≡ was.done
+              → now.end ≡ was.end → rank now.start ≡ rank next_end + 1
+              → true ≡ partial_lt partial_cmp next_end end → HasPassed rank j end next_end now
+          second-ends now same done held start test =
+              passed-second rank j end next_end now same (done ∙ so_now.undone) (held ∙ is) start
+              (less-rank rank n partial_cmp cmp ranked next_end end both-values.3 both-values.1 test)
+
+          -- both end at once
+          pub both-end : (now : OddPieces T I) → now.iter ≡ j → now.done ≡ was.done
+              → now.end ≡ None → false ≡ partial_lt partial_cmp next_end end
+              → false ≡ partial_lt partial_cmp end next_end → HasPassed rank j end next_end now
+          both-end now same done held most least =
+              passed-both rank j end next_end now same (done ∙ so_now.undone) held
+              (not_less-rank rank n partial_cmp cmp ranked next_end end both-values.3 both-values.1
+              most)
+              (not_less-rank rank n partial_cmp cmp ranked end next_end both-values.1 both-values.3
+              least)
 
           -- the pending one comes first where the other starts past it
-          pub apart-answers : rank end < rank next → (answer : RangeInclusive T)
-              → range_inclusive_exhausted answer ≡ false → range_inclusive_start answer ≡ start
+          pub apart-answers : true ≡ partial_lt partial_cmp end next → (answer : RangeInclusive T)
+              → range_inclusive_exhausted answer ≡ false → range_inclusive_start answer ≡ was.start
               → range_inclusive_end answer ≡ end
-              → Answered entry (Some answer) (state j next (Some next_end ∷ []))
-          apart-answers apart answer fresh at_start at_end =
-              let first = between rank start end in
+              → Answered entry (Some answer) next_state
+          apart-answers test answer fresh at_start at_end =
+              let apart = less-rank rank n partial_cmp cmp ranked end next both-values.1
+              both-values.2 test in
+              let first = between rank was.start end in
               let run = between rank next next_end in
-              let gap = answered rank n source start end answer fresh at_start at_end in
-              record {
+              let gap = answered rank n source was.start end answer fresh at_start at_end in
+              from-state (Answered entry (Some answer)) (record {
                 answers = λ rest at. so.same (interval_of rank answer ∷ rest) (λ nothing.
                     at (λ given might all.
                     let both = (twofold given might).sorted in
@@ -179,26 +210,30 @@ module _ {I T : Type 0} (rank : T → ℕ) (n : ℕ) (source : Source I T) where
                     (pieces-first n first (run ∷ given) rest both.1 both.2
                     (omega arith, both.3.1, both.3.2, both.3.3) all))));
                 rests = tt;
-              }
+              })
 
           -- and fewer are left
           pub apart-goes : (answer : RangeInclusive T)
-              → MakesProgress can left_of entry (Some answer) (state j next (Some next_end ∷ []))
+              → MakesProgress can left_of entry (Some answer) next_state
           apart-goes answer =
               let going = going-next (λ given at.
-              twofold-tail n (between rank start end) (between rank next next_end ∷ given)
+              twofold-tail n (between rank was.start end) (between rank next next_end ∷ given)
               (twofold given at)) in
               let less = fewer in
               let nearer = so.nearer in
-              record {
+              from-state (MakesProgress can left_of entry (Some answer)) (record {
                 on = λ finite. ((λ undone. going), less.0, omega (arith, less.1, nearer));
                 keeps = λ undone. going;
                 rests = λ finite. tt;
-              }
+              })
 
           -- they overlap, and what lies past the lesser end is pending
-          module _ (meets : rank next ≤ rank end) (now : OddPieces T I)
+          module _ (test : false ≡ partial_lt partial_cmp end next) (now : OddPieces T I)
               (passed : HasPassed rank j end next_end now) where
+            -- the next one starts at the end of the pending one at most
+            meets : rank next ≤ rank end
+            meets = not_less-rank rank n partial_cmp cmp ranked end next both-values.1 both-values.2 test
+
             -- what is still to come comes of the source as it is then
             same-source : (given : List Interval) → source.may_give now.iter given
                 → source.may_give j given
@@ -208,7 +243,7 @@ module _ {I T : Type 0} (rank : T → ℕ) (n : ℕ) (source : Source I T) where
             twofold-now : (given : List Interval) → source.may_give now.iter given
                 → IsTwofold n (pending rank now ++ given)
             twofold-now given at = subst (λ each. IsTwofold n (each ++ given)) (sym passed.left)
-                (past-twofold n (between rank start end) (between rank next next_end)
+                (past-twofold n (between rank was.start end) (between rank next next_end)
                 (past_both rank end next_end) given (twofold given (same-source given at)) meets refl
                 refl)
 
@@ -216,7 +251,6 @@ module _ {I T : Type 0} (rank : T → ℕ) (n : ℕ) (source : Source I T) where
             going-now : IsGoing rank n source.can_next source.may_give now
             going-now = record {
               callable = subst source.can_next (sym passed.iter) goes.keeps;
-              ends = passed.ends;
               twofold = twofold-now;
             }
 
@@ -236,22 +270,24 @@ module _ {I T : Type 0} (rank : T → ℕ) (n : ℕ) (source : Source I T) where
             now-less : size (left_of now) < size (left_of entry)
             now-less =
                 let less = fewer in
-                let short = passed.short in
+                let short = one-held now.end in
                 let nearer = so.nearer in
                 let same : size (source.remaining now.iter) ≡ size (source.remaining j) =
                 ap (λ iter. size (source.remaining iter)) passed.iter in
-                let all : size (left_of now) ≡ size (source.remaining now.iter) + length now.ends.items =
+                let all : size (left_of now) ≡ size (source.remaining now.iter) + length (ends_of now.end) =
                 rw passed.undone refl in
                 omega (arith, less.1, short, nearer, same, all)
 
             -- what lies before the second comes first
-            pub gap-answers : rank start < rank next → (last : T) (answer : RangeInclusive T)
-                → rank last + 1 ≡ rank next
-                → range_inclusive_exhausted answer ≡ false → range_inclusive_start answer ≡ start
+            pub gap-answers : true ≡ partial_lt partial_cmp was.start next → (last : T)
+                (answer : RangeInclusive T) → rank last + 1 ≡ rank next
+                → range_inclusive_exhausted answer ≡ false → range_inclusive_start answer ≡ was.start
                 → range_inclusive_end answer ≡ last → Answered entry (Some answer) now
-            gap-answers less last answer one fresh at_start at_end =
-                let gap = answered rank n source start last answer fresh at_start at_end in
-                let first = between rank start end in
+            gap-answers before_next last answer one fresh at_start at_end =
+                let less = less-rank rank n partial_cmp cmp ranked was.start next both-values.0
+                both-values.2 before_next in
+                let gap = answered rank n source was.start last answer fresh at_start at_end in
+                let first = between rank was.start end in
                 let run = between rank next next_end in
                 record {
                   answers = λ rest at. so.same (interval_of rank answer ∷ rest) (λ nothing.
@@ -259,7 +295,7 @@ module _ {I T : Type 0} (rank : T → ℕ) (n : ℕ) (source : Source I T) where
                       (subst (λ each. ArePieces n (oddly_covered (first ∷ run ∷ given)) (each ∷ rest))
                       (sym gap)
                       (pieces-before n first run (past_both rank end next_end) given
-                      (twofold given (same-source given might)) meets refl refl (between rank start last) rest less refl
+                      (twofold given (same-source given might)) meets refl refl (between rank was.start last) rest less refl
                       one (then-pieces given rest all)))));
                   rests = tt;
                 }
@@ -279,8 +315,10 @@ module _ {I T : Type 0} (rank : T → ℕ) (n : ℕ) (source : Source I T) where
                 }
 
             -- nothing lies before it, and the loop goes on
-            pub so-passed : rank next ≤ rank start → SoFar entry now
-            so-passed most =
+            pub so-passed : false ≡ partial_lt partial_cmp was.start next → SoFar entry now
+            so-passed not_before =
+                let most = not_less-rank rank n partial_cmp cmp ranked was.start next both-values.0
+                both-values.2 not_before in
                 let less = now-less in
                 record {
                   undone = passed.undone;
@@ -288,7 +326,7 @@ module _ {I T : Type 0} (rank : T → ℕ) (n : ℕ) (source : Source I T) where
                   same = λ pieces at. so.same pieces (λ nothing. now-may pieces at (λ given might all.
                       nothing (between rank next next_end ∷ given)
                       (comes given (same-source given might))
-                      (pieces-past n (between rank start end) (between rank next next_end)
+                      (pieces-past n (between rank was.start end) (between rank next next_end)
                       (past_both rank end next_end) given (twofold given (same-source given might)) meets refl refl
                       pieces most (then-pieces given pieces all))));
                   nearer = omega (arith, less);

@@ -1,5 +1,5 @@
 -- The first place where a list of ranges is not canonical.
-use Rattle.std.proofs.Common.{◌≡◌, ℕ, suc, ◌+◌, ◌<◌, ◌≤◌, List, [], ◌∷◌, ◌++◌, length, take, drop, get_or, refl, sym, ap, ◌∙◌, subst, arith}
+use Rattle.std.proofs.Common.{◌≡◌, ℕ, suc, ◌+◌, ◌<◌, ◌≤◌, true, false, nat_lt, List, [], ◌∷◌, ◌++◌, length, take, drop, get_or, refl, sym, ap, ◌∙◌, subst, arith}
 use Rattle.std.proofs.lemmas.List.{length-map, take-append-drop, take_all}
 use Rattle.std.proofs.lemmas.List.Elements.{All-nil, All-push}
 use Rattle.std.proofs.Math.ListN.{get_or-map}
@@ -12,6 +12,15 @@ use Rattle.rsb_integer.specs.Runs.{Interval, IsCanonicalFrom, IsCanonicalIn}
 use Rattle.rsb_integer.proofs.CanonicalLemmas.{canonical-append, canonical-front, canonical-parts, next_start, next_start-push}
 use Rattle.rsb_streams.proofs.Sources.{range-end}
 use Rattle.rsb_streams.specs.NotSortedDisjoint.{IsFirstBad, start_after}
+use borrow.Author.Tests.{ltb-false, ltb-true}
+
+-- a position that passed the test lies in a list
+pub place-within : (position n : ℕ) → true ≡ nat_lt position n → position < n
+place-within position n is = ltb-true position n (sym is)
+
+-- and one that failed lies past it
+pub place-past : (position n : ℕ) → false ≡ nat_lt position n → n ≤ position
+place-past position n is = ltb-false position n (sym is)
 
 module _ {T : Type 0} (rank : T → ℕ) (n : ℕ) (ranges : List (RangeInclusive T)) where
   -- the ranks of each range

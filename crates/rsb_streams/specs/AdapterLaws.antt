@@ -1,11 +1,10 @@
 -- The laws of std's adapters over a stream.
-use Rattle.std.proofs.Common.{◌≡◌, ◌⊎◌, ℕ, zero, suc, ◌+◌, ◌-◌, ◌<◌, ◌≤◌, Bool, true, false, List, [], ◌∷◌, ◌++◌, take, drop, length, refl, sym, ap, ◌∙◌, subst, inl, inr, arith}
-use Rattle.std.proofs.lemmas.List.{append-nil, length-map}
-use Rattle.std.proofs.Math.Seq.{drop-append_seam}
+use Rattle.std.proofs.Common.{◌≡◌, ℕ, zero, suc, ◌-◌, ◌<◌, ◌≤◌, Bool, true, false, List, [], ◌∷◌, take, length, refl, sym, subst, inl, inr, arith}
+use Rattle.std.proofs.lemmas.List.{append-nil}
 use Rattle.std.specs.Fn.{CalledAt}
 use Rattle.std.specs.List.{FoldsTo}
-use Rattle.std.specs.Prelude.{Option, Some, None, MatchBool, MatchOption}
-use Rattle.std.specs.Iterator.{CallableOnAllAt, CallableWhileAt, Count, IsFinite, Yields, YieldsThen, count_map, count_min, count_unless, at_most}
+use Rattle.std.specs.Prelude.{Option, Some, None, MatchBool}
+use Rattle.std.specs.Iterator.{CallableOnAllAt, CallableWhileAt, Count, IsFinite, YieldsThen, count_map, count_min, at_most}
 use Rattle.std.specs.Iterator.Adapters.{filter_callee, filter_source, filter_steps, fuse_done, fuse_source, fuse_steps, skip_count, skip_source, skip_steps, skip_while_callee, skip_while_done_skipping, skip_while_source, skip_while_steps, take_count, take_source, take_steps, take_while_callee, take_while_done, take_while_source, take_while_steps}
 use Rattle.std.specs.declared.iter.Filter.{Filter}
 use Rattle.std.specs.declared.iter.Fuse.{Fuse}
@@ -15,13 +14,12 @@ use Rattle.std.specs.declared.iter.Take.{Take}
 use Rattle.std.specs.declared.iter.TakeWhile.{TakeWhile}
 use Rattle.std.specs.declared.ops.RangeInclusive.{RangeInclusive}
 use Rattle.rsb_integer.specs.Front.{IsFrontOf}
-use Rattle.rsb_integer.specs.Rank.{interval_of, intervals_of}
 use Rattle.rsb_integer.specs.Runs.{Interval}
 use Rattle.rsb_streams.specs.AdapterCalls.{filter-gives, fuse-gives, skip-gives, skip_while-gives, take-gives, take_while-gives}
-use Rattle.rsb_streams.specs.Adapters.{EndsWithin, IsCall, IsRestOf, IsSkipped, MayDraw, filter_can_draw, filter_may_give, front-is_part, fuse_can_draw, part-keeps, part_of, rest-is_part, skip-is_part, skip_can_draw, skip_may_give, skip_while_can_draw, skip_while_may_give, sublist-is_part, take-is_part, take_can_draw, take_may_give, take_while_can_draw, take_while_may_give}
+use Rattle.rsb_streams.specs.Adapters.{IsCall, IsRestOf, IsSkipped, filter_can_draw, filter_may_give, front-is_part, fuse_can_draw, part-keeps, part_of, rest-is_part, skip-is_part, skip_can_draw, skip_may_give, skip_while_can_draw, skip_while_may_give, sublist-is_part, take-is_part, take_can_draw, take_may_give, take_while_can_draw, take_while_may_give}
 use Rattle.rsb_streams.specs.Fused.{fuse-keeps, fuse_can_next, fuse_may_give, fuse_remaining}
 use Rattle.rsb_streams.specs.Stream.{Outcomes, Answers, HasOutcome, HasSortedStarts, IsDrawn, Keeps, unless}
-use Rattle.rsb_streams.specs.Sublists.{IsSublist, sublist-after, sublist-none}
+use Rattle.rsb_streams.specs.Sublists.{sublist-none}
 use denote.Param.Members.{Mut}
 use denote.Ref.{Bor}
 

@@ -1,7 +1,7 @@
 -- What std's adapters over a stream may give: some ranges of what their stream may give.
-use Rattle.std.proofs.Common.{◌≡◌, ◌⊎◌, ℕ, zero, suc, ◌+◌, ◌<◌, ◌≤◌, Bool, true, false, List, [], ◌∷◌, ◌++◌, take, drop, length, refl, sym, ap, ◌∙◌, subst, inl, inr, arith}
+use Rattle.std.proofs.Common.{◌≡◌, ◌⊎◌, ℕ, ◌<◌, ◌≤◌, Bool, true, false, List, [], ◌++◌, take, drop, length, refl, inl, inr}
 use Rattle.std.proofs.lemmas.List.Elements.{All-nil}
-use Rattle.std.specs.Prelude.{Option, Some, None, MatchBool}
+use Rattle.std.specs.Prelude.{Option, None, MatchBool}
 use Rattle.std.specs.Iterator.{CallableOnAllAt, CallableWhileAt, Count, IsFinite, YieldsThen}
 use Rattle.std.specs.Iterator.Adapters.{filter_callee, filter_source, fuse_done, fuse_source, skip_count, skip_source, skip_while_callee, skip_while_done_skipping, skip_while_source, take_count, take_source, take_while_callee, take_while_done, take_while_source}
 use Rattle.std.specs.declared.iter.Filter.{Filter}
@@ -15,7 +15,7 @@ use Rattle.rsb_integer.specs.Front.{IsFrontOf}
 use Rattle.rsb_integer.specs.Runs.{Interval, IsCanonicalIn}
 use Rattle.rsb_streams.specs.Fused.{fuse_can_next, fuse_may_give}
 use Rattle.rsb_streams.specs.Outcomes.{settled_canonical_in, settled_sorted}
-use Rattle.rsb_streams.specs.Stream.{Outcomes, ◌⊆◌, Answers, HasOutcome, HasSortedStarts, IsDrawn, Keeps, SomeOutcome, unless}
+use Rattle.rsb_streams.specs.Stream.{Outcomes, ◌⊆◌, Answers, HasSortedStarts, IsDrawn, Keeps, SomeOutcome, unless}
 use Rattle.rsb_streams.specs.Sublists.{IsSublist, sublist-after, sublist-all, sublist-canonical, sublist-drop, sublist-front, sublist-none, sublist-sorted, sublist-take}
 use denote.Param.Members.{Mut}
 use denote.Ref.{Bor}

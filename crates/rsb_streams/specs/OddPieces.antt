@@ -1,5 +1,5 @@
 -- The pieces of ranges that an odd number of them covers, where no rank lies in more than two.
-use Rattle.std.proofs.Common.{◌≡◌, ◌⊎◌, ℕ, ◌+◌, ◌≤◌, Bool, true, false, List, [], ◌∷◌, ◌++◌, length, map, refl}
+use Rattle.std.proofs.Common.{◌≡◌, ℕ, ◌+◌, ◌≤◌, Bool, true, false, List, [], ◌∷◌, ◌++◌, length, map, refl}
 use Rattle.std.specs.Prelude.{Option, Some, None}
 use Rattle.std.specs.Iterator.{Count, count_map, count_unless, size}
 use Rattle.std.specs.declared.ops.RangeInclusive.{RangeInclusive}
@@ -36,24 +36,23 @@ abbrev pub pieces_of : ℕ → List Interval → Outcomes → Outcomes
 pieces_of n before P pieces =
     SomeOutcome P (λ given. ArePieces n (oddly_covered (before ++ given)) pieces)
 
--- ---- the ranges that have begun and not ended
+-- ---- the range that has begun and not ended
 
--- from where they are told up to, to each of the ends
-abbrev pub begun_from : {T : Type 0} → (T → ℕ) → T → List (Option T) → List Interval
-begun_from rank start [] = []
-begun_from rank start (None ∷ ends) = begun_from rank start ends
-begun_from rank start (Some end ∷ ends) =
-    record { first = rank start; last = rank end } ∷ begun_from rank start ends
+-- from where it is told up to, to the end
+abbrev pub begun_from : {T : Type 0} → (T → ℕ) → T → Option T → List Interval
+begun_from rank start None = []
+begun_from rank start (Some end) = record { first = rank start; last = rank end } ∷ []
 
--- those of the pieces
+-- that of the pieces
 abbrev pub pending : {T I : Type 0} → (T → ℕ) → OddPieces T I → List Interval
-pending rank s = begun_from rank s.start s.ends.items
+pending rank s = begun_from rank s.start s.end
 
--- no end is pending, or one
-abbrev pub HasOneEndAtMost : {T I : Type 0} → OddPieces T I → Type 0
-HasOneEndAtMost {T = T} s = (s.ends.items ≡ []) ⊎ ((end : T) × (s.ends.items ≡ Some end ∷ []))
+-- the end that is pending, as a list
+abbrev pub ends_of : {T : Type 0} → Option T → List T
+ends_of None = []
+ends_of (Some end) = end ∷ []
 
--- what lies in an odd number of the pending ranges and of those to come, and nothing at the end
+-- what lies in an odd number of the pending range and of those to come, and nothing at the end
 abbrev pub odd_may_give : {T I : Type 0} → (T → ℕ) → ℕ → (I → Outcomes) → OddPieces T I → Outcomes
 odd_may_give rank n may_give s =
     unless s.done (pieces_of n (pending rank s) (may_give s.iter))
@@ -61,14 +60,13 @@ odd_may_give rank n may_give s =
 -- a piece for each range that is pending or still to come
 abbrev pub odd_remaining : {T I : Type 0} → (I → Count) → OddPieces T I → Count
 odd_remaining remaining s =
-    count_unless s.done (count_map (λ left. left + length s.ends.items) (remaining s.iter))
+    count_unless s.done (count_map (λ left. left + length (ends_of s.end)) (remaining s.iter))
 
 module _ {T I : Type 0} (rank : T → ℕ) (n : ℕ) (can_next : I → Type 0)
     (may_give : I → Outcomes) where
   -- the source may be called, and no rank lies in more than two of the ranges, pending and to come
   pub record IsGoing (s : OddPieces T I) : Type 0 where
     pub callable : can_next s.iter
-    pub ends : HasOneEndAtMost s
     pub twofold : (given : List Interval) → may_give s.iter given
         → IsTwofold n (pending rank s ++ given)
 
@@ -94,7 +92,7 @@ module _ {T I : Type 0} (rank : T → ℕ) (n : ℕ) (can_next : I → Type 0)
         → (done : Bool) (s : OddPieces T I) → (done ≡ false → IsGoing s)
         → Keeps (HasSortedStarts n)
         (unless done (pieces_of n (pending rank s) (may_give s.iter)))
-        (count_unless done (count_map (λ left. left + length s.ends.items) (remaining s.iter)))
+        (count_unless done (count_map (λ left. left + length (ends_of s.end)) (remaining s.iter)))
     keeps-by sorted true s ready = record {
       some = λ never. never [] refl;
       all = λ pieces may. rw may tt;

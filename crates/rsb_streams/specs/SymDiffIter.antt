@@ -5,7 +5,7 @@ use Rattle.std.specs.Prelude.{Option}
 use Rattle.std.specs.declared.ops.RangeInclusive.{RangeInclusive}
 use Rattle.rsb_integer.specs.Runs.{IsCanonicalIn}
 use Rattle.rsb_streams.specs.Merge.{merge-keeps, merge_may_give, merge_remaining, MergeReady}
-use Rattle.rsb_streams.specs.OddPieces.{odd-keeps, odd_may_give, odd_remaining, OddReady}
+use Rattle.rsb_streams.specs.OddPieces.{ends_of, odd-keeps, odd_may_give, odd_remaining, OddReady}
 use Rattle.rsb_streams.specs.Stream.{Outcomes, AnswersAndRests, HasSortedStarts, Keeps}
 use Rattle.rsb_streams.specs.UnionIter.{union-keeps, union_can_next, union_may_give, union_remaining}
 use Rattle.rsb_streams.specs.declared.merge.Merge.{Merge}
@@ -13,8 +13,8 @@ use Rattle.rsb_streams.specs.declared.odd_pieces.OddPieces.{OddPieces}
 use Rattle.rsb_streams.specs.declared.sym_diff_iter.SymDiffIter.{SymDiffIter}
 
 -- the ends of the ranges that have begun and not ended
-abbrev pub ends_held : {T L R : Type 0} → SymDiffIter T L R → List (Option T)
-ends_held s = s.iter.iter.iter.ends.items
+abbrev pub ends_held : {T L R : Type 0} → SymDiffIter T L R → List T
+ends_held s = ends_of s.iter.iter.iter.end
 
 -- it may give the runs of what an odd number of the ranges of both has
 abbrev pub one_may_give : {T L R : Type 0} → (T → ℕ) → ℕ → (L → Outcomes) → (R → Outcomes)

@@ -1,7 +1,8 @@
 //! What lies in one of the ranges of a source alone, where no value lies in more than two.
 
-ghost use Rattle.std.specs.Prelude.{◌≡◌, ◌<◌, ◌≤◌, [], ◌∷◌, ◌++◌, None, Some, false, length};
+ghost use Rattle.std.specs.Prelude.{◌≡◌, ◌≤◌, None, false, length};
 ghost use Rattle.rsb_streams.specs.OddPieces.{
+  ends_of,
   odd-keeps,
   odd_may_give,
   odd_remaining,
@@ -10,7 +11,6 @@ ghost use Rattle.rsb_streams.specs.OddPieces.{
 };
 
 use crate::draw::Draw;
-use arrayvec::ArrayVec;
 use rsb_integer::Integer;
 use std::ops::RangeInclusive;
 
@@ -18,15 +18,13 @@ use std::ops::RangeInclusive;
 /// more than two of the ranges, so no more than two have begun and not ended.
 #[derive(Clone, Debug, Drop)]
 pub(crate) struct OddPieces<T, I> {
-    // It stands beside its flag: with one more struct around both, the check does not find that the
-    // sizes of nested streams fit.
     iter: I,
     // The source has ended, and all was told.
     done: bool,
-    // Up to where the ranges were told that have begun and not ended.
+    // Up to where the range was told that has begun and not ended.
     start: T,
-    // Their ends: one between two draws at most, and two where the range just drawn overlaps.
-    ends: ArrayVec<Option<T>, 2>,
+    // Its end. The range just drawn is the second one, and one of the two ends before the next draw.
+    end: Option<T>,
 }
 
 impl<T, I> OddPieces<T, I> {
@@ -34,44 +32,22 @@ impl<T, I> OddPieces<T, I> {
     pub(crate) fn over(iter: I, start: T) -> Self
         ensures source { result.iter ≡ iter }
         ensures undone { result.done ≡ false }
-        ensures none { result.ends.items ≡ [] }
+        ensures none { result.end ≡ None }
     {
         OddPieces {
             iter,
             done: false,
             start,
-            ends: ArrayVec::new(),
+            end: None,
         }
     }
 
     /// How many ends are pending.
     pub(crate) fn pending_ends(&self) -> usize
-        ensures ends { result ≡ length self.now.ends.items }
-        ensures bound { result ≤ 2 }
+        ensures ends { result ≡ length (ends_of self.now.end) }
+        ensures bound { result ≤ 1 }
     {
-        self.ends.len()
-    }
-}
-
-impl<T: Copy, I> OddPieces<T, I> {
-    /// The end that is pending.
-    fn pending_end(&self) -> Option<T>
-        ensures none { self.now.ends.items ≡ [] → result ≡ None }
-        ensures some { (end : T) → self.now.ends.items ≡ Some end ∷ [] → result ≡ Some end }
-    {
-        self.ends.last().copied().flatten()
-    }
-
-    /// A range begins, where one has begun at most.
-    fn begin(&mut self, start: T, end: T)
-        requires { length self.old.ends.items < 2 }
-        ensures iter { self.new.iter ≡ self.old.iter }
-        ensures done { self.new.done ≡ self.old.done }
-        ensures start { self.new.start ≡ start }
-        ensures ends { self.new.ends.items ≡ self.old.ends.items ++ Some end ∷ [] }
-    {
-        self.start = start;
-        self.ends.push(Some(end));
+        usize::from(self.end.is_some())
     }
 }
 
@@ -91,33 +67,31 @@ impl<T: Integer, I: Draw<T>> Draw<T> for OddPieces<T, I> {
         while let Some(range) = self.iter.draw() {
             let (next, next_end) = range.into_inner();
             let start = self.start;
-            let Some(end) = self.pending_end() else {
-                self.begin(next, next_end);
+            let Some(end) = self.end else {
+                self.start = next;
+                self.end = Some(next_end);
                 continue;
             };
             if end < next {
-                self.ends.clear();
-                self.begin(next, next_end);
+                self.start = next;
+                self.end = Some(next_end);
                 return Some(start..=end);
             }
-            self.begin(next, next_end);
             // What both have is left out, up to the lesser end.
             if end < next_end {
-                self.ends.remove(0);
                 self.start = end.add_one();
+                self.end = Some(next_end);
             } else if next_end < end {
-                self.ends.pop();
                 self.start = next_end.add_one();
             } else {
-                self.ends.clear();
+                self.end = None;
             }
             if start < next {
                 return Some(start..=next.sub_one());
             }
         }
         self.done = true;
-        let end = self.pending_end()?;
-        self.ends.clear();
+        let end = self.end.take()?;
         Some(self.start..=end)
     }
 

@@ -29,11 +29,11 @@ pub struct SymDiffIter<T, L, R> {
 }
 
 impl<T, L, R> SymDiffIter<T, L, R> {
-    /// How many ends it holds of ranges that have begun and not ended: two at most, at every moment.
-    /// (Own.)
+    /// How many ends it holds of ranges that have begun and not ended: one at most, beside that of
+    /// the range which a call has just drawn, so two at every moment. (Own.)
     pub fn pending_ends(&self) -> usize
         ensures ends { result ≡ length (ends_held self.now) }
-        ensures bound { result ≤ 2 }
+        ensures bound { result ≤ 1 }
     {
         self.iter.source().pending_ends()
     }

@@ -26,7 +26,6 @@ mod listed;
 mod lists;
 mod merge;
 mod nested;
-mod one_alone;
 mod operators;
 mod own_stream;
 mod range_once;

@@ -59,8 +59,7 @@ impl<T: Integer, A: Allocator + Copy> RangeSetBlaze<T, A> {
         ensures members { IfOk result (λ set.
             IsSetOf set (symmetric_difference (members self.now) (members other.now))) }
     {
-        let (left, right) = (self.ranges(), other.ranges());
-        symmetric_difference_of(self.alloc, left, right, self.ranges(), other.ranges())
+        symmetric_difference_of(self.alloc, self.ranges(), other.ranges())
     }
 
     /// The values that the set lacks. Without memory nothing is made. (`Not` of `RangeSetBlaze`:
@@ -115,27 +114,16 @@ fn difference_of<T: Integer, A: Allocator + Copy, L: DrawDisjoint<T>, R: DrawDis
     RangeSetBlaze::from_sorted_disjoint(alloc, left.difference(right))
 }
 
-// The set of what lies in one of two streams alone, each of which is given twice. (That a
-// `SymmetricDifference` fits in memory is known only where a signature names it.)
+// The set of what lies in one of two streams alone.
 fn symmetric_difference_of<T: Integer, A: Allocator + Copy, L: DrawDisjoint<T>, R: DrawDisjoint<T>>(
     alloc: A,
     left: L,
     right: R,
-    left_again: L,
-    right_again: R,
 ) -> Result<RangeSetBlaze<T, A>, AllocError>
     requires left { L.can_draw left }
     requires right { R.can_draw right }
-    requires left_again { L.can_draw left_again }
-    requires right_again { R.can_draw right_again }
-    ensures runs { IfOk result (λ set. runs_by_two T.value_count difference
-        (runs_by_two T.value_count union (L.may_give left) (R.may_give right))
-        (runs_by_two T.value_count intersection (L.may_give left_again) (R.may_give right_again))
-        set) }
+    ensures runs { IfOk result (λ set.
+        runs_by_two T.value_count symmetric_difference (L.may_give left) (R.may_give right) set) }
 {
-    difference_of(
-        alloc,
-        left.union(right),
-        left_again.intersection(right_again),
-    )
+    RangeSetBlaze::from_sorted_disjoint(alloc, left.symmetric_difference(right))
 }

@@ -1,8 +1,5 @@
 //! Nests of eight operations of all five kinds, each of one type, over any lawful streams.
 
-ghost use Rattle.std.specs.Mem.{FitsInMemory};
-ghost use Rattle.rsb_streams.specs.contracts.sym_diff_iter.SymDiffIter.{the_row};
-
 use crate::tables::gives;
 use rsb_integer::Integer;
 use rsb_streams::{
@@ -81,13 +78,12 @@ fn innermost<T: Integer, I: SortedDisjoint<T>>(
     some: (I, I),
     others: (I, I, I),
 ) -> Seven<T, SymmetricDifference<T, I, I>, I>
-    requires fits { FitsInMemory (the_row T.row I.row I.row) }
     requires streams { (I.can_draw streams.0) × (I.can_draw streams.1) }
     requires some { (I.can_draw some.0) × (I.can_draw some.1) }
     requires others { (I.can_draw others.0) × (I.can_draw others.1) × (I.can_draw others.2) }
     ensures { ⟦<Seven<T, SymmetricDifference<T, I, I>, I> as Draw<T>>⟧.can_draw result }
 {
-    seven(SymmetricDifference::from(streams), some, others)
+    seven(streams.0.symmetric_difference(streams.1), some, others)
 }
 
 /// The ranges 20..=29 and 25..=40.

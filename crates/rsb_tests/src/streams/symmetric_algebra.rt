@@ -1,33 +1,30 @@
 //! What lies in one of two streams alone, by two ways, on any lawful streams.
 
-ghost use Rattle.std.specs.Mem.{FitsInMemory};
 ghost use Rattle.std.specs.Prelude.{IsTrue, List};
 ghost use Rattle.rsb_integer.specs.Runs.{Interval};
 ghost use Rattle.rsb_integer.specs.Selection.{symmetric_difference};
-ghost use Rattle.rsb_streams.specs.contracts.sym_diff_iter.SymDiffIter.{the_row};
 ghost use Rattle.rsb_streams.specs.Stream.{◌⊆◌, just, runs_by_two};
 
 use crate::tables::gives;
 use rsb_integer::Integer;
-use rsb_streams::{
-    Difference, Draw, DrawDisjoint, Intersection, RangeOnce, SortedDisjoint, SymmetricDifference,
-    Union,
-};
+use rsb_streams::{Difference, Draw, DrawDisjoint, Intersection, RangeOnce, Union};
+
+/// What two streams have and do not share.
+type Unshared<T, L, R> = Difference<T, Union<T, L, R>, Intersection<T, L, R>>;
 
 /// What lies in one of two streams alone, as what either has, less what both have: where both pairs
 /// give the same two lists, it gives the runs of their symmetric difference.
-fn unshared<T: Integer, L: SortedDisjoint<T>, R: SortedDisjoint<T>>(
+fn unshared<T: Integer, L: DrawDisjoint<T>, R: DrawDisjoint<T>>(
     some: (L, R),
     again: (L, R),
-) -> Difference<T, Union<T, L, R>, Intersection<T, L, R>>
+) -> Unshared<T, L, R>
     requires some { (L.can_draw some.0) × (R.can_draw some.1) }
     requires again { (L.can_draw again.0) × (R.can_draw again.1) }
-    ensures ready { ⟦<Difference<T, Union<T, L, R>, Intersection<T, L, R>> as Draw<T>>⟧.can_draw
-        result }
+    ensures ready { ⟦<Unshared<T, L, R> as Draw<T>>⟧.can_draw result }
     ensures gives { (these those : List Interval)
         → L.may_give some.0 ⊆ just these → R.may_give some.1 ⊆ just those
         → L.may_give again.0 ⊆ just these → R.may_give again.1 ⊆ just those
-        → ⟦<Difference<T, Union<T, L, R>, Intersection<T, L, R>> as Draw<T>>⟧.may_give result
+        → ⟦<Unshared<T, L, R> as Draw<T>>⟧.may_give result
         ⊆ runs_by_two T.value_count symmetric_difference (just these) (just those) }
 {
     let either = some.0.union(some.1);
@@ -37,12 +34,11 @@ fn unshared<T: Integer, L: SortedDisjoint<T>, R: SortedDisjoint<T>>(
 
 /// Whether both ways to what lies in one of two streams alone give the same list: so it is where
 /// the three pairs give the same two lists.
-fn alone_is_the_same<T: Integer, L: SortedDisjoint<T>, R: SortedDisjoint<T>>(
+fn alone_is_the_same<T: Integer, L: DrawDisjoint<T>, R: DrawDisjoint<T>>(
     first: (L, R),
     some: (L, R),
     again: (L, R),
 ) -> bool
-    requires fits { FitsInMemory (the_row T.row L.row R.row) }
     requires first { (L.can_draw first.0) × (R.can_draw first.1) }
     requires some { (L.can_draw some.0) × (R.can_draw some.1) }
     requires again { (L.can_draw again.0) × (R.can_draw again.1) }
@@ -52,7 +48,7 @@ fn alone_is_the_same<T: Integer, L: SortedDisjoint<T>, R: SortedDisjoint<T>>(
         → L.may_give again.0 ⊆ just these → R.may_give again.1 ⊆ just those
         → IsTrue result }
 {
-    let alone = SymmetricDifference::from(first);
+    let alone = first.0.symmetric_difference(first.1);
     let parts = unshared(some, again);
     alone.equal(parts)
 }

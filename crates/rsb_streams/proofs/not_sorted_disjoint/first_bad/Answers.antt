@@ -1,6 +1,5 @@
-use Rattle.std.proofs.Common.{◌+◌, sym}
-use borrow.Author.Tests.{ltb-false, ltb-true}
-use Rattle.rsb_streams.proofs.TryNewLemmas.{bad-here, canonical-take, checked-all, checked-none, checked-one, follows-after}
+use Rattle.std.proofs.Common.{◌+◌, length}
+use Rattle.rsb_streams.proofs.TryNewLemmas.{bad-here, canonical-take, checked-all, checked-none, checked-one, follows-after, place-past, place-within}
 use Rattle.rsb_streams.proofs.not_sorted_disjoint.first_bad.Goals as goal
 
 pub loop-range-init : goal.loop-range-init
@@ -12,7 +11,7 @@ returns-then-not-follows-clause-none g c = (
   (λ canonical.
       let rank = g.T.Integer.rank in
       let n = g.T.Integer.value_count in
-      let within = ltb-true c.loop-range.position _ (sym c.in-Some.ensures.lookup.0) in
+      let within = place-within c.loop-range.position (length c.args.ranges.now) c.in-Some.ensures.lookup.0 in
       let follows = c.if-not-follows.ensures.found.1
       (follows-after rank n c.args.ranges.now c.loop-range.position c.loop-range.previous
       c.loop-range.invariant c.in-Some.range.now within c.in-Some.ensures.lookup.1
@@ -22,7 +21,7 @@ returns-then-not-follows-clause-none g c = (
 
 pub returns-then-not-follows-clause-bad : goal.returns-then-not-follows-clause-bad
 returns-then-not-follows-clause-bad g c =
-    let within = ltb-true c.loop-range.position _ (sym c.in-Some.ensures.lookup.0) in
+    let within = place-within c.loop-range.position (length c.args.ranges.now) c.in-Some.ensures.lookup.0 in
     bad-here g.T.Integer.rank g.T.Integer.value_count c.args.ranges.now c.loop-range.position
     c.loop-range.previous c.loop-range.invariant c.in-Some.range.now within
     c.in-Some.ensures.lookup.1
@@ -30,7 +29,7 @@ returns-then-not-follows-clause-bad g c =
 
 pub loop-range-preserved : goal.loop-range-preserved
 loop-range-preserved g c =
-    let within = ltb-true c.loop-range.position _ (sym c.in-Some.ensures.lookup.0) in
+    let within = place-within c.loop-range.position (length c.args.ranges.now) c.in-Some.ensures.lookup.0 in
     checked-one g.T.Integer.rank g.T.Integer.value_count c.args.ranges.now c.loop-range.position
     c.loop-range.previous c.loop-range.invariant c.in-Some.range.now within
     c.in-Some.ensures.lookup.1
@@ -41,6 +40,6 @@ pub returns-clause-none : goal.returns-clause-none
 returns-clause-none g c = (
   (λ _. checked-all g.T.Integer.rank g.T.Integer.value_count c.args.ranges.now c.loop-range.position
       c.loop-range.previous c.loop-range.invariant
-      (ltb-false c.loop-range.position _ (sym c.in_default.ensures.lookup.0))),
+      (place-past c.loop-range.position (length c.args.ranges.now) c.in_default.ensures.lookup.0)),
   (λ _. cc),
 )

@@ -1,9 +1,9 @@
-use Rattle.std.proofs.Common.{[], refl, subst, sym, arith}
+use Rattle.std.proofs.Common.{true, [], refl, subst, sym, arith}
 use Rattle.std.specs.Prelude.{None, Some}
 use Rattle.rsb_integer.specs.Rank.{interval_of}
 use Rattle.rsb_integer.specs.Runs.{IsEmpty}
 use Rattle.rsb_streams.specs.Stream.{unless}
-use Rattle.range_set_blaze.proofs.BackTurns.{greatest-drawn, greatest-ended, greatest-held}
+use Rattle.range_set_blaze.proofs.BackTurns.{greatest-drawn, greatest-ended, greatest-held, over-nothing}
 use Rattle.range_set_blaze.proofs.ElementsLeft.{counted-alike, fewer-drawn_back, fewer-other, goes-drawn, goes-ended, goes-held, item-last}
 use Rattle.range_set_blaze.proofs.iter.IterDoubleEndedIterator.next_back.Goals as goal
 
@@ -33,8 +33,15 @@ returns-then-self-clause-steps g c =
     let s = c.args.self.now in
     let none : IsEmpty (interval_of g.T.Integer.rank s.back) = c.in_default.ensures.none.0 refl in
     greatest-ended g.T.Integer.rank g.T.Integer.value_count g.I.Draw.can_draw g.I.Draw.may_give
-    s c.requires.ready none _ _
-    (subst (λ done. unless done (g.I.Draw.may_give s.ranges) []) (sym c.if-self.true) refl)
+    s c.requires.ready none (record {
+      ranges = s.ranges;
+      done = s.done;
+      front = c.range_next_back-then-self.new.range;
+      back = c.range_next_back.new.range;
+    })
+    c.range_next_back-then-self.result
+    (over-nothing g.T.Integer.rank g.T.Integer.value_count g.I.Draw.can_draw g.I.Draw.may_give s
+    c.requires.ready none c.if-self.true)
     c.if-self.true (c.in_default.ensures.rest.none (omega (arith, none)))
     c.range_next_back-then-self.ensures.none c.range_next_back-then-self.ensures.last
     c.range_next_back-then-self.ensures.rest
@@ -45,7 +52,13 @@ returns-in_default-next_back-clause-steps g c =
     let s = c.args.self.now in
     let none : IsEmpty (interval_of g.T.Integer.rank s.back) = c.in_default.ensures.none.0 refl in
     greatest-ended g.T.Integer.rank g.T.Integer.value_count g.I.Draw.can_draw g.I.Draw.may_give
-    s c.requires.ready none _ _
+    s c.requires.ready none (record {
+      ranges = c.next_back.new.self;
+      done = true;
+      front = c.range_next_back-in_default-next_back.new.range;
+      back = c.range_next_back.new.range;
+    })
+    c.range_next_back-in_default-next_back.result
     (subst (λ done. unless done (g.I.Draw.may_give s.ranges) []) (sym c.if-self.false)
     (c.requires.both_ends.answers s.ranges c.next_back.new.self None
     c.in_default-next_back.ensures.steps))

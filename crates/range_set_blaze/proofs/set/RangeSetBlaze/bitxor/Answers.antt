@@ -5,13 +5,11 @@ use Rattle.range_set_blaze.proofs.set.RangeSetBlaze.bitxor.Goals as goal
 -- the streams give the runs of the two sets
 pub returns : goal.returns
 returns g c =
-    let one = c.ranges-left.ensures in
-    let other = c.ranges-right.ensures in
-    let again = c.ranges-2.ensures in
-    let others = c.ranges-3.ensures in
+    let one = c.ranges-2.ensures in
+    let other = c.ranges-3.ensures in
     record {
       members = IfOk-weaker c.symmetric_difference_of.result _ _
-          (symmetric_difference-of_sets g.T.Integer.value_count c.args.self.now c.args.other.now
-          _ _ _ _ one.ranges other.ranges again.ranges others.ranges one.ready other.ready)
+          (symmetric_difference-of_sets g.T.Integer.value_count c.args.self.now c.args.other.now _ _
+          one.ranges other.ranges one.ready other.ready)
           c.symmetric_difference_of.ensures.runs;
     }
