@@ -4,8 +4,12 @@ use crate::command::Command;
 use crate::commands::{Reply, run_commands};
 use crate::fault::Fault;
 use crate::laws::{first_commands_first_replies, replies_are_unique};
+use crate::page::Page;
 use crate::parse::parse_commands;
 use crate::set_no::SetNo;
+use crate::tests::program::{ALL_COMMANDS, ALL_REPLIES, REPLIES, SESSION};
+use crate::text::write_line;
+use std::alloc::Global;
 use std::process::Abort;
 use std::test::*;
 
@@ -41,6 +45,32 @@ fn lines_spell_commands(rt: HostRuntime) -> Result<(), Fail> {
         Command::Show { slot: slot(&rt, 5) },
     ];
     assert_eq!(rt; commands.as_slice(), wanted.as_slice());
+    Ok(())
+}
+
+// The text of the replies to the commands that some lines spell, by the calls of the library part.
+fn replied(alloc: Global, lines: &[u8]) -> Result<Vec<u8>, Fault> {
+    let commands = parse_commands(alloc, lines)?;
+    let Ok(replies) = run_commands(alloc, &commands) else {
+        return Err(Fault::NoMemory);
+    };
+    let mut output = Vec::new(alloc);
+    let mut page = Page::new();
+    for reply in &replies {
+        write_line(&mut output, &mut page, reply)?;
+    }
+    page.send(&mut output)?;
+    Ok(output)
+}
+
+#[test]
+fn the_worked_sessions_run_as_commands(rt: HostRuntime) -> Result<(), Fail> {
+    for (lines, wanted) in [(SESSION, REPLIES), (ALL_COMMANDS, ALL_REPLIES)] {
+        let Ok(text) = replied(rt.alloc(), lines) else {
+            return Err(Fail::from("a fault"));
+        };
+        assert!(rt; text.as_slice() == wanted);
+    }
     Ok(())
 }
 

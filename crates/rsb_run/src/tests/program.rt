@@ -7,9 +7,12 @@ use std::alloc::Global;
 use std::process::ExitCode;
 use std::test::*;
 
-const SESSION: &[u8] = b"add 0 1 2\nadd 0 4 5\nadd 0 3 3\nadd 0 2 4\nhas 0 3\nlen 0\nshow 0\n";
+/// A session of the first commands.
+pub(crate) const SESSION: &[u8] =
+    b"add 0 1 2\nadd 0 4 5\nadd 0 3 3\nadd 0 2 4\nhas 0 3\nlen 0\nshow 0\n";
 
-const REPLIES: &[u8] = b"true\ntrue\ntrue\nfalse\ntrue\n5\n1..=5\n";
+/// What it replies.
+pub(crate) const REPLIES: &[u8] = b"true\ntrue\ntrue\nfalse\ntrue\n5\n1..=5\n";
 
 #[test]
 fn commands_are_answered(rt: HostRuntime) {
@@ -49,10 +52,13 @@ fn commands_are_answered(rt: HostRuntime) {
     }
 }
 
-const ALL_COMMANDS: &[u8] = b"add 0 1 5\nadd 0 6 9\ndel 0 3\nshow 0\nlen 0\ngap 0 3\nadd 1 4 4\n\
+/// A session of all commands.
+pub(crate) const ALL_COMMANDS: &[u8] =
+    b"add 0 1 5\nadd 0 6 9\ndel 0 3\nshow 0\nlen 0\ngap 0 3\nadd 1 4 4\n\
 sub 2 0 1\nshow 2\nxor 3 2 1\nshow 3\nnot 4 0\nshow 4\ncmp 0 1\nhas 0 4\nadd 0 9 8\nshow 5\n";
 
-const ALL_REPLIES: &[u8] = b"true\ntrue\ntrue\n1..=2, 4..=9\n8\n3..=3 false\ntrue\n\
+/// What it replies.
+pub(crate) const ALL_REPLIES: &[u8] = b"true\ntrue\ntrue\n1..=2, 4..=9\n8\n3..=3 false\ntrue\n\
 2\n1..=2, 5..=9\n2\n1..=2, 4..=9\n3\n-2147483648..=0, 3..=3, 10..=2147483647\nless\ntrue\nfalse\n\n";
 
 #[test]

@@ -76,7 +76,13 @@ returns-in_default-next_back-clause-goes g c =
     let none : IsEmpty (interval_of g.T.Integer.rank s.back) = c.in_default.ensures.none.0 refl in
     let alike = counted-alike g.I.Iterator.remaining g.I.Draw.draws_left
     g.met.I.SortedStarts.drawn.counts s.ranges c.next_back.new.self in
-    goes-ended g.T.Integer.rank g.T.Integer.value_count g.I.Draw.draws_left _ s _
+    goes-ended g.T.Integer.rank g.T.Integer.value_count g.I.Draw.draws_left _ s
+    (record {
+      ranges = c.next_back.new.self;
+      done = true;
+      front = c.range_next_back-in_default-next_back.new.range;
+      back = c.range_next_back.new.range;
+    })
     (record {
       both_ends = c.requires.both_ends;
       ready = (returns-in_default-next_back-clause-steps g c).ready;
@@ -110,7 +116,13 @@ returns-clause-goes g c =
     let rest = interval_of g.T.Integer.rank c.range_next_back-2.new.range in
     let alike = counted-alike g.I.Iterator.remaining g.I.Draw.draws_left
     g.met.I.SortedStarts.drawn.counts s.ranges c.next_back.new.self in
-    goes-drawn g.T.Integer.rank g.T.Integer.value_count g.I.Draw.draws_left _ s _
+    goes-drawn g.T.Integer.rank g.T.Integer.value_count g.I.Draw.draws_left _ s
+    (record {
+      ranges = c.next_back.new.self;
+      done = s.done;
+      front = s.front;
+      back = c.range_next_back-2.new.range;
+    })
     (record {
       both_ends = c.requires.both_ends;
       ready = (returns-clause-steps g c).ready;

@@ -1,3 +1,4 @@
+use Rattle.std.specs.Ordering.{partial_le}
 use Rattle.std.proofs.Common.{◌≡◌, ◌↔◌, ◌+◌, ◌<◌, false, nat_le, sym, ap, ◌∙◌, arith}
 use Rattle.std.specs.Prelude.{IsTrue}
 use Rattle.rsb_integer.specs.Rank.{interval_of}
@@ -79,7 +80,9 @@ returns g c =
     c.into_inner-start.result.1 greatest high in
     let whole : nat_le n (run.last + 1) ≡ c.le.result =
     (same-test (rank c.max_value.result) (rank c.into_inner-start.result.1) n (run.last + 1)
-    c.max_value.ensures (ap (λ each. each + 1) end)) ∙ sym test ∙ sym c.le.ensures in
+    c.max_value.ensures (ap (λ each. each + 1) end)) ∙ sym test
+    ∙ sym {b = partial_le g.T.PartialOrd.partial_cmp c.max_value.result c.into_inner-start.result.1}
+    c.le.ensures in
     first-tells rank n (source g) (laws g) c.args.self c.draw.new.self c.requires c.in-Some.range
     (λ runs. IsTrue c.le.result ↔ IsEverything n (members runs)) c.in-Some.ensures.steps
     c.in-Some.ensures.goes (g.met.Self.DrawDisjoint.canonical c.args.self c.requires)

@@ -1,4 +1,5 @@
 use Rattle.std.proofs.Common.{ap, ◌∙◌, ◌+◌, ◌<◌, max, refl, arith}
+use Rattle.std.specs.Ordering.{ord_max}
 use Rattle.std.specs.Range.{range_inclusive_start, range_inclusive_end}
 use Rattle.rsb_streams.proofs.Compare.{IsRanked, less-rank, not_less-rank, max-rank, next-value}
 use Rattle.rsb_streams.proofs.Sources.{IsLawful}
@@ -102,7 +103,7 @@ loop-range-preserved g c =
           let last = w.in_default-checked_add_one.ensures.none.0 refl in
           omega (arith, last, values.0)
     ])
-    (ap rank c.max-end.ensures
+    (ap rank {y = ord_max g.T.Ord.cmp c.loop-range.end c.end.result.now} c.max-end.ensures
     ∙ max-rank rank g.T.Integer.value_count g.T.PartialOrd.partial_cmp g.T.Ord.cmp (ranked g)
     c.loop-range.end c.end.result.now c.checked_add_one.ensures.value
     (omega (arith, values.1, ap rank c.end.ensures))
