@@ -234,3 +234,34 @@ piece-none rank old set (Some run) order within none =
     (covers-inside (rank run.start) (run_of rank run) (omega arith) order)
     ∙ or-true (members set (rank run.start))))
     (ap (λ (runs : List Interval). members runs (rank run.start)) none))
+
+-- ---- a piece that grows by a value
+
+-- a value that begins a piece
+pub with_piece-begun : (set : List Interval) (value point : ℕ)
+    → (members set point || covers point (record { first = value; last = value }))
+    ≡ union (members set) (only value) point
+with_piece-begun set value point =
+    let same : covers point (record { first = value; last = value }) ≡ only value point =
+    grind (arith, nat_tests) in
+    ap (λ test. members set point || test) same
+
+-- a value that touches the piece before it
+pub with_piece-longer : (set : List Interval) (run : Interval) (value point : ℕ)
+    → run.first ≤ run.last → run.last < value → value ≤ run.last + 1
+    → (members set point || covers point (record { first = run.first; last = value }))
+    ≡ union (λ other. members set other || covers other run) (only value) point
+with_piece-longer set run value point order later reached =
+    let same : covers point (record { first = run.first; last = value })
+    ≡ (covers point run || only value point) =
+    grind (arith, nat_tests, order, later, reached) in
+    ap (λ test. members set point || test) same
+    ∙ sym (or-later (members set point) (covers point run) (only value point))
+
+-- a value that begins a piece, once the one before it is in the set
+pub with_piece-parted : (old new : List Interval) (run : Interval) (value point : ℕ)
+    → ((other : ℕ) → members new other ≡ union (members old) (λ each. covers each run) other)
+    → (members new point || covers point (record { first = value; last = value }))
+    ≡ union (λ other. members old other || covers other run) (only value) point
+with_piece-parted old new run value point added =
+    with_piece-begun new value point ∙ ap (λ test. test || only value point) (added point)
