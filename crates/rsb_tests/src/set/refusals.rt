@@ -1,171 +1,203 @@
-//! Sets of a range or a stream, made while memory is refused.
+//! Each growth of each call that takes memory, refused in turn: a full heap has room for some bytes
+//! more each time, until the call passes.
 
-use crate::set::full_heaps::{Filler, filled};
-use crate::tables::{gives, set_of};
+use crate::set::calls::{Change, Making, carry_out, make};
+use crate::set::cells::{Cell, Side, agree, cells, mark_front, reckon, runs, runs_made};
+use crate::set::full_heaps::filled_but;
+use crate::set::rows::{has, set_in};
+use crate::tables::set_of;
 use linked_list_allocator::LocalHeap;
-use range_set_blaze::{IntoRangeSetBlaze, RangeSetBlaze};
-use std::alloc::{AllocError, Allocator, Global};
+use range_set_blaze::RangeSetBlaze;
+use std::alloc::{AllocError, Global};
 use std::test::*;
 
-/// Whether there is no room for the set of a range, nor for that of every value.
-fn is_room_refused<A: Allocator + Copy>(alloc: A) -> bool {
-    RangeSetBlaze::<u8, A>::from(alloc, 1..=3).is_err()
-        && RangeSetBlaze::<u8, A>::universe(alloc).is_err()
+/// A set in a heap.
+type HeapSet<'a> = RangeSetBlaze<i32, &'a LocalHeap>;
+
+/// The cells of so many runs of three values, eight apart from 0 on, and of so many of two others,
+/// each in the gap after one.
+fn spaced(alloc: Global, count: i32, others: i32) -> Result<Vec<Cell>, AllocError> {
+    let mut cells = cells(alloc, -8, 824)?;
+    for cell in cells.iter_mut() {
+        let (place, rest) = (cell.start / 8, cell.start % 8);
+        cell.is_member = cell.start >= 0 && place < count && rest < 3;
+        cell.is_other = cell.start >= 0 && place < others && (rest == 4 || rest == 5);
+    }
+    Ok(cells)
 }
 
-/// Whether the set of a range and that of every value are made.
-fn is_room_found<A: Allocator + Copy>(alloc: A) -> Result<bool, AllocError> {
-    Ok(
-        RangeSetBlaze::<u8, A>::from(alloc, 1..=3)?.len() == 3
-            && RangeSetBlaze::<u8, A>::universe(alloc)?.len() == 256,
-    )
-}
-
-/// Whether sets of ranges are refused in a full heap, and made once there is room.
-fn is_refused_then_found(alloc: Global) -> Result<bool, AllocError> {
-    let heap = LocalHeap::new(alloc, 8192)?;
-    let filler = filled(alloc, &heap)?;
-    let is_refused = is_room_refused(&heap);
-    drop(filler);
-    Ok(is_refused && is_room_found(&heap)?)
-}
-
-#[test]
-fn a_refused_growth_makes_no_set_of_a_range(rt: HostRuntime) {
-    assert!(rt; is_refused_then_found(rt.alloc()) == Ok(true));
-}
-
-/// Whether the runs of the set of 1..=3 make that set.
-fn is_copied<A: Allocator + Copy>(alloc: A, set: &RangeSetBlaze<u8>) -> Result<bool, AllocError> {
-    let copy = set.ranges().into_range_set_blaze(alloc)?;
-    Ok(copy.len() == 3 && copy.range_at(1) == Some(1..=3))
-}
-
-/// Whether a set of a stream is refused in a full heap, and made once there is room.
-fn is_copied_at_last(alloc: Global) -> Result<bool, AllocError> {
-    let heap = LocalHeap::new(alloc, 8192)?;
-    let one = RangeSetBlaze::<u8>::from(alloc, 1..=3)?;
-    let filler = filled(alloc, &heap)?;
-    let is_refused = is_copied(&heap, &one).is_err();
-    drop(filler);
-    Ok(is_refused && is_copied(&heap, &one)?)
-}
-
-#[test]
-fn a_refused_growth_makes_no_set_of_a_stream(rt: HostRuntime) {
-    assert!(rt; is_copied_at_last(rt.alloc()) == Ok(true));
-}
-
-/// The least number of the first runs for which an allocator has no room.
-fn first_refused<A: Allocator + Copy>(
+/// How many tries of a change are refused before one passes. `None` where a refused one leaves what
+/// it must not, but for a front of what it adds, or where the one that passes goes wrong. What was
+/// given up is given anew.
+fn refusals<'a>(
     alloc: Global,
-    small: A,
-    runs: &[(i32, i32)],
-) -> Result<Option<usize>, AllocError> {
-    for count in 1..=runs.len() {
-        let some = set_of(alloc, &runs[..count])?;
-        if RangeSetBlaze::from_sorted_disjoint(small, some.ranges()).is_err() {
-            return Ok(Some(count));
+    heap: &'a LocalHeap,
+    change: Change,
+    set: &mut HeapSet<'a>,
+    cells: &mut Vec<Cell>,
+) -> Result<Option<u32>, AllocError> {
+    let others = runs(alloc, cells, Side::Other)?;
+    let mut other = set_in(heap, &others)?;
+    for step in 0..150u32 {
+        let filler = filled_but(alloc, heap, 96 * step as usize)?;
+        let told = carry_out(heap, change, set, &mut other);
+        drop(filler);
+        if let Ok(told) = told {
+            let is_told = told == reckon(alloc, change, cells)?;
+            return Ok((is_told && agree(alloc, set, &other, cells)?).then_some(step));
+        }
+        if change.adds() {
+            mark_front(change, set, cells);
+        }
+        if change == Change::BitorAssignOwned {
+            other = set_in(heap, &others)?;
+        }
+        if !agree(alloc, set, &other, cells)? {
+            return Ok(None);
         }
     }
     Ok(None)
 }
 
-/// Whether a set of so many runs is made of its runs.
-fn is_copied_whole<A: Allocator + Copy>(
-    small: A,
-    set: &RangeSetBlaze<i32>,
-    runs: &[(i32, i32)],
-) -> Result<bool, AllocError> {
-    let copy = set.ranges().into_range_set_blaze(small)?;
-    Ok(copy.ranges_len() == runs.len() && gives(copy.ranges(), runs))
-}
-
-/// A hundred runs of one value each.
-fn hundred_runs(alloc: Global) -> Result<Vec<(i32, i32)>, AllocError> {
-    let mut runs = Vec::new(alloc);
-    for place in 0..100u8 {
-        let value = i32::from(2 * place);
-        runs.push((value, value))?;
-    }
-    Ok(runs)
-}
-
-/// Takes blocks of a heap, one after the other, and then all that is left, which goes to a filler.
-fn rooms_in<'a>(
+/// Whether some tries of a change are refused, at so many places, eight apart, from the last on.
+/// `None` where one leaves what it must not, or where room is kept once the sets are dropped.
+fn is_refused(
     alloc: Global,
-    heap: &'a LocalHeap,
-    rest: &mut Filler<'a>,
-) -> Result<Filler<'a>, AllocError> {
-    let mut rooms = Vec::new(alloc);
-    for _ in 0..24u8 {
-        rooms.push(Vec::<u8, &LocalHeap>::with_capacity(heap, 256)?)?;
-    }
-    let mut filler = filled(alloc, heap)?;
-    rest.append(&mut filler)?;
-    Ok(rooms)
-}
-
-/// How many sets are refused while rooms are given back one after the other, each beside those
-/// before it: 0 where a room more lets fewer runs pass, or where a refused growth keeps some room.
-fn refused_in_turn<D: Drop>(
-    alloc: Global,
-    heap: &LocalHeap,
-    rooms: Vec<D>,
-    set: &RangeSetBlaze<i32>,
-    runs: &[(i32, i32)],
-) -> Result<u8, AllocError> {
-    let mut refusals = 0u8;
-    let mut last_count = 0;
-    for room in rooms {
-        let free = heap.free();
-        let Some(count) = first_refused(alloc, heap, runs)? else {
-            break;
-        };
-        let is_refused = is_copied_whole(heap, set, runs).is_err();
-        if count < last_count || !is_refused || heap.free() != free {
-            return Ok(0);
-        }
-        refusals = refusals.saturating_add(1);
-        last_count = count;
-        drop(room);
-    }
-    Ok(refusals)
-}
-
-/// Whether a set is made of its runs by either call, and keeps no room once it is dropped.
-fn passes_at_last(
-    alloc: Global,
-    heap: &LocalHeap,
-    set: &RangeSetBlaze<i32>,
-    runs: &[(i32, i32)],
-) -> Result<bool, AllocError> {
+    change: Change,
+    places: i32,
+    count: i32,
+    others: i32,
+) -> Result<Option<bool>, AllocError> {
+    let heap = LocalHeap::new(alloc, 32768)?;
     let free = heap.free();
-    let is_copied = is_copied_whole(heap, set, runs)?;
-    Ok(is_copied && first_refused(alloc, heap, runs)? == None && heap.free() == free)
+    let mut cells = spaced(alloc, count, others)?;
+    let mut set = set_in(&heap, &runs(alloc, &cells, Side::One)?)?;
+    let mut is_refused = false;
+    for place in 0..places {
+        let moved = change.moved(places.saturating_sub(place + 1).saturating_mul(8));
+        let Some(times) = refusals(alloc, &heap, moved, &mut set, &mut cells)? else {
+            return Ok(None);
+        };
+        is_refused = is_refused || times > 0;
+    }
+    drop(set);
+    Ok((heap.free() == free).then_some(is_refused))
 }
 
-/// How many growths of a new set are refused in turn before it is made: `None` where it is not.
-fn refusals_in_rooms(
-    alloc: Global,
-    set: &RangeSetBlaze<i32>,
-    runs: &[(i32, i32)],
-) -> Result<Option<u8>, AllocError> {
-    let heap = LocalHeap::new(alloc, 8192)?;
-    let mut rest = Vec::new(alloc);
-    let rooms = rooms_in(alloc, &heap, &mut rest)?;
-    let refusals = refused_in_turn(alloc, &heap, rooms, set, runs)?;
-    let passes = passes_at_last(alloc, &heap, set, runs)?;
-    drop(rest);
-    Ok(passes.then_some(refusals))
-}
-
-// A full heap gets room for one more growth a turn, so the growth that is refused comes later and
-// later.
+// Which sets of 0, 1, 3, 15 and 100 runs have no room for a change at the places from the last to
+// the first: a leaf has room for fifteen runs, so at one run and at three no removal wants more.
 #[test]
-fn each_growth_of_a_new_set_is_refused_in_turn(rt: HostRuntime) -> Result<(), Fail> {
-    let runs = hundred_runs(rt.alloc())?;
-    let set = set_of(rt.alloc(), runs.as_slice())?;
-    assert!(rt; refusals_in_rooms(rt.alloc(), &set, runs.as_slice())? >= Some(6));
-    Ok(())
+fn each_growth_of_a_change_is_refused_in_turn(rt: HostRuntime) {
+    let rows: [(Change, i32, [bool; 5]); 13] = [
+        (Change::Insert(6), 101, [true, true, true, true, true]),
+        (Change::Replace(6), 101, [true, true, true, true, true]),
+        (
+            Change::RangesInsert(4, 6),
+            101,
+            [true, true, true, true, true],
+        ),
+        (
+            Change::RangesInsert(-8, 815),
+            1,
+            [true, false, false, true, false],
+        ),
+        (Change::Remove(1), 101, [false, false, false, true, true]),
+        (Change::Take(1), 101, [false, false, false, true, true]),
+        (Change::PopFirst, 301, [false, false, false, true, true]),
+        (Change::PopLast, 301, [false, false, false, false, false]),
+        (Change::SplitOff(1), 101, [false, true, true, true, true]),
+        (Change::Retain(2, 1), 1, [false, true, true, true, true]),
+        (
+            Change::RangesRetain(16, 0),
+            1,
+            [false, false, false, false, false],
+        ),
+        (Change::Clear, 1, [false, false, false, false, false]),
+        (
+            Change::ExtendValues(4, 800),
+            1,
+            [true, true, true, true, true],
+        ),
+    ];
+    for (change, places, wanted) in &rows {
+        for (count, wanted) in [0, 1, 3, 15, 100].into_iter().zip(*wanted) {
+            let refused = is_refused(rt.alloc(), *change, *places, count, 0);
+            assert!(rt;
+                refused == Ok(Some(wanted)),
+                "{change:?}, {count} runs: {refused:?}"
+            );
+        }
+    }
+}
+
+// Which additions of so many runs to a set of so many want memory: in place where these are few, in
+// a new set else; and none at all of a set given up that has more runs than there are to be added.
+#[test]
+fn each_growth_of_an_addition_is_refused_in_turn(rt: HostRuntime) {
+    let calls = [
+        Change::Extend,
+        Change::Append,
+        Change::BitorAssign,
+        Change::BitorAssignOwned,
+    ];
+    let rows: [(i32, i32, [bool; 4]); 16] = [
+        (0, 0, [false, false, false, false]),
+        (1, 0, [false, false, false, false]),
+        (100, 0, [false, false, false, false]),
+        (0, 1, [true, true, true, false]),
+        (1, 1, [false, false, false, false]),
+        (3, 1, [false, false, false, false]),
+        (100, 1, [false, false, false, false]),
+        (0, 3, [true, true, true, false]),
+        (1, 3, [false, false, false, false]),
+        (3, 3, [false, true, true, true]),
+        (15, 3, [true, true, true, true]),
+        (100, 3, [false, false, false, false]),
+        (0, 100, [true, true, true, false]),
+        (1, 100, [true, true, true, false]),
+        (3, 100, [true, true, true, false]),
+        (100, 100, [true, true, true, true]),
+    ];
+    for (count, others, wanted) in &rows {
+        for (call, wanted) in calls.into_iter().zip(*wanted) {
+            let refused = is_refused(rt.alloc(), call, 1, *count, *others);
+            assert!(rt;
+                refused == Ok(Some(wanted)),
+                "{call:?} of {others} runs to {count}: {refused:?}"
+            );
+        }
+    }
+}
+
+/// Whether a making is refused before it passes if it makes any runs, makes the right set at last,
+/// and keeps no room until then.
+fn is_making_refused(alloc: Global, making: Making, count: i32) -> Result<bool, AllocError> {
+    let heap = LocalHeap::new(alloc, 32768)?;
+    let cells = spaced(alloc, count, count)?;
+    let set = set_in(&heap, &runs(alloc, &cells, Side::One)?)?;
+    let other = set_of(alloc, &runs(alloc, &cells, Side::Other)?)?;
+    let wanted = runs_made(alloc, making, &cells)?;
+    let free = heap.free();
+    for step in 0..150u32 {
+        let filler = filled_but(alloc, &heap, 96 * step as usize)?;
+        let made = make(&heap, making, &set, &other);
+        drop(filler);
+        if let Ok(made) = made {
+            return Ok(has(&made, &wanted) && (step > 0) != wanted.is_empty());
+        }
+        if heap.free() != free {
+            return Ok(false);
+        }
+    }
+    Ok(false)
+}
+
+#[test]
+fn each_growth_of_a_making_is_refused_in_turn(rt: HostRuntime) {
+    for making in Making::ALL {
+        for count in [0, 1, 3, 100] {
+            let answer = is_making_refused(rt.alloc(), making, count);
+            assert!(rt; answer == Ok(true), "{making:?}, {count} runs");
+        }
+    }
 }

@@ -1,0 +1,67 @@
+//! `extend`, `extend_values`, `append`, `bitor_assign` and `bitor_assign_owned`, on rows worked by
+//! hand.
+
+use crate::set::calls::{Answer, Change};
+use crate::set::rows::{Table, changes, has};
+use crate::tables::set_of;
+use std::alloc::{AllocError, Global};
+use std::test::*;
+
+/// Whether each call adds the second set to the first, and leaves or empties that as it is to.
+fn all_add(
+    alloc: Global,
+    set: Table<'_>,
+    other: Table<'_>,
+    after: Table<'_>,
+) -> Result<bool, AllocError> {
+    let calls: [(Change, Table<'_>); 4] = [
+        (Change::Extend, other),
+        (Change::BitorAssign, other),
+        (Change::Append, &[]),
+        (Change::BitorAssignOwned, &[]),
+    ];
+    let mut is_right = true;
+    for (call, left) in calls {
+        is_right = is_right && changes(alloc, call, (set, other), Answer::Nothing, (after, left))?;
+    }
+    Ok(is_right)
+}
+
+#[test]
+fn other_sets_are_added(rt: HostRuntime) {
+    let rows: [(Table<'_>, Table<'_>, Table<'_>); 9] = [
+        (&[], &[], &[]),
+        (&[(1, 4)], &[], &[(1, 4)]),
+        (&[], &[(1, 4)], &[(1, 4)]),
+        (&[(1, 4)], &[(0, 0), (3, 5), (10, 10)], &[(0, 5), (10, 10)]),
+        (&[(0, 5), (10, 10)], &[(7, 7)], &[(0, 5), (7, 7), (10, 10)]),
+        (&[(1, 4)], &[(1, 4)], &[(1, 4)]),
+        (&[(1, 4)], &[(2, 3)], &[(1, 4)]),
+        (
+            &[(1, 1), (3, 3), (5, 5), (7, 7)],
+            &[(2, 2), (6, 6)],
+            &[(1, 3), (5, 7)],
+        ),
+        (
+            &[(i32::MAX, i32::MAX)],
+            &[(i32::MIN, i32::MIN)],
+            &[(i32::MIN, i32::MIN), (i32::MAX, i32::MAX)],
+        ),
+    ];
+    for (set, other, after) in &rows {
+        assert!(rt;
+            all_add(rt.alloc(), set, other, after) == Ok(true),
+            "{other:?} to {set:?}"
+        );
+    }
+}
+
+#[test]
+fn ranges_and_values_are_added_in_any_order(rt: HostRuntime) -> Result<(), Fail> {
+    let mut set = set_of(rt.alloc(), &[(1, 4)])?;
+    set.extend_values([9, 0, 9, -3, 8])?;
+    assert!(rt; has(&set, &[(-3, -3), (0, 4), (8, 9)]));
+    set.extend([9..=12, 7..=6, -7..=-4, 10..=10, 5..=5])?;
+    assert!(rt; has(&set, &[(-7, -3), (0, 5), (8, 12)]));
+    Ok(())
+}

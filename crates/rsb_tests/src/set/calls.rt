@@ -1,0 +1,233 @@
+//! The calls that change a set and those that make one, by their names: what a row of a table says.
+
+use range_set_blaze::{IntoRangeSetBlaze, RangeSetBlaze};
+use std::alloc::{AllocError, Allocator};
+use std::mem;
+
+/// A call that changes a set, with what it is given; what it adds is another set beside it.
+#[derive(Clone, Copy, Debug, PartialEq)]
+pub(crate) enum Change {
+    Insert(i32),
+    Replace(i32),
+    RangesInsert(i32, i32),
+    Remove(i32),
+    Take(i32),
+    PopFirst,
+    PopLast,
+    /// The other set is then the part from the value on.
+    SplitOff(i32),
+    /// Keeps the values that leave another rest than the second number, divided by the first.
+    Retain(i32, i32),
+    /// Keeps the runs whose starts leave another rest than the second number, divided by the first.
+    RangesRetain(i32, i32),
+    Clear,
+    Extend,
+    /// Adds each fourth value from the one to the other.
+    ExtendValues(i32, i32),
+    Append,
+    BitorAssign,
+    BitorAssignOwned,
+}
+
+impl Change {
+    /// Whether it adds the other set.
+    pub(crate) fn adds(self) -> bool {
+        matches!(
+            self,
+            Change::Extend
+                | Change::ExtendValues(_, _)
+                | Change::Append
+                | Change::BitorAssign
+                | Change::BitorAssignOwned
+        )
+    }
+
+    /// The same call at a value so much greater, where it is given one.
+    pub(crate) fn moved(self, by: i32) -> Change {
+        match self {
+            Change::Insert(value) => Change::Insert(value.saturating_add(by)),
+            Change::Replace(value) => Change::Replace(value.saturating_add(by)),
+            Change::RangesInsert(start, end) => {
+                let start = start.saturating_add(by);
+                Change::RangesInsert(start, end.max(start))
+            }
+            Change::Remove(value) => Change::Remove(value.saturating_add(by)),
+            Change::Take(value) => Change::Take(value.saturating_add(by)),
+            Change::SplitOff(key) => Change::SplitOff(key.saturating_add(by)),
+            change => change,
+        }
+    }
+}
+
+/// What a change answers, or how often it asks.
+#[derive(Clone, Copy, Debug, PartialEq)]
+pub(crate) enum Answer {
+    Nothing,
+    Truth(bool),
+    Value(Option<i32>),
+    Asked(u64),
+}
+
+/// Whether a value leaves another rest than this one.
+pub(crate) fn is_kept(value: i32, divisor: i32, rest: i32) -> bool {
+    value.checked_rem_euclid(divisor) != Some(rest)
+}
+
+/// Adds another set by one of the calls; the last takes it for its own.
+fn add<A: Allocator + Copy>(
+    alloc: A,
+    change: Change,
+    set: &mut RangeSetBlaze<i32, A>,
+    other: &mut RangeSetBlaze<i32, A>,
+) -> Result<(), AllocError> {
+    match change {
+        Change::Extend => set.extend(other.ranges()),
+        Change::ExtendValues(start, end) => set.extend_values((start..=end).step_by(4)),
+        Change::Append => set.append(other),
+        Change::BitorAssign => set.bitor_assign(other),
+        _ => set.bitor_assign_owned(mem::replace(other, RangeSetBlaze::new(alloc))),
+    }
+}
+
+/// Keeps some values, and says about how many it was asked.
+fn retain<A: Allocator + Copy>(
+    set: &mut RangeSetBlaze<i32, A>,
+    divisor: i32,
+    rest: i32,
+) -> Result<Answer, AllocError> {
+    let mut asked = 0u64;
+    set.retain(|value| {
+        asked = asked.saturating_add(1);
+        is_kept(*value, divisor, rest)
+    })?;
+    Ok(Answer::Asked(asked))
+}
+
+/// Keeps some runs, and says about how many it was asked.
+fn retain_ranges<A: Allocator + Copy>(
+    set: &mut RangeSetBlaze<i32, A>,
+    divisor: i32,
+    rest: i32,
+) -> Answer {
+    let mut asked = 0u64;
+    set.ranges_retain(|range| {
+        asked = asked.saturating_add(1);
+        is_kept(*range.start(), divisor, rest)
+    });
+    Answer::Asked(asked)
+}
+
+/// Takes some members out by one of the calls; where it parts the set, the other is one part.
+fn reduce<A: Allocator + Copy>(
+    change: Change,
+    set: &mut RangeSetBlaze<i32, A>,
+    other: &mut RangeSetBlaze<i32, A>,
+) -> Result<Answer, AllocError> {
+    match change {
+        Change::Remove(value) => return Ok(Answer::Truth(set.remove(value)?)),
+        Change::Take(value) => return Ok(Answer::Value(set.take(value)?)),
+        Change::PopFirst => return Ok(Answer::Value(set.pop_first()?)),
+        Change::PopLast => return Ok(Answer::Value(set.pop_last())),
+        Change::SplitOff(key) => *other = set.split_off(key)?,
+        _ => set.clear(),
+    }
+    Ok(Answer::Nothing)
+}
+
+/// Changes a set by one of the calls.
+pub(crate) fn carry_out<A: Allocator + Copy>(
+    alloc: A,
+    change: Change,
+    set: &mut RangeSetBlaze<i32, A>,
+    other: &mut RangeSetBlaze<i32, A>,
+) -> Result<Answer, AllocError> {
+    match change {
+        Change::Insert(value) => Ok(Answer::Truth(set.insert(value)?)),
+        Change::Replace(value) => Ok(Answer::Value(set.replace(value)?)),
+        Change::RangesInsert(start, end) => Ok(Answer::Truth(set.ranges_insert(start..=end)?)),
+        Change::Retain(divisor, rest) => retain(set, divisor, rest),
+        Change::RangesRetain(divisor, rest) => Ok(retain_ranges(set, divisor, rest)),
+        _ if change.adds() => {
+            add(alloc, change, set, other)?;
+            Ok(Answer::Nothing)
+        }
+        _ => reduce(change, set, other),
+    }
+}
+
+/// A call that makes a set, of two others where it says nothing else.
+#[derive(Clone, Copy, Debug, PartialEq)]
+pub(crate) enum Making {
+    Clone,
+    Bitor,
+    Bitand,
+    Sub,
+    Bitxor,
+    Not,
+    /// Of the runs of the second set, and then those of the first.
+    FromIter,
+    /// Of each fourth value from the one to the other.
+    FromIterValues(i32, i32),
+    /// Of 7, 1, 4, 7 and 9.
+    FromArray,
+    FromSortedDisjoint,
+    IntoRangeSetBlaze,
+    From(i32, i32),
+    Universe,
+}
+
+impl Making {
+    /// Each of them once.
+    pub(crate) const ALL: [Making; 13] = [
+        Making::Clone,
+        Making::Bitor,
+        Making::Bitand,
+        Making::Sub,
+        Making::Bitxor,
+        Making::Not,
+        Making::FromIter,
+        Making::FromIterValues(2, 800),
+        Making::FromArray,
+        Making::FromSortedDisjoint,
+        Making::IntoRangeSetBlaze,
+        Making::From(3, 7),
+        Making::Universe,
+    ];
+}
+
+/// Makes a set that takes another's values or none.
+fn make_one<A: Allocator + Copy>(
+    alloc: A,
+    making: Making,
+    set: &RangeSetBlaze<i32, A>,
+) -> Result<RangeSetBlaze<i32, A>, AllocError> {
+    match making {
+        Making::Clone => set.clone(),
+        Making::Not => set.not(),
+        Making::FromArray => RangeSetBlaze::from_array(alloc, [7, 1, 4, 7, 9]),
+        Making::FromSortedDisjoint => RangeSetBlaze::from_sorted_disjoint(alloc, set.ranges()),
+        Making::IntoRangeSetBlaze => set.ranges().into_range_set_blaze(alloc),
+        Making::From(start, end) => RangeSetBlaze::from(alloc, start..=end),
+        _ => RangeSetBlaze::universe(alloc),
+    }
+}
+
+/// Makes a set by one of the calls.
+pub(crate) fn make<A: Allocator + Copy, B: Allocator>(
+    alloc: A,
+    making: Making,
+    set: &RangeSetBlaze<i32, A>,
+    other: &RangeSetBlaze<i32, B>,
+) -> Result<RangeSetBlaze<i32, A>, AllocError> {
+    match making {
+        Making::Bitor => set.bitor(other),
+        Making::Bitand => set.bitand(other),
+        Making::Sub => set.sub(other),
+        Making::Bitxor => set.bitxor(other),
+        Making::FromIter => RangeSetBlaze::from_iter(alloc, other.ranges().chain(set.ranges())),
+        Making::FromIterValues(start, end) => {
+            RangeSetBlaze::from_iter_values(alloc, (start..=end).step_by(4))
+        }
+        _ => make_one(alloc, making, set),
+    }
+}

@@ -1,0 +1,212 @@
+//! What changes and makings come to, reckoned beside the sets on flags.
+
+use crate::set::calls::{Answer, Change, Making, is_kept};
+use crate::set::rows::{Table, counted, has};
+use range_set_blaze::RangeSetBlaze;
+use std::alloc::{AllocError, Allocator, Global};
+
+/// Values that are in a set all or none: whether in one, and whether in another beside it.
+#[derive(Clone, Copy)]
+pub(crate) struct Cell {
+    pub(crate) start: i32,
+    pub(crate) end: i32,
+    pub(crate) is_member: bool,
+    pub(crate) is_other: bool,
+}
+
+/// One of the two sets that cells tell of.
+#[derive(Clone, Copy, PartialEq)]
+pub(crate) enum Side {
+    One,
+    Other,
+}
+
+/// So many values from one on, each a cell of its own, and what is below and above as a cell each.
+/// No value is a member of either set.
+pub(crate) fn cells(alloc: Global, first: i32, count: i32) -> Result<Vec<Cell>, AllocError> {
+    let mut cells = Vec::new(alloc);
+    let last = first.saturating_add(count).saturating_sub(1);
+    if let Some(below) = first.checked_sub(1) {
+        cells.push(empty_cell(i32::MIN, below))?;
+    }
+    for value in first..=last {
+        cells.push(empty_cell(value, value))?;
+    }
+    if let Some(above) = last.checked_add(1) {
+        cells.push(empty_cell(above, i32::MAX))?;
+    }
+    Ok(cells)
+}
+
+/// A cell that is in no set.
+fn empty_cell(start: i32, end: i32) -> Cell {
+    Cell {
+        start,
+        end,
+        is_member: false,
+        is_other: false,
+    }
+}
+
+/// The runs of the cells of a set.
+pub(crate) fn runs(
+    alloc: Global,
+    cells: &[Cell],
+    side: Side,
+) -> Result<Vec<(i32, i32)>, AllocError> {
+    let mut runs = Vec::new(alloc);
+    let mut run: Option<(i32, i32)> = None;
+    for cell in cells {
+        if side == Side::One && cell.is_member || side == Side::Other && cell.is_other {
+            let start = run.map_or(cell.start, |ends| ends.0);
+            run = Some((start, cell.end));
+        } else if let Some(ends) = run {
+            runs.push(ends)?;
+            run = None;
+        }
+    }
+    if let Some(ends) = run {
+        runs.push(ends)?;
+    }
+    Ok(runs)
+}
+
+/// Whether a change adds the values of a cell.
+fn is_added(change: Change, cell: &Cell) -> bool {
+    match change {
+        Change::ExtendValues(start, end) => {
+            start <= cell.start && cell.end <= end && cell.start.abs_diff(start) % 4 == 0
+        }
+        _ => cell.is_other,
+    }
+}
+
+/// Whether a change leaves the values of a cell in a set, of whose members the first and the last
+/// are these, and whose run at the cell begins at a value.
+fn is_member_after(change: Change, cell: Cell, first: i32, last: i32, begin: i32) -> bool {
+    let was = cell.is_member;
+    match change {
+        Change::Insert(value) => was || cell.start == value,
+        Change::Replace(value) => was || cell.start == value,
+        Change::RangesInsert(start, end) => was || start <= cell.start && cell.end <= end,
+        Change::Remove(value) => was && cell.start != value,
+        Change::Take(value) => was && cell.start != value,
+        Change::PopFirst => was && cell.start != first,
+        Change::PopLast => was && cell.end != last,
+        Change::SplitOff(key) => was && cell.start < key,
+        Change::Retain(divisor, rest) => was && is_kept(cell.start, divisor, rest),
+        Change::RangesRetain(divisor, rest) => was && is_kept(begin, divisor, rest),
+        Change::Clear => false,
+        _ => was || is_added(change, &cell),
+    }
+}
+
+/// Whether a change leaves the values of a cell in the other set.
+fn is_other_after(change: Change, cell: Cell) -> bool {
+    match change {
+        Change::SplitOff(key) => cell.is_member && key <= cell.start,
+        Change::Append | Change::BitorAssignOwned => false,
+        _ => cell.is_other,
+    }
+}
+
+/// What a change answers on a set of these runs that leaves those.
+fn answer(change: Change, before: Table<'_>, after: Table<'_>) -> Answer {
+    let members = counted(before);
+    let is_same = counted(after) == members;
+    match change {
+        Change::Insert(_) | Change::RangesInsert(_, _) | Change::Remove(_) => Answer::Truth(
+            !is_same,
+        ),
+        Change::Replace(value) => Answer::Value(is_same.then_some(value)),
+        Change::Take(value) => Answer::Value((!is_same).then_some(value)),
+        Change::PopFirst => Answer::Value(before.first().map(|ends| ends.0)),
+        Change::PopLast => Answer::Value(before.last().map(|ends| ends.1)),
+        Change::Retain(_, _) => Answer::Asked(members),
+        Change::RangesRetain(_, _) => Answer::Asked(before.len() as u64),
+        _ => Answer::Nothing,
+    }
+}
+
+/// Changes the cells of a set by one of the calls, and tells its answer.
+pub(crate) fn reckon(
+    alloc: Global,
+    change: Change,
+    cells: &mut Vec<Cell>,
+) -> Result<Answer, AllocError> {
+    let before = runs(alloc, cells, Side::One)?;
+    let first = before.first().map_or(0, |ends| ends.0);
+    let last = before.last().map_or(0, |ends| ends.1);
+    let mut begin = None;
+    for cell in cells.iter_mut() {
+        begin = match begin {
+            _ if !cell.is_member => None,
+            None => Some(cell.start),
+            found => found,
+        };
+        let is_other = is_other_after(change, *cell);
+        cell.is_member = is_member_after(change, *cell, first, last, begin.unwrap_or(0));
+        cell.is_other = is_other;
+    }
+    let after = runs(alloc, cells, Side::One)?;
+    Ok(answer(change, &before, &after))
+}
+
+/// Whether a making has the values of a cell in the set that it makes.
+fn selects(making: Making, cell: &Cell) -> bool {
+    let (one, other) = (cell.is_member, cell.is_other);
+    match making {
+        Making::Bitor | Making::FromIter => one || other,
+        Making::Bitand => one && other,
+        Making::Sub => one && !other,
+        Making::Bitxor => one != other,
+        Making::Not => !one,
+        Making::FromIterValues(start, end) => is_added(Change::ExtendValues(start, end), cell),
+        Making::FromArray => matches!(cell.start, 1 | 4 | 7 | 9),
+        Making::From(start, end) => start <= cell.start && cell.end <= end,
+        Making::Universe => true,
+        _ => one,
+    }
+}
+
+/// The runs of the set that a making makes of those that cells tell of.
+pub(crate) fn runs_made(
+    alloc: Global,
+    making: Making,
+    cells: &[Cell],
+) -> Result<Vec<(i32, i32)>, AllocError> {
+    let mut made = Vec::new(alloc);
+    for cell in cells {
+        let mut cell = *cell;
+        cell.is_member = selects(making, &cell);
+        made.push(cell)?;
+    }
+    runs(alloc, &made, Side::One)
+}
+
+/// Whether two sets are those that cells tell of.
+pub(crate) fn agree<A: Allocator>(
+    alloc: Global,
+    set: &RangeSetBlaze<i32, A>,
+    other: &RangeSetBlaze<i32, A>,
+    cells: &[Cell],
+) -> Result<bool, AllocError> {
+    let one = runs(alloc, cells, Side::One)?;
+    let others = runs(alloc, cells, Side::Other)?;
+    Ok(has(set, &one) && has(other, &others))
+}
+
+/// Adds to the cells of a set those that a change adds and the set has, up to the first that it
+/// lacks.
+pub(crate) fn mark_front<A: Allocator>(
+    change: Change,
+    set: &RangeSetBlaze<i32, A>,
+    cells: &mut Vec<Cell>,
+) {
+    let mut is_front = true;
+    for cell in cells.iter_mut() {
+        let is_added = is_added(change, cell);
+        is_front = is_front && (!is_added || set.contains(cell.start));
+        cell.is_member = cell.is_member || is_added && is_front;
+    }
+}

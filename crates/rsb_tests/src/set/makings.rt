@@ -1,0 +1,134 @@
+//! Sets made of others, of streams and of items, on rows worked by hand.
+
+use crate::set::calls::Making;
+use crate::set::rows::{Table, has, is_byte_run, makes_of_two};
+use crate::tables::set_of;
+use range_set_blaze::{DrawDisjoint, IntoRangeSetBlaze, RangeSetBlaze, UIntPlusOne};
+use std::test::*;
+
+#[test]
+fn two_sets_are_met_told_apart_and_turned(rt: HostRuntime) {
+    let rows: [(Making, Table<'_>); 4] = [
+        (Making::Bitand, &[(2, 2), (5, 6)]),
+        (Making::Sub, &[(1, 1), (7, 100)]),
+        (Making::Bitxor, &[(1, 1), (3, 4), (7, 100)]),
+        (Making::Not, &[(-2147483648, 0), (3, 4), (101, 2147483647)]),
+    ];
+    for (making, wanted) in &rows {
+        let answer = makes_of_two(rt.alloc(), *making, &[(1, 2), (5, 100)], &[(2, 6)], wanted);
+        assert!(rt; answer == Ok(true), "{making:?}");
+    }
+}
+
+#[test]
+fn sets_streams_and_items_make_sets(rt: HostRuntime) {
+    let two: Table<'_> = &[(1, 2), (5, 100)];
+    let ends: Table<'_> = &[(i32::MIN, -1), (1, i32::MAX)];
+    let universe: Table<'_> = &[(i32::MIN, i32::MAX)];
+    let rows: [(Making, Table<'_>, Table<'_>, Table<'_>); 20] = [
+        (Making::Clone, two, &[], two),
+        (Making::Bitor, two, &[(2, 6)], &[(1, 100)]),
+        (Making::FromIter, two, &[(2, 6)], &[(1, 100)]),
+        (
+            Making::FromIterValues(1, 10),
+            &[],
+            &[],
+            &[(1, 1), (5, 5), (9, 9)],
+        ),
+        (
+            Making::FromArray,
+            &[],
+            &[],
+            &[(1, 1), (4, 4), (7, 7), (9, 9)],
+        ),
+        (Making::FromSortedDisjoint, two, &[], two),
+        (Making::IntoRangeSetBlaze, two, &[], two),
+        (Making::From(3, 7), &[], &[], &[(3, 7)]),
+        (Making::From(7, 3), &[], &[], &[]),
+        (
+            Making::From(i32::MAX, i32::MAX),
+            &[],
+            &[],
+            &[(i32::MAX, i32::MAX)],
+        ),
+        (Making::Universe, &[], &[], universe),
+        (Making::Bitor, ends, &[(0, 0)], universe),
+        (Making::Bitand, ends, universe, ends),
+        (Making::Sub, universe, ends, &[(0, 0)]),
+        (Making::Bitxor, universe, ends, &[(0, 0)]),
+        (Making::Not, ends, &[], &[(0, 0)]),
+        (Making::Not, universe, &[], &[]),
+        (Making::Not, &[], &[], universe),
+        (Making::FromIter, ends, &[(0, 0)], universe),
+        (Making::Clone, ends, &[], ends),
+    ];
+    for (making, left, right, wanted) in &rows {
+        let answer = makes_of_two(rt.alloc(), *making, left, right, wanted);
+        assert!(rt; answer == Ok(true), "{making:?} of {left:?} and {right:?}");
+    }
+}
+
+#[test]
+fn a_union_makes_a_set(rt: HostRuntime) -> Result<(), Fail> {
+    let left = set_of(rt.alloc(), &[(100, 499), (501, 999)])?;
+    let right = set_of(rt.alloc(), &[(-20, -20), (400, 599)])?;
+    let both = left.ranges().union(right.ranges());
+    let both = both.into_range_set_blaze(rt.alloc())?;
+    assert!(rt; has(&both, &[(-20, -20), (100, 999)]) && both.len() == 901);
+    Ok(())
+}
+
+#[test]
+fn a_complement_makes_a_set(rt: HostRuntime) -> Result<(), Fail> {
+    let mut bytes = RangeSetBlaze::<u8>::from(rt.alloc(), 0..=9)?;
+    assert!(rt; bytes.ranges_insert(20..=255)?);
+    let gaps = RangeSetBlaze::from_sorted_disjoint(rt.alloc(), bytes.ranges().complement())?;
+    assert!(rt; bytes.range_or_gap_at(15) == (10..=19, false) && is_byte_run(&gaps, 10, 19));
+    Ok(())
+}
+
+#[test]
+fn every_value_of_a_wide_type_makes_a_set(rt: HostRuntime) -> Result<(), Fail> {
+    assert!(rt; RangeSetBlaze::<char>::universe(rt.alloc())?.len() == 1_112_064);
+    let numbers = RangeSetBlaze::<i128>::universe(rt.alloc())?;
+    assert!(rt; numbers.len() == UIntPlusOne::MaxPlusOne);
+    Ok(())
+}
+
+#[test]
+fn ranges_in_any_order_make_a_set(rt: HostRuntime) -> Result<(), Fail> {
+    let set = RangeSetBlaze::from_iter(rt.alloc(), [1..=2, 2..=2, -10..=-5, 1..=0])?;
+    assert!(rt; has(&set, &[(-10, -5), (1, 2)]));
+    Ok(())
+}
+
+#[test]
+fn values_in_any_order_make_a_set(rt: HostRuntime) -> Result<(), Fail> {
+    let values = RangeSetBlaze::from_array(rt.alloc(), [5, 1, 5, 2, 4])?;
+    assert!(rt; has(&values, &[(1, 2), (4, 5)]));
+    let run = RangeSetBlaze::from_iter_values(rt.alloc(), -1..3)?;
+    assert!(rt; has(&run, &[(-1, 2)]));
+    assert!(rt; RangeSetBlaze::<i32>::from_array(rt.alloc(), [])?.is_empty());
+    Ok(())
+}
+
+#[test]
+fn all_wide_numbers_but_one_are_counted(rt: HostRuntime) -> Result<(), Fail> {
+    let ranges = [i128::MIN..=10, -10..=i128::MAX - 1];
+    let set = RangeSetBlaze::from_iter(rt.alloc(), ranges)?;
+    let length = UIntPlusOne::UInt(340282366920938463463374607431768211455);
+    assert!(rt; set.len() == length);
+    Ok(())
+}
+
+#[test]
+fn emptied_ranges_make_no_members(rt: HostRuntime) -> Result<(), Fail> {
+    let mut emptied = 3..=3_u8;
+    assert!(rt; emptied.next() == Some(3));
+    let set = RangeSetBlaze::from_iter(rt.alloc(), [emptied.clone()?, 7..=8])?;
+    assert!(rt; set.ranges().next() == Some(7..=8) && set.len() == 2);
+    let mut more = RangeSetBlaze::<u8>::new(rt.alloc());
+    more.extend([emptied, 5..=4])?;
+    assert!(rt; more.is_empty());
+    Ok(())
+}

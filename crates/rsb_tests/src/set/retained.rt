@@ -1,0 +1,93 @@
+//! `retain` and `ranges_retain`, on rows worked by hand.
+
+use crate::set::calls::{Answer, Change};
+use crate::set::rows::{Table, changes, has};
+use crate::tables::set_of;
+use range_set_blaze::RangeSetBlaze;
+use std::test::*;
+
+// A divisor of 1 leaves the rest 0 alone, so the rest 0 is every value, and 1 is none.
+#[test]
+fn values_and_runs_are_kept_by_a_test(rt: HostRuntime) {
+    let some: Table<'_> = &[(1, 9), (11, 14), (20, 24), (30, 30)];
+    let three: Table<'_> = &[(1, 3), (7, 7), (9, 10)];
+    let universe: Table<'_> = &[(i32::MIN, i32::MAX)];
+    let rows: [(Change, Table<'_>, u64, Table<'_>); 12] = [
+        (
+            Change::Retain(5, 0),
+            some,
+            19,
+            &[(1, 4), (6, 9), (11, 14), (21, 24)],
+        ),
+        (Change::Retain(1, 1), some, 19, some),
+        (Change::Retain(1, 0), some, 19, &[]),
+        (Change::Retain(1, 1), &[], 0, &[]),
+        (Change::Retain(1, 0), &[], 0, &[]),
+        (
+            Change::Retain(3, 1),
+            &[(i32::MIN, i32::MIN + 3)],
+            4,
+            &[(i32::MIN + 1, i32::MIN + 2)],
+        ),
+        (Change::RangesRetain(7, 0), three, 3, &[(1, 3), (9, 10)]),
+        (Change::RangesRetain(1, 1), three, 3, three),
+        (Change::RangesRetain(1, 0), three, 3, &[]),
+        (Change::RangesRetain(1, 1), &[], 0, &[]),
+        (Change::RangesRetain(1, 1), universe, 1, universe),
+        (Change::RangesRetain(1, 0), universe, 1, &[]),
+    ];
+    for (call, before, asked, after) in &rows {
+        let answer = changes(
+            rt.alloc(),
+            *call,
+            (before, &[]),
+            Answer::Asked(*asked),
+            (after, &[]),
+        );
+        assert!(rt; answer == Ok(true), "{call:?} of {before:?}");
+    }
+}
+
+#[test]
+fn even_values_are_kept(rt: HostRuntime) {
+    let after = (&[(2, 2), (4, 4), (6, 6)] as Table<'_>, &[] as Table<'_>);
+    let answer = changes(
+        rt.alloc(),
+        Change::Retain(2, 1),
+        (&[(1, 6)], &[]),
+        Answer::Asked(6),
+        after,
+    );
+    assert!(rt; answer == Ok(true));
+}
+
+#[test]
+fn runs_of_one_value_are_left_out(rt: HostRuntime) -> Result<(), Fail> {
+    let mut set = set_of(rt.alloc(), &[(1, 3), (7, 7), (9, 10)])?;
+    set.ranges_retain(|range| range.start() < range.end());
+    assert!(rt; has(&set, &[(1, 3), (9, 10)]));
+    Ok(())
+}
+
+#[test]
+fn the_universe_is_kept_to_its_ends(rt: HostRuntime) -> Result<(), Fail> {
+    let mut set = RangeSetBlaze::<u8>::universe(rt.alloc())?;
+    set.retain(|value| *value == 0 || *value == 255)?;
+    assert!(rt; set.contains(0) && set.contains(255) && set.len() == 2);
+    Ok(())
+}
+
+// Each second member is kept.
+#[test]
+fn each_member_is_asked_about_once_in_order(rt: HostRuntime) -> Result<(), Fail> {
+    let mut set = set_of(rt.alloc(), &[(1, 3), (7, 7), (9, 10)])?;
+    let mut asked = Vec::new(rt.alloc());
+    let mut is_noted = true;
+    set.retain(|value| {
+        is_noted = asked.push(*value).is_ok() && is_noted;
+        asked.len() % 2 == 1
+    })?;
+    assert!(rt; is_noted && asked.as_slice() == [1, 2, 3, 7, 9, 10].as_slice());
+    assert!(rt; has(&set, &[(1, 1), (3, 3), (9, 9)]));
+    Ok(())
+}
