@@ -1,8 +1,7 @@
 //! Element types.
 
 mod characters;
-mod emptied_ranges;
+mod ends;
 mod offsets;
 pub(crate) mod own_type;
 mod safe_len;
-mod steps;

@@ -3,39 +3,22 @@
 use rsb_integer::Integer;
 
 #[test]
-fn characters_are_counted_without_the_surrogates(rt: HostRuntime) {
+fn characters_are_counted_and_stepped_without_the_surrogates(rt: HostRuntime) {
+    let mut before: Option<char> = None;
     for (count, c) in (1_u32..).zip('\0'..=char::MAX) {
-        assert!(rt; char::safe_len(&('\0'..=c)) == count, "up to {c:?}");
-        assert!(rt;
-            char::safe_len(&(c..=char::MAX)) == 1_112_065 - count,
-            "from {c:?}"
-        );
-    }
-}
-
-#[test]
-fn lengths_of_characters_lead_to_the_ends(rt: HostRuntime) {
-    for c in '\0'..=char::MAX {
         let below = char::safe_len(&('\0'..=c));
+        assert!(rt; below == count, "up to {c:?}");
         assert!(rt; '\0'.inclusive_end_from_start(below) == c);
         assert!(rt; c.start_from_inclusive_end(below) == '\0');
         let above = char::safe_len(&(c..=char::MAX));
+        assert!(rt; above == 1_112_065 - count, "from {c:?}");
         assert!(rt; c.inclusive_end_from_start(above) == char::MAX);
         assert!(rt; char::MAX.start_from_inclusive_end(above) == c);
-    }
-}
-
-#[test]
-fn steps_lead_from_each_character_to_the_next(rt: HostRuntime) {
-    let mut before: Option<char> = None;
-    for c in '\0'..=char::MAX {
         if let Some(before) = before {
-            assert!(rt; before.checked_add_one() == Some(c));
-            assert!(rt; before.add_one() == c);
-            assert!(rt; c.sub_one() == before);
+            assert!(rt; before.checked_add_one() == Some(c) && before.add_one() == c);
             let mut stepped = c;
             stepped.assign_sub_one();
-            assert!(rt; stepped == before);
+            assert!(rt; c.sub_one() == before && stepped == before);
         }
         before = Some(c);
     }

@@ -1,45 +1,7 @@
-//! Both offsets by a length, and the length of the whole type.
+//! Lengths, both offsets by a length, and steps.
 
-use crate::integer::own_type::Side;
 use rsb_integer::Integer;
 use rsb_length::UIntPlusOne;
-use std::process::Abort;
-
-/// Crosses the type from its least value to its greatest and back, by its whole length.
-fn crosses<T: Integer>(rt: &impl Abort, whole: T::SafeLen) {
-    let length = T::safe_len(&(T::min_value()..=T::max_value()));
-    assert!(rt; length == whole);
-    assert!(rt; T::min_value().inclusive_end_from_start(length) == T::max_value());
-    assert!(rt; T::max_value().start_from_inclusive_end(length) == T::min_value());
-}
-
-#[test]
-fn the_whole_length_leads_from_end_to_end(rt: HostRuntime) {
-    crosses::<Side>(&rt, 2);
-    crosses::<i8>(&rt, 256);
-    crosses::<u8>(&rt, 256);
-    crosses::<i16>(&rt, 65_536);
-    crosses::<u16>(&rt, 65_536);
-    crosses::<i32>(&rt, 4_294_967_296);
-    crosses::<u32>(&rt, 4_294_967_296);
-    crosses::<i64>(&rt, 18_446_744_073_709_551_616);
-    crosses::<u64>(&rt, 18_446_744_073_709_551_616);
-    crosses::<isize>(&rt, 18_446_744_073_709_551_616);
-    crosses::<usize>(&rt, 18_446_744_073_709_551_616);
-    crosses::<i128>(&rt, UIntPlusOne::MaxPlusOne);
-    crosses::<u128>(&rt, UIntPlusOne::MaxPlusOne);
-    crosses::<char>(&rt, 1_112_064);
-}
-
-#[test]
-fn lengths_of_i8_lead_to_its_ends(rt: HostRuntime) {
-    for a in i8::MIN..=i8::MAX {
-        let above = i8::safe_len(&(a..=127));
-        assert!(rt; a.inclusive_end_from_start(above) == 127);
-        let below = i8::safe_len(&(-128..=a));
-        assert!(rt; a.start_from_inclusive_end(below) == -128);
-    }
-}
 
 #[test]
 fn the_widest_length_leads_from_end_to_end(rt: HostRuntime) {
@@ -47,21 +9,15 @@ fn the_widest_length_leads_from_end_to_end(rt: HostRuntime) {
     assert!(rt; i128::MAX.start_from_inclusive_end(UIntPlusOne::MaxPlusOne) == i128::MIN);
 }
 
-/// Leads from each end of the type to the value beside it, by a length of two.
-fn two_values_at_the_ends<T: Integer>(rt: &impl Abort, two: T::SafeLen) {
-    let least = T::min_value();
-    let greatest = T::max_value();
-    let next = least.add_one();
-    let length = T::safe_len(&(least..=next));
-    assert!(rt; length == two);
-    assert!(rt; least.inclusive_end_from_start(length) == next);
-    assert!(rt; greatest.start_from_inclusive_end(length) == greatest.sub_one());
-}
-
 #[test]
-fn a_length_of_two_leads_to_a_neighbor(rt: HostRuntime) {
-    two_values_at_the_ends::<Side>(&rt, 2);
-    two_values_at_the_ends::<char>(&rt, 2);
-    two_values_at_the_ends::<i128>(&rt, UIntPlusOne::UInt(2));
-    two_values_at_the_ends::<u128>(&rt, UIntPlusOne::UInt(2));
+fn lengths_and_steps_cross_zero(rt: HostRuntime) {
+    assert!(rt; i8::safe_len(&(-128..=-1)) == 128 && i8::safe_len(&(-5..=10)) == 16);
+    assert!(rt; (-5_i8).inclusive_end_from_start(16) == 10);
+    assert!(rt; 10_i8.start_from_inclusive_end(16) == -5);
+    let mut signed = 0_i128;
+    signed.assign_sub_one();
+    assert!(rt; signed == -1 && signed.add_one() == 0 && signed.checked_add_one() == Some(0));
+    let mut unsigned = 1_u128;
+    unsigned.assign_sub_one();
+    assert!(rt; unsigned == 0);
 }

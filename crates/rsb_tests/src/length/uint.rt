@@ -1,51 +1,48 @@
 //! The five calls of `UInt`.
 
 use rsb_length::UInt;
+use std::process::Abort;
 
-/// Whether a sum past the greatest value is refused, and one up to it is not.
-fn sums_end_at_the_greatest<T: UInt>() -> bool {
-    let greatest = T::greatest();
-    greatest.checked_sum(T::zero()) == Some(greatest) && greatest.checked_sum(T::one()).is_none()
-}
+/// Two numbers, and their sum, difference and product where the type has these.
+type Row<T> = (T, T, Option<T>, Option<T>, Option<T>);
 
-/// Whether a difference below 0 is refused, and one down to it is not.
-fn differences_end_at_zero<T: UInt>(two: T) -> bool {
-    two.checked_difference(two) == Some(T::zero()) && T::one().checked_difference(two).is_none()
-}
-
-/// Whether a product past the greatest value is refused, and one below it is not.
-fn products_end_at_the_greatest<T: UInt>(two: T, half: T) -> bool {
-    half.checked_product(two).is_some() && T::greatest().checked_product(two).is_none()
+/// Asks for the greatest value and the text past it, and calls what takes two numbers with those of
+/// each row.
+fn calls_answer<T: UInt>(rt: &impl Abort, greatest: T, past: &str, rows: &[Row<T>]) {
+    assert!(rt; T::greatest() == greatest);
+    assert!(rt; T::one_past_text() == past);
+    for (a, b, sum, rest, product) in rows {
+        assert!(rt; a.checked_sum(*b) == *sum, "{a} + {b}");
+        assert!(rt; a.checked_difference(*b) == *rest, "{a} - {b}");
+        assert!(rt; a.checked_product(*b) == *product, "{a} * {b}");
+    }
 }
 
 #[test]
 fn calls_end_where_the_type_does(rt: HostRuntime) {
-    assert!(rt; sums_end_at_the_greatest::<u8>() && sums_end_at_the_greatest::<u128>());
-    assert!(rt; differences_end_at_zero::<u8>(2) && differences_end_at_zero::<u128>(2));
-    assert!(rt; products_end_at_the_greatest::<u8>(2, 127));
-    assert!(rt; products_end_at_the_greatest::<u128>(2, u128::MAX / 2));
-}
-
-#[test]
-fn greatest_values_and_the_text_past_them(rt: HostRuntime) {
-    assert!(rt; <u8 as UInt>::greatest() == 255);
-    assert!(rt; <u128 as UInt>::greatest() == u128::MAX);
-    assert!(rt; <u8 as UInt>::one_past_text() == "256");
-    assert!(rt; <u128 as UInt>::one_past_text() == "(u128::MAX + 1)");
-}
-
-#[test]
-fn calls_of_u8_are_exact(rt: HostRuntime) {
-    for a in 0..=255_u8 {
-        for b in 0..=255_u8 {
-            let (x, y) = (u16::from(a), u16::from(b));
-            assert!(rt; a.checked_sum(b) == u8::try_from(x + y).ok(), "{a} + {b}");
-            assert!(rt;
-                a.checked_product(b) == u8::try_from(x * y).ok(),
-                "{a} * {b}"
-            );
-            let rest = if b <= a { Some(a - b) } else { None };
-            assert!(rt; a.checked_difference(b) == rest, "{a} - {b}");
-        }
-    }
+    let rows: [Row<u8>; 11] = [
+        (0, 0, Some(0), Some(0), Some(0)),
+        (255, 0, Some(255), Some(255), Some(0)),
+        (255, 1, None, Some(254), Some(255)),
+        (254, 1, Some(255), Some(253), Some(254)),
+        (1, 2, Some(3), None, Some(2)),
+        (2, 2, Some(4), Some(0), Some(4)),
+        (127, 2, Some(129), Some(125), Some(254)),
+        (128, 127, Some(255), Some(1), None),
+        (15, 17, Some(32), None, Some(255)),
+        (16, 16, Some(32), Some(0), None),
+        (255, 255, None, Some(0), None),
+    ];
+    calls_answer(&rt, 255, "256", &rows);
+    let most = u128::MAX;
+    let half = 1_u128 << 127;
+    let rows: [Row<u128>; 6] = [
+        (most, 0, Some(most), Some(most), Some(0)),
+        (most, 1, None, Some(most - 1), Some(most)),
+        (most, 2, None, Some(most - 2), None),
+        (1, 2, Some(3), None, Some(2)),
+        (half - 1, 2, Some(half + 1), Some(half - 3), Some(most - 1)),
+        (half, 2, Some(half + 2), Some(half - 2), None),
+    ];
+    calls_answer(&rt, most, "(u128::MAX + 1)", &rows);
 }

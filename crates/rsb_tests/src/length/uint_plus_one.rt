@@ -1,4 +1,4 @@
-//! `UIntPlusOne<u8>` against the numbers from 0 to 256, its ends, copies and texts.
+//! `UIntPlusOne<u8>` against the numbers from 0 to 256, and the ends, copies and texts of both.
 
 ghost use Rattle.std.specs.Prelude.{◌≡◌, ◌≤◌};
 ghost use Rattle.rsb_length.specs.UIntPlusOne.{number_of};
@@ -19,130 +19,72 @@ fn from_number(number: u32) -> UIntPlusOne<u8>
     }
 }
 
-/// The number of this length.
-fn to_number(length: UIntPlusOne<u8>) -> u32 {
-    match length {
-        UIntPlusOne::UInt(value) => u32::from(value),
-        UIntPlusOne::MaxPlusOne => 256,
-    }
-}
-
 #[test]
-fn sums_are_those_of_the_numbers(rt: HostRuntime) {
-    for a in 0..=256 {
-        for b in 0..=256 - a {
-            let (x, y) = (from_number(a), from_number(b));
-            assert!(rt; to_number(x + y) == a + b, "{a} + {b}");
-            let mut sum = x;
-            sum += y;
-            assert!(rt; to_number(sum) == a + b, "{a} += {b}");
-        }
-    }
-}
-
-#[test]
-fn differences_are_those_of_the_numbers(rt: HostRuntime) {
-    for a in 0..=256 {
-        for b in 0..=a {
-            let mut rest = from_number(a);
-            rest -= from_number(b);
-            assert!(rt; to_number(rest) == a - b, "{a} -= {b}");
-        }
-    }
-}
-
-#[test]
-fn products_are_those_of_the_numbers(rt: HostRuntime) {
+fn calls_are_those_of_the_numbers(rt: HostRuntime) {
     for a in 0..=256u32 {
         for b in 0..=256u32 {
+            let (x, y) = (from_number(a), from_number(b));
+            if a + b <= 256 {
+                let mut sum = x;
+                sum += y;
+                assert!(rt; sum == from_number(a + b), "{a} += {b}");
+                assert!(rt; x + y == from_number(a + b), "{a} + {b}");
+            }
+            if b <= a {
+                let mut rest = x;
+                rest -= y;
+                assert!(rt; rest == from_number(a - b), "{a} -= {b}");
+            }
             if a * b <= 256 {
-                let product = from_number(a) * from_number(b);
-                assert!(rt; to_number(product) == a * b, "{a} * {b}");
+                assert!(rt; x * y == from_number(a * b), "{a} * {b}");
             }
         }
     }
 }
 
 #[test]
-fn order_is_that_of_the_numbers(rt: HostRuntime) {
+fn lengths_are_told_apart_and_ordered_as_the_numbers_are(rt: HostRuntime) -> Result<(), Fail> {
     for a in 0..=256u32 {
         for b in 0..=256u32 {
-            let (x, y) = (from_number(a), from_number(b));
-            assert!(rt; x.partial_cmp(&y) == a.partial_cmp(&b), "{a} and {b}");
+            let (x, y) = (from_number(a), from_number(b).clone()?);
             assert!(rt; (x == y) == (a == b), "{a} == {b}");
+            assert!(rt; x.partial_cmp(&y) == a.partial_cmp(&b), "{a} and {b}");
+            assert!(rt;
+                (fed_by(&x) == fed_by(&y)) == (a == b),
+                "bytes of {a} and {b}"
+            );
         }
     }
-}
-
-#[test]
-fn one_past_the_greatest_is_reached_and_left(rt: HostRuntime) {
-    let half = UIntPlusOne::UInt(128u8);
-    assert!(rt; half + half == UIntPlusOne::MaxPlusOne);
-    let mut length: UIntPlusOne<u8> = UIntPlusOne::MaxPlusOne;
-    length -= UIntPlusOne::UInt(1);
-    assert!(rt; length == UIntPlusOne::UInt(255));
-}
-
-#[test]
-fn one_past_the_widest_is_reached_and_left(rt: HostRuntime) {
-    let half = UIntPlusOne::UInt(1u128 << 127);
-    assert!(rt; half + half == UIntPlusOne::MaxPlusOne);
-    let mut length: UIntPlusOne<u128> = UIntPlusOne::MaxPlusOne;
-    length -= UIntPlusOne::UInt(1);
-    assert!(rt; length == UIntPlusOne::UInt(u128::MAX));
-}
-
-#[test]
-fn zero_is_the_only_zero(rt: HostRuntime) {
-    let mut length: UIntPlusOne<u128> = UIntPlusOne::one();
-    length += UIntPlusOne::UInt(1);
-    assert!(rt; length == UIntPlusOne::UInt(2));
-    assert!(rt; UIntPlusOne::<u128>::zero().is_zero());
-    assert!(rt; !UIntPlusOne::UInt(1u128).is_zero());
-    assert!(rt; !UIntPlusOne::<u128>::MaxPlusOne.is_zero());
-}
-
-#[test]
-fn a_clone_is_the_same_length(rt: HostRuntime) -> Result<(), Fail> {
-    for number in 0..=256 {
-        let copy = from_number(number).clone()?;
-        assert!(rt; to_number(copy) == number);
-    }
-    let copy = UIntPlusOne::<u128>::MaxPlusOne.clone()?;
-    assert!(rt; matches!(copy, UIntPlusOne::MaxPlusOne));
     Ok(())
 }
 
 #[test]
-fn the_widest_lengths_differ(rt: HostRuntime) {
-    assert!(rt; UIntPlusOne::UInt(u128::MAX) != UIntPlusOne::MaxPlusOne);
-    assert!(rt; UIntPlusOne::UInt(u128::MAX) != UIntPlusOne::UInt(u128::MAX - 1));
+fn one_past_the_greatest_is_reached_and_left(rt: HostRuntime) -> Result<(), Fail> {
+    let half = UIntPlusOne::UInt(128u8);
+    let mut length = half + half;
+    assert!(rt; length == UIntPlusOne::MaxPlusOne);
+    assert!(rt; format!(in rt.alloc(); "{length}")?.as_str() == "256");
+    length -= UIntPlusOne::UInt(1);
+    assert!(rt; length == UIntPlusOne::UInt(255));
+    let zero = UIntPlusOne::<u8>::zero();
+    assert!(rt; format!(in rt.alloc(); "{length} {zero}")?.as_str() == "255 0");
+    Ok(())
 }
 
 #[test]
-fn unlike_lengths_feed_unlike_bytes(rt: HostRuntime) {
-    for a in 0..=256u32 {
-        for b in 0..=256u32 {
-            let (x, y) = (fed_by(&from_number(a)), fed_by(&from_number(b)));
-            assert!(rt; (x == y) == (a == b), "{a} and {b}");
-        }
-    }
-}
-
-#[test]
-fn one_past_the_greatest_has_a_text(rt: HostRuntime) -> Result<(), Fail> {
-    let of_u8 = format!(in rt.alloc();
-        "{} {} {}",
-        UIntPlusOne::UInt(0u8),
-        UIntPlusOne::UInt(255u8),
-        UIntPlusOne::<u8>::MaxPlusOne
-    )?;
-    assert!(rt; of_u8.as_str() == "0 255 256");
-    let of_u128 = format!(in rt.alloc();
-        "{} {}",
-        UIntPlusOne::UInt(u128::MAX),
-        UIntPlusOne::<u128>::MaxPlusOne
-    )?;
-    assert!(rt; of_u128.as_str() == "340282366920938463463374607431768211455 (u128::MAX + 1)");
+fn one_past_the_widest_is_reached_and_left(rt: HostRuntime) -> Result<(), Fail> {
+    let half = UIntPlusOne::UInt(1u128 << 127);
+    let mut length = half + half;
+    assert!(rt; length == UIntPlusOne::MaxPlusOne);
+    assert!(rt; length.clone()? == UIntPlusOne::MaxPlusOne);
+    assert!(rt; format!(in rt.alloc(); "{length}")?.as_str() == "(u128::MAX + 1)");
+    assert!(rt; length != UIntPlusOne::UInt(u128::MAX));
+    length -= UIntPlusOne::UInt(1);
+    assert!(rt; length == UIntPlusOne::UInt(u128::MAX));
+    assert!(rt; length != UIntPlusOne::UInt(u128::MAX - 1));
+    let text = format!(in rt.alloc(); "{length}")?;
+    assert!(rt; text.as_str() == "340282366920938463463374607431768211455");
+    assert!(rt; UIntPlusOne::<u128>::zero().is_zero() && !UIntPlusOne::<u128>::one().is_zero());
+    assert!(rt; !length.is_zero() && !(half + half).is_zero());
     Ok(())
 }

@@ -1,54 +1,179 @@
-//! The elements of a set, from both ends.
+//! The elements of a set, and of one that is given up, from both ends.
 
 ghost use Rattle.std.specs.Prelude.{◌≡◌};
 
-use crate::set::rows::has;
+use crate::set::rows::Table;
+use crate::set::steps::End::{self, Back, Front};
+use crate::set::steps::is_true_of;
 use crate::tables::set_of;
 use range_set_blaze::RangeSetBlaze;
-use std::alloc::{AllocError, Global};
+use std::alloc::AllocError;
 use std::test::*;
 
-/// Whether the elements of 1..=3 come from both ends in turn.
-fn come_in_turn(set: &RangeSetBlaze<i32>) -> bool {
+/// The ends that elements are taken from in turn, and what each then gives.
+type Steps<'a> = &'a [(End, Option<i32>)];
+
+/// Whether a set gives these elements, and its hints hold of the number that is left.
+fn gives(set: &RangeSetBlaze<i32>, count: usize, steps: Steps<'_>) -> bool {
     let mut elements = set.iter();
-    elements.next() == Some(1)
-        && elements.next_back() == Some(3)
-        && elements.next() == Some(2)
-        && elements.next_back() == None
-        && elements.next() == None
+    let mut left = count;
+    for (end, wanted) in steps {
+        let is_told = is_true_of(elements.size_hint(), left);
+        let found = match end {
+            Front => elements.next(),
+            Back => elements.next_back(),
+        };
+        if !is_told || found != *wanted {
+            return false;
+        }
+        left = left.saturating_sub(1);
+    }
+    is_true_of(elements.size_hint(), left)
 }
 
-/// Whether the back gives what the front of 1..=3 left.
-fn come_from_the_back(set: &RangeSetBlaze<i32>) -> bool {
-    let mut elements = set.iter();
-    elements.next() == Some(1)
-        && elements.next_back() == Some(3)
-        && elements.next_back() == Some(2)
-        && elements.next() == None
+/// Whether a set that is given up gives these elements, and its hints hold of the number that is
+/// left.
+fn gives_up(set: RangeSetBlaze<i32>, count: usize, steps: Steps<'_>) -> bool {
+    let mut elements = set.into_iter();
+    let mut left = count;
+    for (end, wanted) in steps {
+        let is_told = is_true_of(elements.size_hint(), left);
+        let found = match end {
+            Front => elements.next(),
+            Back => elements.next_back(),
+        };
+        if !is_told || found != *wanted {
+            return false;
+        }
+        left = left.saturating_sub(1);
+    }
+    is_true_of(elements.size_hint(), left)
 }
 
 #[test]
 fn each_element_comes_once_from_either_end(rt: HostRuntime) -> Result<(), Fail> {
     let set = set_of(rt.alloc(), &[(1, 3)])?;
-    assert!(rt; come_in_turn(&set));
+    let steps = [
+        (Front, Some(1)),
+        (Back, Some(3)),
+        (Front, Some(2)),
+        (Back, None),
+        (Front, None),
+    ];
+    assert!(rt; gives(&set, 3, &steps));
     Ok(())
 }
 
 #[test]
-fn the_back_takes_what_is_left_of_the_front(rt: HostRuntime) -> Result<(), Fail> {
-    let set = set_of(rt.alloc(), &[(1, 3)])?;
-    assert!(rt; come_from_the_back(&set));
+fn owned_elements_come_from_both_ends(rt: HostRuntime) -> Result<(), Fail> {
+    let set = set_of(rt.alloc(), &[(1, 2), (5, 5)])?;
+    let steps = [
+        (Back, Some(5)),
+        (Front, Some(1)),
+        (Front, Some(2)),
+        (Front, None),
+        (Back, None),
+    ];
+    assert!(rt; gives_up(set, 3, &steps));
     Ok(())
 }
 
 #[test]
-fn characters_step_over_the_surrogates(rt: HostRuntime) -> Result<(), Fail> {
-    let set = RangeSetBlaze::from(rt.alloc(), '\u{D7FF}'..='\u{E000}')?;
-    let mut elements = set.iter();
-    assert!(rt; elements.next() == Some('\u{D7FF}'));
-    assert!(rt; elements.next() == Some('\u{E000}'));
-    assert!(rt; elements.next() == None);
+fn elements_come_in_turn_whoever_owns_them(rt: HostRuntime) -> Result<(), Fail> {
+    let rows: [(Table<'_>, usize, Steps<'_>); 9] = [
+        (&[], 0, &[(Front, None), (Back, None)]),
+        (
+            &[(7, 7)],
+            1,
+            &[(Back, Some(7)), (Back, None), (Front, None)],
+        ),
+        (
+            &[(1, 3)],
+            3,
+            &[
+                (Front, Some(1)),
+                (Back, Some(3)),
+                (Front, Some(2)),
+                (Back, None),
+                (Front, None),
+            ],
+        ),
+        (
+            &[(1, 3)],
+            3,
+            &[
+                (Front, Some(1)),
+                (Back, Some(3)),
+                (Back, Some(2)),
+                (Front, None),
+            ],
+        ),
+        (
+            &[(1, 2), (5, 5)],
+            3,
+            &[
+                (Front, Some(1)),
+                (Back, Some(5)),
+                (Back, Some(2)),
+                (Back, None),
+            ],
+        ),
+        (&[(1, 3), (7, 8)], 5, &[(Front, Some(1)), (Back, Some(8))]),
+        (
+            &[(1, 2), (5, 5), (7, 9)],
+            6,
+            &[
+                (Front, Some(1)),
+                (Back, Some(9)),
+                (Front, Some(2)),
+                (Back, Some(8)),
+                (Front, Some(5)),
+                (Back, Some(7)),
+                (Front, None),
+            ],
+        ),
+        (
+            &[(i32::MIN, i32::MIN + 1), (i32::MAX - 1, i32::MAX)],
+            4,
+            &[
+                (Front, Some(i32::MIN)),
+                (Front, Some(i32::MIN + 1)),
+                (Front, Some(i32::MAX - 1)),
+                (Front, Some(i32::MAX)),
+                (Front, None),
+            ],
+        ),
+        (
+            &[(i32::MIN, i32::MIN + 1), (i32::MAX - 1, i32::MAX)],
+            4,
+            &[
+                (Back, Some(i32::MAX)),
+                (Back, Some(i32::MAX - 1)),
+                (Back, Some(i32::MIN + 1)),
+                (Back, Some(i32::MIN)),
+                (Back, None),
+            ],
+        ),
+    ];
+    for (ranges, count, steps) in &rows {
+        let set = set_of(rt.alloc(), ranges)?;
+        assert!(rt; gives(&set, *count, steps), "{steps:?} of {ranges:?}");
+        assert!(rt;
+            gives_up(set, *count, steps),
+            "owned {steps:?} of {ranges:?}"
+        );
+    }
     Ok(())
+}
+
+/// Whether an iterator and a copy of it give 2 next.
+fn both_give_two<I: Iterator<Item = i32> + Clone>(elements: I) -> Result<bool, AllocError>
+    requires ready { I.can_next elements }
+    requires copies { (stream copy : I) → I.is_clone stream copy → copy ≡ stream }
+{
+    let mut copy = elements.clone()?;
+    let mut elements = elements;
+    Ok(elements.next() == Some(2) && copy.next() == Some(2))
 }
 
 #[test]
@@ -60,60 +185,16 @@ fn a_clone_gives_the_same_elements(rt: HostRuntime) -> Result<(), Fail> {
     Ok(())
 }
 
-// Whether an iterator and a copy of it give 2 next.
-fn both_give_two<I: Iterator<Item = i32> + Clone>(elements: I) -> Result<bool, AllocError>
-    requires ready { I.can_next elements }
-    requires copies { (stream copy : I) → I.is_clone stream copy → copy ≡ stream }
-{
-    let mut copy = elements.clone()?;
-    let mut elements = elements;
-    Ok(elements.next() == Some(2) && copy.next() == Some(2))
-}
-
-// What the text is is left open.
-#[test]
-fn elements_have_a_text(rt: HostRuntime) -> Result<(), Fail> {
-    let set = set_of(rt.alloc(), &[(1, 2)])?;
-    assert!(rt; !format!(in rt.alloc(); "{:?}", set.iter())?.is_empty());
-    assert!(rt; !format!(in rt.alloc(); "{:?}", set.into_iter())?.is_empty());
-    Ok(())
-}
-
-/// Whether an element comes from either end of a set of 1..=3 and 7..=8, no more being asked for.
-fn come_once(set: &RangeSetBlaze<i32>) -> bool {
-    let mut elements = set.iter();
-    elements.next() == Some(1) && elements.next_back() == Some(8)
-}
-
-#[test]
-fn elements_dropped_half_way_leave_the_set(rt: HostRuntime) -> Result<(), Fail> {
-    let set = set_of(rt.alloc(), &[(1, 3), (7, 8)])?;
-    assert!(rt; come_once(&set) && has(&set, &[(1, 3), (7, 8)]));
-    Ok(())
-}
-
-/// The elements of a set, by a loop over a reference to it.
-fn elements_of(alloc: Global, set: &RangeSetBlaze<i32>) -> Result<Vec<i32>, AllocError> {
-    let mut elements = Vec::new(alloc);
-    for value in set {
-        elements.push(value)?;
-    }
-    Ok(elements)
-}
-
-/// The elements of a set that is given up.
-fn owned_elements_of(alloc: Global, set: RangeSetBlaze<i32>) -> Result<Vec<i32>, AllocError> {
-    let mut elements = Vec::new(alloc);
-    for value in set {
-        elements.push(value)?;
-    }
-    Ok(elements)
-}
-
 #[test]
 fn loops_go_over_a_set_and_over_a_reference(rt: HostRuntime) -> Result<(), Fail> {
     let set = set_of(rt.alloc(), &[(-2, -1), (1, 1), (4, 5)])?;
-    assert!(rt; elements_of(rt.alloc(), &set)?[..] == [-2, -1, 1, 4, 5][..]);
-    assert!(rt; owned_elements_of(rt.alloc(), set)?[..] == [-2, -1, 1, 4, 5][..]);
+    let mut elements = Vec::new(rt.alloc());
+    for value in &set {
+        elements.push(value)?;
+    }
+    for value in set {
+        elements.push(value)?;
+    }
+    assert!(rt; elements[..] == [-2, -1, 1, 4, 5, -2, -1, 1, 4, 5][..]);
     Ok(())
 }

@@ -14,10 +14,6 @@ fn laws_can_be_cited_at_a_type() {
     offsets_undo_length::<u8>();
     run_bounds_are_ends::<u8>();
     one_filled_list::<u8>();
-}
-
-#[test]
-fn laws_of_the_algebra_can_be_cited_at_a_type() {
     complement_twice::<u8>();
     de_morgan::<u8>();
     difference_by_complement::<u8>();

@@ -1,52 +1,74 @@
 //! What is asked of a set about a value, and about all of it.
 
+use crate::set::rows::{Table, has};
 use crate::tables::set_of;
-use range_set_blaze::RangeSetBlaze;
+use range_set_blaze::{Integer, RangeSetBlaze};
 use std::test::*;
 
-/// Whether members of 1..=3 and 7..=10 are found, and others are not.
-fn are_found(set: &RangeSetBlaze<i32>) -> bool {
-    set.contains(1)
-        && set.contains(3)
-        && !set.contains(4)
-        && set.get(7) == Some(7)
-        && set.get(6) == None
-        && set.range_at(2) == Some(1..=3)
-        && set.range_at(4) == None
+/// Whether a value lies in the run or the gap with these ends, by each call that looks for it.
+pub(crate) fn lies<T: Integer>(
+    set: &RangeSetBlaze<T>,
+    value: T,
+    start: T,
+    end: T,
+    is_run: bool,
+) -> bool {
+    let member = if is_run { Some(value) } else { None };
+    let run = if is_run { Some(start..=end) } else { None };
+    set.contains(value) == is_run
+        && set.get(value) == member
+        && set.range_at(value) == run
+        && set.range_or_gap_at(value) == (start..=end, is_run)
 }
 
 #[test]
 fn values_are_found_with_their_runs(rt: HostRuntime) -> Result<(), Fail> {
     let set = set_of(rt.alloc(), &[(1, 3), (7, 10)])?;
-    assert!(rt; are_found(&set));
+    let rows: [(i32, i32, i32, bool); 12] = [
+        (i32::MIN, i32::MIN, 0, false),
+        (0, i32::MIN, 0, false),
+        (1, 1, 3, true),
+        (2, 1, 3, true),
+        (3, 1, 3, true),
+        (4, 4, 6, false),
+        (6, 4, 6, false),
+        (7, 7, 10, true),
+        (8, 7, 10, true),
+        (10, 7, 10, true),
+        (11, 11, i32::MAX, false),
+        (i32::MAX, 11, i32::MAX, false),
+    ];
+    for (value, start, end, is_run) in rows {
+        assert!(rt; lies(&set, value, start, end, is_run), "at {value}");
+    }
     Ok(())
-}
-
-/// Whether a value lies in the run or the gap of these ends.
-fn lies(set: &RangeSetBlaze<i32>, value: i32, start: i32, end: i32, is_run: bool) -> bool {
-    set.range_or_gap_at(value) == (start..=end, is_run)
-}
-
-#[test]
-fn gaps_reach_both_ends_of_the_type(rt: HostRuntime) -> Result<(), Fail> {
-    let set = set_of(rt.alloc(), &[(1, 3), (7, 10)])?;
-    assert!(rt; lies(&set, 8, 7, 10, true) && lies(&set, 5, 4, 6, false));
-    assert!(rt; lies(&set, 0, i32::MIN, 0, false) && lies(&set, 11, 11, i32::MAX, false));
-    Ok(())
-}
-
-/// Whether a set has these ends and two runs, and is neither empty nor full.
-fn has_ends(set: &RangeSetBlaze<i32>, first: i32, last: i32) -> bool {
-    set.first() == Some(first)
-        && set.last() == Some(last)
-        && set.ranges_len() == 2
-        && !set.is_empty()
-        && !set.is_universal()
 }
 
 #[test]
 fn ends_and_number_of_runs_are_told(rt: HostRuntime) -> Result<(), Fail> {
-    let set = set_of(rt.alloc(), &[(1, 3), (7, 10)])?;
-    assert!(rt; has_ends(&set, 1, 10));
+    let rows: [(Table<'_>, Option<i32>, Option<i32>, bool); 5] = [
+        (&[], None, None, false),
+        (&[(7, 7)], Some(7), Some(7), false),
+        (&[(1, 3), (7, 10)], Some(1), Some(10), false),
+        (
+            &[(i32::MIN, i32::MAX)],
+            Some(i32::MIN),
+            Some(i32::MAX),
+            true,
+        ),
+        (
+            &[(i32::MIN, -1), (1, i32::MAX)],
+            Some(i32::MIN),
+            Some(i32::MAX),
+            false,
+        ),
+    ];
+    for (ranges, first, last, is_universal) in &rows {
+        let set = set_of(rt.alloc(), ranges)?;
+        assert!(rt; has(&set, ranges), "{ranges:?}");
+        assert!(rt; set.first() == *first && set.last() == *last, "{ranges:?}");
+        assert!(rt; set.is_empty() == first.is_none(), "{ranges:?}");
+        assert!(rt; set.is_universal() == *is_universal, "{ranges:?}");
+    }
     Ok(())
 }

@@ -1,85 +1,105 @@
-//! The operators on the runs of a set.
+//! The operators on the runs of sets.
 
 use crate::set::rows::Table;
 use crate::tables::{gives, set_of};
 use range_set_blaze::{DrawDisjoint, RangeSetBlaze, SortedDisjoint};
 use rsb_integer::Integer;
-use std::alloc::{AllocError, Global};
-use std::ops::RangeInclusive;
 use std::test::*;
 
-/// A set.
-type Numbers = RangeSetBlaze<i32>;
-
-/// Whether the runs of two sets make a union with these.
-fn united(left: &Numbers, right: &Numbers, wanted: Table<'_>) -> bool {
-    gives(left.ranges() | right.ranges(), wanted)
+/// An operator on two sets; `Not` is one on the first.
+#[derive(Clone, Copy, Debug, PartialEq)]
+enum Operator {
+    Or,
+    And,
+    Sub,
+    Xor,
+    Not,
 }
 
-/// Whether the runs of two sets make an intersection with these.
-fn intersected(left: &Numbers, right: &Numbers, wanted: Table<'_>) -> bool {
-    gives(left.ranges() & right.ranges(), wanted)
+use Operator::*;
+
+/// Whether an operator on the runs of two sets gives these.
+fn make(
+    operator: Operator,
+    left: &RangeSetBlaze<i32>,
+    right: &RangeSetBlaze<i32>,
+    wanted: Table<'_>,
+) -> bool {
+    match operator {
+        Or => gives(left.ranges() | right.ranges(), wanted),
+        And => gives(left.ranges() & right.ranges(), wanted),
+        Sub => gives(left.ranges() - right.ranges(), wanted),
+        Xor => gives(left.ranges() ^ right.ranges(), wanted),
+        Not => gives(!left.ranges(), wanted),
+    }
 }
 
-/// Whether the runs of two sets make a difference with these.
-fn subtracted(left: &Numbers, right: &Numbers, wanted: Table<'_>) -> bool {
-    gives(left.ranges() - right.ranges(), wanted)
+/// Whether an operator on the runs of two sets that are given up gives these.
+fn owned_make(
+    operator: Operator,
+    left: RangeSetBlaze<i32>,
+    right: RangeSetBlaze<i32>,
+    wanted: Table<'_>,
+) -> bool {
+    match operator {
+        Or => gives(left.into_ranges() | right.into_ranges(), wanted),
+        And => gives(left.into_ranges() & right.into_ranges(), wanted),
+        Sub => gives(left.into_ranges() - right.into_ranges(), wanted),
+        Xor => gives(left.into_ranges() ^ right.into_ranges(), wanted),
+        Not => gives(!left.into_ranges(), wanted),
+    }
 }
 
-/// Whether the runs of a set that is given up make a union with these.
-fn owned_united(left: Numbers, right: &Numbers, wanted: Table<'_>) -> bool {
-    gives(left.into_ranges() | right.ranges(), wanted)
-}
+// The ends of the type.
+const LEAST: i32 = i32::MIN;
 
-/// Whether the runs of a set that is given up make an intersection with these.
-fn owned_intersected(left: Numbers, right: &Numbers, wanted: Table<'_>) -> bool {
-    gives(left.into_ranges() & right.ranges(), wanted)
-}
+const MOST: i32 = i32::MAX;
 
-/// Whether the runs of a set that is given up make a difference with these.
-fn owned_subtracted(left: Numbers, right: &Numbers, wanted: Table<'_>) -> bool {
-    gives(left.into_ranges() - right.ranges(), wanted)
-}
+// Two sets that touch and overlap, two of which one closes a gap of the other, and every value.
+const ONE: Table<'static> = &[(1, 3), (7, 10)];
 
-/// Whether an operation on two sets has these runs.
-fn makes(alloc: Global, operation: u8, wanted: Table<'_>) -> Result<bool, AllocError> {
-    let left = set_of(alloc, &[(1, 3), (7, 10)])?;
-    let right = set_of(alloc, &[(4, 4), (9, 20)])?;
-    Ok(match operation {
-        0 => united(&left, &right, wanted),
-        1 => intersected(&left, &right, wanted),
-        2 => subtracted(&left, &right, wanted),
-        3 => owned_united(left, &right, wanted),
-        4 => owned_intersected(left, &right, wanted),
-        5 => owned_subtracted(left, &right, wanted),
-        _ => both_left_out(&left, &right, wanted),
-    })
-}
+const OTHER: Table<'static> = &[(4, 4), (9, 20)];
+
+const LONG: Table<'static> = &[(1, 2), (5, 100)];
+
+const SHORT: Table<'static> = &[(2, 6)];
+
+const ALL: Table<'static> = &[(i32::MIN, i32::MAX)];
 
 #[test]
-fn ranges_are_united(rt: HostRuntime) {
-    assert!(rt; makes(rt.alloc(), 0, &[(1, 4), (7, 20)]) == Ok(true));
-}
-
-#[test]
-fn ranges_are_intersected(rt: HostRuntime) {
-    assert!(rt; makes(rt.alloc(), 1, &[(9, 10)]) == Ok(true));
-}
-
-#[test]
-fn ranges_are_subtracted(rt: HostRuntime) {
-    assert!(rt; makes(rt.alloc(), 2, &[(1, 3), (7, 8)]) == Ok(true));
-}
-
-#[test]
-fn owned_ranges_are_united(rt: HostRuntime) {
-    assert!(rt; makes(rt.alloc(), 3, &[(1, 4), (7, 20)]) == Ok(true));
-}
-
-#[test]
-fn owned_ranges_are_intersected_and_subtracted(rt: HostRuntime) {
-    assert!(rt; makes(rt.alloc(), 4, &[(9, 10)]) == Ok(true));
-    assert!(rt; makes(rt.alloc(), 5, &[(1, 3), (7, 8)]) == Ok(true));
+fn runs_make_others_whoever_owns_them(rt: HostRuntime) -> Result<(), Fail> {
+    let rows: [(Table<'_>, Table<'_>, Operator, Table<'_>); 22] = [
+        (ONE, OTHER, Or, &[(1, 4), (7, 20)]),
+        (ONE, OTHER, And, &[(9, 10)]),
+        (ONE, OTHER, Sub, &[(1, 3), (7, 8)]),
+        (ONE, OTHER, Xor, &[(1, 4), (7, 8), (11, 20)]),
+        (ONE, OTHER, Not, &[(LEAST, 0), (4, 6), (11, MOST)]),
+        (OTHER, ALL, Or, ALL),
+        (OTHER, ALL, And, &[(4, 4), (9, 20)]),
+        (OTHER, ALL, Sub, &[]),
+        (OTHER, ALL, Xor, &[(LEAST, 3), (5, 8), (21, MOST)]),
+        (OTHER, ALL, Not, &[(LEAST, 3), (5, 8), (21, MOST)]),
+        (LONG, SHORT, Or, &[(1, 100)]),
+        (LONG, SHORT, And, &[(2, 2), (5, 6)]),
+        (LONG, SHORT, Sub, &[(1, 1), (7, 100)]),
+        (LONG, SHORT, Xor, &[(1, 1), (3, 4), (7, 100)]),
+        (LONG, SHORT, Not, &[(LEAST, 0), (3, 4), (101, MOST)]),
+        (&[], ALL, Or, ALL),
+        (&[], ALL, And, &[]),
+        (&[], ALL, Sub, &[]),
+        (&[], ALL, Xor, ALL),
+        (&[], ALL, Not, ALL),
+        (ALL, &[], Sub, ALL),
+        (ALL, &[], Not, &[]),
+    ];
+    for (left, right, operator, wanted) in &rows {
+        let (one, other) = (set_of(rt.alloc(), left)?, set_of(rt.alloc(), right)?);
+        let found = make(*operator, &one, &other, wanted);
+        assert!(rt; found, "{operator:?} of {left:?}");
+        let found = owned_make(*operator, one, other, wanted);
+        assert!(rt; found, "{operator:?} of owned {left:?}");
+    }
+    Ok(())
 }
 
 /// Whether what two streams both leave out has the ranges with these ends, and nothing else.
@@ -94,58 +114,21 @@ fn both_leave_out<T: Integer, L: SortedDisjoint<T>, R: SortedDisjoint<T>>(
     gives(left.union(right).complement(), wanted)
 }
 
-/// Whether the complements of two sets leave these runs out, and both sets are still there.
-fn both_left_out(left: &Numbers, right: &Numbers, wanted: Table<'_>) -> bool {
-    let is_left_out = both_leave_out(!left.ranges(), !right.ranges(), wanted);
-    is_left_out && left.range_at(9) == Some(7..=10) && right.range_at(9) == Some(9..=20)
-}
-
 #[test]
-fn complements_of_complements_united_are_what_both_have(rt: HostRuntime) {
-    assert!(rt; makes(rt.alloc(), 6, &[(9, 10)]) == Ok(true));
-}
-
-/// Whether a set has a gap from the least number to an end, and then these.
-fn is_complemented(set: &Numbers, end: i32, wanted: Table<'_>) -> bool {
-    let mut gaps = !set.ranges();
-    gaps.next() == Some(i32::MIN..=end) && gives(gaps, wanted)
-}
-
-#[test]
-fn ranges_are_complemented(rt: HostRuntime) -> Result<(), Fail> {
-    let set = set_of(rt.alloc(), &[(1, 3), (7, 10)])?;
-    assert!(rt; is_complemented(&set, 0, &[(4, 6), (11, i32::MAX)]));
-    Ok(())
-}
-
-/// Whether a set that is given up has a gap from the least number to an end, and then these.
-fn is_owned_complemented(set: Numbers, end: i32, wanted: Table<'_>) -> bool {
-    let mut gaps = !set.into_ranges();
-    gaps.next() == Some(i32::MIN..=end) && gives(gaps, wanted)
-}
-
-#[test]
-fn owned_ranges_are_complemented(rt: HostRuntime) -> Result<(), Fail> {
-    let set = set_of(rt.alloc(), &[(4, 4), (9, 20)])?;
-    assert!(rt; is_owned_complemented(set, 3, &[(5, 8), (21, i32::MAX)]));
+fn complements_of_complements_united_are_what_both_have(rt: HostRuntime) -> Result<(), Fail> {
+    let left = set_of(rt.alloc(), &[(1, 3), (7, 10)])?;
+    let right = set_of(rt.alloc(), &[(4, 4), (9, 20)])?;
+    assert!(rt; both_leave_out(!left.ranges(), !right.ranges(), &[(9, 10)]));
+    assert!(rt; left.range_at(9) == Some(7..=10) && right.range_at(9) == Some(9..=20));
     Ok(())
 }
 
 #[test]
 fn everything_and_nothing_are_complements(rt: HostRuntime) -> Result<(), Fail> {
     let nothing = RangeSetBlaze::<u8>::new(rt.alloc());
-    let mut all = !nothing.ranges();
-    assert!(rt; all.next() == Some(0..=255));
-    assert!(rt; all.next() == None);
+    assert!(rt; gives(!nothing.ranges(), &[(0, 255)]));
     let everything = RangeSetBlaze::<u8>::universe(rt.alloc())?;
-    assert!(rt; (!everything.ranges()).next() == None);
-    Ok(())
-}
-
-#[test]
-fn owned_ranges_of_everything_have_no_complement(rt: HostRuntime) -> Result<(), Fail> {
-    let mut nothing = !RangeSetBlaze::<u8>::universe(rt.alloc())?.into_ranges();
-    let first: Option<RangeInclusive<u8>> = nothing.next();
-    assert!(rt; first == None);
+    assert!(rt; gives(!everything.ranges(), &[]));
+    assert!(rt; gives(!everything.into_ranges(), &[]));
     Ok(())
 }

@@ -3,7 +3,6 @@
 use crate::set::rows::Table;
 use crate::tables::set_of;
 use range_set_blaze::RangeSetBlaze;
-use std::alloc::{AllocError, Global};
 use std::test::*;
 
 /// Whether one set is a part of another, whether the other is one of it, and whether they are
@@ -17,36 +16,29 @@ fn stand(one: &RangeSetBlaze<i32>, other: &RangeSetBlaze<i32>, wanted: Relation)
     is_in && has_it && one.is_disjoint(other) == wanted.2 && other.is_disjoint(one) == wanted.2
 }
 
-/// Whether the sets of two tables stand so to each other.
-fn are(
-    alloc: Global,
-    one: Table<'_>,
-    other: Table<'_>,
-    wanted: Relation,
-) -> Result<bool, AllocError> {
-    let one = set_of(alloc, one)?;
-    let other = set_of(alloc, other)?;
-    Ok(stand(&one, &other, wanted))
-}
-
 #[test]
-fn a_run_in_a_longer_one_is_a_part_of_it(rt: HostRuntime) {
-    assert!(rt; are(rt.alloc(), &[(1, 3)], &[(0, 5)], (true, false, false)) == Ok(true));
-}
-
-#[test]
-fn a_later_run_alone_tells_sets_apart(rt: HostRuntime) {
-    let (one, other) = ([(1, 3), (7, 8)], [(0, 5), (9, 9)]);
-    assert!(rt; are(rt.alloc(), &one, &other, (false, false, false)) == Ok(true));
-}
-
-#[test]
-fn runs_that_touch_are_disjoint(rt: HostRuntime) {
-    assert!(rt; are(rt.alloc(), &[(1, 2)], &[(3, 4)], (false, false, true)) == Ok(true));
-}
-
-#[test]
-fn nothing_is_a_part_of_everything_and_disjoint_from_it(rt: HostRuntime) {
-    let everything = [(i32::MIN, i32::MAX)];
-    assert!(rt; are(rt.alloc(), &[], &everything, (true, false, true)) == Ok(true));
+fn two_sets_stand_so_to_each_other(rt: HostRuntime) -> Result<(), Fail> {
+    let rows: [(Table<'_>, Table<'_>, Relation); 8] = [
+        // A run in a longer one is a part of it.
+        (&[(1, 3)], &[(0, 5)], (true, false, false)),
+        // A later run alone tells sets apart.
+        (&[(1, 3), (7, 8)], &[(0, 5), (9, 9)], (false, false, false)),
+        // Runs that touch are disjoint.
+        (&[(1, 2)], &[(3, 4)], (false, false, true)),
+        (&[], &[(i32::MIN, i32::MAX)], (true, false, true)),
+        (&[], &[], (true, true, true)),
+        (&[(1, 3), (7, 8)], &[(1, 3), (7, 8)], (true, true, false)),
+        // A gap between two runs is no part of them.
+        (&[(1, 5)], &[(1, 2), (4, 5)], (false, true, false)),
+        (
+            &[(i32::MIN, i32::MIN)],
+            &[(i32::MAX, i32::MAX)],
+            (false, false, true),
+        ),
+    ];
+    for (left, right, relation) in &rows {
+        let (one, other) = (set_of(rt.alloc(), left)?, set_of(rt.alloc(), right)?);
+        assert!(rt; stand(&one, &other, *relation), "{left:?} and {right:?}");
+    }
+    Ok(())
 }
