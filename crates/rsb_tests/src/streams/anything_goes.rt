@@ -14,11 +14,7 @@ fn first<T: Integer, I: AnythingGoes<T>>(stream: I) -> Option<RangeInclusive<T>>
 }
 
 #[test]
-fn a_stream_of_ones_own_goes(rt: HostRuntime) {
+fn a_merge_and_a_stream_of_ones_own_go(rt: HostRuntime) {
     assert!(rt; first(Tens { value: 5, left: 3 }) == Some(5..=5));
-}
-
-#[test]
-fn a_merge_goes(rt: HostRuntime) {
     assert!(rt; first(Merge::new(RangeOnce::new(3u8..=9), RangeOnce::new(1..=2))) == Some(1..=2));
 }

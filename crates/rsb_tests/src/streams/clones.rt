@@ -1,17 +1,16 @@
 //! Clones of streams from which something was drawn: each equals the stream, and goes on as it does.
 
+ghost use Rattle.std.specs.Prelude.{◌≡◌};
+
 use crate::streams::nested::{known, sorted};
-use crate::streams::own_stream::Tens;
+use crate::streams::own_stream::{Tens, three_tens};
 use crate::tables::both_give;
 use rsb_streams::{Draw, DrawDisjoint, Merge, UnionIter};
+use std::alloc::AllocError;
 use std::test::Fail;
 
-/// The values 0, 10 and 20.
-fn tens() -> Tens
-    ensures { ⟦<Tens as Draw<u8>>⟧.can_draw result }
-{
-    Tens { value: 0, left: 3 }
-}
+/// The values from 5 to 25, five apart.
+const FIVE: [(u8, u8); 5] = [(5, 5), (10, 10), (15, 15), (20, 20), (25, 25)];
 
 /// The values 5, 15 and 25.
 fn fives() -> Tens
@@ -20,75 +19,43 @@ fn fives() -> Tens
     Tens { value: 5, left: 3 }
 }
 
+/// Whether a stream gives a range with these ends, and both it and a copy of it then give others.
+fn goes_on<I: Draw<u8> + Clone>(
+    stream: I,
+    first: (u8, u8),
+    others: &[(u8, u8)],
+) -> Result<bool, AllocError>
+    requires ready { I.can_draw stream }
+    requires copies { (stream copy : I) → I.is_clone stream copy → copy ≡ stream }
+{
+    let mut stream = stream;
+    let range = stream.draw();
+    Ok(range == Some(first.0..=first.1) && both_give(stream, others)?)
+}
+
 #[test]
-fn a_clone_of_a_complement_goes_on(rt: HostRuntime) -> Result<(), Fail> {
-    let mut gaps = tens().complement();
-    assert!(rt; gaps.next() == Some(1..=9));
-    assert!(rt; both_give(gaps, &[(11, 19), (21, 255)])?);
+fn clones_of_results_go_on(rt: HostRuntime) -> Result<(), Fail> {
+    let two = [(10, 10), (20, 20)];
+    assert!(rt; goes_on(three_tens().union(fives()), (0, 0), &FIVE)?);
+    assert!(rt; goes_on(three_tens().intersection(three_tens()), (0, 0), &two)?);
+    assert!(rt; goes_on(three_tens().difference(fives()), (0, 0), &two)?);
+    assert!(rt; goes_on(three_tens().complement(), (1, 9), &[(11, 19), (21, 255)])?);
     Ok(())
 }
 
 #[test]
-fn a_clone_of_a_merge_keeps_the_range_that_is_held(rt: HostRuntime) -> Result<(), Fail> {
-    let mut merge = Merge::new(tens(), fives());
-    assert!(rt; merge.next() == Some(0..=0));
-    assert!(rt; both_give(merge, &[(5, 5), (10, 10), (15, 15), (20, 20), (25, 25)])?);
-    Ok(())
-}
-
-#[test]
-fn a_clone_of_a_joined_stream_keeps_the_range_that_is_held(rt: HostRuntime) -> Result<(), Fail> {
-    let mut runs = UnionIter::new(tens());
-    assert!(rt; runs.next() == Some(0..=0));
-    assert!(rt; both_give(runs, &[(10, 10), (20, 20)])?);
-    Ok(())
-}
-
-#[test]
-fn a_clone_of_a_union_keeps_the_ranges_that_are_held(rt: HostRuntime) -> Result<(), Fail> {
-    let mut union = tens().union(fives());
-    assert!(rt; union.next() == Some(0..=0));
-    assert!(rt; both_give(union, &[(5, 5), (10, 10), (15, 15), (20, 20), (25, 25)])?);
-    Ok(())
-}
-
-#[test]
-fn a_clone_of_a_stream_known_to_be_canonical_goes_on(rt: HostRuntime) -> Result<(), Fail> {
-    let mut known = known(tens());
-    assert!(rt; known.next() == Some(0..=0));
-    assert!(rt; both_give(known, &[(10, 10), (20, 20)])?);
-    Ok(())
-}
-
-#[test]
-fn a_clone_of_a_stream_known_to_be_sorted_goes_on(rt: HostRuntime) -> Result<(), Fail> {
-    let mut sorted = sorted(tens());
-    assert!(rt; sorted.next() == Some(0..=0));
-    assert!(rt; both_give(sorted, &[(10, 10), (20, 20)])?);
-    Ok(())
-}
-
-#[test]
-fn a_clone_of_an_intersection_goes_on(rt: HostRuntime) -> Result<(), Fail> {
-    let mut both = tens().intersection(tens());
-    assert!(rt; both.next() == Some(0..=0));
-    assert!(rt; both_give(both, &[(10, 10), (20, 20)])?);
-    Ok(())
-}
-
-#[test]
-fn a_clone_of_a_difference_goes_on(rt: HostRuntime) -> Result<(), Fail> {
-    let mut rest = tens().difference(fives());
-    assert!(rt; rest.next() == Some(0..=0));
-    assert!(rt; both_give(rest, &[(10, 10), (20, 20)])?);
+fn clones_of_other_streams_go_on(rt: HostRuntime) -> Result<(), Fail> {
+    let two = [(10, 10), (20, 20)];
+    assert!(rt; goes_on(known(three_tens()), (0, 0), &two)?);
+    assert!(rt; goes_on(sorted(three_tens()), (0, 0), &two)?);
+    assert!(rt; goes_on(UnionIter::new(three_tens()), (0, 0), &two)?);
+    assert!(rt; goes_on(Merge::new(three_tens(), fives()), (0, 0), &FIVE)?);
     Ok(())
 }
 
 #[test]
 fn a_clone_of_a_symmetric_difference_keeps_what_is_pending(rt: HostRuntime) -> Result<(), Fail> {
-    let mut alone = tens().symmetric_difference(fives());
-    assert!(rt; alone.next() == Some(0..=0));
-    assert!(rt; both_give(alone, &[(5, 5), (10, 10), (15, 15), (20, 20), (25, 25)])?);
+    assert!(rt; goes_on(three_tens().symmetric_difference(fives()), (0, 0), &FIVE)?);
     Ok(())
 }
 

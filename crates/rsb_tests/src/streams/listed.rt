@@ -1,4 +1,4 @@
-//! The ranges of a table as a stream.
+//! The ranges of a table as a stream, and as a list.
 
 ghost use Rattle.std.specs.Prelude.{◌+◌, ◌≤◌, ◌<◌, MatchOption, length};
 ghost use Rattle.std.specs.Iterator.{at_most};
@@ -11,6 +11,7 @@ ghost use Rattle.rsb_streams.specs.Stream.{drawn-itself};
 
 use rsb_integer::Integer;
 use rsb_streams::{Draw, DrawDisjoint, SortedDisjoint, SortedStarts};
+use std::alloc::{AllocError, Global};
 use std::iter::FusedIterator;
 use std::ops::RangeInclusive;
 
@@ -95,4 +96,16 @@ pub(crate) fn stream_of<'a>(ends: &'a [(u8, u8)]) -> Listed<'a>
     ensures { ⟦<Listed<'a> as Draw<u8>>⟧.can_draw result }
 {
     Listed { ends, low: 0 }
+}
+
+/// The ranges of a table as a list, in whatever order they stand.
+pub(crate) fn list_of(
+    alloc: Global,
+    ends: &[(u8, u8)],
+) -> Result<Vec<RangeInclusive<u8>>, AllocError> {
+    let mut ranges = Vec::new(alloc);
+    for (start, end) in ends {
+        ranges.push(*start..=*end)?;
+    }
+    Ok(ranges)
 }

@@ -1,46 +1,56 @@
 //! Lists of ranges as streams, accepted where they are canonical.
 
+use crate::streams::listed::list_of;
 use crate::tables::gives;
 use rsb_streams::{CheckSortedDisjoint, DrawDisjoint};
-use std::ops::RangeInclusive;
+use std::alloc::Global;
 use std::test::Fail;
 
-#[test]
-fn touching_ranges_are_refused_where_they_stand(rt: HostRuntime) -> Result<(), Fail> {
-    let bad = vec![in rt.alloc(); 1u8..=2, 3..=4, 9..=8]?;
-    let Err(refused) = CheckSortedDisjoint::try_new(bad) else {
-        assert!(rt; false, "touching ranges were accepted");
-        return Ok(());
-    };
-    assert!(rt; refused.position == 1);
-    assert!(rt; refused.ranges == vec![in rt.alloc(); 1u8..=2, 3..=4, 9..=8]?);
-    Ok(())
+/// Whether a list is refused at a position, and then given back, or accepted, and then gives its
+/// ranges.
+fn is_refused_at(alloc: Global, ranges: &[(u8, u8)], wanted: Option<usize>) -> Result<bool, Fail> {
+    match CheckSortedDisjoint::try_new(list_of(alloc, ranges)?) {
+        Ok(stream) => Ok(wanted.is_none() && gives(stream, ranges)),
+        Err(refused) => {
+            Ok(wanted == Some(refused.position) && refused.ranges == list_of(alloc, ranges)?)
+        }
+    }
 }
 
 #[test]
-fn an_empty_range_is_refused_where_it_stands(rt: HostRuntime) -> Result<(), Fail> {
-    let bad = vec![in rt.alloc(); 1u8..=2, 9..=8, 9..=9]?;
-    let Err(refused) = CheckSortedDisjoint::try_new(bad) else {
-        assert!(rt; false, "an empty range was accepted");
-        return Ok(());
-    };
-    assert!(rt; refused.position == 1);
+fn touching_ranges_are_refused_where_they_stand(rt: HostRuntime) -> Result<(), Fail> {
+    assert!(rt; is_refused_at(rt.alloc(), &[(1, 2), (3, 4), (9, 8)], Some(1))?);
     Ok(())
 }
 
 #[test]
 fn the_empty_list_is_accepted(rt: HostRuntime) -> Result<(), Fail> {
-    let none: Vec<RangeInclusive<u8>> = Vec::new(rt.alloc());
-    let Ok(nothing) = CheckSortedDisjoint::try_new(none) else {
-        assert!(rt; false, "the empty list was refused");
-        return Ok(());
-    };
-    assert!(rt; gives(nothing, &[]));
+    assert!(rt; is_refused_at(rt.alloc(), &[], None)?);
     Ok(())
 }
 
 #[test]
-fn a_canonical_list_gives_its_ranges(rt: HostRuntime) -> Result<(), Fail> {
+fn lists_are_refused_at_the_first_range_out_of_place(rt: HostRuntime) -> Result<(), Fail> {
+    let rows: [(&[(u8, u8)], Option<usize>); 10] = [
+        (&[(1, 2), (9, 8), (9, 9)], Some(1)),
+        (&[(1, 0)], Some(0)),
+        (&[(0, 1), (3, 5), (5, 7)], Some(2)),
+        (&[(9, 9), (0, 0)], Some(1)),
+        (&[(0, 254), (255, 255)], Some(1)),
+        (&[(0, 255), (0, 0)], Some(1)),
+        (&[(1, 2), (4, 4), (9, 255)], None),
+        (&[(0, 0), (2, 253), (255, 255)], None),
+        (&[(0, 255)], None),
+        (&[(255, 255)], None),
+    ];
+    for (ranges, wanted) in &rows {
+        assert!(rt; is_refused_at(rt.alloc(), ranges, *wanted)?, "{ranges:?}");
+    }
+    Ok(())
+}
+
+#[test]
+fn a_canonical_list_has_a_complement(rt: HostRuntime) -> Result<(), Fail> {
     let good = vec![in rt.alloc(); 1u8..=2, 4..=4, 9..=255]?;
     let Ok(three) = CheckSortedDisjoint::try_new(good) else {
         assert!(rt; false, "a canonical list was refused");

@@ -1,199 +1,154 @@
-//! The operators of each stream type.
+//! The operators of each stream type: on 20..=29, made in every way, and on 25..=40.
 
 use crate::streams::nested::known;
+use crate::streams::operations::{OPERATIONS, Operation};
 use crate::tables::gives;
-use rsb_streams::{Draw, Merge, RangeOnce, Union, UnionIter};
+use rsb_streams::{Draw, RangeOnce, UnionIter};
 
-/// The range 0..=9.
-fn low() -> RangeOnce<u8>
+/// The range with these ends.
+fn range(start: u8, end: u8) -> RangeOnce<u8>
     ensures { ⟦<RangeOnce<u8> as Draw<u8>>⟧.can_draw result }
 {
-    RangeOnce::new(0..=9)
+    RangeOnce::new(start..=end)
 }
 
-/// The range 200..=255.
-fn high() -> RangeOnce<u8>
-    ensures { ⟦<RangeOnce<u8> as Draw<u8>>⟧.can_draw result }
-{
-    RangeOnce::new(200..=255)
+/// What an operator makes of 20..=29 and 25..=40.
+fn wanted(operation: Operation) -> &'static [(u8, u8)] {
+    match operation {
+        Operation::Union => &[(20, 40)],
+        Operation::Intersection => &[(25, 29)],
+        Operation::Difference => &[(20, 24)],
+        Operation::SymmetricDifference => &[(20, 24), (30, 40)],
+        Operation::Complement => &[(0, 19), (30, 255)],
+    }
 }
 
-/// Two ranges that are merged and joined.
-type TwoJoined = UnionIter<u8, Merge<u8, RangeOnce<u8>, RangeOnce<u8>>>;
-
-/// The ranges 0..=9 and 200..=255, joined.
-fn joined() -> TwoJoined
-    ensures { ⟦<TwoJoined as Draw<u8>>⟧.can_draw result }
-{
-    UnionIter::new(Merge::new(low(), high()))
+/// Whether an operator of a range gives what is wanted.
+fn of_a_range(operation: Operation) -> bool {
+    let stream = range(20, 29);
+    let runs = wanted(operation);
+    match operation {
+        Operation::Union => gives(stream | range(25, 40), runs),
+        Operation::Intersection => gives(stream & range(25, 40), runs),
+        Operation::Difference => gives(stream - range(25, 40), runs),
+        Operation::SymmetricDifference => gives(stream ^ range(25, 40), runs),
+        Operation::Complement => gives(!stream, runs),
+    }
 }
 
-#[test]
-fn operators_of_a_range(rt: HostRuntime) {
-    assert!(rt; gives(low() | high(), &[(0, 9), (200, 255)]));
-    assert!(rt; gives(!low(), &[(10, 255)]));
+/// Whether an operator of a stream that is joined gives what is wanted.
+fn of_a_joined_stream(operation: Operation) -> bool {
+    let stream = UnionIter::new(range(20, 29));
+    let runs = wanted(operation);
+    match operation {
+        Operation::Union => gives(stream | range(25, 40), runs),
+        Operation::Intersection => gives(stream & range(25, 40), runs),
+        Operation::Difference => gives(stream - range(25, 40), runs),
+        Operation::SymmetricDifference => gives(stream ^ range(25, 40), runs),
+        Operation::Complement => gives(!stream, runs),
+    }
 }
 
-#[test]
-fn operators_of_two_ranges(rt: HostRuntime) {
-    assert!(rt; gives(low() & RangeOnce::new(5..=20), &[(5, 9)]));
-    assert!(rt; gives(low() - RangeOnce::new(5..=20), &[(0, 4)]));
+/// Whether an operator of a stream that is known to be canonical gives what is wanted.
+fn of_a_known_stream(operation: Operation) -> bool {
+    let stream = known(range(20, 29));
+    let runs = wanted(operation);
+    match operation {
+        Operation::Union => gives(stream | range(25, 40), runs),
+        Operation::Intersection => gives(stream & range(25, 40), runs),
+        Operation::Difference => gives(stream - range(25, 40), runs),
+        Operation::SymmetricDifference => gives(stream ^ range(25, 40), runs),
+        Operation::Complement => gives(!stream, runs),
+    }
 }
 
-#[test]
-fn operators_of_a_complement(rt: HostRuntime) {
-    assert!(rt; gives(!low() | high(), &[(10, 255)]));
-    assert!(rt; gives(!(!low()), &[(0, 9)]));
+/// Whether an operator of a complement gives what is wanted.
+fn of_a_complement(operation: Operation) -> bool {
+    let stream = !!range(20, 29);
+    let runs = wanted(operation);
+    match operation {
+        Operation::Union => gives(stream | range(25, 40), runs),
+        Operation::Intersection => gives(stream & range(25, 40), runs),
+        Operation::Difference => gives(stream - range(25, 40), runs),
+        Operation::SymmetricDifference => gives(stream ^ range(25, 40), runs),
+        Operation::Complement => gives(!stream, runs),
+    }
 }
 
-#[test]
-fn operators_of_a_union(rt: HostRuntime) {
-    let more = (low() | high()) | RangeOnce::new(10..=20);
-    assert!(rt; gives(more, &[(0, 20), (200, 255)]));
-    assert!(rt; gives(!(low() | high()), &[(10, 199)]));
+/// Whether an operator of a union gives what is wanted.
+fn of_a_union(operation: Operation) -> bool {
+    let stream = range(20, 24) | range(23, 29);
+    let runs = wanted(operation);
+    match operation {
+        Operation::Union => gives(stream | range(25, 40), runs),
+        Operation::Intersection => gives(stream & range(25, 40), runs),
+        Operation::Difference => gives(stream - range(25, 40), runs),
+        Operation::SymmetricDifference => gives(stream ^ range(25, 40), runs),
+        Operation::Complement => gives(!stream, runs),
+    }
 }
 
-#[test]
-fn union_operator_of_a_joined_stream(rt: HostRuntime) {
-    assert!(rt; gives(joined() | low(), &[(0, 9), (200, 255)]));
+/// Whether an operator of an intersection gives what is wanted.
+fn of_an_intersection(operation: Operation) -> bool {
+    let stream = range(20, 99) & range(0, 29);
+    let runs = wanted(operation);
+    match operation {
+        Operation::Union => gives(stream | range(25, 40), runs),
+        Operation::Intersection => gives(stream & range(25, 40), runs),
+        Operation::Difference => gives(stream - range(25, 40), runs),
+        Operation::SymmetricDifference => gives(stream ^ range(25, 40), runs),
+        Operation::Complement => gives(!stream, runs),
+    }
 }
 
-#[test]
-fn complement_operator_of_a_joined_stream(rt: HostRuntime) {
-    assert!(rt; gives(!joined(), &[(10, 199)]));
+/// Whether an operator of a difference gives what is wanted.
+fn of_a_difference(operation: Operation) -> bool {
+    let stream = range(20, 99) - range(30, 255);
+    let runs = wanted(operation);
+    match operation {
+        Operation::Union => gives(stream | range(25, 40), runs),
+        Operation::Intersection => gives(stream & range(25, 40), runs),
+        Operation::Difference => gives(stream - range(25, 40), runs),
+        Operation::SymmetricDifference => gives(stream ^ range(25, 40), runs),
+        Operation::Complement => gives(!stream, runs),
+    }
 }
 
-#[test]
-fn operators_of_a_known_stream(rt: HostRuntime) {
-    assert!(rt; gives(known(low()) | high(), &[(0, 9), (200, 255)]));
-    assert!(rt; gives(!known(low()), &[(10, 255)]));
-}
-
-#[test]
-fn operators_of_a_complement_and_a_range(rt: HostRuntime) {
-    assert!(rt; gives(!low() & RangeOnce::new(5..=20), &[(10, 20)]));
-    assert!(rt; gives(!low() - RangeOnce::new(5..=20), &[(21, 255)]));
-}
-
-#[test]
-fn operators_of_a_union_and_a_range(rt: HostRuntime) {
-    assert!(rt;
-        gives(
-            (low() | high()) & RangeOnce::new(5..=220),
-            &[(5, 9), (200, 220)]
-        )
-    );
-    assert!(rt;
-        gives(
-            (low() | high()) - RangeOnce::new(5..=220),
-            &[(0, 4), (221, 255)]
-        )
-    );
-}
-
-#[test]
-fn operators_of_an_intersection(rt: HostRuntime) {
-    assert!(rt;
-        gives(
-            (low() & RangeOnce::new(5..=20)) & RangeOnce::new(0..=6),
-            &[(5, 6)]
-        )
-    );
-    assert!(rt;
-        gives(
-            (low() & RangeOnce::new(5..=20)) - RangeOnce::new(0..=6),
-            &[(7, 9)]
-        )
-    );
-}
-
-#[test]
-fn union_and_complement_of_an_intersection(rt: HostRuntime) {
-    assert!(rt;
-        gives(
-            (low() & RangeOnce::new(5..=20)) | high(),
-            &[(5, 9), (200, 255)]
-        )
-    );
-    assert!(rt; gives(!(low() & RangeOnce::new(5..=20)), &[(0, 4), (10, 255)]));
-}
-
-#[test]
-fn operators_of_a_difference(rt: HostRuntime) {
-    assert!(rt;
-        gives(
-            (low() - RangeOnce::new(5..=20)) & RangeOnce::new(2..=6),
-            &[(2, 4)]
-        )
-    );
-    assert!(rt;
-        gives(
-            (low() - RangeOnce::new(5..=20)) - RangeOnce::new(2..=6),
-            &[(0, 1)]
-        )
-    );
+/// Whether an operator of a symmetric difference gives what is wanted.
+fn of_a_symmetric_difference(operation: Operation) -> bool {
+    let stream = range(20, 50) ^ range(30, 50);
+    let runs = wanted(operation);
+    match operation {
+        Operation::Union => gives(stream | range(25, 40), runs),
+        Operation::Intersection => gives(stream & range(25, 40), runs),
+        Operation::Difference => gives(stream - range(25, 40), runs),
+        Operation::SymmetricDifference => gives(stream ^ range(25, 40), runs),
+        Operation::Complement => gives(!stream, runs),
+    }
 }
 
 #[test]
-fn union_and_complement_of_a_difference(rt: HostRuntime) {
-    assert!(rt;
-        gives(
-            (low() - RangeOnce::new(5..=20)) | high(),
-            &[(0, 4), (200, 255)]
-        )
-    );
-    assert!(rt; gives(!(low() - RangeOnce::new(5..=20)), &[(5, 255)]));
-}
-
-#[test]
-fn operators_of_a_symmetric_difference(rt: HostRuntime) {
-    assert!(rt;
-        gives(
-            (low() ^ RangeOnce::new(5..=20)) & RangeOnce::new(2..=12),
-            &[(2, 4), (10, 12)]
-        )
-    );
-    assert!(rt;
-        gives(
-            (low() ^ RangeOnce::new(5..=20)) - RangeOnce::new(2..=12),
-            &[(0, 1), (13, 20)]
-        )
-    );
-}
-
-#[test]
-fn symmetric_differences_of_an_intersection_and_a_difference(rt: HostRuntime) {
-    assert!(rt;
-        gives(
-            (low() & RangeOnce::new(5..=20)) ^ RangeOnce::new(2..=6),
-            &[(2, 4), (7, 9)]
-        )
-    );
-    assert!(rt;
-        gives(
-            (low() - RangeOnce::new(5..=20)) ^ RangeOnce::new(2..=6),
-            &[(0, 1), (5, 6)]
-        )
-    );
-}
-
-#[test]
-fn intersection_operator_of_a_joined_stream(rt: HostRuntime) {
-    assert!(rt; gives(joined() & RangeOnce::new(5..=220), &[(5, 9), (200, 220)]));
-}
-
-#[test]
-fn difference_operator_of_a_joined_stream(rt: HostRuntime) {
-    assert!(rt; gives(joined() - RangeOnce::new(5..=220), &[(0, 4), (221, 255)]));
-}
-
-#[test]
-fn operators_of_a_known_stream_and_a_range(rt: HostRuntime) {
-    assert!(rt; gives(known(low()) & RangeOnce::new(5..=20), &[(5, 9)]));
-    assert!(rt; gives(known(low()) - RangeOnce::new(5..=20), &[(0, 4)]));
-}
-
-#[test]
-fn a_union_is_made_of_a_pair(rt: HostRuntime) {
-    assert!(rt; gives(Union::from((low(), high())), &[(0, 9), (200, 255)]));
+fn operators_of_each_stream_type(rt: HostRuntime) {
+    for operation in OPERATIONS {
+        assert!(rt; of_a_range(operation), "{operation:?} of a range");
+        assert!(rt;
+            of_a_joined_stream(operation),
+            "{operation:?} of a stream that is joined"
+        );
+        assert!(rt;
+            of_a_known_stream(operation),
+            "{operation:?} of a stream that is known to be canonical"
+        );
+        assert!(rt; of_a_complement(operation), "{operation:?} of a complement");
+        assert!(rt; of_a_union(operation), "{operation:?} of a union");
+        assert!(rt;
+            of_an_intersection(operation),
+            "{operation:?} of an intersection"
+        );
+        assert!(rt; of_a_difference(operation), "{operation:?} of a difference");
+        assert!(rt;
+            of_a_symmetric_difference(operation),
+            "{operation:?} of a symmetric difference"
+        );
+    }
 }

@@ -9,6 +9,9 @@ ghost use Rattle.rsb_streams.specs.Calls.{gives_by, gives_by-answers};
 ghost use Rattle.rsb_streams.specs.Outcomes.{canonical-starts};
 ghost use Rattle.rsb_streams.specs.Stream.{drawn-itself};
 
+use crate::streams::fill_gaps::fills;
+use crate::streams::listed::stream_of;
+use crate::streams::operations::{Operation, operation_gives};
 use crate::tables::gives;
 use rsb_integer::Integer;
 use rsb_streams::{Draw, DrawDisjoint, SortedDisjoint, SortedStarts};
@@ -85,13 +88,54 @@ impl DrawDisjoint<u8> for Tens {
 
 impl SortedDisjoint<u8> for Tens {}
 
-#[test]
-fn own_stream_gives_its_values(rt: HostRuntime) {
-    assert!(rt; gives(Tens { value: 5, left: 3 }, &[(5, 5), (15, 15), (25, 25)]));
+/// The values 0, 10 and 20.
+pub(crate) fn three_tens() -> Tens
+    ensures { ⟦<Tens as Draw<u8>>⟧.can_draw result }
+{
+    Tens { value: 0, left: 3 }
 }
 
 #[test]
-fn own_stream_has_a_complement(rt: HostRuntime) {
-    let gaps = Tens { value: 0, left: 2 }.complement();
-    assert!(rt; gives(gaps, &[(1, 9), (11, 255)]));
+fn own_stream_gives_its_values(rt: HostRuntime) {
+    assert!(rt; gives(Tens { value: 5, left: 3 }, &[(5, 5), (15, 15), (25, 25)]));
+    assert!(rt; gives(Tens { value: 7, left: 0 }, &[]));
+}
+
+#[test]
+fn operations_on_a_stream_of_ones_own(rt: HostRuntime) {
+    let rows: [(Operation, &[(u8, u8)], &[(u8, u8)]); 6] = [
+        (Operation::Union, &[(1, 9)], &[(0, 10), (20, 20)]),
+        (Operation::Intersection, &[(5, 15)], &[(10, 10)]),
+        (Operation::Difference, &[(5, 15)], &[(0, 0), (20, 20)]),
+        (
+            Operation::SymmetricDifference,
+            &[(5, 20)],
+            &[(0, 0), (5, 9), (11, 19)],
+        ),
+        (
+            Operation::SymmetricDifference,
+            &[],
+            &[(0, 0), (10, 10), (20, 20)],
+        ),
+        (Operation::Complement, &[], &[(1, 9), (11, 19), (21, 255)]),
+    ];
+    for (operation, ranges, wanted) in &rows {
+        assert!(rt;
+            operation_gives(*operation, three_tens(), stream_of(ranges), wanted),
+            "{operation:?} with {ranges:?}"
+        );
+    }
+}
+
+#[test]
+fn questions_and_gaps_of_a_stream_of_ones_own(rt: HostRuntime) {
+    assert!(rt; Tens { value: 7, left: 0 }.is_empty());
+    assert!(rt; three_tens().equal(stream_of(&[(0, 0), (10, 10), (20, 20)])));
+    let filled = [
+        (0, 0, true),
+        (1, 9, false),
+        (10, 10, true),
+        (11, 255, false),
+    ];
+    assert!(rt; fills(Tens { value: 0, left: 2 }, &filled));
 }

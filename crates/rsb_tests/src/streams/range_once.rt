@@ -4,12 +4,14 @@ use crate::tables::gives;
 use rsb_streams::RangeOnce;
 
 #[test]
-fn single_range_comes_once(rt: HostRuntime) {
-    assert!(rt; gives(RangeOnce::new(3u8..=5), &[(3, 5)]));
-}
-
-#[test]
 fn single_range_comes_only_where_it_has_members(rt: HostRuntime) {
+    for value in [0u8, 3, 255] {
+        assert!(rt;
+            gives(RangeOnce::new(value..=255), &[(value, 255)]),
+            "from {value}"
+        );
+    }
+    assert!(rt; gives(RangeOnce::new(3u8..=5), &[(3, 5)]));
     assert!(rt; gives(RangeOnce::new(3u8..=2), &[]));
     let mut emptied = 4u8..=4;
     emptied.next();

@@ -1,4 +1,4 @@
-//! The refusal of a list: when two are equal, and its text.
+//! The refusal of a list: when two are equal, and its texts.
 
 use rsb_streams::NotSortedDisjoint;
 use std::alloc::{AllocError, Global};
@@ -13,21 +13,10 @@ fn refusal(alloc: Global, position: usize, end: u8) -> Result<NotSortedDisjoint<
 #[test]
 fn refusals_are_equal_where_position_and_ranges_are(rt: HostRuntime) -> Result<(), Fail> {
     let refused = refusal(rt.alloc(), 1, 4)?;
-    assert!(rt; refused == refusal(rt.alloc(), 1, 4)?);
-    Ok(())
-}
-
-#[test]
-fn refusals_differ_by_the_position_alone(rt: HostRuntime) -> Result<(), Fail> {
-    let refused = refusal(rt.alloc(), 1, 4)?;
-    assert!(rt; refused != refusal(rt.alloc(), 0, 4)?);
-    Ok(())
-}
-
-#[test]
-fn refusals_differ_by_the_ranges_alone(rt: HostRuntime) -> Result<(), Fail> {
-    let refused = refusal(rt.alloc(), 1, 4)?;
-    assert!(rt; refused != refusal(rt.alloc(), 1, 5)?);
+    for (position, end, wanted) in [(1, 4, true), (0, 4, false), (1, 5, false)] {
+        let other = refusal(rt.alloc(), position, end)?;
+        assert_eq!(rt; refused == other, wanted, "at {position}, of 3..={end}");
+    }
     Ok(())
 }
 
@@ -44,9 +33,12 @@ fn a_refusal_tells_the_position(rt: HostRuntime) -> Result<(), Fail> {
 #[test]
 fn unlike_refusals_have_unlike_texts_for_debugging(rt: HostRuntime) -> Result<(), Fail> {
     let text = format!(in rt.alloc(); "{:?}", refusal(rt.alloc(), 1, 4)?)?;
-    let of_position = format!(in rt.alloc(); "{:?}", refusal(rt.alloc(), 0, 4)?)?;
-    let of_ranges = format!(in rt.alloc(); "{:?}", refusal(rt.alloc(), 1, 5)?)?;
-    assert!(rt; text.as_str() != of_position.as_str());
-    assert!(rt; text.as_str() != of_ranges.as_str());
+    for (position, end) in [(0, 4), (1, 5)] {
+        let other = format!(in rt.alloc(); "{:?}", refusal(rt.alloc(), position, end)?)?;
+        assert!(rt;
+            text.as_str() != other.as_str(),
+            "at {position}, of 3..={end}"
+        );
+    }
     Ok(())
 }

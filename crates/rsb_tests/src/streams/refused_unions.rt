@@ -21,8 +21,8 @@ fn without_memory_no_union_is_made_and_none_is_kept(rt: HostRuntime) -> Result<(
     for size in [16, 64, 256] {
         let heap = LocalHeap::new(rt.alloc(), size)?;
         let refused = UnionIter::from_iter(&heap, even_values(rt.alloc())?);
-        assert!(rt; refused.is_err());
-        assert!(rt; heap.used() == 0);
+        assert!(rt; refused.is_err(), "in {size} bytes");
+        assert!(rt; heap.used() == 0, "in {size} bytes");
     }
     Ok(())
 }

@@ -82,7 +82,7 @@ fn neither_is_the_same<T: Integer, L: DrawDisjoint<T>, R: DrawDisjoint<T>>(
 }
 
 /// The ranges 3..=5 and 5..=9.
-fn three_to_nine() -> (RangeOnce<u8>, RangeOnce<u8>)
+pub(crate) fn three_to_nine() -> (RangeOnce<u8>, RangeOnce<u8>)
     ensures low { ⟦<RangeOnce<u8> as Draw<u8>>⟧.can_draw result.0 }
     ensures high { ⟦<RangeOnce<u8> as Draw<u8>>⟧.can_draw result.1 }
 {

@@ -1,5 +1,6 @@
 //! Std's adapters over streams.
 
+use crate::streams::listed::{Listed, stream_of};
 use crate::tables::gives;
 use rsb_integer::Integer;
 use rsb_streams::{
@@ -7,6 +8,65 @@ use rsb_streams::{
 };
 use std::iter::{Filter, Fuse, Skip, SkipWhile, TakeWhile};
 use std::ops::RangeInclusive;
+
+/// The ranges 3..=5 and 7..=9.
+fn two_ranges() -> Listed<'static>
+    ensures { ⟦<Listed<'static> as Draw<u8>>⟧.can_draw result }
+{
+    stream_of(&[(3, 5), (7, 9)])
+}
+
+#[test]
+fn gaps_of_the_first_ranges_and_of_those_after_them(rt: HostRuntime) {
+    let rows: [(usize, &[(u8, u8)], &[(u8, u8)]); 4] = [
+        (0, &[(0, 255)], &[(0, 2), (6, 6), (10, 255)]),
+        (1, &[(0, 2), (6, 255)], &[(0, 6), (10, 255)]),
+        (2, &[(0, 2), (6, 6), (10, 255)], &[(0, 255)]),
+        (3, &[(0, 2), (6, 6), (10, 255)], &[(0, 255)]),
+    ];
+    for (count, first, others) in &rows {
+        assert!(rt;
+            gives(two_ranges().take(*count).complement(), first),
+            "take({count})"
+        );
+        assert!(rt;
+            gives(two_ranges().skip(*count).complement(), others),
+            "skip({count})"
+        );
+    }
+}
+
+#[test]
+fn gaps_of_ranges_up_to_one_that_fails_and_from_it_on(rt: HostRuntime) {
+    let rows: [(u8, &[(u8, u8)], &[(u8, u8)]); 3] = [
+        (5, &[(0, 255)], &[(0, 2), (6, 6), (10, 255)]),
+        (6, &[(0, 2), (6, 255)], &[(0, 6), (10, 255)]),
+        (10, &[(0, 2), (6, 6), (10, 255)], &[(0, 255)]),
+    ];
+    for (limit, before, from) in &rows {
+        let limit = *limit;
+        let some = two_ranges().take_while(move |range| *range.end() < limit);
+        assert!(rt;
+            gives(some.complement(), before),
+            "take_while below {limit}"
+        );
+        let others = two_ranges().skip_while(move |range| *range.end() < limit);
+        assert!(rt;
+            gives(others.complement(), from),
+            "skip_while below {limit}"
+        );
+    }
+}
+
+#[test]
+fn union_with_a_fused_stream(rt: HostRuntime) {
+    assert!(rt;
+        gives(
+            two_ranges().fuse().union(RangeOnce::new(6u8..=6)),
+            &[(3, 9)]
+        )
+    );
+}
 
 /// The gaps that are left where only the ranges that pass a test are kept.
 fn outside_of_kept<T: Integer, I: SortedDisjoint<T>, P: FnMut(&RangeInclusive<T>) -> bool>(
@@ -71,54 +131,23 @@ fn fused_after<T: Integer, I: SortedDisjoint<T>>(stream: I, count: usize) -> Ski
     stream.fuse().skip(count)
 }
 
-/// Whether an empty stream, joined with the ranges of a fused stream that pass a test, is 10..=20.
-fn passing_are_ten_to_twenty<I: SortedDisjoint<u64>, P: FnMut(&RangeInclusive<u64>) -> bool>(
-    stream: I,
-    passes: P,
-) -> bool
-    requires stream { I.can_draw stream }
-    requires passes { (test : P) (range : _) → P.pre test range }
+/// Whether an empty stream, joined with another that is fused and filtered, is 10..=20.
+fn passing_are_ten_to_twenty<I: SortedDisjoint<u64>>(stream: I) -> bool
+    requires { I.can_draw stream }
 {
-    let kept = passing(fused_after(stream, 0), passes);
+    let kept = passing(fused_after(stream, 0), |_| true);
     gives(CheckSortedDisjoint::default().union(kept), &[(10, 20)])
+}
+
+/// Whether it is so of the ranges of a stream before the first that fails a test.
+fn before_are_ten_to_twenty<I: SortedDisjoint<u64>>(stream: I) -> bool
+    requires { I.can_draw stream }
+{
+    passing_are_ten_to_twenty(before_failing(stream, |_| true))
 }
 
 #[test]
 fn union_over_five_adapters(rt: HostRuntime) {
     let from = from_failing(RangeOnce::new(10u64..=20), |_| false);
-    let before = before_failing(from, |_| true);
-    assert!(rt; passing_are_ten_to_twenty(before, |_| true));
-}
-
-#[test]
-fn gaps_of_what_is_left_after_one(rt: HostRuntime) {
-    assert!(rt; gives(RangeOnce::new(3u8..=5).skip(1).complement(), &[(0, 255)]));
-}
-
-#[test]
-fn gaps_of_the_first_range(rt: HostRuntime) {
-    assert!(rt;
-        gives(
-            RangeOnce::new(3u8..=5).take(1).complement(),
-            &[(0, 2), (6, 255)]
-        )
-    );
-}
-
-#[test]
-fn gaps_of_ranges_before_one_that_fails(rt: HostRuntime) {
-    let before = RangeOnce::new(3u8..=5).take_while(|range| *range.end() < 5);
-    assert!(rt; gives(before.complement(), &[(0, 255)]));
-}
-
-#[test]
-fn gaps_of_ranges_from_one_that_fails(rt: HostRuntime) {
-    let from = RangeOnce::new(3u8..=5).skip_while(|range| *range.end() < 5);
-    assert!(rt; gives(from.complement(), &[(0, 2), (6, 255)]));
-}
-
-#[test]
-fn union_with_a_fused_stream(rt: HostRuntime) {
-    let fused = RangeOnce::new(3u8..=5).fuse();
-    assert!(rt; gives(fused.union(RangeOnce::new(6..=9)), &[(3, 9)]));
+    assert!(rt; before_are_ten_to_twenty(from));
 }

@@ -5,9 +5,10 @@ ghost use Rattle.rsb_integer.specs.Runs.{Interval};
 ghost use Rattle.rsb_integer.specs.Selection.{symmetric_difference};
 ghost use Rattle.rsb_streams.specs.Stream.{◌⊆◌, just, runs_by_two};
 
+use crate::streams::set_algebra::three_to_nine;
 use crate::tables::gives;
 use rsb_integer::Integer;
-use rsb_streams::{Difference, Draw, DrawDisjoint, Intersection, RangeOnce, Union};
+use rsb_streams::{Difference, Draw, DrawDisjoint, Intersection, Union};
 
 /// What two streams have and do not share.
 type Unshared<T, L, R> = Difference<T, Union<T, L, R>, Intersection<T, L, R>>;
@@ -53,22 +54,9 @@ fn alone_is_the_same<T: Integer, L: DrawDisjoint<T>, R: DrawDisjoint<T>>(
     alone.equal(parts)
 }
 
-/// The ranges 3..=5 and 5..=9.
-fn three_to_nine() -> (RangeOnce<u8>, RangeOnce<u8>)
-    ensures low { ⟦<RangeOnce<u8> as Draw<u8>>⟧.can_draw result.0 }
-    ensures high { ⟦<RangeOnce<u8> as Draw<u8>>⟧.can_draw result.1 }
-{
-    (RangeOnce::new(3..=5), RangeOnce::new(5..=9))
-}
-
-/// Whether they are the same of 3..=5 and 5..=9.
-fn is_the_same_of_bytes() -> bool {
-    alone_is_the_same(three_to_nine(), three_to_nine(), three_to_nine())
-}
-
 #[test]
 fn what_lies_in_one_alone_is_the_same_both_ways(rt: HostRuntime) {
-    assert!(rt; is_the_same_of_bytes());
+    assert!(rt; alone_is_the_same(three_to_nine(), three_to_nine(), three_to_nine()));
 }
 
 #[test]

@@ -1,39 +1,50 @@
 //! Ranges in any order: joined as they come, and sorted into a union.
 
+use crate::streams::listed::list_of;
 use crate::tables::gives;
 use rsb_streams::{UnionIter, UnsortedDisjoint};
+use std::alloc::Global;
 use std::ops::RangeInclusive;
 use std::test::Fail;
+
+/// Whether ranges are joined to these as they come.
+fn joins(
+    alloc: Global,
+    ranges: Vec<RangeInclusive<u8>>,
+    wanted: &[(u8, u8)],
+) -> Result<bool, Fail> {
+    let joined = Vec::from_iter(alloc, UnsortedDisjoint::new(ranges.into_iter()))?;
+    Ok(joined == list_of(alloc, wanted)?)
+}
 
 #[test]
 fn single_values_are_joined_while_they_touch_what_was_gathered(
     rt: HostRuntime,
 ) -> Result<(), Fail> {
-    let values = [
-        3u8..=3,
-        2..=2,
-        1..=1,
-        4..=4,
-        5..=5,
-        6..=6,
-        7..=7,
-        0..=0,
-        8..=8,
-        8..=8,
-        8..=8,
-        100..=100,
-        1..=1,
-    ];
-    let joined = Vec::from_iter(rt.alloc(), UnsortedDisjoint::new(values.into_iter()))?;
-    assert!(rt; joined == vec![in rt.alloc(); 0u8..=8, 100..=100, 1..=1]?);
+    let mut ranges = Vec::new(rt.alloc());
+    for value in [3u8, 2, 1, 4, 5, 6, 7, 0, 8, 8, 8, 100, 1] {
+        ranges.push(value..=value)?;
+    }
+    assert!(rt; joins(rt.alloc(), ranges, &[(0, 8), (100, 100), (1, 1)])?);
     Ok(())
 }
 
 #[test]
-fn ranges_are_joined_at_both_ends_of_the_type(rt: HostRuntime) -> Result<(), Fail> {
-    let ranges = [255u8..=255, 254..=254, 0..=0, 1..=1, 3..=255, 2..=9];
-    let joined = Vec::from_iter(rt.alloc(), UnsortedDisjoint::new(ranges.into_iter()))?;
-    assert!(rt; joined == vec![in rt.alloc(); 254u8..=255, 0..=1, 2..=255]?);
+fn ranges_are_joined_as_they_come(rt: HostRuntime) -> Result<(), Fail> {
+    let rows: [(&[(u8, u8)], &[(u8, u8)]); 5] = [
+        (
+            &[(255, 255), (254, 254), (0, 0), (1, 1), (3, 255), (2, 9)],
+            &[(254, 255), (0, 1), (2, 255)],
+        ),
+        (&[(5, 4), (9, 9), (4, 3), (10, 12)], &[(9, 12)]),
+        (&[(0, 255), (0, 255)], &[(0, 255)]),
+        (&[(5, 4)], &[]),
+        (&[], &[]),
+    ];
+    for (ranges, wanted) in &rows {
+        let list = list_of(rt.alloc(), ranges)?;
+        assert!(rt; joins(rt.alloc(), list, wanted)?, "{ranges:?}");
+    }
     Ok(())
 }
 
@@ -41,9 +52,8 @@ fn ranges_are_joined_at_both_ends_of_the_type(rt: HostRuntime) -> Result<(), Fai
 fn empty_ranges_are_skipped(rt: HostRuntime) -> Result<(), Fail> {
     let mut emptied = 4u8..=4;
     emptied.next();
-    let ranges = [5u8..=4, emptied, 9..=9, 4..=3, 10..=12];
-    let joined = Vec::from_iter(rt.alloc(), UnsortedDisjoint::new(ranges.into_iter()))?;
-    assert!(rt; joined == vec![in rt.alloc(); 9u8..=12]?);
+    let ranges = vec![in rt.alloc(); 5u8..=4, emptied, 9..=9, 4..=3, 10..=12]?;
+    assert!(rt; joins(rt.alloc(), ranges, &[(9, 12)])?);
     Ok(())
 }
 
@@ -55,24 +65,25 @@ fn joined_ranges_promise_no_item(rt: HostRuntime) {
 }
 
 #[test]
+fn unions_of_ranges_in_any_order(rt: HostRuntime) -> Result<(), Fail> {
+    let rows: [(&[(u8, u8)], &[(u8, u8)]); 5] = [
+        (&[], &[]),
+        (&[(5, 4), (9, 8)], &[]),
+        (&[(255, 255), (0, 0), (254, 254)], &[(0, 0), (254, 255)]),
+        (&[(1, 0), (2, 2), (5, 9), (1, 2)], &[(1, 2), (5, 9)]),
+        (&[(7, 255), (0, 3), (2, 6)], &[(0, 255)]),
+    ];
+    for (ranges, wanted) in &rows {
+        let union = UnionIter::from_iter(rt.alloc(), list_of(rt.alloc(), ranges)?)?;
+        assert!(rt; gives(union, wanted), "{ranges:?}");
+    }
+    Ok(())
+}
+
+#[test]
 fn union_sorts_ranges_and_skips_empty_ones(rt: HostRuntime) -> Result<(), Fail> {
     let union = UnionIter::from_iter(rt.alloc(), [1..=2, 2..=2, -10..=-5, 1..=0])?;
     assert!(rt; gives(union, &[(-10, -5), (1, 2)]));
-    Ok(())
-}
-
-#[test]
-fn union_sorts_ranges_at_both_ends_of_the_type(rt: HostRuntime) -> Result<(), Fail> {
-    let union = UnionIter::from_iter(rt.alloc(), [255u8..=255, 0..=0, 254..=254])?;
-    assert!(rt; gives(union, &[(0, 0), (254, 255)]));
-    Ok(())
-}
-
-#[test]
-fn union_of_no_ranges_is_empty(rt: HostRuntime) -> Result<(), Fail> {
-    let none: Vec<RangeInclusive<u8>> = Vec::new(rt.alloc());
-    let union = UnionIter::from_iter(rt.alloc(), none)?;
-    assert!(rt; gives(union, &[]));
     Ok(())
 }
 

@@ -1,0 +1,151 @@
+//! The five operations, by their methods.
+
+use crate::streams::listed::stream_of;
+use crate::streams::operation_rows::{Row, rows};
+use crate::tables::gives;
+use rsb_integer::Integer;
+use rsb_streams::{Difference, DrawDisjoint, Intersection, RangeOnce, Union};
+
+/// An operation on streams.
+#[derive(Clone, Copy, Debug, PartialEq)]
+pub(crate) enum Operation {
+    /// What lies in one of two streams or in both.
+    Union,
+    /// What both have.
+    Intersection,
+    /// What the left has and the right lacks.
+    Difference,
+    /// What lies in one of them alone.
+    SymmetricDifference,
+    /// What the left leaves out.
+    Complement,
+}
+
+/// All operations.
+pub(crate) const OPERATIONS: [Operation; 5] = [
+    Operation::Union,
+    Operation::Intersection,
+    Operation::Difference,
+    Operation::SymmetricDifference,
+    Operation::Complement,
+];
+
+/// Whether an operation on two lawful streams gives the ranges with these ends.
+pub(crate) fn operation_gives<T: Integer, L: DrawDisjoint<T>, R: DrawDisjoint<T>>(
+    operation: Operation,
+    left: L,
+    right: R,
+    wanted: &[(T, T)],
+) -> bool
+    requires left { L.can_draw left }
+    requires right { R.can_draw right }
+{
+    match operation {
+        Operation::Union => gives(left.union(right), wanted),
+        Operation::Intersection => gives(left.intersection(right), wanted),
+        Operation::Difference => gives(left.difference(right), wanted),
+        Operation::SymmetricDifference => gives(left.symmetric_difference(right), wanted),
+        Operation::Complement => gives(left.complement(), wanted),
+    }
+}
+
+/// The first operation that does not give what a row has for it.
+fn first_wrong(row: &Row) -> Option<Operation> {
+    for operation in OPERATIONS {
+        let (left, right) = (stream_of(row.left), stream_of(row.right));
+        if !operation_gives(operation, left, right, row.wanted(operation)) {
+            return Some(operation);
+        }
+    }
+    None
+}
+
+#[test]
+fn operations_on_two_streams(rt: HostRuntime) {
+    for row in rows() {
+        assert_eq!(rt;
+            first_wrong(row),
+            None,
+            "{:?} and {:?}",
+            row.left,
+            row.right
+        );
+    }
+}
+
+/// Whether an operation on the ranges of two tables gives these.
+fn operation_of(
+    operation: Operation,
+    left: &[(u8, u8)],
+    right: &[(u8, u8)],
+    wanted: &[(u8, u8)],
+) -> bool {
+    operation_gives(operation, stream_of(left), stream_of(right), wanted)
+}
+
+#[test]
+fn union_joins_what_touches(rt: HostRuntime) {
+    assert!(rt;
+        operation_of(
+            Operation::Union,
+            &[(0, 4), (250, 255)],
+            &[(5, 249)],
+            &[(0, 255)]
+        )
+    );
+}
+
+#[test]
+fn union_joins_what_overlaps(rt: HostRuntime) {
+    let left = RangeOnce::new(100..=499).union(RangeOnce::new(501..=999));
+    let right = RangeOnce::new(-20..=-20).union(RangeOnce::new(400..=599));
+    assert!(rt; operation_gives(Operation::Union, left, right, &[(-20, -20), (100, 999)]));
+}
+
+#[test]
+fn complement_is_the_gap_between_the_ends_of_the_type(rt: HostRuntime) {
+    assert!(rt;
+        operation_of(
+            Operation::Complement,
+            &[(0, 9), (20, 255)],
+            &[],
+            &[(10, 19)]
+        )
+    );
+}
+
+#[test]
+fn complements_of_nothing_and_of_everything(rt: HostRuntime) {
+    assert!(rt; gives(RangeOnce::new(1u8..=0).complement(), &[(0, 255)]));
+    assert!(rt; operation_of(Operation::Complement, &[(0, 255)], &[], &[]));
+}
+
+#[test]
+fn symmetric_differences_leave_out_what_both_have_and_join_what_touches(rt: HostRuntime) {
+    let rows: [(&[(u8, u8)], &[(u8, u8)], &[(u8, u8)]); 4] = [
+        (&[(1, 5)], &[(3, 5)], &[(1, 2)]),
+        (&[(1, 4)], &[(5, 8)], &[(1, 8)]),
+        (&[(0, 255)], &[(255, 255)], &[(0, 254)]),
+        (&[(0, 255)], &[(0, 255)], &[]),
+    ];
+    for (left, right, wanted) in &rows {
+        assert!(rt;
+            operation_of(Operation::SymmetricDifference, left, right, wanted),
+            "{left:?} ^ {right:?}"
+        );
+    }
+}
+
+#[test]
+fn results_are_made_of_pairs(rt: HostRuntime) {
+    assert!(rt;
+        gives(
+            Union::from((RangeOnce::new(0u8..=9), RangeOnce::new(200..=255))),
+            &[(0, 9), (200, 255)]
+        )
+    );
+    let pair = (RangeOnce::new(0u8..=5), RangeOnce::new(3..=9));
+    assert!(rt; gives(Intersection::from(pair), &[(3, 5)]));
+    let pair = (RangeOnce::new(0u8..=5), RangeOnce::new(3..=9));
+    assert!(rt; gives(Difference::from(pair), &[(0, 2)]));
+}

@@ -1,0 +1,182 @@
+//! What is told of one stream and of two: whether they are empty, everything, equal, parts of one
+//! another, or disjoint.
+
+use crate::streams::listed::stream_of;
+use rsb_streams::{DrawDisjoint, RangeOnce};
+
+/// The ends of ranges.
+type Ranges = &'static [(u8, u8)];
+
+#[test]
+fn questions_of_one_stream(rt: HostRuntime) {
+    let rows: [(Ranges, bool, bool); 6] = [
+        (&[], true, false),
+        (&[(0, 0)], false, false),
+        (&[(255, 255)], false, false),
+        (&[(0, 254)], false, false),
+        (&[(1, 255)], false, false),
+        (&[(0, 255)], false, true),
+    ];
+    for (ranges, is_empty, is_universal) in &rows {
+        assert_eq!(rt;
+            stream_of(ranges).is_empty(),
+            *is_empty,
+            "is_empty of {ranges:?}"
+        );
+        assert_eq!(rt;
+            stream_of(ranges).is_universal(),
+            *is_universal,
+            "of {ranges:?}"
+        );
+    }
+}
+
+/// What is told of two streams.
+#[derive(Clone, Copy, Debug, Drop, PartialEq)]
+struct Told {
+    equal: bool,
+    is_subset: bool,
+    is_superset: bool,
+    is_disjoint: bool,
+}
+
+/// What is told of the ranges of two tables.
+fn told_of(left: Ranges, right: Ranges) -> Told {
+    Told {
+        equal: stream_of(left).equal(stream_of(right)),
+        is_subset: stream_of(left).is_subset(stream_of(right)),
+        is_superset: stream_of(left).is_superset(stream_of(right)),
+        is_disjoint: stream_of(left).is_disjoint(stream_of(right)),
+    }
+}
+
+/// Of nothing and nothing.
+const BOTH_EMPTY: Told = Told {
+    equal: true,
+    is_subset: true,
+    is_superset: true,
+    is_disjoint: true,
+};
+
+/// Of a stream and itself.
+const SAME: Told = Told {
+    equal: true,
+    is_subset: true,
+    is_superset: true,
+    is_disjoint: false,
+};
+
+/// Of nothing and some.
+const NOTHING_OF: Told = Told {
+    equal: false,
+    is_subset: true,
+    is_superset: false,
+    is_disjoint: true,
+};
+
+/// Of some and nothing.
+const OF_NOTHING: Told = Told {
+    equal: false,
+    is_subset: false,
+    is_superset: true,
+    is_disjoint: true,
+};
+
+/// Of a part and its whole.
+const PART: Told = Told {
+    equal: false,
+    is_subset: true,
+    is_superset: false,
+    is_disjoint: false,
+};
+
+/// Of a whole and its part.
+const WHOLE: Told = Told {
+    equal: false,
+    is_subset: false,
+    is_superset: true,
+    is_disjoint: false,
+};
+
+/// Of streams with no member in common.
+const APART: Told = Told {
+    equal: false,
+    is_subset: false,
+    is_superset: false,
+    is_disjoint: true,
+};
+
+/// Of streams with some members in common.
+const MEETING: Told = Told {
+    equal: false,
+    is_subset: false,
+    is_superset: false,
+    is_disjoint: false,
+};
+
+#[test]
+fn questions_of_two_streams(rt: HostRuntime) {
+    let rows: [(Ranges, Ranges, Told); 24] = [
+        (&[], &[], BOTH_EMPTY),
+        (&[(0, 255)], &[(0, 255)], SAME),
+        (&[(250, 255)], &[(250, 255)], SAME),
+        (&[(1, 2), (4, 4)], &[(1, 2), (4, 4)], SAME),
+        (&[], &[(8, 8)], NOTHING_OF),
+        (&[], &[(0, 255)], NOTHING_OF),
+        (&[(0, 255)], &[], OF_NOTHING),
+        (&[(0, 0)], &[], OF_NOTHING),
+        (&[(1, 2)], &[(1, 2), (4, 4)], PART),
+        (&[(1, 2), (4, 4)], &[(1, 2)], WHOLE),
+        (&[(1, 2), (4, 254)], &[(1, 2), (4, 255)], PART),
+        (&[(0, 255)], &[(1, 255)], WHOLE),
+        (&[(1, 3)], &[(0, 5)], PART),
+        (&[(0, 5)], &[(1, 3)], WHOLE),
+        (&[(255, 255)], &[(0, 255)], PART),
+        (&[(0, 0), (255, 255)], &[(0, 0)], WHOLE),
+        (&[(1, 2)], &[(3, 4)], APART),
+        (&[(3, 4)], &[(1, 2)], APART),
+        (&[(0, 254)], &[(255, 255)], APART),
+        (
+            &[(0, 0), (2, 2), (254, 254)],
+            &[(1, 1), (3, 3), (255, 255)],
+            APART,
+        ),
+        (&[(1, 2)], &[(2, 4)], MEETING),
+        (&[(0, 3), (255, 255)], &[(4, 9), (254, 255)], MEETING),
+        (&[(1, 3), (255, 255)], &[(0, 254)], MEETING),
+        (&[(3, 5)], &[(0, 3), (5, 9)], MEETING),
+    ];
+    for (left, right, wanted) in &rows {
+        assert_eq!(rt; told_of(left, right), *wanted, "{left:?} and {right:?}");
+    }
+}
+
+#[test]
+fn streams_of_the_same_ranges_are_equal(rt: HostRuntime) {
+    let left = RangeOnce::new(1u8..=2).union(RangeOnce::new(4..=4));
+    let right = RangeOnce::new(4..=4).union(RangeOnce::new(1..=2));
+    assert!(rt; left.equal(right));
+}
+
+#[test]
+fn questions_of_ranges_without_members(rt: HostRuntime) {
+    assert!(rt; RangeOnce::new(1u8..=0).is_empty() && !RangeOnce::new(0u8..=0).is_empty());
+    assert!(rt; RangeOnce::new(1u8..=0).equal(RangeOnce::new(9..=8)));
+    assert!(rt; RangeOnce::new(1u8..=0).is_subset(RangeOnce::new(0..=255)));
+    assert!(rt; RangeOnce::new(1u8..=0).is_disjoint(RangeOnce::new(0..=255)));
+}
+
+#[test]
+fn questions_of_results(rt: HostRuntime) {
+    assert!(rt; RangeOnce::new(0u8..=255).complement().is_empty());
+    assert!(rt;
+        stream_of(&[(0, 4)])
+            .union(stream_of(&[(5, 255)]))
+            .is_universal()
+    );
+    assert!(rt;
+        !stream_of(&[(0, 4)])
+            .union(stream_of(&[(6, 255)]))
+            .is_universal()
+    );
+}
