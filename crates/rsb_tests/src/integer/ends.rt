@@ -36,20 +36,25 @@ fn lengths_lead_to_the_ends<T: Integer>(rt: &impl Abort, two: T::SafeLen, whole:
     assert!(rt; greatest.start_from_inclusive_end(length) == greatest.sub_one());
 }
 
-/// Takes the one member of a range from either end, and looks at the range with none, which leads
-/// from the greatest value to the least.
+/// Takes the one member of a range from either end, at both ends of the type, and looks at the
+/// range with none, which leads from the greatest value to the least.
 fn ranges_are_emptied<T: Integer>(rt: &impl Abort) {
     let least = T::min_value();
     let greatest = T::max_value();
     let mut range = least..=least;
-    assert!(rt; T::range_next(&mut range) == Some(least));
+    assert!(rt; T::range_next(&mut range) == Some(least) && T::range_next(&mut range) == None);
+    let mut range = least..=least;
+    assert!(rt; T::range_next_back(&mut range) == Some(least));
+    assert!(rt; T::range_next(&mut range) == None);
+    let mut range = greatest..=greatest;
+    assert!(rt; T::range_next(&mut range) == Some(greatest));
+    assert!(rt; T::range_next_back(&mut range) == None);
+    let mut range = greatest..=greatest;
+    assert!(rt; T::range_next_back(&mut range) == Some(greatest));
     assert!(rt; T::range_next(&mut range) == None);
     let mut range = least..=greatest;
     assert!(rt; T::range_next_back(&mut range) == Some(greatest));
     assert!(rt; T::range_next(&mut range) == Some(least));
-    let mut range = greatest..=greatest;
-    assert!(rt; T::range_next_back(&mut range) == Some(greatest));
-    assert!(rt; T::range_next(&mut range) == None);
     let mut range = T::exhausted_range();
     assert!(rt; range.is_empty() && *range.start() == greatest && *range.end() == least);
     assert!(rt; T::range_next(&mut range) == None && T::range_next_back(&mut range) == None);

@@ -1,4 +1,4 @@
-//! Lengths, both offsets by a length, and steps.
+//! Lengths, both offsets by a length, and steps, across zero and across a type.
 
 use rsb_integer::Integer;
 use rsb_length::UIntPlusOne;
@@ -20,4 +20,7 @@ fn lengths_and_steps_cross_zero(rt: HostRuntime) {
     let mut unsigned = 1_u128;
     unsigned.assign_sub_one();
     assert!(rt; unsigned == 0);
+    let mut range = 0_i128..=0;
+    assert!(rt; i128::range_next_back(&mut range) == Some(0));
+    assert!(rt; i128::range_next(&mut range) == None);
 }

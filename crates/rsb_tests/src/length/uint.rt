@@ -20,10 +20,11 @@ fn calls_answer<T: UInt>(rt: &impl Abort, greatest: T, past: &str, rows: &[Row<T
 
 #[test]
 fn calls_end_where_the_type_does(rt: HostRuntime) {
-    let rows: [Row<u8>; 11] = [
+    let rows: [Row<u8>; 12] = [
         (0, 0, Some(0), Some(0), Some(0)),
         (255, 0, Some(255), Some(255), Some(0)),
         (255, 1, None, Some(254), Some(255)),
+        (255, 2, None, Some(253), None),
         (254, 1, Some(255), Some(253), Some(254)),
         (1, 2, Some(3), None, Some(2)),
         (2, 2, Some(4), Some(0), Some(4)),
@@ -36,11 +37,12 @@ fn calls_end_where_the_type_does(rt: HostRuntime) {
     calls_answer(&rt, 255, "256", &rows);
     let most = u128::MAX;
     let half = 1_u128 << 127;
-    let rows: [Row<u128>; 6] = [
+    let rows: [Row<u128>; 7] = [
         (most, 0, Some(most), Some(most), Some(0)),
         (most, 1, None, Some(most - 1), Some(most)),
         (most, 2, None, Some(most - 2), None),
         (1, 2, Some(3), None, Some(2)),
+        (2, 2, Some(4), Some(0), Some(4)),
         (half - 1, 2, Some(half + 1), Some(half - 3), Some(most - 1)),
         (half, 2, Some(half + 2), Some(half - 2), None),
     ];

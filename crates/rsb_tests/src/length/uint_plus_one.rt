@@ -84,7 +84,10 @@ fn one_past_the_widest_is_reached_and_left(rt: HostRuntime) -> Result<(), Fail> 
     assert!(rt; length != UIntPlusOne::UInt(u128::MAX - 1));
     let text = format!(in rt.alloc(); "{length}")?;
     assert!(rt; text.as_str() == "340282366920938463463374607431768211455");
-    assert!(rt; UIntPlusOne::<u128>::zero().is_zero() && !UIntPlusOne::<u128>::one().is_zero());
+    let mut two = UIntPlusOne::<u128>::one();
+    assert!(rt; UIntPlusOne::<u128>::zero().is_zero() && !two.is_zero());
     assert!(rt; !length.is_zero() && !(half + half).is_zero());
+    two += UIntPlusOne::UInt(1);
+    assert!(rt; two == UIntPlusOne::UInt(2));
     Ok(())
 }

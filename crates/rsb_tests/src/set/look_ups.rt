@@ -24,13 +24,14 @@ pub(crate) fn lies<T: Integer>(
 #[test]
 fn values_are_found_with_their_runs(rt: HostRuntime) -> Result<(), Fail> {
     let set = set_of(rt.alloc(), &[(1, 3), (7, 10)])?;
-    let rows: [(i32, i32, i32, bool); 12] = [
+    let rows: [(i32, i32, i32, bool); 13] = [
         (i32::MIN, i32::MIN, 0, false),
         (0, i32::MIN, 0, false),
         (1, 1, 3, true),
         (2, 1, 3, true),
         (3, 1, 3, true),
         (4, 4, 6, false),
+        (5, 4, 6, false),
         (6, 4, 6, false),
         (7, 7, 10, true),
         (8, 7, 10, true),
