@@ -35,7 +35,7 @@ fn ranges_join_where_they_overlap_or_touch(rt: HostRuntime) {
 
 #[test]
 fn an_insertion_tells_what_was_new(rt: HostRuntime) {
-    let rows: [(Change, Table<'_>, Answer, Table<'_>); 10] = [
+    let rows: [(Change, Table<'_>, Answer, Table<'_>); 8] = [
         (
             Change::RangesInsert(4, 5),
             &[(1, 3)],
@@ -48,13 +48,6 @@ fn an_insertion_tells_what_was_new(rt: HostRuntime) {
             Answer::Truth(false),
             &[(1, 5)],
         ),
-        (
-            Change::RangesInsert(5, 3),
-            &[(1, 1)],
-            Answer::Truth(false),
-            &[(1, 1)],
-        ),
-        (Change::RangesInsert(5, 3), &[], Answer::Truth(false), &[]),
         (
             Change::Insert(7),
             &[(1, 5)],
@@ -97,6 +90,22 @@ fn an_insertion_tells_what_was_new(rt: HostRuntime) {
             changes(rt.alloc(), *call, (before, &[]), *answer, (after, &[])) == Ok(true),
             "{call:?} into {before:?}"
         );
+    }
+}
+
+#[test]
+fn a_reversed_range_adds_nothing(rt: HostRuntime) {
+    let rows: [Table<'_>; 3] = [&[(1, 1)], &[], &[(i32::MIN, i32::MAX)]];
+    for set in &rows {
+        let call = Change::RangesInsert(5, 3);
+        let answer = changes(
+            rt.alloc(),
+            call,
+            (set, &[]),
+            Answer::Truth(false),
+            (set, &[]),
+        );
+        assert!(rt; answer == Ok(true), "into {set:?}");
     }
 }
 

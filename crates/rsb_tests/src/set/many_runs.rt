@@ -96,3 +96,28 @@ fn ten_thousand_gaps_are_filled(rt: HostRuntime) -> Result<(), Fail> {
     assert!(rt; has(&set, &[(0, 29999)]));
     Ok(())
 }
+
+#[test]
+fn ten_thousand_runs_are_looked_up(rt: HostRuntime) -> Result<(), Fail> {
+    let set = every_third(rt.alloc(), 0)?;
+    for value in 0..30000i32 {
+        assert!(rt; set.contains(value) == (value % 3 == 0), "at {value}");
+    }
+    assert!(rt; set.first() == Some(0) && set.last() == Some(29997));
+    assert!(rt; set.range_at(15000) == Some(15000..=15000) && set.range_at(15001) == None);
+    assert!(rt; set.range_or_gap_at(14999) == (14998..=14999, false));
+    assert!(rt; set.range_or_gap_at(15000) == (15000..=15000, true));
+    Ok(())
+}
+
+#[test]
+fn hints_are_the_lengths_to_come(rt: HostRuntime) -> Result<(), Fail> {
+    let set = every_third(rt.alloc(), 0)?;
+    let mut ranges = set.ranges();
+    assert!(rt; ranges.next() == Some(0..=0) && ranges.next_back() == Some(29997..=29997));
+    assert!(rt; ranges.size_hint() == (9998, Some(9998)));
+    let mut owned = set.into_ranges();
+    assert!(rt; owned.next() == Some(0..=0) && owned.next_back() == Some(29997..=29997));
+    assert!(rt; owned.size_hint() == (9998, Some(9998)));
+    Ok(())
+}

@@ -88,6 +88,7 @@ fn is_refused(
 // the first: a leaf has room for fifteen runs, so at one run and at three no removal wants more.
 #[test]
 fn each_growth_of_a_change_is_refused_in_turn(rt: HostRuntime) {
+    let counts = [0, 1, 3, 15, 100];
     let rows: [(Change, i32, [bool; 5]); 13] = [
         (Change::Insert(6), 101, [true, true, true, true, true]),
         (Change::Replace(6), 101, [true, true, true, true, true]),
@@ -120,7 +121,8 @@ fn each_growth_of_a_change_is_refused_in_turn(rt: HostRuntime) {
         ),
     ];
     for (change, places, wanted) in &rows {
-        for (count, wanted) in [0, 1, 3, 15, 100].into_iter().zip(*wanted) {
+        for place in 0..5usize {
+            let (count, wanted) = (counts[place], wanted[place]);
             let refused = is_refused(rt.alloc(), *change, *places, count, 0);
             assert!(rt;
                 refused == Ok(Some(wanted)),
@@ -159,7 +161,8 @@ fn each_growth_of_an_addition_is_refused_in_turn(rt: HostRuntime) {
         (100, 100, [true, true, true, true]),
     ];
     for (count, others, wanted) in &rows {
-        for (call, wanted) in calls.into_iter().zip(*wanted) {
+        for place in 0..4usize {
+            let (call, wanted) = (calls[place], wanted[place]);
             let refused = is_refused(rt.alloc(), call, 1, *count, *others);
             assert!(rt;
                 refused == Ok(Some(wanted)),
