@@ -33,28 +33,8 @@ impl Row {
     }
 }
 
-/// Streams that overlap, touch, lie apart, lie one within the other, and reach the type's ends.
-static ROWS: [Row; 34] = [
-    // Runs on both sides of a gap.
-    Row {
-        left: &[(1, 2), (5, 100)],
-        right: &[(2, 6)],
-        union: &[(1, 100)],
-        intersection: &[(2, 2), (5, 6)],
-        difference: &[(1, 1), (7, 100)],
-        symmetric_difference: &[(1, 1), (3, 4), (7, 100)],
-        complement: &[(0, 0), (3, 4), (101, 255)],
-    },
-    // The other way round.
-    Row {
-        left: &[(2, 6)],
-        right: &[(1, 2), (5, 100)],
-        union: &[(1, 100)],
-        intersection: &[(2, 2), (5, 6)],
-        difference: &[(3, 4)],
-        symmetric_difference: &[(1, 1), (3, 4), (7, 100)],
-        complement: &[(0, 1), (7, 255)],
-    },
+/// Single ranges that overlap, touch and lie apart.
+pub(crate) static RANGES: [Row; 12] = [
     // Ranges that touch.
     Row {
         left: &[(0, 4)],
@@ -159,6 +139,39 @@ static ROWS: [Row; 34] = [
         symmetric_difference: &[(1, 1), (4, 4)],
         complement: &[(0, 0), (5, 255)],
     },
+    Row {
+        left: &[(10, 255)],
+        right: &[(200, 255)],
+        union: &[(10, 255)],
+        intersection: &[(200, 255)],
+        difference: &[(10, 199)],
+        symmetric_difference: &[(10, 199)],
+        complement: &[(0, 9)],
+    },
+];
+
+/// Streams with a gap.
+pub(crate) static GAPS: [Row; 10] = [
+    // Runs on both sides of a gap.
+    Row {
+        left: &[(1, 2), (5, 100)],
+        right: &[(2, 6)],
+        union: &[(1, 100)],
+        intersection: &[(2, 2), (5, 6)],
+        difference: &[(1, 1), (7, 100)],
+        symmetric_difference: &[(1, 1), (3, 4), (7, 100)],
+        complement: &[(0, 0), (3, 4), (101, 255)],
+    },
+    // The other way round.
+    Row {
+        left: &[(2, 6)],
+        right: &[(1, 2), (5, 100)],
+        union: &[(1, 100)],
+        intersection: &[(2, 2), (5, 6)],
+        difference: &[(3, 4)],
+        symmetric_difference: &[(1, 1), (3, 4), (7, 100)],
+        complement: &[(0, 1), (7, 255)],
+    },
     // A range within a gap, and one that fills it.
     Row {
         left: &[(1, 3), (6, 9)],
@@ -234,15 +247,10 @@ static ROWS: [Row; 34] = [
         symmetric_difference: &[(200, 255)],
         complement: &[(10, 199)],
     },
-    Row {
-        left: &[(10, 255)],
-        right: &[(200, 255)],
-        union: &[(10, 255)],
-        intersection: &[(200, 255)],
-        difference: &[(10, 199)],
-        symmetric_difference: &[(10, 199)],
-        complement: &[(0, 9)],
-    },
+];
+
+/// Nothing, everything, and the ends of the type.
+pub(crate) static ENDS: [Row; 12] = [
     // Everything, and nothing.
     Row {
         left: &[(0, 255)],
@@ -354,8 +362,3 @@ static ROWS: [Row; 34] = [
         complement: &[(1, 1), (3, 253), (255, 255)],
     },
 ];
-
-/// All rows.
-pub(crate) fn rows() -> &'static [Row] {
-    &ROWS
-}

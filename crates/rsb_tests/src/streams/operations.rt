@@ -1,7 +1,7 @@
 //! The five operations, by their methods.
 
 use crate::streams::listed::stream_of;
-use crate::streams::operation_rows::{Row, rows};
+use crate::streams::operation_rows::{ENDS, GAPS, RANGES, Row};
 use crate::tables::gives;
 use rsb_integer::Integer;
 use rsb_streams::{Difference, DrawDisjoint, Intersection, RangeOnce, Union};
@@ -61,8 +61,34 @@ fn first_wrong(row: &Row) -> Option<Operation> {
 }
 
 #[test]
-fn operations_on_two_streams(rt: HostRuntime) {
-    for row in rows() {
+fn operations_on_ranges(rt: HostRuntime) {
+    for row in &RANGES {
+        assert_eq!(rt;
+            first_wrong(row),
+            None,
+            "{:?} and {:?}",
+            row.left,
+            row.right
+        );
+    }
+}
+
+#[test]
+fn operations_on_streams_with_gaps(rt: HostRuntime) {
+    for row in &GAPS {
+        assert_eq!(rt;
+            first_wrong(row),
+            None,
+            "{:?} and {:?}",
+            row.left,
+            row.right
+        );
+    }
+}
+
+#[test]
+fn operations_at_the_ends_of_the_type(rt: HostRuntime) {
+    for row in &ENDS {
         assert_eq!(rt;
             first_wrong(row),
             None,

@@ -26,7 +26,7 @@ fn questions_of_one_stream(rt: HostRuntime) {
         assert_eq!(rt;
             stream_of(ranges).is_universal(),
             *is_universal,
-            "of {ranges:?}"
+            "is_universal of {ranges:?}"
         );
     }
 }
@@ -114,39 +114,41 @@ const MEETING: Told = Told {
     is_disjoint: false,
 };
 
+/// Pairs of streams, and what is told of them.
+static PAIRS: [(Ranges, Ranges, Told); 24] = [
+    (&[], &[], BOTH_EMPTY),
+    (&[(0, 255)], &[(0, 255)], SAME),
+    (&[(250, 255)], &[(250, 255)], SAME),
+    (&[(1, 2), (4, 4)], &[(1, 2), (4, 4)], SAME),
+    (&[], &[(8, 8)], NOTHING_OF),
+    (&[], &[(0, 255)], NOTHING_OF),
+    (&[(0, 255)], &[], OF_NOTHING),
+    (&[(0, 0)], &[], OF_NOTHING),
+    (&[(1, 2)], &[(1, 2), (4, 4)], PART),
+    (&[(1, 2), (4, 4)], &[(1, 2)], WHOLE),
+    (&[(1, 2), (4, 254)], &[(1, 2), (4, 255)], PART),
+    (&[(0, 255)], &[(1, 255)], WHOLE),
+    (&[(1, 3)], &[(0, 5)], PART),
+    (&[(0, 5)], &[(1, 3)], WHOLE),
+    (&[(255, 255)], &[(0, 255)], PART),
+    (&[(0, 0), (255, 255)], &[(0, 0)], WHOLE),
+    (&[(1, 2)], &[(3, 4)], APART),
+    (&[(3, 4)], &[(1, 2)], APART),
+    (&[(0, 254)], &[(255, 255)], APART),
+    (
+        &[(0, 0), (2, 2), (254, 254)],
+        &[(1, 1), (3, 3), (255, 255)],
+        APART,
+    ),
+    (&[(1, 2)], &[(2, 4)], MEETING),
+    (&[(0, 3), (255, 255)], &[(4, 9), (254, 255)], MEETING),
+    (&[(1, 3), (255, 255)], &[(0, 254)], MEETING),
+    (&[(3, 5)], &[(0, 3), (5, 9)], MEETING),
+];
+
 #[test]
 fn questions_of_two_streams(rt: HostRuntime) {
-    let rows: [(Ranges, Ranges, Told); 24] = [
-        (&[], &[], BOTH_EMPTY),
-        (&[(0, 255)], &[(0, 255)], SAME),
-        (&[(250, 255)], &[(250, 255)], SAME),
-        (&[(1, 2), (4, 4)], &[(1, 2), (4, 4)], SAME),
-        (&[], &[(8, 8)], NOTHING_OF),
-        (&[], &[(0, 255)], NOTHING_OF),
-        (&[(0, 255)], &[], OF_NOTHING),
-        (&[(0, 0)], &[], OF_NOTHING),
-        (&[(1, 2)], &[(1, 2), (4, 4)], PART),
-        (&[(1, 2), (4, 4)], &[(1, 2)], WHOLE),
-        (&[(1, 2), (4, 254)], &[(1, 2), (4, 255)], PART),
-        (&[(0, 255)], &[(1, 255)], WHOLE),
-        (&[(1, 3)], &[(0, 5)], PART),
-        (&[(0, 5)], &[(1, 3)], WHOLE),
-        (&[(255, 255)], &[(0, 255)], PART),
-        (&[(0, 0), (255, 255)], &[(0, 0)], WHOLE),
-        (&[(1, 2)], &[(3, 4)], APART),
-        (&[(3, 4)], &[(1, 2)], APART),
-        (&[(0, 254)], &[(255, 255)], APART),
-        (
-            &[(0, 0), (2, 2), (254, 254)],
-            &[(1, 1), (3, 3), (255, 255)],
-            APART,
-        ),
-        (&[(1, 2)], &[(2, 4)], MEETING),
-        (&[(0, 3), (255, 255)], &[(4, 9), (254, 255)], MEETING),
-        (&[(1, 3), (255, 255)], &[(0, 254)], MEETING),
-        (&[(3, 5)], &[(0, 3), (5, 9)], MEETING),
-    ];
-    for (left, right, wanted) in &rows {
+    for (left, right, wanted) in &PAIRS {
         assert_eq!(rt; told_of(left, right), *wanted, "{left:?} and {right:?}");
     }
 }

@@ -2,7 +2,7 @@
 
 ghost use Rattle.std.specs.Prelude.{IsTrue, List};
 ghost use Rattle.rsb_integer.specs.Runs.{Interval};
-ghost use Rattle.rsb_integer.specs.Selection.{complement, union};
+ghost use Rattle.rsb_integer.specs.Selection.{complement, union, Selection};
 ghost use Rattle.rsb_streams.specs.Stream.{◌⊆◌, joined, just, runs_by_two};
 
 use crate::tables::gives;
@@ -63,6 +63,22 @@ fn inside_complements<T: Integer, L: DrawDisjoint<T>, R: DrawDisjoint<T>>(
     gaps.intersection(others)
 }
 
+/// Whether two streams are equal: so it is where both give the runs of one operation on the same
+/// two lists.
+pub(crate) fn are_the_same<T: Integer, L: DrawDisjoint<T>, R: DrawDisjoint<T>>(
+    left: L,
+    right: R,
+) -> bool
+    requires left { L.can_draw left }
+    requires right { R.can_draw right }
+    ensures { (operation : Selection → Selection → Selection) (these those : List Interval)
+        → L.may_give left ⊆ runs_by_two T.value_count operation (just these) (just those)
+        → R.may_give right ⊆ runs_by_two T.value_count operation (just these) (just those)
+        → IsTrue result }
+{
+    left.equal(right)
+}
+
 /// Whether both ways to what is in neither of two streams give the same list: so it is where both
 /// pairs give the same two lists.
 fn neither_is_the_same<T: Integer, L: DrawDisjoint<T>, R: DrawDisjoint<T>>(
@@ -78,7 +94,7 @@ fn neither_is_the_same<T: Integer, L: DrawDisjoint<T>, R: DrawDisjoint<T>>(
 {
     let outside = outside_union(some.0, some.1);
     let inside = inside_complements(again.0, again.1);
-    outside.equal(inside)
+    are_the_same(outside, inside)
 }
 
 /// The ranges 3..=5 and 5..=9.

@@ -5,7 +5,7 @@ ghost use Rattle.rsb_integer.specs.Runs.{Interval};
 ghost use Rattle.rsb_integer.specs.Selection.{symmetric_difference};
 ghost use Rattle.rsb_streams.specs.Stream.{◌⊆◌, just, runs_by_two};
 
-use crate::streams::set_algebra::three_to_nine;
+use crate::streams::set_algebra::{are_the_same, three_to_nine};
 use crate::tables::gives;
 use rsb_integer::Integer;
 use rsb_streams::{Difference, Draw, DrawDisjoint, Intersection, Union};
@@ -51,7 +51,7 @@ fn alone_is_the_same<T: Integer, L: DrawDisjoint<T>, R: DrawDisjoint<T>>(
 {
     let alone = first.0.symmetric_difference(first.1);
     let parts = unshared(some, again);
-    alone.equal(parts)
+    are_the_same(alone, parts)
 }
 
 #[test]
