@@ -34,7 +34,7 @@ impl Row {
 }
 
 /// Single ranges that overlap, touch and lie apart.
-pub(crate) static RANGES: [Row; 12] = [
+pub(crate) static RANGES: [Row; 14] = [
     // Ranges that touch.
     Row {
         left: &[(0, 4)],
@@ -64,6 +64,24 @@ pub(crate) static RANGES: [Row; 12] = [
         difference: &[(0, 9)],
         symmetric_difference: &[(0, 9), (200, 255)],
         complement: &[(10, 255)],
+    },
+    Row {
+        left: &[(5, 9)],
+        right: &[(200, 255)],
+        union: &[(5, 9), (200, 255)],
+        intersection: &[],
+        difference: &[(5, 9)],
+        symmetric_difference: &[(5, 9), (200, 255)],
+        complement: &[(0, 4), (10, 255)],
+    },
+    Row {
+        left: &[(0, 4)],
+        right: &[(200, 255)],
+        union: &[(0, 4), (200, 255)],
+        intersection: &[],
+        difference: &[(0, 4)],
+        symmetric_difference: &[(0, 4), (200, 255)],
+        complement: &[(5, 255)],
     },
     // Ranges that overlap.
     Row {

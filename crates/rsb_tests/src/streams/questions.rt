@@ -172,6 +172,11 @@ fn questions_of_ranges_without_members(rt: HostRuntime) {
 fn questions_of_results(rt: HostRuntime) {
     assert!(rt; RangeOnce::new(0u8..=255).complement().is_empty());
     assert!(rt;
+        !RangeOnce::new(1u8..=0)
+            .union(RangeOnce::new(7..=7))
+            .is_empty()
+    );
+    assert!(rt;
         stream_of(&[(0, 4)])
             .union(stream_of(&[(5, 255)]))
             .is_universal()
