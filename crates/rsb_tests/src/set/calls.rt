@@ -5,7 +5,7 @@ use std::alloc::{AllocError, Allocator};
 use std::mem;
 
 /// A call that changes a set, with what it is given; what it adds is another set beside it.
-#[derive(Clone, Copy, Debug, PartialEq)]
+#[derive(Clone, Copy, Debug)]
 pub(crate) enum Change {
     Insert(i32),
     Replace(i32),
@@ -156,7 +156,7 @@ pub(crate) fn carry_out<A: Allocator + Copy>(
 }
 
 /// A call that makes a set, of two others where it says nothing else.
-#[derive(Clone, Copy, Debug, PartialEq)]
+#[derive(Clone, Copy, Debug)]
 pub(crate) enum Making {
     Clone,
     Bitor,

@@ -78,84 +78,86 @@ fn owned_elements_come_from_both_ends(rt: HostRuntime) -> Result<(), Fail> {
     Ok(())
 }
 
+/// A set, how many elements it has, and which come from either end in turn.
+static IN_TURN: [(Table<'static>, usize, Steps<'static>); 9] = [
+    (&[], 0, &[(Front, None), (Back, None)]),
+    (
+        &[(7, 7)],
+        1,
+        &[(Back, Some(7)), (Back, None), (Front, None)],
+    ),
+    (
+        &[(1, 3)],
+        3,
+        &[
+            (Front, Some(1)),
+            (Back, Some(3)),
+            (Front, Some(2)),
+            (Back, None),
+            (Front, None),
+        ],
+    ),
+    (
+        &[(1, 3)],
+        3,
+        &[
+            (Front, Some(1)),
+            (Back, Some(3)),
+            (Back, Some(2)),
+            (Front, None),
+        ],
+    ),
+    (
+        &[(1, 2), (5, 5)],
+        3,
+        &[
+            (Front, Some(1)),
+            (Back, Some(5)),
+            (Back, Some(2)),
+            (Back, None),
+        ],
+    ),
+    (&[(1, 3), (7, 8)], 5, &[(Front, Some(1)), (Back, Some(8))]),
+    (
+        &[(1, 2), (5, 5), (7, 9)],
+        6,
+        &[
+            (Front, Some(1)),
+            (Back, Some(9)),
+            (Front, Some(2)),
+            (Back, Some(8)),
+            (Front, Some(5)),
+            (Back, Some(7)),
+            (Front, None),
+        ],
+    ),
+    (
+        &[(i32::MIN, i32::MIN + 1), (i32::MAX - 1, i32::MAX)],
+        4,
+        &[
+            (Front, Some(i32::MIN)),
+            (Front, Some(i32::MIN + 1)),
+            (Front, Some(i32::MAX - 1)),
+            (Front, Some(i32::MAX)),
+            (Front, None),
+        ],
+    ),
+    (
+        &[(i32::MIN, i32::MIN + 1), (i32::MAX - 1, i32::MAX)],
+        4,
+        &[
+            (Back, Some(i32::MAX)),
+            (Back, Some(i32::MAX - 1)),
+            (Back, Some(i32::MIN + 1)),
+            (Back, Some(i32::MIN)),
+            (Back, None),
+        ],
+    ),
+];
+
 #[test]
 fn elements_come_in_turn_whoever_owns_them(rt: HostRuntime) -> Result<(), Fail> {
-    let rows: [(Table<'_>, usize, Steps<'_>); 9] = [
-        (&[], 0, &[(Front, None), (Back, None)]),
-        (
-            &[(7, 7)],
-            1,
-            &[(Back, Some(7)), (Back, None), (Front, None)],
-        ),
-        (
-            &[(1, 3)],
-            3,
-            &[
-                (Front, Some(1)),
-                (Back, Some(3)),
-                (Front, Some(2)),
-                (Back, None),
-                (Front, None),
-            ],
-        ),
-        (
-            &[(1, 3)],
-            3,
-            &[
-                (Front, Some(1)),
-                (Back, Some(3)),
-                (Back, Some(2)),
-                (Front, None),
-            ],
-        ),
-        (
-            &[(1, 2), (5, 5)],
-            3,
-            &[
-                (Front, Some(1)),
-                (Back, Some(5)),
-                (Back, Some(2)),
-                (Back, None),
-            ],
-        ),
-        (&[(1, 3), (7, 8)], 5, &[(Front, Some(1)), (Back, Some(8))]),
-        (
-            &[(1, 2), (5, 5), (7, 9)],
-            6,
-            &[
-                (Front, Some(1)),
-                (Back, Some(9)),
-                (Front, Some(2)),
-                (Back, Some(8)),
-                (Front, Some(5)),
-                (Back, Some(7)),
-                (Front, None),
-            ],
-        ),
-        (
-            &[(i32::MIN, i32::MIN + 1), (i32::MAX - 1, i32::MAX)],
-            4,
-            &[
-                (Front, Some(i32::MIN)),
-                (Front, Some(i32::MIN + 1)),
-                (Front, Some(i32::MAX - 1)),
-                (Front, Some(i32::MAX)),
-                (Front, None),
-            ],
-        ),
-        (
-            &[(i32::MIN, i32::MIN + 1), (i32::MAX - 1, i32::MAX)],
-            4,
-            &[
-                (Back, Some(i32::MAX)),
-                (Back, Some(i32::MAX - 1)),
-                (Back, Some(i32::MIN + 1)),
-                (Back, Some(i32::MIN)),
-                (Back, None),
-            ],
-        ),
-    ];
-    for (ranges, count, steps) in &rows {
+    for (ranges, count, steps) in &IN_TURN {
         let set = set_of(rt.alloc(), ranges)?;
         assert!(rt; gives(&set, *count, steps), "{steps:?} of {ranges:?}");
         assert!(rt;

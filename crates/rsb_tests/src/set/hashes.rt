@@ -15,22 +15,24 @@ fn bytes_of(alloc: Global, ranges: &[(u8, u8)]) -> Result<RangeSetBlaze<u8>, All
     Ok(set)
 }
 
+/// Ranges put in one after the other, and the bytes that the set then feeds.
+static FED: [(&[(u8, u8)], &[u8]); 6] = [
+    (&[(1, 3), (7, 10)], &[7, 0, 1, 3, 7, 10]),
+    (
+        &[(9, 10), (3, 3), (8, 8), (7, 7), (1, 2)],
+        &[7, 0, 1, 3, 7, 10],
+    ),
+    (&[(2, 3), (1, 1)], &[3, 0, 1, 3]),
+    (&[(255, 255), (0, 0)], &[2, 0, 0, 0, 255, 255]),
+    (&[(0, 255)], &[0, 1, 0, 255]),
+    (&[], &[0, 0]),
+];
+
 // The length of a set of bytes takes two bytes, the lower one first. The order of insertions is
 // not fed.
 #[test]
 fn the_length_is_fed_and_the_ends_of_each_run(rt: HostRuntime) -> Result<(), Fail> {
-    let rows: [(&[(u8, u8)], &[u8]); 6] = [
-        (&[(1, 3), (7, 10)], &[7, 0, 1, 3, 7, 10]),
-        (
-            &[(9, 10), (3, 3), (8, 8), (7, 7), (1, 2)],
-            &[7, 0, 1, 3, 7, 10],
-        ),
-        (&[(2, 3), (1, 1)], &[3, 0, 1, 3]),
-        (&[(255, 255), (0, 0)], &[2, 0, 0, 0, 255, 255]),
-        (&[(0, 255)], &[0, 1, 0, 255]),
-        (&[], &[0, 0]),
-    ];
-    for (ranges, bytes) in &rows {
+    for (ranges, bytes) in &FED {
         let set = bytes_of(rt.alloc(), ranges)?;
         assert!(rt; fed_by(&set) == fed_by_bytes(bytes), "{ranges:?}");
     }

@@ -8,24 +8,26 @@ use std::alloc::{AllocError, Global};
 use std::ops::Bound;
 use std::test::*;
 
+/// Ranges put in one after the other, and the runs that they make.
+static JOINED: [(Table<'static>, Table<'static>); 7] = [
+    (&[(1, 3), (4, 5)], &[(1, 5)]),
+    (&[(4, 5), (1, 3)], &[(1, 5)]),
+    (&[(1, 3), (5, 6)], &[(1, 3), (5, 6)]),
+    (&[(1, 3), (2, 9)], &[(1, 9)]),
+    (&[(1, 2), (5, 6), (9, 10), (3, 8)], &[(1, 10)]),
+    (
+        &[(1, 2), (5, 6), (9, 10), (4, 5)],
+        &[(1, 2), (4, 6), (9, 10)],
+    ),
+    (
+        &[(i32::MIN, -1), (1, i32::MAX), (0, 0)],
+        &[(i32::MIN, i32::MAX)],
+    ),
+];
+
 #[test]
 fn ranges_join_where_they_overlap_or_touch(rt: HostRuntime) {
-    let rows: [(Table<'_>, Table<'_>); 7] = [
-        (&[(1, 3), (4, 5)], &[(1, 5)]),
-        (&[(4, 5), (1, 3)], &[(1, 5)]),
-        (&[(1, 3), (5, 6)], &[(1, 3), (5, 6)]),
-        (&[(1, 3), (2, 9)], &[(1, 9)]),
-        (&[(1, 2), (5, 6), (9, 10), (3, 8)], &[(1, 10)]),
-        (
-            &[(1, 2), (5, 6), (9, 10), (4, 5)],
-            &[(1, 2), (4, 6), (9, 10)],
-        ),
-        (
-            &[(i32::MIN, -1), (1, i32::MAX), (0, 0)],
-            &[(i32::MIN, i32::MAX)],
-        ),
-    ];
-    for (ranges, wanted) in &rows {
+    for (ranges, wanted) in &JOINED {
         assert!(rt;
             makes(rt.alloc(), ranges, wanted) == Ok(true),
             "of {ranges:?}"
@@ -33,59 +35,61 @@ fn ranges_join_where_they_overlap_or_touch(rt: HostRuntime) {
     }
 }
 
+/// An insertion, the set before, what it answers, and the set after.
+static TOLD: [(Change, Table<'static>, Answer, Table<'static>); 8] = [
+    (
+        Change::RangesInsert(4, 5),
+        &[(1, 3)],
+        Answer::Truth(true),
+        &[(1, 5)],
+    ),
+    (
+        Change::RangesInsert(4, 5),
+        &[(1, 5)],
+        Answer::Truth(false),
+        &[(1, 5)],
+    ),
+    (
+        Change::Insert(7),
+        &[(1, 5)],
+        Answer::Truth(true),
+        &[(1, 5), (7, 7)],
+    ),
+    (
+        Change::Insert(6),
+        &[(1, 5), (7, 7)],
+        Answer::Truth(true),
+        &[(1, 7)],
+    ),
+    (
+        Change::Insert(7),
+        &[(1, 5), (7, 7)],
+        Answer::Truth(false),
+        &[(1, 5), (7, 7)],
+    ),
+    (
+        Change::Replace(7),
+        &[(1, 5), (7, 7)],
+        Answer::Value(Some(7)),
+        &[(1, 5), (7, 7)],
+    ),
+    (
+        Change::Replace(9),
+        &[(1, 5), (7, 7)],
+        Answer::Value(None),
+        &[(1, 5), (7, 7), (9, 9)],
+    ),
+    (
+        Change::Replace(i32::MAX),
+        &[],
+        Answer::Value(None),
+        &[(i32::MAX, i32::MAX)],
+    ),
+];
+
 #[test]
 fn an_insertion_tells_what_was_new(rt: HostRuntime) {
-    let rows: [(Change, Table<'_>, Answer, Table<'_>); 8] = [
-        (
-            Change::RangesInsert(4, 5),
-            &[(1, 3)],
-            Answer::Truth(true),
-            &[(1, 5)],
-        ),
-        (
-            Change::RangesInsert(4, 5),
-            &[(1, 5)],
-            Answer::Truth(false),
-            &[(1, 5)],
-        ),
-        (
-            Change::Insert(7),
-            &[(1, 5)],
-            Answer::Truth(true),
-            &[(1, 5), (7, 7)],
-        ),
-        (
-            Change::Insert(6),
-            &[(1, 5), (7, 7)],
-            Answer::Truth(true),
-            &[(1, 7)],
-        ),
-        (
-            Change::Insert(7),
-            &[(1, 5), (7, 7)],
-            Answer::Truth(false),
-            &[(1, 5), (7, 7)],
-        ),
-        (
-            Change::Replace(7),
-            &[(1, 5), (7, 7)],
-            Answer::Value(Some(7)),
-            &[(1, 5), (7, 7)],
-        ),
-        (
-            Change::Replace(9),
-            &[(1, 5), (7, 7)],
-            Answer::Value(None),
-            &[(1, 5), (7, 7), (9, 9)],
-        ),
-        (
-            Change::Replace(i32::MAX),
-            &[],
-            Answer::Value(None),
-            &[(i32::MAX, i32::MAX)],
-        ),
-    ];
-    for (call, before, answer, after) in &rows {
+    for (call, before, answer, after) in &TOLD {
         assert!(rt;
             changes(rt.alloc(), *call, (before, &[]), *answer, (after, &[])) == Ok(true),
             "{call:?} into {before:?}"
@@ -93,10 +97,12 @@ fn an_insertion_tells_what_was_new(rt: HostRuntime) {
     }
 }
 
+/// Sets that a reversed range is put in.
+static WITH_BOUNDS_REVERSED: [Table<'static>; 3] = [&[(1, 1)], &[], &[(i32::MIN, i32::MAX)]];
+
 #[test]
 fn a_reversed_range_adds_nothing(rt: HostRuntime) {
-    let rows: [Table<'_>; 3] = [&[(1, 1)], &[], &[(i32::MIN, i32::MAX)]];
-    for set in &rows {
+    for set in &WITH_BOUNDS_REVERSED {
         let call = Change::RangesInsert(5, 3);
         let answer = changes(
             rt.alloc(),
@@ -129,47 +135,49 @@ fn adds(
     Ok(set.ranges_insert(bounds)? == is_new && has(&set, after))
 }
 
+/// A start and an end, the set before, whether something was new, and the set after.
+static BOUNDED: [(Bound<i32>, Bound<i32>, Table<'static>, bool, Table<'static>); 6] = [
+    (
+        Bound::Unbounded,
+        Bound::Unbounded,
+        &[],
+        true,
+        &[(i32::MIN, i32::MAX)],
+    ),
+    (
+        Bound::Unbounded,
+        Bound::Unbounded,
+        &[(6, 7)],
+        true,
+        &[(i32::MIN, i32::MAX)],
+    ),
+    (Bound::Excluded(5), Bound::Excluded(8), &[], true, &[(6, 7)]),
+    (
+        Bound::Included(5),
+        Bound::Included(3),
+        &[(6, 7)],
+        false,
+        &[(6, 7)],
+    ),
+    (
+        Bound::Excluded(i32::MAX),
+        Bound::Unbounded,
+        &[(6, 7)],
+        false,
+        &[(6, 7)],
+    ),
+    (
+        Bound::Unbounded,
+        Bound::Excluded(i32::MIN),
+        &[(6, 7)],
+        false,
+        &[(6, 7)],
+    ),
+];
+
 #[test]
 fn bounds_may_be_open_or_excluded(rt: HostRuntime) {
-    let rows: [(Bound<i32>, Bound<i32>, Table<'_>, bool, Table<'_>); 6] = [
-        (
-            Bound::Unbounded,
-            Bound::Unbounded,
-            &[],
-            true,
-            &[(i32::MIN, i32::MAX)],
-        ),
-        (
-            Bound::Unbounded,
-            Bound::Unbounded,
-            &[(6, 7)],
-            true,
-            &[(i32::MIN, i32::MAX)],
-        ),
-        (Bound::Excluded(5), Bound::Excluded(8), &[], true, &[(6, 7)]),
-        (
-            Bound::Included(5),
-            Bound::Included(3),
-            &[(6, 7)],
-            false,
-            &[(6, 7)],
-        ),
-        (
-            Bound::Excluded(i32::MAX),
-            Bound::Unbounded,
-            &[(6, 7)],
-            false,
-            &[(6, 7)],
-        ),
-        (
-            Bound::Unbounded,
-            Bound::Excluded(i32::MIN),
-            &[(6, 7)],
-            false,
-            &[(6, 7)],
-        ),
-    ];
-    for (start, end, before, is_new, after) in &rows {
+    for (start, end, before, is_new, after) in &BOUNDED {
         assert!(rt;
             adds(rt.alloc(), (*start, *end), before, *is_new, after) == Ok(true),
             "{start:?} to {end:?} into {before:?}"

@@ -82,7 +82,7 @@ fn first_wrong(alloc: Global, first: i32) -> Result<Option<(u16, Change)>, Alloc
 fn thousands_of_changes_leave_what_cells_tell(rt: HostRuntime) -> Result<(), Fail> {
     for first in [i32::MIN, -100, i32::MAX - 255] {
         let wrong = first_wrong(rt.alloc(), first)?;
-        assert!(rt; wrong == None, "{wrong:?}, from {first} on");
+        assert!(rt; wrong.is_none(), "{wrong:?}, from {first} on");
     }
     Ok(())
 }

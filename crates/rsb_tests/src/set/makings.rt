@@ -6,63 +6,73 @@ use crate::tables::set_of;
 use range_set_blaze::{DrawDisjoint, IntoRangeSetBlaze, RangeSetBlaze, UIntPlusOne};
 use std::test::*;
 
+/// Two runs.
+const TWO: Table<'static> = &[(1, 2), (5, 100)];
+
+/// All but 0.
+const ENDS: Table<'static> = &[(i32::MIN, -1), (1, i32::MAX)];
+
+/// Every value.
+const UNIVERSE: Table<'static> = &[(i32::MIN, i32::MAX)];
+
+/// A making of {1..=2, 5..=100} and {2..=6}, and what it makes.
+static OF_TWO: [(Making, Table<'static>); 4] = [
+    (Making::Bitand, &[(2, 2), (5, 6)]),
+    (Making::Sub, &[(1, 1), (7, 100)]),
+    (Making::Bitxor, &[(1, 1), (3, 4), (7, 100)]),
+    (Making::Not, &[(-2147483648, 0), (3, 4), (101, 2147483647)]),
+];
+
 #[test]
 fn two_sets_are_met_told_apart_and_turned(rt: HostRuntime) {
-    let rows: [(Making, Table<'_>); 4] = [
-        (Making::Bitand, &[(2, 2), (5, 6)]),
-        (Making::Sub, &[(1, 1), (7, 100)]),
-        (Making::Bitxor, &[(1, 1), (3, 4), (7, 100)]),
-        (Making::Not, &[(-2147483648, 0), (3, 4), (101, 2147483647)]),
-    ];
-    for (making, wanted) in &rows {
+    for (making, wanted) in &OF_TWO {
         let answer = makes_of_two(rt.alloc(), *making, &[(1, 2), (5, 100)], &[(2, 6)], wanted);
         assert!(rt; answer == Ok(true), "{making:?}");
     }
 }
 
+/// A making, the two sets that it is given, and what it makes.
+static MADE: [(Making, Table<'static>, Table<'static>, Table<'static>); 20] = [
+    (Making::Clone, TWO, &[], TWO),
+    (Making::Bitor, TWO, &[(2, 6)], &[(1, 100)]),
+    (Making::FromIter, TWO, &[(2, 6)], &[(1, 100)]),
+    (
+        Making::FromIterValues(1, 10),
+        &[],
+        &[],
+        &[(1, 1), (5, 5), (9, 9)],
+    ),
+    (
+        Making::FromArray,
+        &[],
+        &[],
+        &[(1, 1), (4, 4), (7, 7), (9, 9)],
+    ),
+    (Making::FromSortedDisjoint, TWO, &[], TWO),
+    (Making::IntoRangeSetBlaze, TWO, &[], TWO),
+    (Making::From(3, 7), &[], &[], &[(3, 7)]),
+    (Making::From(7, 3), &[], &[], &[]),
+    (
+        Making::From(i32::MAX, i32::MAX),
+        &[],
+        &[],
+        &[(i32::MAX, i32::MAX)],
+    ),
+    (Making::Universe, &[], &[], UNIVERSE),
+    (Making::Bitor, ENDS, &[(0, 0)], UNIVERSE),
+    (Making::Bitand, ENDS, UNIVERSE, ENDS),
+    (Making::Sub, UNIVERSE, ENDS, &[(0, 0)]),
+    (Making::Bitxor, UNIVERSE, ENDS, &[(0, 0)]),
+    (Making::Not, ENDS, &[], &[(0, 0)]),
+    (Making::Not, UNIVERSE, &[], &[]),
+    (Making::Not, &[], &[], UNIVERSE),
+    (Making::FromIter, ENDS, &[(0, 0)], UNIVERSE),
+    (Making::Clone, ENDS, &[], ENDS),
+];
+
 #[test]
 fn sets_streams_and_items_make_sets(rt: HostRuntime) {
-    let two: Table<'_> = &[(1, 2), (5, 100)];
-    let ends: Table<'_> = &[(i32::MIN, -1), (1, i32::MAX)];
-    let universe: Table<'_> = &[(i32::MIN, i32::MAX)];
-    let rows: [(Making, Table<'_>, Table<'_>, Table<'_>); 20] = [
-        (Making::Clone, two, &[], two),
-        (Making::Bitor, two, &[(2, 6)], &[(1, 100)]),
-        (Making::FromIter, two, &[(2, 6)], &[(1, 100)]),
-        (
-            Making::FromIterValues(1, 10),
-            &[],
-            &[],
-            &[(1, 1), (5, 5), (9, 9)],
-        ),
-        (
-            Making::FromArray,
-            &[],
-            &[],
-            &[(1, 1), (4, 4), (7, 7), (9, 9)],
-        ),
-        (Making::FromSortedDisjoint, two, &[], two),
-        (Making::IntoRangeSetBlaze, two, &[], two),
-        (Making::From(3, 7), &[], &[], &[(3, 7)]),
-        (Making::From(7, 3), &[], &[], &[]),
-        (
-            Making::From(i32::MAX, i32::MAX),
-            &[],
-            &[],
-            &[(i32::MAX, i32::MAX)],
-        ),
-        (Making::Universe, &[], &[], universe),
-        (Making::Bitor, ends, &[(0, 0)], universe),
-        (Making::Bitand, ends, universe, ends),
-        (Making::Sub, universe, ends, &[(0, 0)]),
-        (Making::Bitxor, universe, ends, &[(0, 0)]),
-        (Making::Not, ends, &[], &[(0, 0)]),
-        (Making::Not, universe, &[], &[]),
-        (Making::Not, &[], &[], universe),
-        (Making::FromIter, ends, &[(0, 0)], universe),
-        (Making::Clone, ends, &[], ends),
-    ];
-    for (making, left, right, wanted) in &rows {
+    for (making, left, right, wanted) in &MADE {
         let answer = makes_of_two(rt.alloc(), *making, left, right, wanted);
         assert!(rt; answer == Ok(true), "{making:?} of {left:?} and {right:?}");
     }

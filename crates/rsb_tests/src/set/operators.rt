@@ -7,7 +7,7 @@ use rsb_integer::Integer;
 use std::test::*;
 
 /// An operator on two sets; `Not` is one on the first.
-#[derive(Clone, Copy, Debug, PartialEq)]
+#[derive(Clone, Copy, Debug)]
 enum Operator {
     Or,
     And,
@@ -66,33 +66,35 @@ const SHORT: Table<'static> = &[(2, 6)];
 
 const ALL: Table<'static> = &[(i32::MIN, i32::MAX)];
 
+/// Two sets, an operator, and what it makes of their runs.
+static OPERATED: [(Table<'static>, Table<'static>, Operator, Table<'static>); 22] = [
+    (ONE, OTHER, Or, &[(1, 4), (7, 20)]),
+    (ONE, OTHER, And, &[(9, 10)]),
+    (ONE, OTHER, Sub, &[(1, 3), (7, 8)]),
+    (ONE, OTHER, Xor, &[(1, 4), (7, 8), (11, 20)]),
+    (ONE, OTHER, Not, &[(LEAST, 0), (4, 6), (11, MOST)]),
+    (OTHER, ALL, Or, ALL),
+    (OTHER, ALL, And, &[(4, 4), (9, 20)]),
+    (OTHER, ALL, Sub, &[]),
+    (OTHER, ALL, Xor, &[(LEAST, 3), (5, 8), (21, MOST)]),
+    (OTHER, ALL, Not, &[(LEAST, 3), (5, 8), (21, MOST)]),
+    (LONG, SHORT, Or, &[(1, 100)]),
+    (LONG, SHORT, And, &[(2, 2), (5, 6)]),
+    (LONG, SHORT, Sub, &[(1, 1), (7, 100)]),
+    (LONG, SHORT, Xor, &[(1, 1), (3, 4), (7, 100)]),
+    (LONG, SHORT, Not, &[(LEAST, 0), (3, 4), (101, MOST)]),
+    (&[], ALL, Or, ALL),
+    (&[], ALL, And, &[]),
+    (&[], ALL, Sub, &[]),
+    (&[], ALL, Xor, ALL),
+    (&[], ALL, Not, ALL),
+    (ALL, &[], Sub, ALL),
+    (ALL, &[], Not, &[]),
+];
+
 #[test]
 fn runs_make_others_whoever_owns_them(rt: HostRuntime) -> Result<(), Fail> {
-    let rows: [(Table<'_>, Table<'_>, Operator, Table<'_>); 22] = [
-        (ONE, OTHER, Or, &[(1, 4), (7, 20)]),
-        (ONE, OTHER, And, &[(9, 10)]),
-        (ONE, OTHER, Sub, &[(1, 3), (7, 8)]),
-        (ONE, OTHER, Xor, &[(1, 4), (7, 8), (11, 20)]),
-        (ONE, OTHER, Not, &[(LEAST, 0), (4, 6), (11, MOST)]),
-        (OTHER, ALL, Or, ALL),
-        (OTHER, ALL, And, &[(4, 4), (9, 20)]),
-        (OTHER, ALL, Sub, &[]),
-        (OTHER, ALL, Xor, &[(LEAST, 3), (5, 8), (21, MOST)]),
-        (OTHER, ALL, Not, &[(LEAST, 3), (5, 8), (21, MOST)]),
-        (LONG, SHORT, Or, &[(1, 100)]),
-        (LONG, SHORT, And, &[(2, 2), (5, 6)]),
-        (LONG, SHORT, Sub, &[(1, 1), (7, 100)]),
-        (LONG, SHORT, Xor, &[(1, 1), (3, 4), (7, 100)]),
-        (LONG, SHORT, Not, &[(LEAST, 0), (3, 4), (101, MOST)]),
-        (&[], ALL, Or, ALL),
-        (&[], ALL, And, &[]),
-        (&[], ALL, Sub, &[]),
-        (&[], ALL, Xor, ALL),
-        (&[], ALL, Not, ALL),
-        (ALL, &[], Sub, ALL),
-        (ALL, &[], Not, &[]),
-    ];
-    for (left, right, operator, wanted) in &rows {
+    for (left, right, operator, wanted) in &OPERATED {
         let (one, other) = (set_of(rt.alloc(), left)?, set_of(rt.alloc(), right)?);
         let found = make(*operator, &one, &other, wanted);
         assert!(rt; found, "{operator:?} of {left:?}");

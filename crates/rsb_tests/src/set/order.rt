@@ -27,26 +27,28 @@ fn stand(one: &RangeSetBlaze<i32>, other: &RangeSetBlaze<i32>, order: Ordering) 
         && is_equal_both_ways(one, other)
 }
 
+/// Two sets, their order, and the turns that tell it.
+static ORDERED: [(Table<'static>, Table<'static>, Ordering, u128); 10] = [
+    (&[(1, 3)], &[(1, 2), (5, 5)], Less, 2),
+    (&[(1, 2), (5, 5)], &[(1, 3)], Greater, 2),
+    (&[(1, 2)], &[(1, 3)], Less, 2),
+    (&[(1, 3), (5, 7)], &[(2, 2)], Less, 1),
+    (&[], &[], Equal, 1),
+    (&[], &[(7, 7)], Less, 1),
+    (&[(1, 2), (4, 5)], &[(1, 2), (4, 5)], Equal, 3),
+    (
+        &[(1, 2), (4, 5)],
+        &[(4, 4), (1, 1), (5, 5), (2, 2)],
+        Equal,
+        3,
+    ),
+    (&[(1, 2), (4, 5)], &[(1, 2)], Greater, 2),
+    (&[(1, 2), (4, 5)], &[(1, 2), (4, 6)], Less, 3),
+];
+
 #[test]
 fn sets_are_ordered_in_so_many_turns(rt: HostRuntime) -> Result<(), Fail> {
-    let rows: [(Table<'_>, Table<'_>, Ordering, u128); 10] = [
-        (&[(1, 3)], &[(1, 2), (5, 5)], Less, 2),
-        (&[(1, 2), (5, 5)], &[(1, 3)], Greater, 2),
-        (&[(1, 2)], &[(1, 3)], Less, 2),
-        (&[(1, 3), (5, 7)], &[(2, 2)], Less, 1),
-        (&[], &[], Equal, 1),
-        (&[], &[(7, 7)], Less, 1),
-        (&[(1, 2), (4, 5)], &[(1, 2), (4, 5)], Equal, 3),
-        (
-            &[(1, 2), (4, 5)],
-            &[(4, 4), (1, 1), (5, 5), (2, 2)],
-            Equal,
-            3,
-        ),
-        (&[(1, 2), (4, 5)], &[(1, 2)], Greater, 2),
-        (&[(1, 2), (4, 5)], &[(1, 2), (4, 6)], Less, 3),
-    ];
-    for (left, right, order, turns) in &rows {
+    for (left, right, order, turns) in &ORDERED {
         let (one, other) = (set_of(rt.alloc(), left)?, set_of(rt.alloc(), right)?);
         assert!(rt;
             cmp_counted(&one, &other) == (*order, *turns),

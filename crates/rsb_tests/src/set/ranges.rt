@@ -55,36 +55,38 @@ fn owned_come(set: RangeSetBlaze<i32>, steps: Steps<'_>) -> bool {
     ranges.len() == left
 }
 
+/// A set, and which of its runs come from either end in turn.
+static FROM_BOTH_ENDS: [(Table<'static>, Steps<'static>); 5] = [
+    (&[], &[(Front, None), (Back, None)]),
+    (
+        &[(1, 2), (5, 5), (9, 12)],
+        &[
+            (Back, Some((9, 12))),
+            (Front, Some((1, 2))),
+            (Front, Some((5, 5))),
+            (Back, None),
+            (Front, None),
+        ],
+    ),
+    (
+        &[(1, 2), (5, 5), (9, 12)],
+        &[
+            (Back, Some((9, 12))),
+            (Back, Some((5, 5))),
+            (Back, Some((1, 2))),
+            (Back, None),
+        ],
+    ),
+    (&[(1, 2), (5, 5), (9, 12)], &[(Front, Some((1, 2)))]),
+    (
+        &[(i32::MIN, i32::MAX)],
+        &[(Back, Some((i32::MIN, i32::MAX))), (Front, None)],
+    ),
+];
+
 #[test]
 fn ranges_come_from_both_ends(rt: HostRuntime) -> Result<(), Fail> {
-    let rows: [(Table<'_>, Steps<'_>); 5] = [
-        (&[], &[(Front, None), (Back, None)]),
-        (
-            &[(1, 2), (5, 5), (9, 12)],
-            &[
-                (Back, Some((9, 12))),
-                (Front, Some((1, 2))),
-                (Front, Some((5, 5))),
-                (Back, None),
-                (Front, None),
-            ],
-        ),
-        (
-            &[(1, 2), (5, 5), (9, 12)],
-            &[
-                (Back, Some((9, 12))),
-                (Back, Some((5, 5))),
-                (Back, Some((1, 2))),
-                (Back, None),
-            ],
-        ),
-        (&[(1, 2), (5, 5), (9, 12)], &[(Front, Some((1, 2)))]),
-        (
-            &[(i32::MIN, i32::MAX)],
-            &[(Back, Some((i32::MIN, i32::MAX))), (Front, None)],
-        ),
-    ];
-    for (ranges, steps) in &rows {
+    for (ranges, steps) in &FROM_BOTH_ENDS {
         let set = set_of(rt.alloc(), ranges)?;
         assert!(rt; come(&set, steps), "{steps:?} of {ranges:?}");
         assert!(rt; owned_come(set, steps), "owned {steps:?} of {ranges:?}");

@@ -49,7 +49,7 @@ fn refusals<'a>(
         if change.adds() {
             mark_front(change, set, cells);
         }
-        if change == Change::BitorAssignOwned {
+        if matches!(change, Change::BitorAssignOwned) {
             other = set_in(heap, &others)?;
         }
         if !agree(alloc, set, &other, cells)? {
@@ -84,43 +84,45 @@ fn is_refused(
     Ok((heap.free() == free).then_some(is_refused))
 }
 
+/// A change, at how many places, and at which numbers of runs it wants memory at one of them.
+static REFUSED_CHANGES: [(Change, i32, [bool; 5]); 13] = [
+    (Change::Insert(6), 101, [true, true, true, true, true]),
+    (Change::Replace(6), 101, [true, true, true, true, true]),
+    (
+        Change::RangesInsert(4, 6),
+        101,
+        [true, true, true, true, true],
+    ),
+    (
+        Change::RangesInsert(-8, 815),
+        1,
+        [true, false, false, true, false],
+    ),
+    (Change::Remove(1), 101, [false, false, false, true, true]),
+    (Change::Take(1), 101, [false, false, false, true, true]),
+    (Change::PopFirst, 301, [false, false, false, true, true]),
+    (Change::PopLast, 301, [false, false, false, false, false]),
+    (Change::SplitOff(1), 101, [false, true, true, true, true]),
+    (Change::Retain(2, 1), 1, [false, true, true, true, true]),
+    (
+        Change::RangesRetain(16, 0),
+        1,
+        [false, false, false, false, false],
+    ),
+    (Change::Clear, 1, [false, false, false, false, false]),
+    (
+        Change::ExtendValues(4, 800),
+        1,
+        [true, true, true, true, true],
+    ),
+];
+
 // Which sets of 0, 1, 3, 15 and 100 runs have no room for a change at the places from the last to
 // the first: a leaf has room for fifteen runs, so at one run and at three no removal wants more.
 #[test]
 fn each_growth_of_a_change_is_refused_in_turn(rt: HostRuntime) {
     let counts = [0, 1, 3, 15, 100];
-    let rows: [(Change, i32, [bool; 5]); 13] = [
-        (Change::Insert(6), 101, [true, true, true, true, true]),
-        (Change::Replace(6), 101, [true, true, true, true, true]),
-        (
-            Change::RangesInsert(4, 6),
-            101,
-            [true, true, true, true, true],
-        ),
-        (
-            Change::RangesInsert(-8, 815),
-            1,
-            [true, false, false, true, false],
-        ),
-        (Change::Remove(1), 101, [false, false, false, true, true]),
-        (Change::Take(1), 101, [false, false, false, true, true]),
-        (Change::PopFirst, 301, [false, false, false, true, true]),
-        (Change::PopLast, 301, [false, false, false, false, false]),
-        (Change::SplitOff(1), 101, [false, true, true, true, true]),
-        (Change::Retain(2, 1), 1, [false, true, true, true, true]),
-        (
-            Change::RangesRetain(16, 0),
-            1,
-            [false, false, false, false, false],
-        ),
-        (Change::Clear, 1, [false, false, false, false, false]),
-        (
-            Change::ExtendValues(4, 800),
-            1,
-            [true, true, true, true, true],
-        ),
-    ];
-    for (change, places, wanted) in &rows {
+    for (change, places, wanted) in &REFUSED_CHANGES {
         for place in 0..5usize {
             let (count, wanted) = (counts[place], wanted[place]);
             let refused = is_refused(rt.alloc(), *change, *places, count, 0);
@@ -132,6 +134,26 @@ fn each_growth_of_a_change_is_refused_in_turn(rt: HostRuntime) {
     }
 }
 
+/// How many runs a set has, how many are added, and by which calls memory is wanted.
+static REFUSED_ADDITIONS: [(i32, i32, [bool; 4]); 16] = [
+    (0, 0, [false, false, false, false]),
+    (1, 0, [false, false, false, false]),
+    (100, 0, [false, false, false, false]),
+    (0, 1, [true, true, true, false]),
+    (1, 1, [false, false, false, false]),
+    (3, 1, [false, false, false, false]),
+    (100, 1, [false, false, false, false]),
+    (0, 3, [true, true, true, false]),
+    (1, 3, [false, false, false, false]),
+    (3, 3, [false, true, true, true]),
+    (15, 3, [true, true, true, true]),
+    (100, 3, [false, false, false, false]),
+    (0, 100, [true, true, true, false]),
+    (1, 100, [true, true, true, false]),
+    (3, 100, [true, true, true, false]),
+    (100, 100, [true, true, true, true]),
+];
+
 // Which additions of so many runs to a set of so many want memory: in place where these are few, in
 // a new set else; and none at all of a set given up that has more runs than there are to be added.
 #[test]
@@ -142,25 +164,7 @@ fn each_growth_of_an_addition_is_refused_in_turn(rt: HostRuntime) {
         Change::BitorAssign,
         Change::BitorAssignOwned,
     ];
-    let rows: [(i32, i32, [bool; 4]); 16] = [
-        (0, 0, [false, false, false, false]),
-        (1, 0, [false, false, false, false]),
-        (100, 0, [false, false, false, false]),
-        (0, 1, [true, true, true, false]),
-        (1, 1, [false, false, false, false]),
-        (3, 1, [false, false, false, false]),
-        (100, 1, [false, false, false, false]),
-        (0, 3, [true, true, true, false]),
-        (1, 3, [false, false, false, false]),
-        (3, 3, [false, true, true, true]),
-        (15, 3, [true, true, true, true]),
-        (100, 3, [false, false, false, false]),
-        (0, 100, [true, true, true, false]),
-        (1, 100, [true, true, true, false]),
-        (3, 100, [true, true, true, false]),
-        (100, 100, [true, true, true, true]),
-    ];
-    for (count, others, wanted) in &rows {
+    for (count, others, wanted) in &REFUSED_ADDITIONS {
         for place in 0..4usize {
             let (call, wanted) = (calls[place], wanted[place]);
             let refused = is_refused(rt.alloc(), call, 1, *count, *others);

@@ -5,102 +5,103 @@ use crate::set::rows::{Table, changes};
 use range_set_blaze::RangeSetBlaze;
 use std::test::*;
 
-// A call and what it answers on the set of a table, which it makes that of another.
-type Row<'a> = (Change, Table<'a>, Answer, Table<'a>);
+/// Two runs.
+const TWO: Table<'static> = &[(1, 5), (9, 9)];
+
+/// A removal, the set before, what it answers, and the set after.
+static REMOVED: [(Change, Table<'static>, Answer, Table<'static>); 22] = [
+    (
+        Change::Remove(3),
+        TWO,
+        Answer::Truth(true),
+        &[(1, 2), (4, 5), (9, 9)],
+    ),
+    (
+        Change::Remove(5),
+        TWO,
+        Answer::Truth(true),
+        &[(1, 4), (9, 9)],
+    ),
+    (
+        Change::Remove(1),
+        TWO,
+        Answer::Truth(true),
+        &[(2, 5), (9, 9)],
+    ),
+    (Change::Remove(9), TWO, Answer::Truth(true), &[(1, 5)]),
+    (Change::Remove(7), TWO, Answer::Truth(false), TWO),
+    (Change::Remove(1), &[], Answer::Truth(false), &[]),
+    (
+        Change::Take(3),
+        TWO,
+        Answer::Value(Some(3)),
+        &[(1, 2), (4, 5), (9, 9)],
+    ),
+    (
+        Change::Take(5),
+        TWO,
+        Answer::Value(Some(5)),
+        &[(1, 4), (9, 9)],
+    ),
+    (
+        Change::Take(1),
+        TWO,
+        Answer::Value(Some(1)),
+        &[(2, 5), (9, 9)],
+    ),
+    (Change::Take(9), TWO, Answer::Value(Some(9)), &[(1, 5)]),
+    (Change::Take(7), TWO, Answer::Value(None), TWO),
+    (
+        Change::Take(2),
+        &[(1, 5)],
+        Answer::Value(Some(2)),
+        &[(1, 1), (3, 5)],
+    ),
+    (
+        Change::Remove(3),
+        &[(1, 2), (4, 5)],
+        Answer::Truth(false),
+        &[(1, 2), (4, 5)],
+    ),
+    (
+        Change::Take(3),
+        &[(1, 2), (4, 5)],
+        Answer::Value(None),
+        &[(1, 2), (4, 5)],
+    ),
+    (
+        Change::PopFirst,
+        &[(1, 2), (7, 7)],
+        Answer::Value(Some(1)),
+        &[(2, 2), (7, 7)],
+    ),
+    (
+        Change::PopFirst,
+        &[(2, 2), (7, 7)],
+        Answer::Value(Some(2)),
+        &[(7, 7)],
+    ),
+    (Change::PopFirst, &[(7, 7)], Answer::Value(Some(7)), &[]),
+    (Change::PopFirst, &[], Answer::Value(None), &[]),
+    (
+        Change::PopLast,
+        &[(1, 1), (6, 7)],
+        Answer::Value(Some(7)),
+        &[(1, 1), (6, 6)],
+    ),
+    (
+        Change::PopLast,
+        &[(1, 1), (6, 6)],
+        Answer::Value(Some(6)),
+        &[(1, 1)],
+    ),
+    (Change::PopLast, &[(1, 1)], Answer::Value(Some(1)), &[]),
+    (Change::PopLast, &[], Answer::Value(None), &[]),
+];
 
 #[test]
 fn removals_and_pops_tell_what_was_a_member(rt: HostRuntime) {
-    let two: Table<'_> = &[(1, 5), (9, 9)];
-    let rows: [Row<'_>; 22] = [
-        (
-            Change::Remove(3),
-            two,
-            Answer::Truth(true),
-            &[(1, 2), (4, 5), (9, 9)],
-        ),
-        (
-            Change::Remove(5),
-            two,
-            Answer::Truth(true),
-            &[(1, 4), (9, 9)],
-        ),
-        (
-            Change::Remove(1),
-            two,
-            Answer::Truth(true),
-            &[(2, 5), (9, 9)],
-        ),
-        (Change::Remove(9), two, Answer::Truth(true), &[(1, 5)]),
-        (Change::Remove(7), two, Answer::Truth(false), two),
-        (Change::Remove(1), &[], Answer::Truth(false), &[]),
-        (
-            Change::Take(3),
-            two,
-            Answer::Value(Some(3)),
-            &[(1, 2), (4, 5), (9, 9)],
-        ),
-        (
-            Change::Take(5),
-            two,
-            Answer::Value(Some(5)),
-            &[(1, 4), (9, 9)],
-        ),
-        (
-            Change::Take(1),
-            two,
-            Answer::Value(Some(1)),
-            &[(2, 5), (9, 9)],
-        ),
-        (Change::Take(9), two, Answer::Value(Some(9)), &[(1, 5)]),
-        (Change::Take(7), two, Answer::Value(None), two),
-        (
-            Change::Take(2),
-            &[(1, 5)],
-            Answer::Value(Some(2)),
-            &[(1, 1), (3, 5)],
-        ),
-        (
-            Change::Remove(3),
-            &[(1, 2), (4, 5)],
-            Answer::Truth(false),
-            &[(1, 2), (4, 5)],
-        ),
-        (
-            Change::Take(3),
-            &[(1, 2), (4, 5)],
-            Answer::Value(None),
-            &[(1, 2), (4, 5)],
-        ),
-        (
-            Change::PopFirst,
-            &[(1, 2), (7, 7)],
-            Answer::Value(Some(1)),
-            &[(2, 2), (7, 7)],
-        ),
-        (
-            Change::PopFirst,
-            &[(2, 2), (7, 7)],
-            Answer::Value(Some(2)),
-            &[(7, 7)],
-        ),
-        (Change::PopFirst, &[(7, 7)], Answer::Value(Some(7)), &[]),
-        (Change::PopFirst, &[], Answer::Value(None), &[]),
-        (
-            Change::PopLast,
-            &[(1, 1), (6, 7)],
-            Answer::Value(Some(7)),
-            &[(1, 1), (6, 6)],
-        ),
-        (
-            Change::PopLast,
-            &[(1, 1), (6, 6)],
-            Answer::Value(Some(6)),
-            &[(1, 1)],
-        ),
-        (Change::PopLast, &[(1, 1)], Answer::Value(Some(1)), &[]),
-        (Change::PopLast, &[], Answer::Value(None), &[]),
-    ];
-    for (call, before, answer, after) in &rows {
+    for (call, before, answer, after) in &REMOVED {
         assert!(rt;
             changes(rt.alloc(), *call, (before, &[]), *answer, (after, &[])) == Ok(true),
             "{call:?} of {before:?}"
@@ -108,10 +109,12 @@ fn removals_and_pops_tell_what_was_a_member(rt: HostRuntime) {
     }
 }
 
+/// A value taken out of {1..=5}, and what is left.
+static CUT: [(i32, Table<'static>); 2] = [(1, &[(2, 5)]), (3, &[(1, 2), (4, 5)])];
+
 #[test]
 fn a_removal_shortens_or_cuts_the_run(rt: HostRuntime) {
-    let rows: [(i32, Table<'_>); 2] = [(1, &[(2, 5)]), (3, &[(1, 2), (4, 5)])];
-    for (value, after) in &rows {
+    for (value, after) in &CUT {
         let call = Change::Remove(*value);
         let answer = Answer::Truth(true);
         assert!(rt;

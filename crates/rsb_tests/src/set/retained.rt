@@ -6,37 +6,45 @@ use crate::tables::set_of;
 use range_set_blaze::RangeSetBlaze;
 use std::test::*;
 
+/// Runs of nineteen members.
+const SOME: Table<'static> = &[(1, 9), (11, 14), (20, 24), (30, 30)];
+
+/// Three runs.
+const THREE: Table<'static> = &[(1, 3), (7, 7), (9, 10)];
+
+/// Every value.
+const UNIVERSE: Table<'static> = &[(i32::MIN, i32::MAX)];
+
+/// A test, the set before, how often it asks, and the set after.
+static RETAINED: [(Change, Table<'static>, u64, Table<'static>); 12] = [
+    (
+        Change::Retain(5, 0),
+        SOME,
+        19,
+        &[(1, 4), (6, 9), (11, 14), (21, 24)],
+    ),
+    (Change::Retain(1, 1), SOME, 19, SOME),
+    (Change::Retain(1, 0), SOME, 19, &[]),
+    (Change::Retain(1, 1), &[], 0, &[]),
+    (Change::Retain(1, 0), &[], 0, &[]),
+    (
+        Change::Retain(3, 1),
+        &[(i32::MIN, i32::MIN + 3)],
+        4,
+        &[(i32::MIN + 1, i32::MIN + 2)],
+    ),
+    (Change::RangesRetain(7, 0), THREE, 3, &[(1, 3), (9, 10)]),
+    (Change::RangesRetain(1, 1), THREE, 3, THREE),
+    (Change::RangesRetain(1, 0), THREE, 3, &[]),
+    (Change::RangesRetain(1, 1), &[], 0, &[]),
+    (Change::RangesRetain(1, 1), UNIVERSE, 1, UNIVERSE),
+    (Change::RangesRetain(1, 0), UNIVERSE, 1, &[]),
+];
+
 // A divisor of 1 leaves the rest 0 alone, so the rest 0 is every value, and 1 is none.
 #[test]
 fn values_and_runs_are_kept_by_a_test(rt: HostRuntime) {
-    let some: Table<'_> = &[(1, 9), (11, 14), (20, 24), (30, 30)];
-    let three: Table<'_> = &[(1, 3), (7, 7), (9, 10)];
-    let universe: Table<'_> = &[(i32::MIN, i32::MAX)];
-    let rows: [(Change, Table<'_>, u64, Table<'_>); 12] = [
-        (
-            Change::Retain(5, 0),
-            some,
-            19,
-            &[(1, 4), (6, 9), (11, 14), (21, 24)],
-        ),
-        (Change::Retain(1, 1), some, 19, some),
-        (Change::Retain(1, 0), some, 19, &[]),
-        (Change::Retain(1, 1), &[], 0, &[]),
-        (Change::Retain(1, 0), &[], 0, &[]),
-        (
-            Change::Retain(3, 1),
-            &[(i32::MIN, i32::MIN + 3)],
-            4,
-            &[(i32::MIN + 1, i32::MIN + 2)],
-        ),
-        (Change::RangesRetain(7, 0), three, 3, &[(1, 3), (9, 10)]),
-        (Change::RangesRetain(1, 1), three, 3, three),
-        (Change::RangesRetain(1, 0), three, 3, &[]),
-        (Change::RangesRetain(1, 1), &[], 0, &[]),
-        (Change::RangesRetain(1, 1), universe, 1, universe),
-        (Change::RangesRetain(1, 0), universe, 1, &[]),
-    ];
-    for (call, before, asked, after) in &rows {
+    for (call, before, asked, after) in &RETAINED {
         let answer = changes(
             rt.alloc(),
             *call,

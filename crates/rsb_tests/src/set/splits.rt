@@ -5,28 +5,36 @@ use crate::set::rows::{Table, changes, is_byte_run};
 use range_set_blaze::RangeSetBlaze;
 use std::test::*;
 
+/// One run.
+const ONE: Table<'static> = &[(1, 5)];
+
+/// Three runs.
+const THREE: Table<'static> = &[(1, 3), (17, 17), (41, 41)];
+
+/// Runs of sixteen members.
+const SIXTEEN: Table<'static> = &[(1, 5), (9, 9), (20, 29)];
+
+/// A set, the value that it is parted at, and its two parts.
+static PARTED: [(Table<'static>, i32, Table<'static>, Table<'static>); 13] = [
+    (ONE, 6, ONE, &[]),
+    (ONE, 5, &[(1, 4)], &[(5, 5)]),
+    (ONE, 1, &[], ONE),
+    (ONE, -7, &[], ONE),
+    (THREE, 3, &[(1, 2)], &[(3, 3), (17, 17), (41, 41)]),
+    (THREE, 4, &[(1, 3)], &[(17, 17), (41, 41)]),
+    (THREE, 17, &[(1, 3)], &[(17, 17), (41, 41)]),
+    (THREE, 18, &[(1, 3), (17, 17)], &[(41, 41)]),
+    (SIXTEEN, 4, &[(1, 3)], &[(4, 5), (9, 9), (20, 29)]),
+    (SIXTEEN, 25, &[(1, 5), (9, 9), (20, 24)], &[(25, 29)]),
+    (SIXTEEN, 0, &[], SIXTEEN),
+    (SIXTEEN, 30, SIXTEEN, &[]),
+    (&[], 0, &[], &[]),
+];
+
 // What is below a value stays, and what is not is parted off, whatever the other set was.
 #[test]
 fn a_set_is_parted_at_a_value(rt: HostRuntime) {
-    let one: Table<'_> = &[(1, 5)];
-    let three: Table<'_> = &[(1, 3), (17, 17), (41, 41)];
-    let sixteen: Table<'_> = &[(1, 5), (9, 9), (20, 29)];
-    let rows: [(Table<'_>, i32, Table<'_>, Table<'_>); 13] = [
-        (one, 6, one, &[]),
-        (one, 5, &[(1, 4)], &[(5, 5)]),
-        (one, 1, &[], one),
-        (one, -7, &[], one),
-        (three, 3, &[(1, 2)], &[(3, 3), (17, 17), (41, 41)]),
-        (three, 4, &[(1, 3)], &[(17, 17), (41, 41)]),
-        (three, 17, &[(1, 3)], &[(17, 17), (41, 41)]),
-        (three, 18, &[(1, 3), (17, 17)], &[(41, 41)]),
-        (sixteen, 4, &[(1, 3)], &[(4, 5), (9, 9), (20, 29)]),
-        (sixteen, 25, &[(1, 5), (9, 9), (20, 24)], &[(25, 29)]),
-        (sixteen, 0, &[], sixteen),
-        (sixteen, 30, sixteen, &[]),
-        (&[], 0, &[], &[]),
-    ];
-    for (before, key, low, high) in &rows {
+    for (before, key, low, high) in &PARTED {
         let call = Change::SplitOff(*key);
         let answer = changes(
             rt.alloc(),
@@ -39,10 +47,15 @@ fn a_set_is_parted_at_a_value(rt: HostRuntime) {
     }
 }
 
+/// A value that {1..=5} is parted at, and its two parts.
+static PARTED_RUN: [(i32, Table<'static>, Table<'static>); 2] = [
+    (3, &[(1, 2)], &[(3, 5)]),
+    (9, &[(1, 5)], &[]),
+];
+
 #[test]
 fn one_run_is_parted_inside_or_not_at_all(rt: HostRuntime) {
-    let rows: [(i32, Table<'_>, Table<'_>); 2] = [(3, &[(1, 2)], &[(3, 5)]), (9, &[(1, 5)], &[])];
-    for (key, low, high) in &rows {
+    for (key, low, high) in &PARTED_RUN {
         let call = Change::SplitOff(*key);
         let answer = changes(
             rt.alloc(),

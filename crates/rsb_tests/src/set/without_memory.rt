@@ -27,60 +27,64 @@ fn changes_in_full_heap(
     Ok(is_right)
 }
 
+/// Two runs.
+const TWO: Table<'static> = &[(1, 5), (7, 7)];
+
+/// A change, the set before, what it answers, and the set after.
+static TAKING_NONE: [(Change, Table<'static>, Answer, Table<'static>); 22] = [
+    (Change::Insert(6), TWO, Answer::Truth(true), &[(1, 7)]),
+    (Change::Insert(3), TWO, Answer::Truth(false), TWO),
+    (
+        Change::Replace(8),
+        TWO,
+        Answer::Value(None),
+        &[(1, 5), (7, 8)],
+    ),
+    (Change::Replace(7), TWO, Answer::Value(Some(7)), TWO),
+    (
+        Change::RangesInsert(6, 9),
+        TWO,
+        Answer::Truth(true),
+        &[(1, 9)],
+    ),
+    (Change::RangesInsert(7, 5), TWO, Answer::Truth(false), TWO),
+    (Change::RangesInsert(7, 5), &[], Answer::Truth(false), &[]),
+    (
+        Change::Remove(5),
+        TWO,
+        Answer::Truth(true),
+        &[(1, 4), (7, 7)],
+    ),
+    (Change::Take(7), TWO, Answer::Value(Some(7)), &[(1, 5)]),
+    (Change::Remove(6), TWO, Answer::Truth(false), TWO),
+    (Change::Take(9), TWO, Answer::Value(None), TWO),
+    (Change::PopLast, TWO, Answer::Value(Some(7)), &[(1, 5)]),
+    (
+        Change::PopLast,
+        &[(1, 5)],
+        Answer::Value(Some(5)),
+        &[(1, 4)],
+    ),
+    (Change::PopFirst, &[(7, 7)], Answer::Value(Some(7)), &[]),
+    (Change::PopFirst, &[], Answer::Value(None), &[]),
+    (
+        Change::SplitOff(11),
+        &[(0, 2), (8, 10)],
+        Answer::Nothing,
+        &[(0, 2), (8, 10)],
+    ),
+    (Change::SplitOff(0), &[], Answer::Nothing, &[]),
+    (Change::Retain(1, 1), &[], Answer::Asked(0), &[]),
+    (Change::RangesRetain(7, 0), TWO, Answer::Asked(2), &[(1, 5)]),
+    (Change::Clear, TWO, Answer::Nothing, &[]),
+    (Change::Append, TWO, Answer::Nothing, TWO),
+    (Change::BitorAssignOwned, TWO, Answer::Nothing, TWO),
+];
+
 // An insertion that a run reaches, a removal at the end of a run, and what finds nothing to do.
 #[test]
 fn some_changes_take_no_memory(rt: HostRuntime) {
-    let two: Table<'_> = &[(1, 5), (7, 7)];
-    let rows: [(Change, Table<'_>, Answer, Table<'_>); 22] = [
-        (Change::Insert(6), two, Answer::Truth(true), &[(1, 7)]),
-        (Change::Insert(3), two, Answer::Truth(false), two),
-        (
-            Change::Replace(8),
-            two,
-            Answer::Value(None),
-            &[(1, 5), (7, 8)],
-        ),
-        (Change::Replace(7), two, Answer::Value(Some(7)), two),
-        (
-            Change::RangesInsert(6, 9),
-            two,
-            Answer::Truth(true),
-            &[(1, 9)],
-        ),
-        (Change::RangesInsert(7, 5), two, Answer::Truth(false), two),
-        (Change::RangesInsert(7, 5), &[], Answer::Truth(false), &[]),
-        (
-            Change::Remove(5),
-            two,
-            Answer::Truth(true),
-            &[(1, 4), (7, 7)],
-        ),
-        (Change::Take(7), two, Answer::Value(Some(7)), &[(1, 5)]),
-        (Change::Remove(6), two, Answer::Truth(false), two),
-        (Change::Take(9), two, Answer::Value(None), two),
-        (Change::PopLast, two, Answer::Value(Some(7)), &[(1, 5)]),
-        (
-            Change::PopLast,
-            &[(1, 5)],
-            Answer::Value(Some(5)),
-            &[(1, 4)],
-        ),
-        (Change::PopFirst, &[(7, 7)], Answer::Value(Some(7)), &[]),
-        (Change::PopFirst, &[], Answer::Value(None), &[]),
-        (
-            Change::SplitOff(11),
-            &[(0, 2), (8, 10)],
-            Answer::Nothing,
-            &[(0, 2), (8, 10)],
-        ),
-        (Change::SplitOff(0), &[], Answer::Nothing, &[]),
-        (Change::Retain(1, 1), &[], Answer::Asked(0), &[]),
-        (Change::RangesRetain(7, 0), two, Answer::Asked(2), &[(1, 5)]),
-        (Change::Clear, two, Answer::Nothing, &[]),
-        (Change::Append, two, Answer::Nothing, two),
-        (Change::BitorAssignOwned, two, Answer::Nothing, two),
-    ];
-    for (change, before, answer, after) in &rows {
+    for (change, before, answer, after) in &TAKING_NONE {
         let is_right = changes_in_full_heap(rt.alloc(), *change, before, Some(*answer), after);
         assert!(rt; is_right == Ok(true), "{change:?} of {before:?}");
     }

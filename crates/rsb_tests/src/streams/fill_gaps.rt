@@ -20,27 +20,29 @@ pub(crate) fn fills<T: Integer, I: DrawDisjoint<T>>(stream: I, wanted: &[(T, T, 
     pairs.next().is_none()
 }
 
+/// A stream of runs, and its runs and gaps.
+static FILLED: [(&[(u8, u8)], &[(u8, u8, bool)]); 5] = [
+    (&[], &[(0, 255, false)]),
+    (&[(0, 255)], &[(0, 255, true)]),
+    (
+        &[(0, 0), (255, 255)],
+        &[(0, 0, true), (1, 254, false), (255, 255, true)],
+    ),
+    (
+        &[(1, 253), (255, 255)],
+        &[
+            (0, 0, false),
+            (1, 253, true),
+            (254, 254, false),
+            (255, 255, true),
+        ],
+    ),
+    (&[(0, 254)], &[(0, 254, true), (255, 255, false)]),
+];
+
 #[test]
 fn runs_and_gaps_of_streams(rt: HostRuntime) {
-    let rows: [(&[(u8, u8)], &[(u8, u8, bool)]); 5] = [
-        (&[], &[(0, 255, false)]),
-        (&[(0, 255)], &[(0, 255, true)]),
-        (
-            &[(0, 0), (255, 255)],
-            &[(0, 0, true), (1, 254, false), (255, 255, true)],
-        ),
-        (
-            &[(1, 253), (255, 255)],
-            &[
-                (0, 0, false),
-                (1, 253, true),
-                (254, 254, false),
-                (255, 255, true),
-            ],
-        ),
-        (&[(0, 254)], &[(0, 254, true), (255, 255, false)]),
-    ];
-    for (ranges, wanted) in &rows {
+    for (ranges, wanted) in &FILLED {
         assert!(rt; fills(stream_of(ranges), wanted), "{ranges:?}");
     }
 }

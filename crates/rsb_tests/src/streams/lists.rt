@@ -29,21 +29,23 @@ fn the_empty_list_is_accepted(rt: HostRuntime) -> Result<(), Fail> {
     Ok(())
 }
 
+/// Ranges, and the first position that is out of place, if any is.
+static LISTS: [(&[(u8, u8)], Option<usize>); 10] = [
+    (&[(1, 2), (9, 8), (9, 9)], Some(1)),
+    (&[(1, 0)], Some(0)),
+    (&[(0, 1), (3, 5), (5, 7)], Some(2)),
+    (&[(9, 9), (0, 0)], Some(1)),
+    (&[(0, 254), (255, 255)], Some(1)),
+    (&[(0, 255), (0, 0)], Some(1)),
+    (&[(1, 2), (4, 4), (9, 255)], None),
+    (&[(0, 0), (2, 253), (255, 255)], None),
+    (&[(0, 255)], None),
+    (&[(255, 255)], None),
+];
+
 #[test]
 fn lists_are_refused_at_the_first_range_out_of_place(rt: HostRuntime) -> Result<(), Fail> {
-    let rows: [(&[(u8, u8)], Option<usize>); 10] = [
-        (&[(1, 2), (9, 8), (9, 9)], Some(1)),
-        (&[(1, 0)], Some(0)),
-        (&[(0, 1), (3, 5), (5, 7)], Some(2)),
-        (&[(9, 9), (0, 0)], Some(1)),
-        (&[(0, 254), (255, 255)], Some(1)),
-        (&[(0, 255), (0, 0)], Some(1)),
-        (&[(1, 2), (4, 4), (9, 255)], None),
-        (&[(0, 0), (2, 253), (255, 255)], None),
-        (&[(0, 255)], None),
-        (&[(255, 255)], None),
-    ];
-    for (ranges, wanted) in &rows {
+    for (ranges, wanted) in &LISTS {
         assert!(rt; is_refused_at(rt.alloc(), ranges, *wanted)?, "{ranges:?}");
     }
     Ok(())

@@ -146,15 +146,17 @@ fn complements_of_nothing_and_of_everything(rt: HostRuntime) {
     assert!(rt; operation_of(Operation::Complement, &[(0, 255)], &[], &[]));
 }
 
+/// Two streams, and their symmetric difference.
+static SYMMETRIC_DIFFERENCES: [(&[(u8, u8)], &[(u8, u8)], &[(u8, u8)]); 4] = [
+    (&[(1, 5)], &[(3, 5)], &[(1, 2)]),
+    (&[(1, 4)], &[(5, 8)], &[(1, 8)]),
+    (&[(0, 255)], &[(255, 255)], &[(0, 254)]),
+    (&[(0, 255)], &[(0, 255)], &[]),
+];
+
 #[test]
 fn symmetric_differences_leave_out_what_both_have_and_join_what_touches(rt: HostRuntime) {
-    let rows: [(&[(u8, u8)], &[(u8, u8)], &[(u8, u8)]); 4] = [
-        (&[(1, 5)], &[(3, 5)], &[(1, 2)]),
-        (&[(1, 4)], &[(5, 8)], &[(1, 8)]),
-        (&[(0, 255)], &[(255, 255)], &[(0, 254)]),
-        (&[(0, 255)], &[(0, 255)], &[]),
-    ];
-    for (left, right, wanted) in &rows {
+    for (left, right, wanted) in &SYMMETRIC_DIFFERENCES {
         assert!(rt;
             operation_of(Operation::SymmetricDifference, left, right, wanted),
             "{left:?} ^ {right:?}"

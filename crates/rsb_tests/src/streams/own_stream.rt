@@ -101,25 +101,27 @@ fn own_stream_gives_its_values(rt: HostRuntime) {
     assert!(rt; gives(Tens { value: 7, left: 0 }, &[]));
 }
 
+/// An operation on the stream of 0, 10 and 20 and on another, and what it gives.
+static OVER_TENS: [(Operation, &[(u8, u8)], &[(u8, u8)]); 6] = [
+    (Operation::Union, &[(1, 9)], &[(0, 10), (20, 20)]),
+    (Operation::Intersection, &[(5, 15)], &[(10, 10)]),
+    (Operation::Difference, &[(5, 15)], &[(0, 0), (20, 20)]),
+    (
+        Operation::SymmetricDifference,
+        &[(5, 20)],
+        &[(0, 0), (5, 9), (11, 19)],
+    ),
+    (
+        Operation::SymmetricDifference,
+        &[],
+        &[(0, 0), (10, 10), (20, 20)],
+    ),
+    (Operation::Complement, &[], &[(1, 9), (11, 19), (21, 255)]),
+];
+
 #[test]
 fn operations_on_a_stream_of_ones_own(rt: HostRuntime) {
-    let rows: [(Operation, &[(u8, u8)], &[(u8, u8)]); 6] = [
-        (Operation::Union, &[(1, 9)], &[(0, 10), (20, 20)]),
-        (Operation::Intersection, &[(5, 15)], &[(10, 10)]),
-        (Operation::Difference, &[(5, 15)], &[(0, 0), (20, 20)]),
-        (
-            Operation::SymmetricDifference,
-            &[(5, 20)],
-            &[(0, 0), (5, 9), (11, 19)],
-        ),
-        (
-            Operation::SymmetricDifference,
-            &[],
-            &[(0, 0), (10, 10), (20, 20)],
-        ),
-        (Operation::Complement, &[], &[(1, 9), (11, 19), (21, 255)]),
-    ];
-    for (operation, ranges, wanted) in &rows {
+    for (operation, ranges, wanted) in &OVER_TENS {
         assert!(rt;
             operation_gives(*operation, three_tens(), stream_of(ranges), wanted),
             "{operation:?} with {ranges:?}"

@@ -7,17 +7,19 @@ use rsb_streams::{DrawDisjoint, RangeOnce};
 /// The ends of ranges.
 type Ranges = &'static [(u8, u8)];
 
+/// A stream, whether it is empty, and whether it is everything.
+static ALONE: [(Ranges, bool, bool); 6] = [
+    (&[], true, false),
+    (&[(0, 0)], false, false),
+    (&[(255, 255)], false, false),
+    (&[(0, 254)], false, false),
+    (&[(1, 255)], false, false),
+    (&[(0, 255)], false, true),
+];
+
 #[test]
 fn questions_of_one_stream(rt: HostRuntime) {
-    let rows: [(Ranges, bool, bool); 6] = [
-        (&[], true, false),
-        (&[(0, 0)], false, false),
-        (&[(255, 255)], false, false),
-        (&[(0, 254)], false, false),
-        (&[(1, 255)], false, false),
-        (&[(0, 255)], false, true),
-    ];
-    for (ranges, is_empty, is_universal) in &rows {
+    for (ranges, is_empty, is_universal) in &ALONE {
         assert_eq!(rt;
             stream_of(ranges).is_empty(),
             *is_empty,

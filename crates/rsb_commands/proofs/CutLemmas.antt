@@ -1,0 +1,107 @@
+-- Bytes cut at the first line feed, and at the first blank.
+use Rattle.std.proofs.Common.{◌≡◌, ◌∙◌, ℕ, zero, suc, ◌+◌, ◌<◌, ◌≤◌, Bool, true, false, cond, eqb, ltb, List, [], ◌∷◌, ◌++◌, length, take, drop, Some, None, refl, ap, subst, arith}
+use Rattle.std.proofs.lemmas.Bool.{ltb-true, ltb-false, lt-ltb, ne_eqb}
+use Rattle.std.proofs.lemmas.List.{length-take}
+use Rattle.std.proofs.lemmas.List.Elements.{All-from_get_or}
+use Rattle.std.proofs.lemmas.List.Splits.{slice_split_first, slice_split_none, length-slice_split}
+use Rattle.std.proofs.lemmas.List.Sums.{fails_before_first}
+use Rattle.std.specs.List.{slice_split, position, position_or_len, filter}
+use Rattle.std.specs.Str.Lines.{lines, lines_of_parts, strip_carriage_return}
+use Rattle.rsb_commands.specs.Spelling.{is_blank, has_bytes, words}
+
+-- ---- at the first element that passes a test
+
+-- where an index is found, the test passes, and it is that index
+found : (passes : Bool) (n i : ℕ) → cond passes (Some n) None ≡ Some i → (passes ≡ true) × (n ≡ i)
+found true n i is = (refl, cc)
+found false n i is = absurd cc
+
+-- where none is found, the test fails
+not_found : (passes : Bool) (n : ℕ) → cond passes (Some n) None ≡ None → passes ≡ false
+not_found true n is = absurd cc
+not_found false n is = refl
+
+-- a list is split at the first element that passes, and what comes after that is split again
+slice_split-Some : (test : ℕ → Bool) (xs : List ℕ) (i : ℕ) → position test xs ≡ Some i
+    → slice_split test xs ≡ take i xs ∷ slice_split test (drop (i + 1) xs)
+slice_split-Some test xs i is =
+    let at = found (ltb (position_or_len test xs) (length xs)) (position_or_len test xs) i is in
+    subst (λ (n : ℕ). slice_split test xs ≡ take n xs ∷ slice_split test (drop (n + 1) xs)) at.1
+    (slice_split_first test xs 0 (ltb-true _ _ at.0))
+
+-- a list of which no element passes is one part
+slice_split-None : (test : ℕ → Bool) (xs : List ℕ) → position test xs ≡ None
+    → slice_split test xs ≡ xs ∷ []
+slice_split-None test xs is =
+    let first = position_or_len test xs in
+    let past : length xs ≤ first = ltb-false _ _ (not_found (ltb first (length xs)) first is) in
+    slice_split_none test xs (All-from_get_or (λ x. test x ≡ false) xs 0
+    (λ k within. fails_before_first test xs k 0 (omega (arith, past, within))))
+
+-- ---- lines
+
+-- a line feed
+abbrev is_line_feed : ℕ → Bool
+is_line_feed byte = eqb byte 10
+
+-- what stands after the last line feed is a line, where it is not empty
+last_line : (bytes : List ℕ) → 0 < length bytes → lines_of_parts (bytes ∷ []) ≡ bytes ∷ []
+last_line bytes some =
+    rw (ne_eqb (length bytes) 0 (λ none. absurd (omega (arith, none, some)))) refl
+
+-- what stands before a line feed is a line, less a carriage return at its end
+more_lines : (part : List ℕ) (parts : List (List ℕ)) → 0 < length parts
+    → lines_of_parts (part ∷ parts) ≡ strip_carriage_return part ∷ lines_of_parts parts
+more_lines part [] some = absurd (omega (arith, some))
+more_lines part (next ∷ parts) some = refl
+
+-- bytes without a line feed are one line, where there are some
+pub lines-None : (bytes : List ℕ) → 0 < length bytes → position is_line_feed bytes ≡ None
+    → lines bytes ≡ bytes ∷ []
+lines-None bytes some is =
+    ap lines_of_parts (slice_split-None is_line_feed bytes is) ∙ last_line bytes some
+
+-- the first line ends at the first line feed, and the others come after that
+pub lines-Some : (bytes : List ℕ) (i : ℕ) → position is_line_feed bytes ≡ Some i
+    → lines bytes ≡ strip_carriage_return (take i bytes) ∷ lines (drop (i + 1) bytes)
+lines-Some bytes i is =
+    let rest = drop (i + 1) bytes in
+    ap lines_of_parts (slice_split-Some is_line_feed bytes i is)
+    ∙ more_lines (take i bytes) (slice_split is_line_feed rest)
+    (omega (arith, length-slice_split is_line_feed rest))
+
+-- ---- words
+
+-- a first part is kept or left out, and the others follow
+kept_first : (keeps : Bool) (part : List ℕ) (parts : List (List ℕ))
+    → cond keeps (part ∷ parts) parts ≡ cond keeps (part ∷ []) [] ++ parts
+kept_first true part parts = refl
+kept_first false part parts = refl
+
+-- what stands before the first blank is a word if it is not empty, and the others come after that
+words-Some : (line : List ℕ) (i : ℕ) → position is_blank line ≡ Some i
+    → words line ≡ filter has_bytes (take i line ∷ []) ++ words (drop (i + 1) line)
+words-Some line i is =
+    ap (filter has_bytes) (slice_split-Some is_blank line i is)
+    ∙ kept_first (has_bytes (take i line)) (take i line) (words (drop (i + 1) line))
+
+-- where the first byte is no blank, the first blank comes after it
+pub some_before : (line : List ℕ) (i : ℕ) → (position is_blank line ≡ Some 0 → ⊥)
+    → position is_blank line ≡ Some i → 0 < i
+some_before line zero first is = absurd (first is)
+some_before line (suc i) first is = omega arith
+
+-- what stands before the first blank is the first word, where it is not empty
+pub words-after_word : (line : List ℕ) (i : ℕ) → position is_blank line ≡ Some i
+    → 0 < i → i < length line → words line ≡ take i line ∷ words (drop (i + 1) line)
+words-after_word line i is some within =
+    let word = take i line in
+    let kept = lt-ltb 0 (length word) (omega (arith, length-take i line)) in
+    words-Some line i is ∙ ap (λ keeps. cond keeps (word ∷ []) [] ++ words (drop (i + 1) line)) kept
+
+-- a line without blanks is one word, where it is not empty
+pub words-None : (line : List ℕ) → position is_blank line ≡ None → 0 < length line
+    → words line ≡ line ∷ []
+words-None line is some =
+    ap (filter has_bytes) (slice_split-None is_blank line is)
+    ∙ ap (λ keeps. cond keeps (line ∷ []) []) (lt-ltb 0 (length line) some)

@@ -1,0 +1,110 @@
+-- Lines read one after the other.
+use Rattle.std.proofs.Common.{◌≡◌, ◌∙◌, ℕ, ℤ, ◌+◌, ◌<◌, List, [], ◌∷◌, ◌++◌, length, map, cond, sym, ap, subst, append_assoc, arith}
+use Rattle.std.proofs.lemmas.Bool.{le-ltb, lt-ltb, ltb-true}
+use Rattle.std.proofs.lemmas.List.{append-nil, map-append, length-append, nil_from_length}
+use Rattle.std.proofs.lemmas.List.Elements.{filter-append, All-push}
+use Rattle.std.specs.Prelude.{All}
+use Rattle.std.specs.List.{AllZip, filter}
+use Rattle.std.specs.Str.Lines.{lines}
+use Rattle.rsb_commands.specs.declared.command.Command.{Command}
+use Rattle.rsb_commands.specs.Spelling.{AreCommands, IsBadLine, IsFirstBadLine, Spells, has_words, words}
+
+-- the words of each line that has some
+abbrev spoken : List (List ℕ) → List (List (List ℕ))
+spoken ls = filter has_words (map words ls)
+
+-- the line is no bad one
+abbrev IsGood : List ℕ → Type 0
+IsGood line = IsBadLine line → ⊥
+
+-- the lines before `rest` were read: they are this many, and spell these commands
+pub record HasRead (input rest : List ℕ) (number : ℕ) (commands : List (Command ℤ)) : Type 0 where
+  pub front : List (List ℕ)
+  pub parts : lines input ≡ front ++ lines rest
+  pub counted : number ≡ length front
+  pub spelled : AllZip Spells (spoken front) commands
+  pub good : All IsGood front
+
+-- the lines with words of two lists are those of the one and then of the other
+spoken-append : (xs ys : List (List ℕ)) → spoken (xs ++ ys) ≡ spoken xs ++ spoken ys
+spoken-append xs ys =
+    ap (filter has_words) (map-append words xs ys)
+    ∙ filter-append has_words (map words xs) (map words ys)
+
+-- a line without words is left out
+spoken-silent : (line : List ℕ) → length (words line) ≡ 0 → spoken (line ∷ []) ≡ []
+spoken-silent line none =
+    ap (λ kept. cond kept (words line ∷ []) [])
+    (le-ltb 0 (length (words line)) (omega (arith, none)))
+
+-- a line with words is kept, as its words
+spoken-one : (line : List ℕ) → 0 < length (words line) → spoken (line ∷ []) ≡ words line ∷ []
+spoken-one line some =
+    ap (λ kept. cond kept (words line ∷ []) []) (lt-ltb 0 (length (words line)) some)
+
+-- with one line more that spells a command, the lines spell one command more
+spells-push : (lines : List (List (List ℕ))) (commands : List (Command ℤ)) (line : List (List ℕ))
+    (command : Command ℤ) → AllZip Spells lines commands → Spells line command
+    → AllZip Spells (lines ++ line ∷ []) (commands ++ command ∷ [])
+spells-push [] [] line command all one = (one, tt)
+spells-push [] (c ∷ cs) line command all one = absurd all
+spells-push (l ∷ ls) [] line command all one = absurd all
+spells-push (l ∷ ls) (c ∷ cs) line command all one =
+    (all.0, spells-push ls cs line command all.1 one)
+
+module _ (input rest line later : List ℕ) (number : ℕ) (commands : List (Command ℤ))
+    (next : lines rest ≡ line ∷ lines later) (before : HasRead input rest number commands) where
+  -- the line is the next one of the input
+  one_more : lines input ≡ (before.front ++ line ∷ []) ++ lines later
+  one_more = before.parts ∙ ap (λ ls. before.front ++ ls) next
+      ∙ sym (append_assoc before.front (line ∷ []) (lines later))
+
+  -- the line has no words
+  pub has_read_silent : length (words line) ≡ 0 → HasRead input later (number + 1) commands
+  has_read_silent none = record {
+    front = before.front ++ line ∷ [];
+    parts = one_more;
+    counted = omega (arith, before.counted, length-append before.front (line ∷ []));
+    spelled = rw (
+      spoken-append before.front (line ∷ []),
+      spoken-silent line none,
+      append-nil (spoken before.front),
+    ) before.spelled;
+    good = All-push IsGood before.front line before.good
+        (λ bad. absurd (omega (arith, ltb-true _ _ bad.some, none)));
+  }
+
+  -- its words spell a command
+  pub has_read_command : (command : Command ℤ) → 0 < length (words line)
+      → Spells (words line) command → HasRead input later (number + 1) (commands ++ command ∷ [])
+  has_read_command command some one = record {
+    front = before.front ++ line ∷ [];
+    parts = one_more;
+    counted = omega (arith, before.counted, length-append before.front (line ∷ []));
+    spelled = rw (spoken-append before.front (line ∷ []), spoken-one line some)
+        (spells-push (spoken before.front) commands (words line) command before.spelled one);
+    good = All-push IsGood before.front line before.good (λ bad. bad.none command one);
+  }
+
+  -- its words spell none
+  pub has_read_bad : 0 < length (words line)
+      → ((command : Command ℤ) → Spells (words line) command → ⊥)
+      → IsFirstBadLine input (number + 1)
+  has_read_bad some none = record {
+    before = before.front;
+    line = line;
+    after = lines later;
+    parts = before.parts ∙ ap (λ ls. before.front ++ ls) next;
+    counted = omega (arith, before.counted);
+    bad = record { some = lt-ltb 0 (length (words line)) some; none = none };
+    first = before.good;
+  }
+
+-- nothing is left
+pub has_read_all : (input rest : List ℕ) (number : ℕ) (commands : List (Command ℤ))
+    → length rest ≡ 0 → HasRead input rest number commands → AreCommands input commands
+has_read_all input rest number commands none before =
+    let all : lines input ≡ before.front =
+    before.parts ∙ ap (λ r. before.front ++ lines r) (nil_from_length rest none)
+    ∙ append-nil before.front in
+    subst (λ ls. AllZip Spells (spoken ls) commands) (sym all) before.spelled

@@ -1,0 +1,42 @@
+use Rattle.std.proofs.Common.{vec_len, ◌+◌, ◌≡◌, ◌∷◌, ◌++◌, [], ap, subst, ◌∙◌}
+use Rattle.std.proofs.Math.Nat.{le_trans}
+use Rattle.std.proofs.lemmas.List.{map-append, take_all}
+use Rattle.rsb_integer.proofs.RangeLemmas.{one_place}
+use Rattle.rsb_commands.specs.Commands.{AreReplies, content_of, contents_of, no_members}
+use Rattle.rsb_commands.proofs.ReplyLemmas.{replies_unique}
+use Rattle.rsb_commands.proofs.RunLemmas.{has_run_more}
+use Rattle.rsb_commands.proofs.commands.run_commands.Goals as goal
+
+pub loop-at-preserved : goal.loop-at-preserved
+loop-at-preserved g c =
+    let number = g.T.SafeLen.SafeLength.number in
+    let before = c.loop-at.replies.items in
+    let reply = c.in-Ok-run_command.reply in
+    let was = c.unwrap.ensures in
+    let grown : c.push.new.self.items ≡ before ++ reply ∷ [] = rw was at c.push.ensures.items in
+    let more : vec_len c.push.new.self ≡ vec_len c.loop-at.replies + 1 =
+    rw was at c.push.ensures.len in
+    let contents = ap (contents_of number) grown
+    ∙ map-append (content_of number) before (reply ∷ []) in
+    let done = c.in-Ok-run_command.ensures in (
+      has_run_more g.T.Integer.rank g.T.Integer.value_count c.args.commands.now c.loop-at.at
+          c.index-commands-at.result (contents_of number before) _ (content_of number reply)
+          c.loop-at.sets.items c.run_command.new.sets.items c.loop-at.invariant.0
+          c.loop-at-test.true c.index-commands-at.is contents done.reply done.after,
+      done.ten,
+      more ∙ ap (λ n. n + 1) c.loop-at.invariant.2,
+      le_trans c.loop-at.invariant.3 c.push.ensures.capacity,
+    )
+
+-- the replies that were found are the only ones
+pub returns-clause-only : goal.returns-clause-only
+returns-clause-only g c = λ others are.
+    let laws = g.met.T.Integer g.world.𝓛 g.world.𝓜 g.world.𝓡
+    ((λ s x. x), (λ x. x), (λ x. x), λ x. x) in
+    let rank = g.T.Integer.rank in
+    let value_count = g.T.Integer.value_count in
+    let found = contents_of g.T.SafeLen.SafeLength.number c.loop-at.replies.items in
+    let all = subst (λ commands. AreReplies rank value_count commands found)
+    (take_all c.loop-at.at c.args.commands.now c.loop-at-test.false) c.loop-at.invariant.0.replied in
+    replies_unique rank value_count (one_place rank value_count g.T.Integer.value_at laws.places)
+    no_members c.args.commands.now others found are all

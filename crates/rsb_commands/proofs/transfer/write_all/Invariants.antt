@@ -1,0 +1,11 @@
+use Rattle.std.proofs.Common.{◌+◌, length}
+use Rattle.rsb_commands.proofs.TransferLemmas.{HasWritten}
+use Rattle.rsb_commands.proofs.transfer.write_all.Given as goal
+
+abbrev pub invariant-loop-rest : goal.invariant-loop-rest
+invariant-loop-rest g l =
+    HasWritten (g.W.Write.contents l.initial.output) (g.W.Write.contents l.output) l.text l.rest
+
+-- each turn writes a byte or takes of the patience
+abbrev pub decreases-loop-rest : goal.decreases-loop-rest
+decreases-loop-rest g l = length l.rest + l.left

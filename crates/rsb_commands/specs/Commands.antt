@@ -1,0 +1,154 @@
+-- What commands do to ten sets, and what they reply.
+use Rattle.std.specs.Prelude.{◌≡◌, ◌↔◌, ◌==◌, ◌&&◌, ⊤, ℕ, Bool, false, not, nat_lt, if◌then◌else◌, IsTrue, IsFalse, List, [], ◌∷◌, length, map, slice_index_or}
+use Rattle.std.specs.declared.cmp.Ordering.{Ordering}
+use Rattle.std.specs.declared.ops.RangeInclusive.{RangeInclusive}
+use Rattle.rsb_integer.specs.Rank.{intervals_of}
+use Rattle.rsb_integer.specs.Runs.{Interval, AreRuns, covers, members}
+use Rattle.rsb_integer.specs.Selection.{Selection, complement, count, difference, intersection, symmetric_difference, union}
+use Rattle.range_set_blaze.specs.Order.{HasOrder}
+use Rattle.range_set_blaze.specs.Set.{only, IsRunAround}
+use Rattle.rsb_commands.specs.declared.command.Command.{Command}
+use Rattle.rsb_commands.specs.declared.command.Command.TheVariants.{Add, Del, Has, Gap, Count, Show, Union, Intersection, Difference, SymmetricDifference, Complement, Compare}
+use Rattle.rsb_commands.specs.declared.commands.Reply.{Reply}
+use Rattle.rsb_commands.specs.declared.commands.Reply.TheVariants as replies
+
+-- ---- replies
+
+-- what a reply says, wherever it is kept
+pub data Content (T : Type 0) : Type 0 where
+  flag : Bool → Content T
+  piece : T → T → Bool → Content T
+  number : ℕ → Content T
+  ranges : List (RangeInclusive T) → Content T
+  runs : ℕ → Content T
+  order : Ordering → Content T
+
+-- what a reply of the program says, its length as a number
+abbrev pub content_of : {T A L : Type 0} → (L → ℕ) → Reply T A L → Content T
+content_of number_of (replies.Flag is) = flag is
+content_of number_of (replies.Piece first last present) = piece first last present
+content_of number_of (replies.Count length) = number (number_of length)
+content_of number_of (replies.Ranges all) = ranges all.items
+content_of number_of (replies.Runs many) = runs many
+content_of number_of (replies.Order is) = order is
+
+-- what each reply of a list says
+abbrev pub contents_of : {T A L : Type 0} → (L → ℕ) → List (Reply T A L) → List (Content T)
+contents_of number_of all = map (content_of number_of) all
+
+-- ---- sets
+
+-- the ten sets, by their numbers
+abbrev pub Sets : Type 0
+Sets = ℕ → Selection
+
+-- sets that are all empty
+abbrev pub no_members : Sets
+no_members slot rank = false
+
+-- sets that are kept as their runs
+abbrev pub sets_of : List (List Interval) → Sets
+sets_of kept slot = members (slice_index_or kept slot [])
+
+-- the sets with another one in a slot
+unfoldable pub put : Sets → ℕ → Selection → Sets
+put sets slot set at = if at == slot then set else sets at
+
+-- the set lacks some of the ranks
+abbrev pub LacksSome : Selection → Selection → Type 0
+LacksSome set ranks = (rank : ℕ) × IsTrue (ranks rank) × IsFalse (set rank)
+
+-- the one set, where it is so, and else the other
+abbrev pub whichever : Bool → Selection → Selection → Selection
+whichever is set other rank = if is then set rank else other rank
+
+-- ---- commands
+
+module _ {T : Type 0} (rank : T → ℕ) (value_count : ℕ) where
+  -- the interval from the rank of one value to that of another
+  abbrev pub from_to : T → T → Interval
+  from_to first last = record { first = rank first; last = rank last }
+
+  -- the ranks from that of one value to that of another
+  abbrev pub between : T → T → Selection
+  between first last at = covers at (from_to first last)
+
+  -- what the set leaves out of the type
+  abbrev pub left_out : Selection → Selection
+  left_out set at = nat_lt at value_count && not (set at)
+
+  -- the sets after a command
+  abbrev pub after : Sets → Command T → Sets
+  after sets (Add slot first last) = put sets slot (union (sets slot) (between first last))
+  after sets (Del slot value) = put sets slot (difference (sets slot) (only (rank value)))
+  after sets (Union target left right) = put sets target (union (sets left) (sets right))
+  after sets (Intersection target left right) =
+      put sets target (intersection (sets left) (sets right))
+  after sets (Difference target left right) = put sets target (difference (sets left) (sets right))
+  after sets (SymmetricDifference target left right) =
+      put sets target (symmetric_difference (sets left) (sets right))
+  after sets (Complement target source) = put sets target (left_out (sets source))
+  after sets _ = sets
+
+  -- the values are the ends of the run that has the rank, where it is present, and else of the gap
+  -- that it lies in
+  pub record IsPieceAround (set : Selection) (at : ℕ) (first last : T) (present : Bool)
+      : Type 0 where
+    pub found : present ≡ set at
+    pub around : IsRunAround value_count (whichever present set (complement set)) at
+        (from_to first last)
+
+  -- the reply tells the run or the gap that the rank lies in
+  abbrev pub IsPieceReply : Selection → ℕ → Content T → Type 0
+  IsPieceReply set at (piece first last present) = IsPieceAround set at first last present
+  IsPieceReply set at _ = ⊥
+
+  -- so many runs has the set
+  pub record HasRuns (set : Selection) (many : ℕ) : Type 0 where
+    pub all : List Interval
+    pub are : AreRuns value_count set all
+    pub counted : many ≡ length all
+
+  -- the reply tells how many runs the set has
+  abbrev pub IsRunsReply : Selection → Content T → Type 0
+  IsRunsReply set (runs many) = HasRuns set many
+  IsRunsReply set _ = ⊥
+
+  -- the command, given to these sets, replies this
+  abbrev pub IsReply : Sets → Command T → Content T → Type 0
+  IsReply sets (Add slot first last) (flag added) =
+      IsTrue added ↔ LacksSome (sets slot) (between first last)
+  IsReply sets (Del slot value) (flag removed) = removed ≡ sets slot (rank value)
+  IsReply sets (Has slot value) (flag found) = found ≡ sets slot (rank value)
+  IsReply sets (Gap slot value) reply = IsPieceReply (sets slot) (rank value) reply
+  IsReply sets (Count slot) (number many) = many ≡ count value_count (sets slot)
+  IsReply sets (Show slot) (ranges all) = AreRuns value_count (sets slot) (intervals_of rank all)
+  IsReply sets (Union target left right) reply = IsRunsReply (union (sets left) (sets right)) reply
+  IsReply sets (Intersection target left right) reply =
+      IsRunsReply (intersection (sets left) (sets right)) reply
+  IsReply sets (Difference target left right) reply =
+      IsRunsReply (difference (sets left) (sets right)) reply
+  IsReply sets (SymmetricDifference target left right) reply =
+      IsRunsReply (symmetric_difference (sets left) (sets right)) reply
+  IsReply sets (Complement target source) reply = IsRunsReply (left_out (sets source)) reply
+  IsReply sets (Compare left right) (order is) = HasOrder value_count (sets left) (sets right) is
+  IsReply sets _ _ = ⊥
+
+  -- the commands, given to these sets one after the other, reply these
+  abbrev pub AreRepliesFrom : Sets → List (Command T) → List (Content T) → Type 0
+  AreRepliesFrom sets [] [] = ⊤
+  AreRepliesFrom sets (command ∷ commands) (reply ∷ replies) =
+      IsReply sets command reply × AreRepliesFrom (after sets command) commands replies
+  AreRepliesFrom sets _ _ = ⊥
+
+  -- the commands reply these over sets that are empty at first
+  abbrev pub AreReplies : List (Command T) → List (Content T) → Type 0
+  AreReplies commands replies = AreRepliesFrom no_members commands replies
+
+-- the command may take memory
+abbrev pub MayTakeMemory : {T : Type 0} → Command T → Type 0
+MayTakeMemory (Has slot value) = ⊥
+MayTakeMemory (Gap slot value) = ⊥
+MayTakeMemory (Count slot) = ⊥
+MayTakeMemory (Compare left right) = ⊥
+MayTakeMemory _ = ⊤

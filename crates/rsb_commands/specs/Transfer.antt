@@ -1,0 +1,39 @@
+-- What writing a text does to the bytes of a writer, where they are known.
+use Rattle.std.specs.Prelude.{◌≡◌, ℕ, ◌<◌, List, ◌++◌, length, MatchResult, Option, Result}
+use Rattle.std.specs.Io.KnownBytes.{Appends}
+use Rattle.rsb_integer.specs.Front.{IsFrontOf}
+use Rattle.rsb_commands.specs.declared.fault.Fault.{Fault}
+use Rattle.rsb_commands.specs.declared.fault.Fault.TheVariants.{Io}
+
+-- known bytes grow by a front of the text, which is shorter than the whole
+pub record AppendsShortOf (old new : Option (List ℕ)) (text : List ℕ) : Type 0 where
+  pub front : List ℕ
+  pub is_front : IsFrontOf front text
+  pub shorter : length front < length text
+  pub written : Appends old new front
+
+-- known bytes grow by the text; or a write failed, and they grow by less
+abbrev pub Writes : {T : Type 0} → Option (List ℕ) → Option (List ℕ) → Result T Fault → List ℕ
+    → Type 0
+Writes old new result text = MatchResult result
+    (λ _. Appends old new text)
+    (λ fault. (fault ≡ Io) × AppendsShortOf old new text)
+
+-- a piece of text was put after what waited: a front of all that was written, the rest waits
+pub record Laid (old new : Option (List ℕ)) (before after piece : List ℕ) : Type 0 where
+  pub front : List ℕ
+  pub parts : before ++ piece ≡ front ++ after
+  pub written : Appends old new front
+
+-- the piece was put after what waited; or a write failed, and known bytes grow by less than both
+abbrev pub Lays : {T : Type 0} → Option (List ℕ) → Option (List ℕ) → List ℕ → List ℕ
+    → Result T Fault → List ℕ → Type 0
+Lays old new before after result piece = MatchResult result
+    (λ _. Laid old new before after piece)
+    (λ fault. (fault ≡ Io) × AppendsShortOf old new (before ++ piece))
+
+-- known bytes grow by a front of the text
+pub record AppendsFrontOf (old new : Option (List ℕ)) (text : List ℕ) : Type 0 where
+  pub front : List ℕ
+  pub is_front : IsFrontOf front text
+  pub written : Appends old new front

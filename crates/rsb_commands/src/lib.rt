@@ -1,0 +1,20 @@
+//! Commands to ten sets, from the lines that spell them to the text of their replies.
+#![tactic(auto)]
+
+pub mod command;
+pub mod commands;
+pub mod fault;
+pub mod laws;
+mod page;
+pub mod parse;
+pub mod program;
+pub mod set_no;
+mod text;
+mod transfer;
+
+pub use crate::command::Command;
+pub use crate::commands::{Reply, Stopped, run_commands};
+pub use crate::fault::Fault;
+pub use crate::parse::parse_commands;
+pub use crate::program::{finish, run, start};
+pub use crate::set_no::SetNo;

@@ -1,0 +1,111 @@
+//! From an input to an output.
+
+ghost use Rattle.std.specs.Prelude.{◌≡◌, ◌≢◌, ℕ, Err, IfSome, OnOk};
+ghost use Rattle.std.specs.Io.KnownBytes.{IsAtEnd, Keeps};
+ghost use Rattle.std.specs.Process.{exit_status};
+ghost use Rattle.rsb_commands.specs.Answer.{Answers, Replies, RepliesFront, RepliesShort, WroteFirstReplies, WrotePartOfReplies};
+ghost use Rattle.rsb_commands.specs.Ending.{Ends, TellsFault, status_after};
+ghost use Rattle.rsb_commands.specs.Spelling.{IsFirstBadLine};
+
+use crate::command::Command;
+use crate::commands::{empty_sets, run_command};
+use crate::fault::Fault;
+use crate::page::Page;
+use crate::parse::parse_commands;
+use crate::text::{write_fault, write_line};
+use crate::transfer::read_all;
+use std::alloc::Allocator;
+use std::io::{Read, Write};
+use std::process::ExitCode;
+
+/// Runs the program: the exit status is that of the fault, or 0, and a fault is told by a line.
+pub fn start<A: Allocator + Copy, R: Read, W: Write, E: Write>(
+    alloc: A,
+    input: &mut R,
+    output: &mut W,
+    errors: &mut E,
+) -> ExitCode
+    ensures { Ends (R.remaining input.old) (R.remaining input.new)
+        (W.contents output.old) (W.contents output.new)
+        (E.contents errors.old) (E.contents errors.new) (exit_status result) }
+{
+    let outcome = run(alloc, input, output);
+    finish(errors, outcome)
+}
+
+/// The exit status, with a line for a fault. Where that line can't be written whole there is
+/// nowhere left to tell it.
+pub fn finish<W: Write>(errors: &mut W, outcome: Result<(), Fault>) -> ExitCode
+    ensures status { exit_status result ≡ status_after outcome }
+    ensures line { TellsFault (W.contents errors.old) (W.contents errors.new) outcome }
+{
+    match outcome {
+        Ok(()) => ExitCode::SUCCESS,
+        Err(fault) => {
+            let _ = write_fault(errors, fault);
+            ExitCode::from(fault.status())
+        }
+    }
+}
+
+/// Reads all of the input, runs the commands that its lines spell, and writes a line for each
+/// reply. After `BadLine` nothing was written. After `NoMemory` the replies before the command that
+/// found none were written, and no more. After `Io` a beginning of the replies was, short of the
+/// whole unless that is empty.
+pub fn run<A: Allocator + Copy, R: Read, W: Write>(
+    alloc: A,
+    input: &mut R,
+    output: &mut W,
+) -> Result<(), Fault>
+    ensures end { OnOk result (IsAtEnd (R.remaining input.new)) }
+    ensures answers { OnOk result (IfSome (R.remaining input.old) (λ bytes.
+        Answers bytes (W.contents output.old) (W.contents output.new))) }
+
+    // After a bad line nothing was written.
+    ensures bad_line { (number : ℕ) → result ≡ Err (Fault.BadLine number)
+        → IfSome (R.remaining input.old) (λ bytes. IsFirstBadLine bytes number) }
+    ensures bad_line_keeps { (number : ℕ) → result ≡ Err (Fault.BadLine number)
+        → Keeps (W.contents output.old) (W.contents output.new) }
+
+    // After the other faults nothing was written, or the first replies, or not even all of those.
+    ensures no_memory { result ≡ Err Fault.NoMemory → WroteFirstReplies
+        (R.remaining input.old) (W.contents output.old) (W.contents output.new) }
+    ensures io { result ≡ Err Fault.Io → WrotePartOfReplies
+        (R.remaining input.old) (W.contents output.old) (W.contents output.new) }
+{
+    let commands = {
+        let bytes = read_all(alloc, input)?;
+        parse_commands(alloc, &bytes)?
+    };
+    answer(alloc, &commands, output)
+}
+
+// Runs the commands, and writes a line for each reply. No list of replies is kept: a page of text
+// goes out when it is full. Where a command finds no memory the replies before it are written.
+fn answer<A: Allocator + Copy, W: Write>(
+    alloc: A,
+    commands: &[Command<i32>],
+    output: &mut W,
+) -> Result<(), Fault>
+    ensures ok { OnOk result
+        (Replies commands.now (W.contents output.old) (W.contents output.new)) }
+    ensures no_bad_line { (number : ℕ) → result ≢ Err (Fault.BadLine number) }
+    ensures no_memory { result ≡ Err Fault.NoMemory
+        → RepliesFront commands.now (W.contents output.old) (W.contents output.new) }
+    ensures io { result ≡ Err Fault.Io
+        → RepliesShort commands.now (W.contents output.old) (W.contents output.new) }
+{
+    if commands.is_empty() {
+        return Ok(());
+    }
+    let mut sets = empty_sets(alloc)?;
+    let mut page = Page::new();
+    for command in commands {
+        let Ok(reply) = run_command(alloc, &mut sets, command) else {
+            page.send(output)?;
+            return Err(Fault::NoMemory);
+        };
+        write_line(output, &mut page, &reply)?;
+    }
+    page.send(output)
+}

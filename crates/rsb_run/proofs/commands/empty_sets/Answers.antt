@@ -1,7 +1,0 @@
-use Rattle.std.proofs.Common.{ap, ◌∙◌}
-use Rattle.rsb_run.specs.Commands.{sets_of}
-use Rattle.rsb_run.proofs.SetsLemmas.{sets_of-empty}
-use Rattle.rsb_run.proofs.commands.empty_sets.Goals as goal
-
-pub returns-clause-empty : goal.returns-clause-empty
-returns-clause-empty g c = ap sets_of c.loop.invariant.0 ∙ sets_of-empty c.loop.counter

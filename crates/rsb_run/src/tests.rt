@@ -1,4 +1,0 @@
-mod calls;
-mod ends;
-mod program;
-mod refusals;

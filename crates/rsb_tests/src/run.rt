@@ -1,0 +1,7 @@
+//! Commands to ten sets, and the program.
+
+mod commands;
+mod ends;
+mod program;
+mod refusals;
+mod sessions;

@@ -1,0 +1,149 @@
+//! The calls of commands, each once.
+
+use crate::run::sessions::{ALL_COMMANDS, ALL_TOLD, SESSION, TOLD, Told};
+use rsb_commands::laws::{first_commands_first_replies, replies_are_unique};
+use rsb_commands::{Command, Fault, Reply, SetNo, parse_commands, run_commands};
+use std::alloc::Global;
+use std::process::Abort;
+use std::test::*;
+
+// The set of a number up to nine.
+fn slot(rt: &impl Abort, n: u8) -> SetNo {
+    SetNo::new(n).expect(rt, "a set number")
+}
+
+#[test]
+fn set_numbers_end_at_nine(rt: HostRuntime) {
+    for n in 0..=9u8 {
+        assert_eq!(rt; slot(&rt, n).index(), n as usize);
+    }
+    for n in [10, 11, 48, 255] {
+        assert_eq!(rt; SetNo::new(n), None, "at {n}");
+    }
+}
+
+#[test]
+fn lines_spell_commands(rt: HostRuntime) -> Result<(), Fail> {
+    let commands = parse_commands(rt.alloc(), b"add 3 -1 +02\nhas 0 7\n\nlen 9\nshow 5")?;
+    let wanted = [
+        Command::Add {
+            slot: slot(&rt, 3),
+            first: -1,
+            last: 2,
+        },
+        Command::Has {
+            slot: slot(&rt, 0),
+            value: 7,
+        },
+        Command::Count { slot: slot(&rt, 9) },
+        Command::Show { slot: slot(&rt, 5) },
+    ];
+    assert_eq!(rt; commands.as_slice(), wanted.as_slice());
+    Ok(())
+}
+
+// Whether a reply says this.
+fn says(reply: &Reply<i32>, told: Told) -> bool {
+    match (reply, told) {
+        (Reply::Flag(flag), Told::Flag(wanted)) => *flag == wanted,
+        (
+            Reply::Piece {
+                first,
+                last,
+                present,
+            },
+            Told::Piece(start, end, is_run),
+        ) => (*first, *last, *present) == (start, end, is_run),
+        (Reply::Count(count), Told::Count(wanted)) => *count == wanted,
+        (Reply::Ranges(ranges), Told::Ranges(wanted)) => {
+            ranges
+                .iter()
+                .map(|it| (*it.start(), *it.end()))
+                .eq(wanted.iter().copied())
+        }
+        (Reply::Runs(runs), Told::Runs(wanted)) => *runs == wanted,
+        (Reply::Order(order), Told::Order(wanted)) => *order == wanted,
+        _ => false,
+    }
+}
+
+// Whether the replies to the commands that some lines spell say this.
+fn are_answered(alloc: Global, lines: &[u8], told: &[Told]) -> Result<bool, Fault> {
+    let commands = parse_commands(alloc, lines)?;
+    let Ok(replies) = run_commands(alloc, &commands) else {
+        return Err(Fault::NoMemory);
+    };
+    let mut is_right = replies.len() == told.len();
+    for (reply, wanted) in replies.iter().zip(told) {
+        is_right = is_right && says(reply, *wanted);
+    }
+    Ok(is_right)
+}
+
+#[test]
+fn the_worked_sessions_run_as_commands(rt: HostRuntime) {
+    assert!(rt; are_answered(rt.alloc(), SESSION, &TOLD) == Ok(true));
+    assert!(rt; are_answered(rt.alloc(), ALL_COMMANDS, &ALL_TOLD) == Ok(true));
+}
+
+#[test]
+fn commands_run_over_another_element_type(rt: HostRuntime) -> Result<(), Fail> {
+    replies_are_unique::<u8>();
+    first_commands_first_replies::<u8>();
+    let set = slot(&rt, 4);
+    let commands = [
+        Command::Add {
+            slot: set,
+            first: 250u8,
+            last: 255,
+        },
+        Command::Has {
+            slot: set,
+            value: 249,
+        },
+        Command::Count { slot: set },
+        Command::Show { slot: set },
+    ];
+    let Ok(replies) = run_commands(rt.alloc(), &commands) else {
+        return Err(Fail::from("no memory"));
+    };
+    let mut ranges = Vec::new(rt.alloc());
+    ranges.push(250..=255)?;
+    let wanted = [
+        Reply::Flag(true),
+        Reply::Flag(false),
+        Reply::Count(6),
+        Reply::Ranges(ranges),
+    ];
+    assert_eq!(rt; replies.as_slice(), wanted.as_slice());
+    Ok(())
+}
+
+#[test]
+fn each_fault_has_a_status_and_a_line(rt: HostRuntime) -> Result<(), Fail> {
+    for (fault, status, line) in [
+        (Fault::BadLine(2), 2, "bad line 2"),
+        (Fault::BadLine(12), 2, "bad line 12"),
+        (Fault::NoMemory, 3, "no memory"),
+        (Fault::Io, 4, "read or write failed"),
+    ] {
+        assert_eq!(rt; fault.status(), status);
+        assert_eq!(rt; format!(in rt.alloc(); "{fault}")?.as_str(), line);
+    }
+    Ok(())
+}
+
+#[test]
+fn unlike_faults_differ(rt: HostRuntime) {
+    let faults = [
+        Fault::BadLine(1),
+        Fault::BadLine(2),
+        Fault::NoMemory,
+        Fault::Io,
+    ];
+    for (i, left) in faults.iter().enumerate() {
+        for (j, right) in faults.iter().enumerate() {
+            assert_eq!(rt; *left == *right, i == j, "{i} and {j}");
+        }
+    }
+}

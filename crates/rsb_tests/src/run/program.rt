@@ -1,0 +1,319 @@
+//! The program from bytes to bytes.
+
+use crate::run::ends::{Dripping, Filling};
+use crate::run::sessions::{ALL_COMMANDS, ALL_REPLIES, REPLIES, SESSION};
+use rsb_commands::{Fault, finish, run, start};
+use std::alloc::Global;
+use std::process::ExitCode;
+use std::test::*;
+
+/// What is shown, lines, and the text that they are answered with.
+static ANSWERED: [(&str, &[u8], &[u8]); 18] = [
+    ("the worked session", SESSION, REPLIES),
+    ("no bytes", b"", b""),
+    ("no words", b"\n \t\r\n", b""),
+    ("no last line feed", b"len 9", b"0\n"),
+    (
+        "blanks around words",
+        b"\t add\t0  1 2 \n\nlen 0\r\n",
+        b"true\n2\n",
+    ),
+    (
+        "signs and zeros",
+        b"add 0 -02 +3\nhas 0 -0\nlen 0\n",
+        b"true\ntrue\n6\n",
+    ),
+    ("an empty set", b"show 0\n", b"\n"),
+    ("a reversed range", b"add 0 5 3\nlen 0\n", b"false\n0\n"),
+    (
+        "all numbers",
+        b"add 0 -2147483648 2147483647\nlen 0\nshow 0\n",
+        b"true\n4294967296\n-2147483648..=2147483647\n",
+    ),
+    (
+        "two sets",
+        b"add 1 7 10\nadd 2 8 8\nadd 1 1 3\nhas 2 7\nshow 1\nshow 2\n",
+        b"true\ntrue\ntrue\nfalse\n1..=3, 7..=10\n8..=8\n",
+    ),
+    (
+        "the worked session of all commands",
+        ALL_COMMANDS,
+        ALL_REPLIES,
+    ),
+    (
+        "a gap to both ends",
+        b"gap 9 0\n",
+        b"-2147483648..=2147483647 false\n",
+    ),
+    (
+        "a run",
+        b"add 0 1 5\ngap 0 1\ngap 0 6\n",
+        b"true\n1..=5 true\n6..=2147483647 false\n",
+    ),
+    (
+        "a set less itself",
+        b"add 0 1 5\nsub 0 0 0\ncmp 0 1\n",
+        b"true\n0\nequal\n",
+    ),
+    ("a sign and a carriage return", b"has 0 +5\r\n", b"false\n"),
+    (
+        "values taken out",
+        b"add 0 1 3\ndel 0 2\ndel 0 2\nshow 0\n",
+        b"true\ntrue\nfalse\n1..=1, 3..=3\n",
+    ),
+    (
+        "targets that are sources",
+        b"add 0 1 5\nadd 1 4 9\nor 0 0 1\nshow 0\nand 0 1 0\nshow 0\nxor 1 1 0\nsub 0 0 1\nnot 1 1\nshow 1\n",
+        b"true\ntrue\n1\n1..=9\n1\n4..=9\n0\n1\n1\n-2147483648..=2147483647\n",
+    ),
+    (
+        "the order of elements",
+        b"add 0 5 5\nadd 1 1 1\ncmp 0 1\ncmp 1 0\n",
+        b"true\ntrue\ngreater\nless\n",
+    ),
+];
+
+#[test]
+fn lines_are_answered(rt: HostRuntime) {
+    for (what, input, wanted) in &ANSWERED {
+        let mut rest = *input;
+        let mut output = Vec::new(rt.alloc());
+        assert!(rt; run(rt.alloc(), &mut rest, &mut output) == Ok(()), "{what}");
+        assert!(rt; output.as_slice() == *wanted, "{what}");
+    }
+}
+
+/// Lines, and the number of the first that is bad.
+static BAD_LINES: [(&[u8], u64); 47] = [
+    (b"len 0\nlen 10\n", 2),
+    (b"\n\t\nlen 0\nlen\nlen\n", 4),
+    (b"plus 0 1 2\n", 1),
+    (b"Len 0\n", 1),
+    (b"le 0\n", 1),
+    (b"lens 0\n", 1),
+    (b"add\n", 1),
+    (b"add 0 1\n", 1),
+    (b"add 0 1 2 3\n", 1),
+    (b"has 0\n", 1),
+    (b"has 0 1 2\n", 1),
+    (b"len 0 0\n", 1),
+    (b"show\n", 1),
+    (b"len 00\n", 1),
+    (b"len +0\n", 1),
+    (b"len a\n", 1),
+    (b"len :\n", 1),
+    (b"add 0 0 2147483648\n", 1),
+    (b"add 0 -2147483649 0\n", 1),
+    (b"has 0 99999999999999999999\n", 1),
+    (b"has 0 -\n", 1),
+    (b"has 0 +\n", 1),
+    (b"has 0 +-1\n", 1),
+    (b"has 0 1x\n", 1),
+    (b"has 0 0x1\n", 1),
+    (b"has 0 1.0\n", 1),
+    (b"has 0 \xff\n", 1),
+    (b"\xff\n", 1),
+    (b"len 0\0\n", 1),
+    (b"len 0\r", 1),
+    (b"len 0\r\r\n", 1),
+    (b"\t\nnot 10 0\n", 2),
+    (b"del 0\n", 1),
+    (b"del 0 1 2\n", 1),
+    (b"del a 1\n", 1),
+    (b"gap 0 1 2\n", 1),
+    (b"gap 0 2147483648\n", 1),
+    (b"or 0 1\n", 1),
+    (b"and 0 1 2 3\n", 1),
+    (b"and 0 1 x\n", 1),
+    (b"sub 0 1 -2\n", 1),
+    (b"xor 0 1 10\n", 1),
+    (b"xor\n", 1),
+    (b"not 0\n", 1),
+    (b"not 0 1 2\n", 1),
+    (b"cmp 0\n", 1),
+    (b"most 0 1 2\n", 1),
+];
+
+#[test]
+fn bad_lines_are_told_by_their_number(rt: HostRuntime) {
+    for (row, (input, number)) in BAD_LINES.iter().enumerate() {
+        let mut rest = *input;
+        let mut output = Vec::new(rt.alloc());
+        let told = run(rt.alloc(), &mut rest, &mut output);
+        assert!(rt; told == Err(Fault::BadLine(*number)), "row {row}");
+        assert!(rt; output.is_empty(), "row {row}");
+    }
+}
+
+#[test]
+fn one_byte_a_call_and_interruptions_change_nothing(rt: HostRuntime) {
+    let mut input = Dripping {
+        bytes: SESSION,
+        fails: false,
+        is_interrupted: false,
+    };
+    let mut output = Filling {
+        taken: Vec::new(rt.alloc()),
+        room: REPLIES.len(),
+        fails: true,
+        is_interrupted: false,
+    };
+    assert_eq!(rt; run(rt.alloc(), &mut input, &mut output), Ok(()));
+    assert_eq!(rt; output.taken.as_slice(), REPLIES);
+}
+
+#[test]
+fn a_failed_read_is_told_and_nothing_is_written(rt: HostRuntime) {
+    for bytes in [
+        b"".as_slice(),
+        b"len 0\n".as_slice(),
+        b"nonsense\n".as_slice(),
+    ] {
+        let mut input = Dripping {
+            bytes,
+            fails: true,
+            is_interrupted: false,
+        };
+        let mut output = Vec::new(rt.alloc());
+        let told = run(rt.alloc(), &mut input, &mut output);
+        assert_eq!(rt; told, Err(Fault::Io), "after {} bytes", bytes.len());
+        assert!(rt; output.is_empty(), "after {} bytes", bytes.len());
+    }
+}
+
+#[test]
+fn a_failed_write_is_told_where_it_stopped(rt: HostRuntime) {
+    for (room, fails) in [
+        (0, true),
+        (0, false),
+        (3, true),
+        (3, false),
+        (33, true),
+        (33, false),
+    ] {
+        let mut input = SESSION;
+        let mut output = Filling {
+            taken: Vec::new(rt.alloc()),
+            room,
+            fails,
+            is_interrupted: false,
+        };
+        let told = run(rt.alloc(), &mut input, &mut output);
+        assert_eq!(rt; told, Err(Fault::Io), "room for {room} bytes");
+        assert_eq!(rt;
+            output.taken.as_slice(),
+            &REPLIES[..room],
+            "room for {room} bytes"
+        );
+    }
+}
+
+// Ten thousand lines, and one that is longer than a page, a byte a call.
+#[test]
+fn many_lines_and_a_long_one_are_answered(rt: HostRuntime) -> Result<(), Fail> {
+    let mut lines = Vec::new(rt.alloc());
+    let mut wanted = Vec::new(rt.alloc());
+    for _ in 0..5_000u16 {
+        lines.extend_from_slice(b"has 7 12\nlen 3\n")?;
+        wanted.extend_from_slice(b"false\n0\n")?;
+    }
+    lines.extend_from_slice(b"len ")?;
+    lines.resize(lines.len() + 5_000, b' ')?;
+    lines.extend_from_slice(b"3\n")?;
+    wanted.extend_from_slice(b"0\n")?;
+    let mut input = Dripping {
+        bytes: &lines,
+        fails: false,
+        is_interrupted: false,
+    };
+    let mut output = Filling {
+        taken: Vec::new(rt.alloc()),
+        room: wanted.len(),
+        fails: true,
+        is_interrupted: false,
+    };
+    assert_eq!(rt; run(rt.alloc(), &mut input, &mut output), Ok(()));
+    assert!(rt; output.taken.as_slice() == wanted.as_slice());
+    Ok(())
+}
+
+// Lines that add a thousand single values, apart, and one that shows them.
+fn many_values(alloc: Global) -> Result<Vec<u8>, Fail> {
+    let mut lines = Vec::new(alloc);
+    for i in 1_000..2_000u16 {
+        let n = 2 * u32::from(i);
+        let line = format!(in alloc; "add 0 {n} {n}\n")?;
+        lines.extend_from_slice(line.as_bytes())?;
+    }
+    lines.extend_from_slice(b"show 0\n")?;
+    Ok(lines)
+}
+
+// What is replied to those lines.
+fn many_replies(alloc: Global) -> Result<Vec<u8>, Fail> {
+    let mut replies = Vec::new(alloc);
+    for _ in 0..1_000u16 {
+        replies.extend_from_slice(b"true\n")?;
+    }
+    replies.extend_from_slice(b"2000..=2000")?;
+    for i in 1_001..2_000u16 {
+        let n = 2 * u32::from(i);
+        let range = format!(in alloc; ", {n}..={n}")?;
+        replies.extend_from_slice(range.as_bytes())?;
+    }
+    replies.extend_from_slice(b"\n")?;
+    Ok(replies)
+}
+
+// The text of one reply is longer than a page.
+#[test]
+fn many_ranges_are_shown(rt: HostRuntime) -> Result<(), Fail> {
+    let lines = many_values(rt.alloc())?;
+    let wanted = many_replies(rt.alloc())?;
+    let mut rest = lines.as_slice();
+    let mut output = Vec::new(rt.alloc());
+    assert!(rt; run(rt.alloc(), &mut rest, &mut output) == Ok(()));
+    assert!(rt; output.as_slice() == wanted.as_slice());
+    Ok(())
+}
+
+#[test]
+fn each_outcome_has_its_status_and_line(rt: HostRuntime) {
+    let mut errors = Vec::new(rt.alloc());
+    assert_eq!(rt; finish(&mut errors, Ok(())), ExitCode::SUCCESS);
+    assert!(rt; errors.is_empty());
+    let rows: [(Fault, u8, &[u8]); 3] = [
+        (Fault::BadLine(2), 2, b"bad line 2\n"),
+        (Fault::NoMemory, 3, b"no memory\n"),
+        (Fault::Io, 4, b"read or write failed\n"),
+    ];
+    for (fault, status, line) in rows {
+        let mut errors = Vec::new(rt.alloc());
+        let code = finish(&mut errors, Err(fault));
+        assert!(rt; code == ExitCode::from(status), "status {status}");
+        assert!(rt; errors.as_slice() == line, "status {status}");
+    }
+}
+
+#[test]
+fn the_program_ends_by_its_outcome(rt: HostRuntime) {
+    let rows: [(&[u8], usize, u8, &[u8], &[u8]); 3] = [
+        (SESSION, 35, 0, REPLIES, b""),
+        (b"len 0\nlen 10\n", 35, 2, b"", b"bad line 2\n"),
+        (SESSION, 3, 4, b"tru", b"read or write failed\n"),
+    ];
+    for (lines, room, status, wanted, line) in rows {
+        let mut rest = lines;
+        let mut errors = Vec::new(rt.alloc());
+        let mut output = Filling {
+            taken: Vec::new(rt.alloc()),
+            room,
+            fails: true,
+            is_interrupted: false,
+        };
+        let code = start(rt.alloc(), &mut rest, &mut output, &mut errors);
+        assert!(rt; code == ExitCode::from(status), "status {status}");
+        assert!(rt; output.taken.as_slice() == wanted, "status {status}");
+        assert!(rt; errors.as_slice() == line, "status {status}");
+    }
+}

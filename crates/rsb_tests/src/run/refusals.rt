@@ -1,0 +1,140 @@
+//! Memory that is refused.
+
+use crate::run::ends::Filling;
+use linked_list_allocator::LocalHeap;
+use rsb_commands::{Command, Fault, Reply, SetNo, run, run_commands, start};
+use std::process::ExitCode;
+use std::test::*;
+
+const COMMANDS: &[u8] = b"add 0 1 5\nhas 0 9\nshow 0\n";
+
+const FIRST: &[u8] = b"true\nfalse\n";
+
+const ALL: &[u8] = b"true\nfalse\n1..=5\n";
+
+// Over heaps of growing size the growth that is refused comes later and later. What was written is
+// the replies before the command that it stopped.
+#[test]
+fn each_growth_is_refused_in_turn(rt: HostRuntime) -> Result<(), Fail> {
+    let mut is_stopped_early = false;
+    let mut is_stopped_at_last = false;
+    let mut is_done = false;
+    for size in 4..200usize {
+        let heap = LocalHeap::new(rt.alloc(), 16 * size)?;
+        let mut input = COMMANDS;
+        let mut output = Vec::new(rt.alloc());
+        match run(&heap, &mut input, &mut output) {
+            Ok(()) => {
+                assert!(rt; output.as_slice() == ALL, "size {size}");
+                is_done = true;
+            }
+            Err(fault) => {
+                assert!(rt; fault == Fault::NoMemory, "size {size}");
+                assert!(rt; !is_done, "size {size}");
+                if output.is_empty() {
+                    assert!(rt; !is_stopped_at_last, "size {size}");
+                    is_stopped_early = true;
+                } else {
+                    assert!(rt; output.as_slice() == FIRST, "size {size}");
+                    is_stopped_at_last = true;
+                }
+            }
+        }
+    }
+    assert!(rt; is_stopped_early && is_stopped_at_last && is_done);
+    Ok(())
+}
+
+// Commands that are stopped keep the replies to those before.
+#[test]
+fn stopped_commands_keep_their_replies(rt: HostRuntime) -> Result<(), Fail> {
+    let set = SetNo::new(0).expect(&rt, "a set number");
+    let commands = [
+        Command::Add {
+            slot: set,
+            first: 1,
+            last: 5,
+        },
+        Command::Has {
+            slot: set,
+            value: 9,
+        },
+        Command::Show { slot: set },
+    ];
+    let mut is_stopped_at_last = false;
+    let mut is_done = false;
+    for size in 4..200usize {
+        let heap = LocalHeap::new(rt.alloc(), 16 * size)?;
+        match run_commands(&heap, &commands) {
+            Ok(replies) => {
+                assert!(rt; replies.len() == 3, "size {size}");
+                is_done = true;
+            }
+            Err(stopped) => {
+                if stopped.at == 0 {
+                    assert!(rt;
+                        stopped.replies.is_empty() && !is_stopped_at_last,
+                        "size {size}"
+                    );
+                } else {
+                    let are_kept = matches!(
+                        stopped.replies.as_slice(),
+                        [Reply::Flag(true), Reply::Flag(false)]
+                    );
+                    assert!(rt; stopped.at == 2 && are_kept, "size {size}");
+                    is_stopped_at_last = true;
+                }
+            }
+        }
+    }
+    assert!(rt; is_stopped_at_last && is_done);
+    Ok(())
+}
+
+#[test]
+fn refused_memory_ends_with_status_3(rt: HostRuntime) -> Result<(), Fail> {
+    let heap = LocalHeap::new(rt.alloc(), 64)?;
+    let mut input = COMMANDS;
+    let mut output = Vec::new(rt.alloc());
+    let mut errors = Vec::new(rt.alloc());
+    let code = start(&heap, &mut input, &mut output, &mut errors);
+    assert_eq!(rt; code, ExitCode::from(3));
+    assert_eq!(rt; errors.as_slice(), b"no memory\n".as_slice());
+    assert!(rt; output.is_empty());
+    Ok(())
+}
+
+// Where the last command finds no memory, and then the replies before it can't be written, it is
+// the write that is told.
+#[test]
+fn a_failed_write_is_told_before_refused_memory(rt: HostRuntime) -> Result<(), Fail> {
+    let mut is_write_told = false;
+    for size in 4..200usize {
+        let heap = LocalHeap::new(rt.alloc(), 16 * size)?;
+        let mut input = COMMANDS;
+        let mut output = Filling {
+            taken: Vec::new(rt.alloc()),
+            room: 11,
+            fails: true,
+            is_interrupted: false,
+        };
+        let are_first_written = run(&heap, &mut input, &mut output) == Err(Fault::NoMemory)
+            && output.taken.len() == 11;
+        if are_first_written {
+            let heap = LocalHeap::new(rt.alloc(), 16 * size)?;
+            let mut input = COMMANDS;
+            let mut output = Filling {
+                taken: Vec::new(rt.alloc()),
+                room: 4,
+                fails: true,
+                is_interrupted: false,
+            };
+            let told = run(&heap, &mut input, &mut output);
+            assert_eq!(rt; told, Err(Fault::Io), "size {size}");
+            assert_eq!(rt; output.taken.as_slice(), b"true".as_slice(), "size {size}");
+            is_write_told = true;
+        }
+    }
+    assert!(rt; is_write_told);
+    Ok(())
+}
