@@ -1,22 +1,21 @@
 -- A map that was made of a list of entries in order.
 use Rattle.std.proofs.Common.{◌≡◌, ℕ, ◌+◌, ◌<◌, Bool, true, false, List, [], ◌∷◌, Option, Some, None, Less, Equal, Greater, refl, sym, ap, ◌∙◌, inl, inr, arith}
-use Rattle.std.proofs.lemmas.Bool.{cases_lt}
 use Rattle.std.proofs.lemmas.Cmp.{eq_by_cmp_equiv, tied_itself}
-use Rattle.std.proofs.lemmas.List.Elements.{All-head, All-tail}
 use Rattle.std.proofs.lemmas.Map.{lookup-none}
 use Rattle.std.proofs.lemmas.Map.Entries.{lookup_head, lookup_tail, none_below_head, none_past_head}
+use Rattle.std.proofs.lemmas.Map.Lookups.{CmpEqualImpliesEq}
 use Rattle.std.proofs.lemmas.Map.Keys.{sorted_tail, IsDistinct-from_sorted}
 use Rattle.std.proofs.lemmas.Map.Made.{update_all_none}
 use Rattle.std.proofs.lemmas.Option.{none-some, same_Some}
 use Rattle.std.specs.BTreeMap.{is_at, BTreeMap, IsFromIterResult}
 use Rattle.std.specs.Cmp.{IsTotalOrder}
-use Rattle.std.specs.List.{All, AllByRecursion}
+use Rattle.std.specs.List.{AllByRecursion}
 use Rattle.std.specs.List.Sorted.{IsStrictlySortedBy}
 use Rattle.std.specs.Map.{keys_of, lookup, update_all}
 use Rattle.std.specs.Ordering.{eq_by_cmp, nat_cmp, is_eq, ordering_reverse}
 use Rattle.std.specs.declared.cmp.Ordering.{Ordering}
 use Rattle.range_set_blaze.specs.Kept.{IsAscendingFrom}
-use Rattle.range_set_blaze.specs.OrderLaws.{nat_cmp-greater, nat_cmp-less}
+use Rattle.range_set_blaze.specs.OrderLaws.{nat_cmp-less}
 
 -- two look-ups that find the same find the same values
 one-value : {X : Type 0} (x y : X) (left right : Option X) → left ≡ right → left ≡ Some x
@@ -30,7 +29,7 @@ one-found x left right same at none = absurd (none-some x (sym none ∙ sym same
 
 module _ {T : Type 0} (cmp : T → T → Ordering) (order : IsTotalOrder cmp) (rank : T → ℕ) (n : ℕ)
     (in_order : (x y : T) → rank x < n → rank y < n → cmp x y ≡ nat_cmp (rank x) (rank y))
-    (one_place : (x y : T) → rank x < n → rank x ≡ rank y → x ≡ y) where
+    (exact : CmpEqualImpliesEq cmp) where
   -- entries that ascend past a value are past it in the order of keys
   later : (value : T) (low : ℕ) (entries : List (T × T)) → rank value < n → rank value < low
       → IsAscendingFrom rank n low entries
@@ -53,40 +52,22 @@ module _ {T : Type 0} (cmp : T → T → Ordering) (order : IsTotalOrder cmp) (r
     sorted-keys (rank entry.0 + 1) entries ascending.2,
   )
 
-  -- values that are not told apart are the same
-  exact : (x y : T) → rank x < n → rank y < n → cmp x y ≡ Equal → x ≡ y
-  exact x y value other same = elim (cases_lt (rank x) (rank y)) [
-    | inl less ↦
-        let is = nat_cmp-less (rank x) (rank y) less in
-        let at = in_order x y value other in
-        absurd (grind (arith, is, at, same))
-    | inr most ↦ elim (cases_lt (rank y) (rank x)) [
-      | inl more ↦
-          let is = nat_cmp-greater (rank y) (rank x) more in
-          let at = in_order x y value other in
-          absurd (grind (arith, is, at, same))
-      | inr least ↦ one_place x y value (omega (arith, most, least))
-    ]
-  ]
-
   -- two lists of entries in order that no look-up tells apart are the same
   same-entries : (low : ℕ) (entries others : List (T × T))
-      → IsStrictlySortedBy cmp (keys_of entries) → All (λ entry. rank entry.0 < n) entries
-      → IsAscendingFrom rank n low others
+      → IsStrictlySortedBy cmp (keys_of entries) → IsAscendingFrom rank n low others
       → ((key : T) → lookup (is_at (cmp key)) entries ≡ lookup (is_at (cmp key)) others)
       → entries ≡ others
-  same-entries low [] [] sorted values ascending same = refl
-  same-entries low [] (other ∷ others) sorted values ascending same =
+  same-entries low [] [] sorted ascending same = refl
+  same-entries low [] (other ∷ others) sorted ascending same =
       one-found other.1 _ _ (sym (same other.0))
       (lookup_head (is_at (cmp other.0)) other others (ap is_eq (tied_itself order other.0))) refl
-  same-entries low (entry ∷ entries) [] sorted values ascending same =
+  same-entries low (entry ∷ entries) [] sorted ascending same =
       one-found entry.1 _ _ (same entry.0)
       (lookup_head (is_at (cmp entry.0)) entry entries (ap is_eq (tied_itself order entry.0))) refl
-  same-entries low (entry ∷ entries) (other ∷ others) sorted values ascending same =
+  same-entries low (entry ∷ entries) (other ∷ others) sorted ascending same =
       by (λ keys. same-entries (rank other.0 + 1) entries others
-      (sorted_tail cmp entry.0 (keys_of entries) sorted)
-      (All-tail (λ (each : T × T). rank each.0 < n) entry entries values) ascending.2
-      (rest-same keys)) (cmp entry.0 other.0) refl
+      (sorted_tail cmp entry.0 (keys_of entries) sorted) ascending.2 (rest-same keys))
+      (cmp entry.0 other.0) refl
     where
       -- the others are in order too
       others-sorted : IsStrictlySortedBy cmp (keys_of (other ∷ others))
@@ -134,8 +115,7 @@ module _ {T : Type 0} (cmp : T → T → Ordering) (order : IsTotalOrder cmp) (r
           (none_below_head order other.0 entry entries sorted
           (order.antisymm other.0 entry.0 ∙ ap ordering_reverse is)))
       by rest Equal is =
-          let value = All-head (λ (each : T × T). rank each.0 < n) entry entries values in
-          let keys = exact entry.0 other.0 value ascending.1 is in
+          let keys = exact entry.0 other.0 is in
           let found = one-value entry.1 other.1 _ _ (same entry.0) entry-found
           (lookup_head (is_at (cmp entry.0)) other others (ap is_eq is)) in
           let others_same = rest keys in
@@ -144,9 +124,9 @@ module _ {T : Type 0} (cmp : T → T → Ordering) (order : IsTotalOrder cmp) (r
   -- so a map that was made of entries in order has these
   pub made-entries : (items entries : List (T × T)) (made : BTreeMap T T)
       → IsFromIterResult cmp items made → items ≡ entries → IsAscendingFrom rank n 0 entries
-      → All (λ entry. rank entry.0 < n) made.entries → made.entries ≡ entries
-  made-entries items entries made from is ascending values =
-      same-entries 0 made.entries entries from.1 values ascending (λ key.
+      → made.entries ≡ entries
+  made-entries items entries made from is ascending =
+      same-entries 0 made.entries entries from.1 ascending (λ key.
       from.0 key
       ∙ ap (λ (each : List (T × T)). update_all (eq_by_cmp cmp) (λ _. None) each key) is
       ∙ update_all_none (eq_by_cmp_equiv order) (eq_by_cmp cmp) (λ x y. refl) entries key

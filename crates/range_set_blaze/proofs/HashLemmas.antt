@@ -187,7 +187,7 @@ run_bounds-canonical n runs canonical =
 -- ---- what is fed
 
 module _ {T : Type 0} (rank : T → ℕ) (n : ℕ) (value_at : ℕ → T)
-    (places : (x : T) → rank x < n → value_at (rank x) ≡ x) (fed : T → HashWrites) where
+    (placed : (x : T) → rank x < n → value_at (rank x) ≡ x) (fed : T → HashWrites) where
   -- each run's start and end feed what the values at their ranks feed
   entries-fed : (low : ℕ) (entries : List (T × T)) → IsCanonicalFrom low (runs_of rank entries)
       → AllEndBelow n (runs_of rank entries)
@@ -200,8 +200,8 @@ module _ {T : Type 0} (rank : T → ℕ) (n : ℕ) (value_at : ℕ → T)
       (record { first = rank entry.0; last = rank entry.1 }) (runs_of rank entries) within in
       let later = All-tail (λ (each : Interval). each.last < n)
       (record { first = rank entry.0; last = rank entry.1 }) (runs_of rank entries) within in
-      let start = sym (ap fed (places entry.0 (omega (arith, ends)))) in
-      let end = sym (ap fed (places entry.1 ends)) in
+      let start = sym (ap fed (placed entry.0 (omega (arith, ends)))) in
+      let end = sym (ap fed (placed entry.1 ends)) in
       let rest = entries-fed (rank entry.1 + 2) entries canonical.2 later in
       (λ i. (start i ++ end i) ++ rest i)
       ∙ append_assoc (fed (value_at (rank entry.0))) (fed (value_at (rank entry.1)))

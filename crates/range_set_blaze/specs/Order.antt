@@ -26,11 +26,6 @@ elements_from low (suc more) selected =
 abbrev pub order : ℕ → Selection → Selection → Ordering
 order n left right = slice_cmp nat_cmp (elements_from 0 n left) (elements_from 0 n right)
 
--- values of n ranks, at most as many as 128 bits can tell apart, are ordered as their ranks are
-pub record IsRanking {T : Type 0} (rank : T → ℕ) (n : ℕ) (cmp : T → T → Ordering) : Type 0 where
-  pub in_order : (x y : T) → rank x < n → rank y < n → cmp x y ≡ nat_cmp (rank x) (rank y)
-  pub countable : n ≤ 2 ^ 128
-
 -- ---- the same order, without lists
 
 -- the rank is the least below n in which two sets differ, and the left one has it

@@ -8,6 +8,7 @@ ghost use Rattle.range_set_blaze.specs.Set.{IsGreatest, IsLeast};
 
 mod algebra;
 mod bulk;
+mod collect;
 mod elements;
 mod entries;
 mod extend;
@@ -17,6 +18,7 @@ mod insert;
 mod keep;
 mod lengths;
 mod look_up;
+mod operators;
 pub(crate) mod order;
 mod remove;
 mod retain;

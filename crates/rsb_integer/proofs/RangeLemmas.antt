@@ -1,7 +1,12 @@
 -- Ranges of values are told by their intervals of ranks.
 use Rattle.std.proofs.Common.{◌≡◌, ℕ, Bool, true, false, cond, List, [], ◌∷◌, ◌<◌, ◌≤◌, refl, sym, ap, ◌+◌, ◌∙◌, subst, arith}
 use Rattle.std.proofs.lemmas.List.Elements.{All-head, All-tail}
+use Rattle.std.proofs.lemmas.Map.Lookups.{CmpEqualImpliesEq}
+use Rattle.std.specs.Cmp.{nat_cmp_is}
+use Rattle.std.specs.Ordering.{nat_cmp}
 use Rattle.std.specs.Range.{range_inclusive_start, range_inclusive_end, range_inclusive_exhausted}
+use Rattle.std.specs.declared.cmp.Ordering.{Ordering}
+use Rattle.std.specs.declared.cmp.Ordering.TheVariants.{Equal}
 use Rattle.std.specs.declared.ops.RangeInclusive.{RangeInclusive}
 use Rattle.rsb_integer.specs.Rank.{interval_of, intervals_of}
 use Rattle.rsb_integer.specs.Runs.{Interval, members, AllEndBelow, IsCanonicalFrom, IsCanonical}
@@ -40,12 +45,23 @@ module _ {T : Type 0} (rank : T → ℕ) where
       (rank (range_inclusive_end range)))
       (exhausted-some range ordered)
 
--- where each of n values is the one at its place, no two have one place
-pub one_place : {T : Type 0} (rank : T → ℕ) (n : ℕ) (value_at : ℕ → T)
-    → ((x : T) → rank x < n → value_at (rank x) ≡ x)
-    → (x y : T) → rank x < n → rank x ≡ rank y → x ≡ y
-one_place rank n value_at places x y below same =
-    sym (places x below) ∙ ap value_at same ∙ places y (omega (arith, same))
+-- in a type of n values that are ordered as their places are
+module _ {T : Type 0} (rank : T → ℕ) (n : ℕ) (cmp : T → T → Ordering)
+    (exact : CmpEqualImpliesEq cmp)
+    (in_order : (x y : T) → rank x < n → rank y < n → cmp x y ≡ nat_cmp (rank x) (rank y)) where
+  -- no two have one place
+  pub one_place : (x y : T) → rank x < n → rank x ≡ rank y → x ≡ y
+  one_place x y below same =
+      exact x y (in_order x y below (omega (arith, same))
+      ∙ sym (nat_cmp_is (rank x) (rank y) Equal same))
+
+  -- so each is the one at its place
+  pub value_at-rank : (value_at : ℕ → T)
+      → ((place : ℕ) → place < n → rank (value_at place) ≡ place)
+      → (x : T) → rank x < n → value_at (rank x) ≡ x
+  value_at-rank value_at ranks x below =
+      let same = ranks (rank x) below in
+      one_place (value_at (rank x)) x (omega (arith, same, below)) same
 
 -- in a type of n values, each of which has a place of its own
 module _ {T : Type 0} (rank : T → ℕ) (n : ℕ)

@@ -1,5 +1,6 @@
 pub mod Front
 pub mod Rank
 pub mod RankLaws
+pub mod Room
 pub mod Runs
 pub mod Selection

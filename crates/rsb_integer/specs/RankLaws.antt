@@ -19,25 +19,10 @@ negative : (width : Width) (n : ℕ) → signed_rank width (negsuc n) < 2 * 2 ^ 
     → (n < 2 ^ hbits width) × (signed_rank width (negsuc n) ≡ 2 ^ hbits width - 1 - n)
 negative width n value = grind (arith, nat_tests)
 
--- a rank below the half is that of a negative number, and one from the half on of another
-below-half : (width : Width) (rank : ℕ) → rank < 2 ^ hbits width
-    → signed_value width rank ≡ negsuc (2 ^ hbits width - 1 - rank)
-below-half width rank below = grind (arith, nat_tests)
-
-past-half : (width : Width) (n : ℕ)
-    → signed_value width (2 ^ hbits width + n) ≡ pos (2 ^ hbits width + n - 2 ^ hbits width)
-past-half width n = grind (arith, nat_tests)
-
--- each signed value is the one at its rank
-pub signed-places : (width : Width) (x : ℤ) → signed_rank width x < 2 * 2 ^ hbits width
-    → signed_value width (signed_rank width x) ≡ x
-signed-places width (pos n) value = past-half width n ∙ ap pos (omega arith)
-signed-places width (negsuc n) value =
-    let some = pow_pos (hbits width) in
-    let told = negative width n value in
-    ap (signed_value width) told.1
-    ∙ below-half width (2 ^ hbits width - 1 - n) (omega (arith, told.0))
-    ∙ ap negsuc (omega (arith, told.0))
+-- the signed value at a rank has that rank
+pub signed-ranks : (width : Width) (rank : ℕ) → rank < 2 * 2 ^ hbits width
+    → signed_rank width (signed_value width rank) ≡ rank
+signed-ranks width rank below = grind (arith, nat_tests)
 
 -- a lower signed value has a lower rank
 signed-less : (width : Width) (x y : ℤ)
@@ -72,9 +57,9 @@ signed-in_order width x y left right =
 
 -- ---- characters: 1112064 is how many there are
 
--- each character is the one at its rank
-pub scalar-places : (c : ℕ) → scalar_rank c < 1112064 → scalar_value (scalar_rank c) ≡ c
-scalar-places c value = grind (arith, nat_tests)
+-- the character at a rank has that rank
+pub scalar-ranks : (rank : ℕ) → rank < 1112064 → scalar_rank (scalar_value rank) ≡ rank
+scalar-ranks rank below = grind (arith, nat_tests)
 
 -- a lower character has a lower rank
 scalar-less : (c d : ℕ) → scalar_rank c < 1112064 → scalar_rank d < 1112064 → c < d

@@ -3,7 +3,9 @@
 ghost use Rattle.std.specs.Prelude.{◌≡◌, ◌↔◌, ℕ, ◌+◌, ◌^◌, ◌<◌, ◌≤◌, IsNone, IfSome};
 ghost use Rattle.std.specs.Ordering.{nat_cmp};
 ghost use Rattle.std.specs.Range.{range_inclusive_start, range_inclusive_end};
+ghost use Rattle.std.proofs.lemmas.Map.Lookups.{CmpEqualImpliesEq};
 ghost use Rattle.rsb_integer.specs.Rank.{interval_of};
+ghost use Rattle.rsb_integer.specs.Room.{two_ends, HaveRoom};
 ghost use Rattle.rsb_integer.specs.Runs.{length_of, IsNonEmpty, IsEmpty, IsAfterFirst, IsBeforeLast};
 
 use num_traits::{One, Zero};
@@ -15,9 +17,10 @@ use std::ops::{AddAssign, RangeInclusive, SubAssign};
 /// A type of elements: finitely many values in a row, each one step from the next. The rank of a
 /// value is its place in that row, from 0 on. (`Integer` of the Rust crate.)
 ///
-/// An own type says its `rank`, its `value_count` and its `value_at`, and proves the five laws
-/// below.
-pub trait Integer: Copy + PartialEq + PartialOrd + Ord + Debug + Send + Sync {
+/// An own type says its `rank`, its `value_count` and its `value_at`, and proves the seven laws
+/// below. The given types are also `Send` and `Sync`; generic code that uses threads asks
+/// `T: Integer + Send + Sync`.
+pub trait Integer: Copy + PartialEq + PartialOrd + Ord + Debug {
     /// The lengths of ranges of the type. (`Integer::SafeLen`.)
     type SafeLen: SafeLength
         + Hash
@@ -149,8 +152,11 @@ pub trait Integer: Copy + PartialEq + PartialOrd + Ord + Debug + Send + Sync {
         Some(end)
     }
 
-    // Each value is the one at its place, so no two have one place.
-    ghost places: { (x : Self) → rank x < value_count → value_at (rank x) ≡ x };
+    // The value at a place has that place.
+    ghost ranks: { (place : ℕ) → place < value_count → rank (value_at place) ≡ place };
+
+    // Values that compare as equal are equal, so no two have one place.
+    ghost exact: { CmpEqualImpliesEq Self.cmp };
 
     // Values are ordered as their places are.
     ghost in_order: { (x y : Self) → rank x < value_count → rank y < value_count
@@ -164,4 +170,7 @@ pub trait Integer: Copy + PartialEq + PartialOrd + Ord + Debug + Send + Sync {
 
     // There is a length for the whole type.
     ghost lengths_suffice: { value_count ≤ Self.SafeLen.limit };
+
+    // Two ends of ranges, each of which may be lacking, fit in memory.
+    ghost two_ends_fit: { (end : Self) → HaveRoom (two_ends Self.row) };
 }

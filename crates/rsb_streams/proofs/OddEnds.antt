@@ -67,6 +67,16 @@ module _ {I T : Type 0} (rank : T → ℕ) (n : ℕ) (source : Source I T) where
       abbrev final : Option T → OddPieces T I
       final left = record { iter = j; done = true; start = was.start; end = left }
 
+      -- where none is pending, nothing comes
+      pub rests : was.end ≡ None → (left : Option T) → Answered entry None (final left)
+      rests is left =
+          let so = so-by entry was None so_now is in
+          record {
+            answers = so.same [] (λ nothing.
+                nothing [] (laws.answers was.iter j None call) (no-pieces n));
+            rests = (λ no. absurd (cc), λ pieces at. at);
+          }
+
       -- what is pending comes last
       pub last-answers : (end : T) (answer : RangeInclusive T) → was.end ≡ Some end
           → range_inclusive_exhausted answer ≡ false → range_inclusive_start answer ≡ was.start

@@ -113,6 +113,21 @@ module _ {I T : Type 0} (rank : T → ℕ) (n : ℕ) (source : Source I T) where
             (λ done. Holds (record { iter = j; done = done; start = next; end = Some next_end }))
             (sym so_now.undone) at
 
+        -- it begins where none is pending
+        pub so-begins : was.end ≡ None → SoFar entry next_state
+        so-begins is =
+            let so = so-by rank n source entry was None so_now is in
+            let less = fewer in
+            let nearer = so.nearer in
+            from-state (SoFar entry) (record {
+              undone = refl;
+              going = going-next (λ given at.
+                  so.going.twofold (between rank next next_end ∷ given) (comes given at));
+              same = λ pieces at. so.same pieces (λ nothing. at (λ given might all.
+                  nothing (between rank next next_end ∷ given) (comes given might) all));
+              nearer = omega (arith, less.1, nearer);
+            })
+
         -- one is pending
         module _ (end : T) (is : was.end ≡ Some end) where
           -- so it was before

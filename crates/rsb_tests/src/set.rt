@@ -24,6 +24,7 @@ mod removals;
 mod retained;
 mod rows;
 mod splits;
+mod std_traits;
 mod steps;
 mod subsets;
 mod texts;

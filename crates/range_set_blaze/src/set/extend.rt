@@ -62,7 +62,7 @@ impl<T: Integer, A: Allocator + Clone> RangeSetBlaze<T, A> {
 
 impl<T: Integer, A: Allocator + Copy> RangeSetBlaze<T, A> {
     /// The set of ranges in any order, of which some may be empty, by one sort and one pass. Without
-    /// memory nothing is made. There is no `collect` into a set: of values, write `from_iter_values`.
+    /// memory nothing is made. Of values, write `from_iter_values`, or `values.collect(alloc)?`.
     /// (`FromIterator<RangeInclusive<T>>` of `RangeSetBlaze`.)
     pub fn from_iter<J: IntoIterator<Item = RangeInclusive<T>>>(
         alloc: A,

@@ -1,12 +1,9 @@
 //! What a set keeps, made of a stream in one pass and of a list in order.
 
-ghost use Rattle.std.specs.Prelude.{◌≡◌, ◌<◌, IfOk};
-ghost use Rattle.std.specs.List.{All};
+ghost use Rattle.std.specs.Prelude.{◌≡◌, IfOk};
 ghost use Rattle.rsb_integer.specs.Runs.{IsCanonicalIn};
 ghost use Rattle.range_set_blaze.specs.Kept.{runs_of, IsKept};
 
-use crate::set::entries::next_run;
-use crate::set::run::known;
 use num_traits::Zero;
 use rsb_integer::Integer;
 use rsb_streams::DrawDisjoint;
@@ -42,18 +39,5 @@ pub(crate) fn map_of<T: Integer, A: Allocator + Clone>(
     requires { IsCanonicalIn T.value_count (runs_of T.rank entries.items) }
     ensures { IfOk result (λ map. map.entries ≡ entries.items) }
 {
-    let map = BTreeMap::from_iter(alloc, entries)?;
-    know_starts(&map);
-    Ok(map)
-}
-
-// The starts of the entries are known for values from here on. (That the map finds at each key what
-// the list has there doesn't tell it of the keys themselves.)
-fn know_starts<T: Integer, A: Allocator>(map: &BTreeMap<T, T, A>)
-    ensures { All (λ entry. T.rank entry.0 < T.value_count) map.now.entries }
-{
-    let mut entries = map.iter();
-    while let Some(run) = next_run(&mut entries) {
-        known(run.start);
-    }
+    BTreeMap::from_iter(alloc, entries)
 }

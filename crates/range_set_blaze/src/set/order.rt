@@ -3,7 +3,7 @@
 ghost use Rattle.std.specs.Prelude.{◌≡◌, ℕ, ◌+◌, ◌≤◌, [], ◌∷◌, length, min, refl, MatchOption, Some};
 ghost use Rattle.rsb_integer.specs.Runs.{members, IsCanonicalIn};
 ghost use Rattle.range_set_blaze.specs.Kept.{entry_of, runs_of};
-ghost use Rattle.range_set_blaze.specs.Order.{AreTurns, HasOrder, IsRanking};
+ghost use Rattle.range_set_blaze.specs.Order.{AreTurns, HasOrder};
 ghost use Rattle.range_set_blaze.specs.OrderLaws.{set_cmp, set_eq, sets_equivalence, sets_partial_equivalence, sets_partial_order, sets_ties, sets_total};
 
 use crate::set::RangeSetBlaze;
@@ -13,27 +13,6 @@ use std::alloc::Allocator;
 use std::cmp::Ordering;
 use std::collections::BTreeMap;
 use std::collections::btree_map::Iter;
-
-/// The ranks of an element type, and no more of it. The methods of `Ord` can't hand on what else
-/// `Integer` says, that values may be sent to other threads.
-pub(crate) trait Ranked: Copy + Ord {
-    // The place of a value, from 0 on.
-    ghost rank: { Self → ℕ };
-
-    // How many values there are.
-    ghost value_count: { ℕ };
-
-    // Values are ordered as their places are.
-    ghost ranking: { IsRanking rank value_count Self.cmp };
-}
-
-impl<T: Integer> Ranked for T {
-    ghost rank = { T.rank };
-
-    ghost value_count = { T.value_count };
-
-    ghost ranking = { record { in_order = T.Integer.in_order; countable = T.Integer.countable } };
-}
 
 /// Two sets are equal where no rank tells them apart.
 impl<T: Integer, A: Allocator> PartialEq for RangeSetBlaze<T, A> {
@@ -71,7 +50,7 @@ impl<T: Integer, A: Allocator> Ord for RangeSetBlaze<T, A> {
     ghost matches_eq = { sets_ties T.value_count };
 
     fn cmp(&self, other: &Self) -> Ordering {
-        compare_runs(&self.map, &other.map).0
+        cmp_counted(self, other).0
     }
 }
 
@@ -89,7 +68,7 @@ pub fn cmp_counted<T: Integer, A: Allocator, B: Allocator>(
 }
 
 // The order of the sets of two lists of runs, and the turns that it took.
-fn compare_runs<T: Ranked, A: Allocator, B: Allocator>(
+fn compare_runs<T: Integer, A: Allocator, B: Allocator>(
     left: &BTreeMap<T, T, A>,
     right: &BTreeMap<T, T, B>,
 ) -> (Ordering, u128)

@@ -1,10 +1,12 @@
 //! The quarter hours of a day: an element type of one's own.
 
 ghost use Rattle.std.specs.Prelude.{◌≡◌, ◌<◌};
-ghost use Rattle.std.proofs.Common.{lit≤, refl};
+ghost use Rattle.std.proofs.Common.{lit<, lit≤, refl};
+ghost use Rattle.rsb_integer.specs.Room.{have_room};
 ghost use Rattle.rsb_examples.specs.Slots.{quarter_at, quarter_at-below, quarter_at-same};
 ghost use Rattle.rsb_examples.specs.declared.calendar.slot.TheConstants.{QUARTERS};
 ghost use Rattle.std.proofs.Props.{props};
+ghost use Rattle.std.proofs.lemmas.Map.Lookups.{exact_unsigned};
 ghost use mathlib.Core.HLevel.{is_prop→PathP};
 
 use range_set_blaze::Integer;
@@ -100,14 +102,15 @@ impl Integer for Slot {
         }
     }
 
-    // The slot at the place of another has its number, and so is that slot, whatever shows that the
+    ghost ranks = { quarter_at-same };
+
+    // Slots that compare as equal have one number, and so are one slot, whatever shows that the
     // number lies in the day.
-    ghost places = { λ x value i.
-        let same = quarter_at-same x.quarter value in
+    ghost exact = { λ x y equal i.
+        let same = exact_unsigned x.quarter y.quarter equal in
         record {
           quarter = same i;
-          in_day = is_prop→PathP (λ i. same i < 96) (λ i. Prim.hlevel props)
-              (quarter_at-below x.quarter) x.in_day i;
+          in_day = is_prop→PathP (λ i. same i < 96) (λ i. Prim.hlevel props) x.in_day y.in_day i;
         } };
 
     ghost in_order = { λ x y left right. refl };
@@ -117,4 +120,6 @@ impl Integer for Slot {
     ghost countable = { lit≤ tt };
 
     ghost lengths_suffice = { lit≤ tt };
+
+    ghost two_ends_fit = { λ end. have_room _ (lit< tt) };
 }

@@ -1,8 +1,10 @@
 //! `char` as an element type of 1112064 values, with lengths in `u32`.
 
-ghost use Rattle.std.proofs.Common.{lit≤};
+ghost use Rattle.std.proofs.Common.{lit<, lit≤};
+ghost use Rattle.std.proofs.lemmas.Map.Lookups.{exact_unsigned};
 ghost use Rattle.rsb_integer.specs.Rank.{scalar_rank, scalar_value};
-ghost use Rattle.rsb_integer.specs.RankLaws.{scalar-places, scalar-in_order};
+ghost use Rattle.rsb_integer.specs.RankLaws.{scalar-ranks, scalar-in_order};
+ghost use Rattle.rsb_integer.specs.Room.{have_room};
 
 use crate::integer::Integer;
 use std::ops::RangeInclusive;
@@ -83,7 +85,9 @@ impl Integer for char {
         char::from_u32(start).unwrap()
     }
 
-    ghost places = { scalar-places };
+    ghost ranks = { scalar-ranks };
+
+    ghost exact = { exact_unsigned };
 
     ghost in_order = { scalar-in_order };
 
@@ -92,4 +96,6 @@ impl Integer for char {
     ghost countable = { lit≤ tt };
 
     ghost lengths_suffice = { lit≤ tt };
+
+    ghost two_ends_fit = { λ end. have_room _ (lit< tt) };
 }

@@ -2,9 +2,11 @@
 
 ghost use Rattle.std.specs.Prelude.{◌^◌};
 ghost use Rattle.std.specs.Int.{w64};
-ghost use Rattle.std.proofs.Common.{lit≤};
+ghost use Rattle.std.proofs.Common.{lit<, lit≤};
+ghost use Rattle.std.proofs.lemmas.Map.Lookups.{exact_signed};
 ghost use Rattle.rsb_integer.specs.Rank.{signed_rank, signed_value};
-ghost use Rattle.rsb_integer.specs.RankLaws.{signed-places, signed-in_order};
+ghost use Rattle.rsb_integer.specs.RankLaws.{signed-ranks, signed-in_order};
+ghost use Rattle.rsb_integer.specs.Room.{have_room};
 
 use crate::integer::Integer;
 use std::ops::RangeInclusive;
@@ -50,7 +52,9 @@ impl Integer for i64 {
         self.checked_sub_unsigned((b - 1) as u64).unwrap()
     }
 
-    ghost places = { signed-places w64 };
+    ghost ranks = { signed-ranks w64 };
+
+    ghost exact = { exact_signed };
 
     ghost in_order = { signed-in_order w64 };
 
@@ -59,4 +63,6 @@ impl Integer for i64 {
     ghost countable = { lit≤ tt };
 
     ghost lengths_suffice = { lit≤ tt };
+
+    ghost two_ends_fit = { λ end. have_room _ (lit< tt) };
 }

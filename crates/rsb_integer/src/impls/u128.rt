@@ -1,7 +1,9 @@
 //! `u128` as an element type, with lengths in `UIntPlusOne<u128>`.
 
 ghost use Rattle.std.specs.Prelude.{◌^◌};
-ghost use Rattle.std.proofs.Common.{lit≤, refl};
+ghost use Rattle.std.proofs.Common.{lit<, lit≤, refl};
+ghost use Rattle.std.proofs.lemmas.Map.Lookups.{exact_unsigned};
+ghost use Rattle.rsb_integer.specs.Room.{have_room};
 
 use crate::integer::Integer;
 use rsb_length::UIntPlusOne;
@@ -56,7 +58,9 @@ impl Integer for u128 {
         }
     }
 
-    ghost places = { λ x value. refl };
+    ghost ranks = { λ place below. refl };
+
+    ghost exact = { exact_unsigned };
 
     ghost in_order = { λ x y left right. refl };
 
@@ -65,4 +69,6 @@ impl Integer for u128 {
     ghost countable = { lit≤ tt };
 
     ghost lengths_suffice = { lit≤ tt };
+
+    ghost two_ends_fit = { λ end. have_room _ (lit< tt) };
 }

@@ -1,7 +1,9 @@
 //! `u64` as an element type, with lengths in `u128`.
 
 ghost use Rattle.std.specs.Prelude.{◌^◌};
-ghost use Rattle.std.proofs.Common.{lit≤, refl};
+ghost use Rattle.std.proofs.Common.{lit<, lit≤, refl};
+ghost use Rattle.std.proofs.lemmas.Map.Lookups.{exact_unsigned};
+ghost use Rattle.rsb_integer.specs.Room.{have_room};
 
 use crate::integer::Integer;
 use std::ops::RangeInclusive;
@@ -47,7 +49,9 @@ impl Integer for u64 {
         self - (b - 1) as u64
     }
 
-    ghost places = { λ x value. refl };
+    ghost ranks = { λ place below. refl };
+
+    ghost exact = { exact_unsigned };
 
     ghost in_order = { λ x y left right. refl };
 
@@ -56,4 +60,6 @@ impl Integer for u64 {
     ghost countable = { lit≤ tt };
 
     ghost lengths_suffice = { lit≤ tt };
+
+    ghost two_ends_fit = { λ end. have_room _ (lit< tt) };
 }

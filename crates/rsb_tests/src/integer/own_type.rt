@@ -1,8 +1,10 @@
 //! An own element type.
 
-ghost use Rattle.std.specs.Prelude.{◌≡◌, ◌==◌, cond};
+ghost use Rattle.std.specs.Prelude.{◌≡◌, ◌==◌, ◌<◌, cond, zero, suc};
 ghost use Rattle.std.specs.Ordering.{nat_cmp};
-ghost use Rattle.std.proofs.Common.{arith, lit≤, refl};
+ghost use Rattle.std.specs.declared.cmp.Ordering.TheVariants.{Equal};
+ghost use Rattle.std.proofs.Common.{arith, lit<, lit≤, refl};
+ghost use Rattle.rsb_integer.specs.Room.{have_room};
 ghost use Rattle.rsb_tests.specs.declared.integer.own_type.Side.{Side};
 ghost use Rattle.rsb_tests.specs.declared.integer.own_type.Side.TheVariants.{Lo, Hi};
 
@@ -60,10 +62,27 @@ impl Integer for Side {
         if b == 1 { self } else { Side::Lo }
     }
 
-    ghost places = { λ x value. elim x as (λ x. Self.value_at (Self.rank x) ≡ x) [
-      | Lo ↦ refl
-      | Hi ↦ refl
-    ] };
+    ghost ranks = { λ place.
+        elim place as (λ place. place < 2 → Self.rank (Self.value_at place) ≡ place) [
+          | zero ↦ λ below. refl
+          | suc more ↦ elim more as (λ more.
+              suc more < 2 → Self.rank (Self.value_at (suc more)) ≡ suc more) [
+                | zero ↦ λ below. refl
+                | suc past ↦ λ below. Prim.absurd (Prim.omega (arith, below))
+              ]
+        ] };
+
+    ghost exact = { λ x y.
+        elim x as (λ x. Self.cmp x y ≡ Equal → x ≡ y) [
+          | Lo ↦ elim y as (λ y. Self.cmp Lo y ≡ Equal → Lo ≡ y) [
+            | Lo ↦ λ same. refl
+            | Hi ↦ λ same. Prim.absurd (Prim.cc)
+          ]
+          | Hi ↦ elim y as (λ y. Self.cmp Hi y ≡ Equal → Hi ≡ y) [
+            | Lo ↦ λ same. Prim.absurd (Prim.cc)
+            | Hi ↦ λ same. refl
+          ]
+        ] };
 
     ghost in_order = { λ x y left right.
         elim x as (λ x. Self.cmp x y ≡ nat_cmp (Self.rank x) (Self.rank y)) [
@@ -76,4 +95,6 @@ impl Integer for Side {
     ghost countable = { lit≤ tt };
 
     ghost lengths_suffice = { lit≤ tt };
+
+    ghost two_ends_fit = { λ end. have_room _ (lit< tt) };
 }

@@ -31,12 +31,12 @@ loop-at-preserved g c =
 -- the replies that were found are the only ones
 pub returns-clause-only : goal.returns-clause-only
 returns-clause-only g c = λ others are.
-    let laws = g.met.T.Integer g.world.𝓛 g.world.𝓜 g.world.𝓡
-    ((λ s x. x), (λ x. x), (λ x. x), λ x. x) in
+    let laws = g.met.T.Integer in
     let rank = g.T.Integer.rank in
     let value_count = g.T.Integer.value_count in
     let found = contents_of g.T.SafeLen.SafeLength.number c.loop-at.replies.items in
     let all = subst (λ commands. AreReplies rank value_count commands found)
     (take_all c.loop-at.at c.args.commands.now c.loop-at-test.false) c.loop-at.invariant.0.replied in
-    replies_unique rank value_count (one_place rank value_count g.T.Integer.value_at laws.places)
+    replies_unique rank value_count
+    (one_place rank value_count g.T.Ord.cmp laws.exact laws.in_order)
     no_members c.args.commands.now others found are all

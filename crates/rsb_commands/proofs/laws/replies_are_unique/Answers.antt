@@ -5,9 +5,9 @@ use Rattle.rsb_commands.proofs.laws.replies_are_unique.Goals as goal
 
 pub returns : goal.returns
 returns g c = λ commands replies others.
-    let laws = g.met.T.Integer g.world.𝓛 g.world.𝓜 g.world.𝓡
-    ((λ s x. x), (λ x. x), (λ x. x), λ x. x) in
+    let laws = g.met.T.Integer in
     let rank = g.T.Integer.rank in
     let value_count = g.T.Integer.value_count in
-    replies_unique rank value_count (one_place rank value_count g.T.Integer.value_at laws.places)
+    replies_unique rank value_count
+    (one_place rank value_count g.T.Ord.cmp laws.exact laws.in_order)
     no_members commands replies others

@@ -4,7 +4,6 @@ use Rattle.rsb_integer.proofs.laws.equal_members_equal_lists.Goals as goal
 
 pub returns : goal.returns
 returns g c =
-    let laws = g.met.T.Integer g.world.𝓛 g.world.𝓜 g.world.𝓡
-    ((λ s x. x), (λ x. x), (λ x. x), λ x. x) in
+    let laws = g.met.T.Integer in
     same_members g.T.Integer.rank g.T.Integer.value_count
-    (one_place g.T.Integer.rank g.T.Integer.value_count g.T.Integer.value_at laws.places)
+    (one_place g.T.Integer.rank g.T.Integer.value_count g.T.Ord.cmp laws.exact laws.in_order)

@@ -5,14 +5,12 @@ use Rattle.rsb_integer.proofs.laws.offsets_undo_length.Goals as goal
 
 pub returns-clause-end : goal.returns-clause-end
 returns-clause-end g c start end found length ordered value is leads =
-    let laws = g.met.T.Integer g.world.𝓛 g.world.𝓜 g.world.𝓡
-    ((λ s x. x), (λ x. x), (λ x. x), λ x. x) in
-    one_place g.T.Integer.rank g.T.Integer.value_count g.T.Integer.value_at laws.places
+    let laws = g.met.T.Integer in
+    one_place g.T.Integer.rank g.T.Integer.value_count g.T.Ord.cmp laws.exact laws.in_order
     found end (omega arith) (omega arith)
 
 pub returns-clause-start : goal.returns-clause-start
 returns-clause-start g c start end found length ordered value is leads =
-    let laws = g.met.T.Integer g.world.𝓛 g.world.𝓜 g.world.𝓡
-    ((λ s x. x), (λ x. x), (λ x. x), λ x. x) in
-    one_place g.T.Integer.rank g.T.Integer.value_count g.T.Integer.value_at laws.places
+    let laws = g.met.T.Integer in
+    one_place g.T.Integer.rank g.T.Integer.value_count g.T.Ord.cmp laws.exact laws.in_order
     found start (omega arith) (omega arith)

@@ -46,6 +46,26 @@ returns-then-self-clause-steps g c =
     c.range_next_back-then-self.ensures.none c.range_next_back-then-self.ensures.last
     c.range_next_back-then-self.ensures.rest
 
+-- and fewer are left
+pub returns-then-self-clause-goes : goal.returns-then-self-clause-goes
+returns-then-self-clause-goes g c =
+    let s = c.args.self.now in
+    let item = c.range_next_back-then-self.result in
+    let run = interval_of g.T.Integer.rank s.front in
+    let rest = interval_of g.T.Integer.rank c.range_next_back-then-self.new.range in
+    let none : IsEmpty (interval_of g.T.Integer.rank s.back) = c.in_default.ensures.none.0 refl in
+    goes-ended g.T.Integer.rank g.T.Integer.value_count g.I.Draw.draws_left _ s _
+    (record {
+      both_ends = c.requires.both_ends;
+      ready = (returns-then-self-clause-steps g c).ready;
+    })
+    (λ finite. finite) item c.if-self.true
+    (fewer-other item run rest
+    (interval_of g.T.Integer.rank s.back) (interval_of g.T.Integer.rank c.range_next_back.new.range)
+    (c.in_default.ensures.rest.none (omega (arith, none)))
+    (item-last item run rest c.range_next_back-then-self.ensures.none
+    c.range_next_back-then-self.ensures.rest))
+
 -- and where it ends
 pub returns-in_default-next_back-clause-steps : goal.returns-in_default-next_back-clause-steps
 returns-in_default-next_back-clause-steps g c =

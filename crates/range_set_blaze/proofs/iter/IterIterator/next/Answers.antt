@@ -36,6 +36,22 @@ returns-then-self-clause-steps g c =
     c.range_next-then-self.ensures.none c.range_next-then-self.ensures.first
     c.range_next-then-self.ensures.rest
 
+-- and fewer are left
+pub returns-then-self-clause-goes : goal.returns-then-self-clause-goes
+returns-then-self-clause-goes g c =
+    let s = c.args.self.now in
+    let run = interval_of g.T.Integer.rank s.back in
+    let rest = interval_of g.T.Integer.rank c.range_next-then-self.new.range in
+    let none : IsEmpty (interval_of g.T.Integer.rank s.front) = c.in_default.ensures.none.0 refl in
+    goes-ended g.T.Integer.rank g.T.Integer.value_count g.I.Draw.draws_left _ s _
+    (returns-then-self-clause-steps g c).ready (λ finite. finite)
+    c.range_next-then-self.result c.if-self.true
+    (fewer-turned c.range_next-then-self.result run rest
+    (interval_of g.T.Integer.rank s.front) (interval_of g.T.Integer.rank c.range_next.new.range)
+    (c.in_default.ensures.rest.none (omega (arith, none)))
+    (item-first c.range_next-then-self.result run rest
+    c.range_next-then-self.ensures.none c.range_next-then-self.ensures.rest))
+
 -- and where it ends
 pub returns-in_default-draw-clause-steps : goal.returns-in_default-draw-clause-steps
 returns-in_default-draw-clause-steps g c =

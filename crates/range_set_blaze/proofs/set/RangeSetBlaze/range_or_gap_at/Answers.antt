@@ -7,13 +7,13 @@ use Rattle.range_set_blaze.proofs.set.RangeSetBlaze.range_or_gap_at.Goals.{in-No
 
 -- the starts of a set ascend
 pub run_up_to-requires-clause-ascending : goal.run_up_to-requires-clause-ascending
-run_up_to-requires-clause-ascending g c κs within =
+run_up_to-requires-clause-ascending g c =
     kept-ascending g.T.Integer.rank g.T.Integer.value_count c.self.inside.map.entries
     c.self.invariant.canonical
 
 -- the last run up to the value
 pub is_below-requires-clause-left : goal.is_below-requires-clause-left
-is_below-requires-clause-left g c κs within =
+is_below-requires-clause-left g c =
     (found-order g.T.Integer.rank g.T.Integer.value_count c.self.inside.map.entries
     c.self.invariant.canonical (g.T.Integer.rank c.known-value.result)
     c.in-Some.run' c.in-Some.ensures).2

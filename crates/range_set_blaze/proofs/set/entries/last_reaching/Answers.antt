@@ -9,8 +9,7 @@ use Rattle.range_set_blaze.proofs.set.entries.last_reaching.Goals as goal
 -- none starts up to the point
 pub returns-in_err-last-clause-none : goal.returns-in_err-last-clause-none
 returns-in_err-last-clause-none g c none =
-    let laws = g.met.T.Integer g.world.𝓛 g.world.𝓜 g.world.𝓡
-    ((λ s x. x), (λ x. x), (λ x. x), λ x. x) in
+    let laws = g.met.T.Integer in
     let rank = g.T.Integer.rank in
     let n = g.T.Integer.value_count in
     let entries = c.args.map.now.entries in
@@ -23,8 +22,7 @@ returns-in_err-last-clause-none g c none =
 -- the runs go on from the last, which ends more than one rank below the start
 pub returns-then-not-reaches-clause-none : goal.returns-then-not-reaches-clause-none
 returns-then-not-reaches-clause-none g c none =
-    let laws = g.met.T.Integer g.world.𝓛 g.world.𝓜 g.world.𝓡
-    ((λ s x. x), (λ x. x), (λ x. x), λ x. x) in
+    let laws = g.met.T.Integer in
     let rank = g.T.Integer.rank in
     let n = g.T.Integer.value_count in
     let entries = c.args.map.now.entries in
@@ -40,8 +38,7 @@ returns-then-not-reaches-clause-none g c none =
 -- it is the last up to the point
 pub returns-clause-found : goal.returns-clause-found
 returns-clause-found g c =
-    let laws = g.met.T.Integer g.world.𝓛 g.world.𝓜 g.world.𝓡
-    ((λ s x. x), (λ x. x), (λ x. x), λ x. x) in
+    let laws = g.met.T.Integer in
     let rank = g.T.Integer.rank in
     let n = g.T.Integer.value_count in
     let entries = c.args.map.now.entries in
@@ -58,8 +55,7 @@ returns-clause-found g c =
 -- and what is taken next is the one before it
 pub returns-clause-before : goal.returns-clause-before
 returns-clause-before g c =
-    let laws = g.met.T.Integer g.world.𝓛 g.world.𝓜 g.world.𝓡
-    ((λ s x. x), (λ x. x), (λ x. x), λ x. x) in
+    let laws = g.met.T.Integer in
     let rank = g.T.Integer.rank in
     let n = g.T.Integer.value_count in
     let entries = c.args.map.now.entries in

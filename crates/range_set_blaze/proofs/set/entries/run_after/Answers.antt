@@ -5,8 +5,7 @@ use Rattle.range_set_blaze.proofs.set.entries.run_after.Goals as goal
 -- the range has the entries past the value
 pub returns-in_err-start : goal.returns-in_err-start
 returns-in_err-start g c =
-    let laws = g.met.T.Integer g.world.𝓛 g.world.𝓜 g.world.𝓡
-    ((λ s x. x), (λ x. x), (λ x. x), λ x. x) in
+    let laws = g.met.T.Integer in
     let same = between-past g.T.Ord.cmp g.T.Integer.rank g.T.Integer.value_count laws.in_order
     c.args.value c.requires.value 0 c.args.map.now.entries c.requires.ascending in
     rw c.from_residual.ensures
@@ -14,8 +13,7 @@ returns-in_err-start g c =
 
 pub returns : goal.returns
 returns g c =
-    let laws = g.met.T.Integer g.world.𝓛 g.world.𝓜 g.world.𝓡
-    ((λ s x. x), (λ x. x), (λ x. x), λ x. x) in
+    let laws = g.met.T.Integer in
     let same = between-past g.T.Ord.cmp g.T.Integer.rank g.T.Integer.value_count laws.in_order
     c.args.value c.requires.value 0 c.args.map.now.entries c.requires.ascending in
     record {

@@ -8,8 +8,7 @@ use Rattle.range_set_blaze.proofs.set.entries.run_up_to.Goals as goal
 -- the range has the entries up to the value
 pub returns : goal.returns
 returns g c =
-    let laws = g.met.T.Integer g.world.𝓛 g.world.𝓜 g.world.𝓡
-    ((λ s x. x), (λ x. x), (λ x. x), λ x. x) in
+    let laws = g.met.T.Integer in
     let same = between-up_to g.T.Ord.cmp g.T.Integer.rank g.T.Integer.value_count laws.in_order
     c.args.value c.requires.value 0 c.args.map.now.entries c.requires.ascending in
     subst (λ (items : List (g.row.T.Denot × g.row.T.Denot)).

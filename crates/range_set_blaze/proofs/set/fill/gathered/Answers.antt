@@ -25,8 +25,7 @@ safe_len-requires g c =
 -- and in the type
 pub add_assign-requires : goal.add_assign-requires
 add_assign-requires g c =
-    let laws = g.met.T.Integer g.world.𝓛 g.world.𝓜 g.world.𝓡
-    ((λ s x. x), (λ x. x), (λ x. x), λ x. x) in
+    let laws = g.met.T.Integer in
     let s = c.loop-range.iter in
     let t = c.draw.new.self in
     let run = interval_of g.T.Integer.rank c.in-Some.range in
@@ -43,8 +42,7 @@ pub loop-range-preserved : goal.loop-range-preserved
 loop-range-preserved g c =
     let s = c.loop-range.iter in
     let t = c.draw.new.self in
-    let laws = g.met.T.Integer g.world.𝓛 g.world.𝓜 g.world.𝓡
-    ((λ s x. x), (λ x. x), (λ x. x), λ x. x) in
+    let laws = g.met.T.Integer in
     let rank = g.T.Integer.rank in
     let n = g.T.Integer.value_count in
     let run = interval_of rank c.in-Some.range in

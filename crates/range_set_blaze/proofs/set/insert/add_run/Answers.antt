@@ -15,12 +15,12 @@ returns-in_err-put_free-clause-succeeds g c reached =
 
 -- the last run is in order, and lies in the type
 pub is_below-requires-clause-right : goal.is_below-requires-clause-right
-is_below-requires-clause-right g c κs within =
+is_below-requires-clause-right g c =
     let order = last-order (over c.args.run c.requires.kept c.requires.order c.requires.value (rw c.next_or_greatest.ensures at c.in-Some.ensures.found)) in
     omega (arith, order.0, order.1)
 
 pub is_below-requires-2-clause-left : goal.is_below-requires-2-clause-left
-is_below-requires-2-clause-left g c κs within =
+is_below-requires-2-clause-left g c =
     (last-order (over c.args.run c.requires.kept c.requires.order c.requires.value (rw c.next_or_greatest.ensures at c.in-Some.ensures.found))).1
 
 -- it has all values of the run

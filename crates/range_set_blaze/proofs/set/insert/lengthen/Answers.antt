@@ -6,9 +6,8 @@ use Rattle.range_set_blaze.proofs.set.insert.lengthen.Goals as goal
 
 -- the length with the fresh values is the number of members then
 pub add_length-requires-clause-fits : goal.add_length-requires-clause-fits
-add_length-requires-clause-fits g c κs within =
-    let laws = g.met.T.Integer g.world.𝓛 g.world.𝓜 g.world.𝓡
-    ((λ s x. x), (λ x. x), (λ x. x), λ x. x) in
+add_length-requires-clause-fits g c =
+    let laws = g.met.T.Integer in
     let rank = g.T.Integer.rank in
     let n = g.T.Integer.value_count in
     let entries = c.args.map.now.entries in
@@ -28,8 +27,7 @@ add_length-requires-clause-fits g c κs within =
 -- the run goes on from the last one that it reaches
 pub returns : goal.returns
 returns g c =
-    let laws = g.met.T.Integer g.world.𝓛 g.world.𝓜 g.world.𝓡
-    ((λ s x. x), (λ x. x), (λ x. x), λ x. x) in
+    let laws = g.met.T.Integer in
     lengthened (over c.args.run c.requires.kept c.requires.order c.requires.value c.requires.reaching) g.T.Ord.cmp laws.in_order c.requires.start
     c.requires.end c.move_end.new.map.entries
     (g.T.SafeLen.SafeLength.number c.add_length.new.length) c.move_end.ensures

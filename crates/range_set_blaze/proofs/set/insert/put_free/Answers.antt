@@ -7,9 +7,8 @@ use Rattle.range_set_blaze.proofs.set.insert.put_free.Goals as goal
 
 -- the length with the run is the number of members then
 pub add_length-requires-clause-fits : goal.add_length-requires-clause-fits
-add_length-requires-clause-fits g c κs within =
-    let laws = g.met.T.Integer g.world.𝓛 g.world.𝓜 g.world.𝓡
-    ((λ s x. x), (λ x. x), (λ x. x), λ x. x) in
+add_length-requires-clause-fits g c =
+    let laws = g.met.T.Integer in
     let rank = g.T.Integer.rank in
     let n = g.T.Integer.value_count in
     let entries = c.args.map.now.entries in
@@ -24,8 +23,7 @@ add_length-requires-clause-fits g c κs within =
 -- the run takes its place
 pub returns-clause-inserted : goal.returns-clause-inserted
 returns-clause-inserted g c =
-    let laws = g.met.T.Integer g.world.𝓛 g.world.𝓜 g.world.𝓡
-    ((λ s x. x), (λ x. x), (λ x. x), λ x. x) in
+    let laws = g.met.T.Integer in
     put-free g.T.Ord.cmp g.T.Integer.rank g.T.Integer.value_count laws.in_order
     c.args.map.now.entries (g.T.SafeLen.SafeLength.number c.args.total) c.requires.kept c.args.run
     c.requires.order c.requires.value c.requires.free c.insert.new.self.entries

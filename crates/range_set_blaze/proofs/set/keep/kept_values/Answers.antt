@@ -37,15 +37,15 @@ loop-left-init g c =
 
 -- the next value lies in the type
 pub grow-requires-clause-value : goal.grow-requires-clause-value
-grow-requires-clause-value g c κs within =
+grow-requires-clause-value g c =
     let rank = g.T.Integer.rank in
     let order = head-order g.T.Integer.value_count (run_of rank c.in-Some.run')
     (runs_of rank c.loop-left.entries) (rw c.in-Some.is at c.loop-left.invariant.canonical) in
     omega (arith, order.0, order.1)
 
 -- what is left is canonical
-pub next_left-left-requires-after_bounds : goal.next_left-left-requires-after_bounds
-next_left-left-requires-after_bounds g c κs within =
+pub next_left-left-requires : goal.next_left-left-requires
+next_left-left-requires g c =
     rw c.in-Some.is at c.loop-left.invariant.canonical
 
 -- the empty set has none

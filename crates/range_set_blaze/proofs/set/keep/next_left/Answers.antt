@@ -6,12 +6,12 @@ use Rattle.range_set_blaze.proofs.set.keep.next_left.Goals as goal
 
 -- the run lies in the type
 pub is_below-requires-clause-left : goal.is_below-requires-clause-left
-is_below-requires-clause-left g c κs within =
+is_below-requires-clause-left g c =
     let order = head-order g.T.Integer.value_count _ _ c.requires in
     omega (arith, order.0, order.1)
 
 pub is_below-requires-clause-right : goal.is_below-requires-clause-right
-is_below-requires-clause-right g c κs within =
+is_below-requires-clause-right g c =
     (head-order g.T.Integer.value_count _ _ c.requires).1
 
 pub add_one-requires : goal.add_one-requires

@@ -8,7 +8,7 @@ use Rattle.range_set_blaze.proofs.set.look_up.gap_end.Goals as goal
 
 -- the starts of a set ascend
 pub run_after-requires-clause-ascending : goal.run_after-requires-clause-ascending
-run_after-requires-clause-ascending g c κs within =
+run_after-requires-clause-ascending g c =
     kept-ascending g.T.Integer.rank g.T.Integer.value_count c.args.map.now.entries
     c.requires.canonical
 

@@ -7,7 +7,7 @@ use Rattle.std.proofs.Common.{refl}
 
 -- the starts of a set ascend
 pub run_up_to-requires-clause-ascending : goal.run_up_to-requires-clause-ascending
-run_up_to-requires-clause-ascending g c κs within =
+run_up_to-requires-clause-ascending g c =
     kept-ascending g.T.Integer.rank g.T.Integer.value_count c.args.map.now.entries
     c.requires.canonical
 
@@ -21,7 +21,7 @@ returns-in_err-run-clause-none g c =
     )
 
 pub is_below-requires-clause-left : goal.is_below-requires-clause-left
-is_below-requires-clause-left g c κs within =
+is_below-requires-clause-left g c =
     (found-order g.T.Integer.rank g.T.Integer.value_count c.args.map.now.entries
     c.requires.canonical (g.T.Integer.rank c.args.value) c.in_ok-run.run' c.in_ok-run.ensures).2
 

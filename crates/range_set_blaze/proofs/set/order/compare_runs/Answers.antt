@@ -16,7 +16,7 @@ use Rattle.range_set_blaze.proofs.set.order.compare_runs.Goals as goal
 -- nothing was passed at first
 pub turns-init : goal.turns-init
 turns-init g c =
-    let rank = g.T.Ranked.rank in
+    let rank = g.T.Integer.rank in
     let left = ap (runs_of rank) (sym c.iter-left.ensures.rest)
     ∙ runs_of-held rank c.next_run-first.result c.iter-left.result c.next_run-first.new.entries
     c.next_run-first.ensures in
@@ -33,8 +33,8 @@ turns-init g c =
 -- there are at most as many turns as runs, and one more
 pub overflow_add-turns : goal.overflow_add-turns
 overflow_add-turns g c =
-    let few = passing-fits g.T.Ranked.value_count _ _ c.requires.left c.requires.right _ _
-    c.turns.turns c.turns.invariant g.met.T.Ranked.ranking.countable in
+    let few = passing-fits g.T.Integer.value_count _ _ c.requires.left c.requires.right _ _
+    c.turns.turns c.turns.invariant g.met.T.Integer.countable in
     search (rules, few)
 
 -- one list has ended
@@ -47,25 +47,25 @@ ended g c run other one two = elim c.in_default.branch [
 
 pub returns-in_default-clause-order : goal.returns-in_default-clause-order
 returns-in_default-clause-order g c =
-    let rank = g.T.Ranked.rank in
+    let rank = g.T.Integer.rank in
     let told = c.cmp.ensures
     ∙ (λ i. bool_cmp (c.is_some.ensures i) (c.is_some-in_default.ensures i)) in
-    subst (HasOrder g.T.Ranked.value_count (members (runs_of rank c.args.left.now.entries))
+    subst (HasOrder g.T.Integer.value_count (members (runs_of rank c.args.left.now.entries))
     (members (runs_of rank c.args.right.now.entries))) (sym told)
-    (ended-order rank g.T.Ranked.value_count g.T.Ord.cmp g.met.T.Ranked.ranking.in_order _ _
+    (ended-order rank g.T.Integer.value_count g.T.Ord.cmp g.met.T.Integer.in_order _ _
     c.requires.left c.requires.right c.turns.turns c.turns.first c.turns.second c.turns.left
     c.turns.right c.turns.invariant (ended g c)).0
 
 pub returns-in_default-clause-turns : goal.returns-in_default-clause-turns
 returns-in_default-clause-turns g c =
-    (ended-order g.T.Ranked.rank g.T.Ranked.value_count g.T.Ord.cmp g.met.T.Ranked.ranking.in_order _ _
+    (ended-order g.T.Integer.rank g.T.Integer.value_count g.T.Ord.cmp g.met.T.Integer.in_order _ _
     c.requires.left c.requires.right c.turns.turns c.turns.first c.turns.second c.turns.left
     c.turns.right c.turns.invariant (ended g c)).1
 
 -- the runs start apart
 pub returns-then-is_ne-clause-order : goal.returns-then-is_ne-clause-order
 returns-then-is_ne-clause-order g c =
-    (apart-order g.T.Ranked.rank g.T.Ranked.value_count g.T.Ord.cmp g.met.T.Ranked.ranking.in_order _ _
+    (apart-order g.T.Integer.rank g.T.Integer.value_count g.T.Ord.cmp g.met.T.Integer.in_order _ _
     c.requires.left c.requires.right c.turns.turns c.in-Some-Some.run' c.in-Some-Some.other
     c.turns.left c.turns.right
     (rw (c.in-Some-Some.is-0, c.in-Some-Some.is-1) at c.turns.invariant)
@@ -73,7 +73,7 @@ returns-then-is_ne-clause-order g c =
 
 pub returns-then-is_ne-clause-turns : goal.returns-then-is_ne-clause-turns
 returns-then-is_ne-clause-turns g c =
-    (apart-order g.T.Ranked.rank g.T.Ranked.value_count g.T.Ord.cmp g.met.T.Ranked.ranking.in_order _ _
+    (apart-order g.T.Integer.rank g.T.Integer.value_count g.T.Ord.cmp g.met.T.Integer.in_order _ _
     c.requires.left c.requires.right c.turns.turns c.in-Some-Some.run' c.in-Some-Some.other
     c.turns.left c.turns.right
     (rw (c.in-Some-Some.is-0, c.in-Some-Some.is-1) at c.turns.invariant)
@@ -82,16 +82,16 @@ returns-then-is_ne-clause-turns g c =
 -- the run of the left list ends first
 pub turns-smaller-in-Less : goal.turns-smaller-in-Less
 turns-smaller-in-Less g c =
-    let rank = g.T.Ranked.rank in
+    let rank = g.T.Integer.rank in
     let before = ap (λ taken. length (held rank taken c.turns.left)) c.in-Some-Some.is-0 in
-    let fewer = held-fewer rank g.T.Ranked.value_count g.T.Ord.cmp g.met.T.Ranked.ranking.in_order
+    let fewer = held-fewer rank g.T.Integer.value_count g.T.Ord.cmp g.met.T.Integer.in_order
     c.in-Some-Some.run' _ c.turns.left _ c.next_run-first-in-Less.ensures in
     omega (arith, before, fewer)
 
 pub turns-preserved-in-Less : goal.turns-preserved-in-Less
 turns-preserved-in-Less g c =
     rw c.in-Some-Some.is-1
-    (pass-left g.T.Ranked.rank g.T.Ranked.value_count g.T.Ord.cmp g.met.T.Ranked.ranking.in_order _ _
+    (pass-left g.T.Integer.rank g.T.Integer.value_count g.T.Ord.cmp g.met.T.Integer.in_order _ _
     c.requires.left c.requires.right c.turns.turns c.in-Some-Some.run' c.in-Some-Some.other
     c.turns.left c.turns.right
     (rw (c.in-Some-Some.is-0, c.in-Some-Some.is-1) at c.turns.invariant)
@@ -103,18 +103,18 @@ turns-preserved-in-Less g c =
 -- both end alike
 pub turns-smaller-in-Equal : goal.turns-smaller-in-Equal
 turns-smaller-in-Equal g c =
-    let rank = g.T.Ranked.rank in
+    let rank = g.T.Integer.rank in
     let before = ap (λ taken. length (held rank taken c.turns.left)) c.in-Some-Some.is-0 in
     let after = ap (λ taken. length (held rank taken c.turns.right)) c.in-Some-Some.is-1 in
-    let fewer = held-fewer rank g.T.Ranked.value_count g.T.Ord.cmp g.met.T.Ranked.ranking.in_order
+    let fewer = held-fewer rank g.T.Integer.value_count g.T.Ord.cmp g.met.T.Integer.in_order
     c.in-Some-Some.run' _ c.turns.left _ c.next_run-first-in-Equal.ensures in
-    let less = held-fewer rank g.T.Ranked.value_count g.T.Ord.cmp g.met.T.Ranked.ranking.in_order
+    let less = held-fewer rank g.T.Integer.value_count g.T.Ord.cmp g.met.T.Integer.in_order
     c.in-Some-Some.other _ c.turns.right _ c.next_run-second-in-Equal.ensures in
     omega (arith, before, after, fewer, less)
 
 pub turns-preserved-in-Equal : goal.turns-preserved-in-Equal
 turns-preserved-in-Equal g c =
-    pass-both g.T.Ranked.rank g.T.Ranked.value_count g.T.Ord.cmp g.met.T.Ranked.ranking.in_order _ _
+    pass-both g.T.Integer.rank g.T.Integer.value_count g.T.Ord.cmp g.met.T.Integer.in_order _ _
     c.requires.left c.requires.right c.turns.turns c.in-Some-Some.run' c.in-Some-Some.other
     c.turns.left c.turns.right
     (rw (c.in-Some-Some.is-0, c.in-Some-Some.is-1) at c.turns.invariant)
@@ -128,16 +128,16 @@ turns-preserved-in-Equal g c =
 -- the run of the right list ends first
 pub turns-smaller : goal.turns-smaller
 turns-smaller g c =
-    let rank = g.T.Ranked.rank in
+    let rank = g.T.Integer.rank in
     let after = ap (λ taken. length (held rank taken c.turns.right)) c.in-Some-Some.is-1 in
-    let less = held-fewer rank g.T.Ranked.value_count g.T.Ord.cmp g.met.T.Ranked.ranking.in_order
+    let less = held-fewer rank g.T.Integer.value_count g.T.Ord.cmp g.met.T.Integer.in_order
     c.in-Some-Some.other _ c.turns.right _ c.next_run-second-in-Greater.ensures in
     omega (arith, after, less)
 
 pub turns-preserved : goal.turns-preserved
 turns-preserved g c =
     rw c.in-Some-Some.is-0
-    (pass-right g.T.Ranked.rank g.T.Ranked.value_count g.T.Ord.cmp g.met.T.Ranked.ranking.in_order _ _
+    (pass-right g.T.Integer.rank g.T.Integer.value_count g.T.Ord.cmp g.met.T.Integer.in_order _ _
     c.requires.left c.requires.right c.turns.turns c.in-Some-Some.run' c.in-Some-Some.other
     c.turns.left c.turns.right
     (rw (c.in-Some-Some.is-0, c.in-Some-Some.is-1) at c.turns.invariant)

@@ -6,13 +6,13 @@ use Rattle.range_set_blaze.proofs.set.remove.cut.Goals.{then-is_below+in_ok-inse
 
 -- the run lies in the type
 pub is_below-requires-clause-left : goal.is_below-requires-clause-left
-is_below-requires-clause-left g c κs within =
+is_below-requires-clause-left g c =
     let order = cut-order g.T.Integer.rank g.T.Integer.value_count c.args.map.now.entries
     c.requires.canonical (g.T.Integer.rank c.args.value) c.args.run c.requires.last in
     omega (arith, order.1, c.requires.within)
 
 pub is_below-requires-clause-right : goal.is_below-requires-clause-right
-is_below-requires-clause-right g c κs within =
+is_below-requires-clause-right g c =
     (cut-order g.T.Integer.rank g.T.Integer.value_count c.args.map.now.entries
     c.requires.canonical (g.T.Integer.rank c.args.value) c.args.run c.requires.last).1
 
@@ -24,13 +24,13 @@ add_one-requires g c =
     omega (arith, order.1, c.is_below.ensures.0 c.if-is_below.true)
 
 pub is_below-requires-2-clause-left : goal.is_below-requires-2-clause-left
-is_below-requires-2-clause-left g c κs within =
+is_below-requires-2-clause-left g c =
     let order = cut-order g.T.Integer.rank g.T.Integer.value_count c.args.map.now.entries
     c.requires.canonical (g.T.Integer.rank c.args.value) c.args.run c.requires.last in
     omega (arith, order.0, order.1)
 
 pub is_below-requires-2-clause-right : goal.is_below-requires-2-clause-right
-is_below-requires-2-clause-right g c κs within =
+is_below-requires-2-clause-right g c =
     let order = cut-order g.T.Integer.rank g.T.Integer.value_count c.args.map.now.entries
     c.requires.canonical (g.T.Integer.rank c.args.value) c.args.run c.requires.last in
     omega (arith, order.1, c.requires.within)
@@ -38,8 +38,7 @@ is_below-requires-2-clause-right g c κs within =
 -- what lies below the value is kept
 pub returns-then-is_below-2-clause-removed : goal.returns-then-is_below-2-clause-removed
 returns-then-is_below-2-clause-removed g c =
-    let laws = g.met.T.Integer g.world.𝓛 g.world.𝓜 g.world.𝓡
-    ((λ s x. x), (λ x. x), (λ x. x), λ x. x) in
+    let laws = g.met.T.Integer in
     let rank = g.T.Integer.rank in
     let n = g.T.Integer.value_count in
     let entries = c.args.map.now.entries in
@@ -63,8 +62,7 @@ returns-then-is_below-2-clause-removed g c =
 -- nothing does
 pub returns-else-is_below-2-clause-removed : goal.returns-else-is_below-2-clause-removed
 returns-else-is_below-2-clause-removed g c =
-    let laws = g.met.T.Integer g.world.𝓛 g.world.𝓜 g.world.𝓡
-    ((λ s x. x), (λ x. x), (λ x. x), λ x. x) in
+    let laws = g.met.T.Integer in
     let rank = g.T.Integer.rank in
     let n = g.T.Integer.value_count in
     let entries = c.args.map.now.entries in

@@ -9,7 +9,7 @@ use Rattle.range_set_blaze.proofs.set.remove.take_value.Goals as goal
 
 -- the starts of a set ascend
 pub run_up_to-requires-clause-ascending : goal.run_up_to-requires-clause-ascending
-run_up_to-requires-clause-ascending g c κs within =
+run_up_to-requires-clause-ascending g c =
     kept-ascending g.T.Integer.rank g.T.Integer.value_count c.args.map.now.entries
     c.requires.kept.canonical
 
@@ -21,7 +21,7 @@ returns-in_default-clause-none g c none =
 
 -- the last that does lies in the type
 pub is_below-requires-clause-left : goal.is_below-requires-clause-left
-is_below-requires-clause-left g c κs within =
+is_below-requires-clause-left g c =
     (cut-order g.T.Integer.rank g.T.Integer.value_count c.args.map.now.entries
     c.requires.kept.canonical (g.T.Integer.rank c.args.value) c.in-Some.run' c.in-Some.ensures).1
 
@@ -61,7 +61,7 @@ returns-in_err-cut-clause-succeeds g c absent =
 
 -- the length is within the type
 pub take_off_length-requires-clause-fits : goal.take_off_length-requires-clause-fits
-take_off_length-requires-clause-fits g c κs within =
+take_off_length-requires-clause-fits g c =
     kept-fits g.T.Integer.rank g.T.Integer.value_count c.args.map.now.entries _ c.requires.kept
 
 pub returns-clause-some : goal.returns-clause-some

@@ -32,21 +32,20 @@ loop-next-init g c =
 
 -- it has no more values than are counted
 pub take_off_length-requires-clause-some : goal.take_off_length-requires-clause-some
-take_off_length-requires-clause-some g c κs within =
+take_off_length-requires-clause-some g c =
     (asked-order g.T.Integer.rank g.T.Integer.value_count _ _ _ _ c.in-Some.run'
     c.requires.kept.canonical
     (rw c.in-Some.is at c.loop-next.invariant.1.0)).0
 
 pub take_off_length-requires-clause-counted : goal.take_off_length-requires-clause-counted
-take_off_length-requires-clause-counted g c κs within =
+take_off_length-requires-clause-counted g c =
     asked-counted g.T.Integer.rank g.T.Integer.value_count _ _ _ _ c.in-Some.run'
     c.requires.kept.canonical
     (rw c.in-Some.is at c.loop-next.invariant.1.0) c.requires.kept.length
 
 pub run_after-next-requires-clause-ascending : goal.run_after-next-requires-clause-ascending
-run_after-next-requires-clause-ascending g c κs within =
-    let laws = g.met.T.Integer g.world.𝓛 g.world.𝓜 g.world.𝓡
-    ((λ s x. x), (λ x. x), (λ x. x), λ x. x) in
+run_after-next-requires-clause-ascending g c =
+    let laws = g.met.T.Integer in
     elim c.if-not-f.branch [
       | then-not-f w ↦ rw w.map-is
           (drop-ascending g.T.Integer.rank g.T.Integer.value_count _ _ _ _ c.in-Some.run'
@@ -57,7 +56,7 @@ run_after-next-requires-clause-ascending g c κs within =
     ]
 
 pub run_after-next-requires-clause-value : goal.run_after-next-requires-clause-value
-run_after-next-requires-clause-value g c κs within =
+run_after-next-requires-clause-value g c =
     (asked-order g.T.Integer.rank g.T.Integer.value_count _ _ _ _ c.in-Some.run'
     c.requires.kept.canonical
     (rw c.in-Some.is at c.loop-next.invariant.1.0)).1
@@ -76,8 +75,7 @@ returns-clause-runs g c =
 -- one more was asked about
 pub loop-next-smaller : goal.loop-next-smaller
 loop-next-smaller g c =
-    let laws = g.met.T.Integer g.world.𝓛 g.world.𝓜 g.world.𝓡
-    ((λ s x. x), (λ x. x), (λ x. x), λ x. x) in
+    let laws = g.met.T.Integer in
     let rank = g.T.Integer.rank in
     let n = g.T.Integer.value_count in
     let before = rw c.in-Some.is at c.loop-next.invariant.1.0 in
@@ -97,8 +95,7 @@ loop-next-smaller g c =
 
 pub loop-next-preserved : goal.loop-next-preserved
 loop-next-preserved g c =
-    let laws = g.met.T.Integer g.world.𝓛 g.world.𝓜 g.world.𝓡
-    ((λ s x. x), (λ x. x), (λ x. x), λ x. x) in
+    let laws = g.met.T.Integer in
     let rank = g.T.Integer.rank in
     let n = g.T.Integer.value_count in
     let asked = rw c.in-Some.is at c.loop-next.invariant.1 in

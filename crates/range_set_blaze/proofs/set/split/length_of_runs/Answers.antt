@@ -7,11 +7,11 @@ use Rattle.range_set_blaze.proofs.set.split.length_of_runs.Goals as goal
 
 -- the runs that are left are canonical
 pub add_length-requires-clause-some : goal.add_length-requires-clause-some
-add_length-requires-clause-some g c κs within =
+add_length-requires-clause-some g c =
     (rw c.in-Some.ensures at c.loop-run.invariant.canonical).0.1
 
 pub add_length-requires-clause-fits : goal.add_length-requires-clause-fits
-add_length-requires-clause-fits g c κs within =
+add_length-requires-clause-fits g c =
     let rank = g.T.Integer.rank in
     (counted-next g.T.Integer.value_count _ (runs_of rank c.args.map.now.entries)
     (runs_of rank c.next_run.new.entries) (run_of rank c.in-Some.run') c.requires

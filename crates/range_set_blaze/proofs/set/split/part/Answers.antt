@@ -6,8 +6,7 @@ use Rattle.range_set_blaze.proofs.set.split.part.Goals as goal
 -- no run goes on over the value
 pub returns-clause-parting : goal.returns-clause-parting
 returns-clause-parting g c =
-    let laws = g.met.T.Integer g.world.𝓛 g.world.𝓜 g.world.𝓡
-    ((λ s x. x), (λ x. x), (λ x. x), λ x. x) in
+    let laws = g.met.T.Integer in
     let rank = g.T.Integer.rank in
     let n = g.T.Integer.value_count in
     let entries = c.args.map.now.entries in

@@ -7,8 +7,7 @@ use Rattle.range_set_blaze.proofs.set.split.part_within.Goals as goal
 -- the run ends below the value, and its other part has an entry of its own
 pub returns-in-Ok-clause-parting : goal.returns-in-Ok-clause-parting
 returns-in-Ok-clause-parting g c =
-    let laws = g.met.T.Integer g.world.𝓛 g.world.𝓜 g.world.𝓡
-    ((λ s x. x), (λ x. x), (λ x. x), λ x. x) in
+    let laws = g.met.T.Integer in
     let above = c.requires.above in
     let within = c.requires.within in
     parting-within g.T.Integer.rank g.T.Integer.value_count c.args.map.now.entries
@@ -21,8 +20,7 @@ returns-in-Ok-clause-parting g c =
 -- without memory the entry goes again
 pub returns-in-Err-clause-err : goal.returns-in-Err-clause-err
 returns-in-Err-clause-err g c =
-    let laws = g.met.T.Integer g.world.𝓛 g.world.𝓜 g.world.𝓡
-    ((λ s x. x), (λ x. x), (λ x. x), λ x. x) in
+    let laws = g.met.T.Integer in
     let above = c.requires.above in
     let within = c.requires.within in
     put-back g.T.Integer.rank g.T.Integer.value_count c.args.map.now.entries c.requires.canonical _

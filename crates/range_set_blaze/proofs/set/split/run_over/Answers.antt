@@ -6,13 +6,13 @@ use Rattle.range_set_blaze.proofs.set.split.run_over.Goals as goal
 
 -- the starts of a set ascend
 pub run_up_to-requires-clause-ascending : goal.run_up_to-requires-clause-ascending
-run_up_to-requires-clause-ascending g c κs within =
+run_up_to-requires-clause-ascending g c =
     kept-ascending g.T.Integer.rank g.T.Integer.value_count c.args.map.now.entries
     c.requires.canonical
 
 -- the run lies in the type
 pub is_below-requires-2-clause-left : goal.is_below-requires-2-clause-left
-is_below-requires-2-clause-left g c κs within =
+is_below-requires-2-clause-left g c =
     (cut-order g.T.Integer.rank g.T.Integer.value_count c.args.map.now.entries
     c.requires.canonical _ c.in_ok-run.run' c.in_ok-run.ensures).1
 

@@ -9,56 +9,54 @@ use Rattle.range_set_blaze.proofs.set.take_in.join.Goals as goal
 
 -- the last run is in order, and lies in the type
 pub greater-end-requires-clause-right : goal.greater-end-requires-clause-right
-greater-end-requires-clause-right g c κs within =
+greater-end-requires-clause-right g c =
     (last-order (over c.args.run c.requires.kept c.requires.order c.requires.value c.requires.reaching)).1
 
 -- the starts of a set ascend
 pub take_out-length-requires-clause-ascending : goal.take_out-length-requires-clause-ascending
-take_out-length-requires-clause-ascending g c κs within =
+take_out-length-requires-clause-ascending g c =
     kept-ascending g.T.Integer.rank g.T.Integer.value_count c.args.map.now.entries
     c.requires.kept.canonical
 
 -- the last run is the last up to its start, and a value
 pub take_out-length-requires-clause-last : goal.take_out-length-requires-clause-last
-take_out-length-requires-clause-last g c κs within =
+take_out-length-requires-clause-last g c =
     all-last (over c.args.run c.requires.kept c.requires.order c.requires.value c.requires.reaching) c.requires.start
 
 pub take_out-length-requires-clause-value : goal.take_out-length-requires-clause-value
-take_out-length-requires-clause-value g c κs within =
+take_out-length-requires-clause-value g c =
     let order = last-order (over c.args.run c.requires.kept c.requires.order c.requires.value c.requires.reaching) in
     omega (arith, order.0, order.1)
 
 -- what is swallowed has values, and no more than all
 pub take_out-length-requires-clause-runs : goal.take_out-length-requires-clause-runs
-take_out-length-requires-clause-runs g c κs within =
+take_out-length-requires-clause-runs g c =
     (taken-runs (over c.args.run c.requires.kept c.requires.order c.requires.value c.requires.reaching) c.requires.start
     c.args.map.now.entries
     (all-swallowed (over c.args.run c.requires.kept c.requires.order c.requires.value c.requires.reaching) c.requires.start)).0
 
 pub take_out-length-requires-clause-counted : goal.take_out-length-requires-clause-counted
-take_out-length-requires-clause-counted g c κs within =
+take_out-length-requires-clause-counted g c =
     (taken-runs (over c.args.run c.requires.kept c.requires.order c.requires.value c.requires.reaching) c.requires.start
     c.args.map.now.entries
     (all-swallowed (over c.args.run c.requires.kept c.requires.order c.requires.value c.requires.reaching) c.requires.start)).1
 
 pub take_out-length-requires-clause-fits : goal.take_out-length-requires-clause-fits
-take_out-length-requires-clause-fits g c κs within =
+take_out-length-requires-clause-fits g c =
     kept-fits g.T.Integer.rank g.T.Integer.value_count c.args.map.now.entries _ c.requires.kept
 
 -- the first run ends before the last starts
 pub add_one-requires : goal.add_one-requires
 add_one-requires g c =
-    let laws = g.met.T.Integer g.world.𝓛 g.world.𝓜 g.world.𝓡
-    ((λ s x. x), (λ x. x), (λ x. x), λ x. x) in
+    let laws = g.met.T.Integer in
     let placed = first-order g.T.Ord.cmp laws.in_order (over c.args.run c.requires.kept c.requires.order c.requires.value c.requires.reaching) c.requires.start
     c.args.first c.requires.first in
     let order = last-order (over c.args.run c.requires.kept c.requires.order c.requires.value c.requires.reaching) in
     omega (arith, placed.2, order.0, order.1)
 
 pub add_length-requires-clause-some : goal.add_length-requires-clause-some
-add_length-requires-clause-some g c κs within =
-    let laws = g.met.T.Integer g.world.𝓛 g.world.𝓜 g.world.𝓡
-    ((λ s x. x), (λ x. x), (λ x. x), λ x. x) in
+add_length-requires-clause-some g c =
+    let laws = g.met.T.Integer in
     let placed = first-order g.T.Ord.cmp laws.in_order (over c.args.run c.requires.kept c.requires.order c.requires.value c.requires.reaching) c.requires.start
     c.args.first c.requires.first in
     let order = last-order (over c.args.run c.requires.kept c.requires.order c.requires.value c.requires.reaching) in
@@ -66,9 +64,8 @@ add_length-requires-clause-some g c κs within =
 
 -- the length with the fresh values is the number of members then
 pub add_length-requires-clause-fits : goal.add_length-requires-clause-fits
-add_length-requires-clause-fits g c κs within =
-    let laws = g.met.T.Integer g.world.𝓛 g.world.𝓜 g.world.𝓡
-    ((λ s x. x), (λ x. x), (λ x. x), λ x. x) in
+add_length-requires-clause-fits g c =
+    let laws = g.met.T.Integer in
     let rank = g.T.Integer.rank in
     let n = g.T.Integer.value_count in
     let number = g.T.SafeLen.SafeLength.number in
@@ -91,8 +88,7 @@ add_length-requires-clause-fits g c κs within =
 -- the first run takes in the others
 pub returns : goal.returns
 returns g c =
-    let laws = g.met.T.Integer g.world.𝓛 g.world.𝓜 g.world.𝓡
-    ((λ s x. x), (λ x. x), (λ x. x), λ x. x) in
+    let laws = g.met.T.Integer in
     let number = g.T.SafeLen.SafeLength.number in
     let first = c.args.first in
     let placed = first-order g.T.Ord.cmp laws.in_order (over c.args.run c.requires.kept c.requires.order c.requires.value c.requires.reaching) c.requires.start

@@ -8,32 +8,29 @@ use Rattle.range_set_blaze.proofs.set.take_in.put_over.Goals as goal
 
 -- the last run is in order, and lies in the type
 pub greater-end-requires-clause-right : goal.greater-end-requires-clause-right
-greater-end-requires-clause-right g c κs within =
+greater-end-requires-clause-right g c =
     (last-order (over c.args.run c.requires.kept c.requires.order c.requires.value c.requires.reaching)).1
 
 -- the new entry comes before those that are swallowed
 pub take_out-length-requires-clause-ascending : goal.take_out-length-requires-clause-ascending
-take_out-length-requires-clause-ascending g c κs within =
-    let laws = g.met.T.Integer g.world.𝓛 g.world.𝓜 g.world.𝓡
-    ((λ s x. x), (λ x. x), (λ x. x), λ x. x) in
+take_out-length-requires-clause-ascending g c =
+    let laws = g.met.T.Integer in
     put-ascending g.T.Ord.cmp laws.in_order (over c.args.run c.requires.kept c.requires.order c.requires.value c.requires.reaching) c.requires.start
     c.requires.free c.greater-end.result c.greater-end.ensures c.insert.new.self.entries
     c.in_ok-insert.ensures.entries
 
 -- the last run is the last up to its start, and a value
 pub take_out-length-requires-clause-last : goal.take_out-length-requires-clause-last
-take_out-length-requires-clause-last g c κs within =
-    let laws = g.met.T.Integer g.world.𝓛 g.world.𝓜 g.world.𝓡
-    ((λ s x. x), (λ x. x), (λ x. x), λ x. x) in
+take_out-length-requires-clause-last g c =
+    let laws = g.met.T.Integer in
     put-last g.T.Ord.cmp laws.in_order (over c.args.run c.requires.kept c.requires.order c.requires.value c.requires.reaching) c.requires.start
     c.requires.free c.greater-end.result c.greater-end.ensures c.insert.new.self.entries
     c.in_ok-insert.ensures.entries
 
 -- where it is the only one that is swallowed, it is so with the new run
 pub take_out-length-requires-clause-alone : goal.take_out-length-requires-clause-alone
-take_out-length-requires-clause-alone g c κs within alone =
-    let laws = g.met.T.Integer g.world.𝓛 g.world.𝓜 g.world.𝓡
-    ((λ s x. x), (λ x. x), (λ x. x), λ x. x) in
+take_out-length-requires-clause-alone g c alone =
+    let laws = g.met.T.Integer in
     put-swallowed g.T.Ord.cmp laws.in_order (over c.args.run c.requires.kept c.requires.order c.requires.value c.requires.reaching) c.requires.start
     c.requires.free c.greater-end.result c.greater-end.ensures c.insert.new.self.entries
     c.in_ok-insert.ensures.entries
@@ -41,15 +38,14 @@ take_out-length-requires-clause-alone g c κs within alone =
     ∙ c.requires.alone alone
 
 pub take_out-length-requires-clause-value : goal.take_out-length-requires-clause-value
-take_out-length-requires-clause-value g c κs within =
+take_out-length-requires-clause-value g c =
     let order = last-order (over c.args.run c.requires.kept c.requires.order c.requires.value c.requires.reaching) in
     omega (arith, order.0, order.1)
 
 -- these have values, and no more than all
 pub take_out-length-requires-clause-runs : goal.take_out-length-requires-clause-runs
-take_out-length-requires-clause-runs g c κs within =
-    let laws = g.met.T.Integer g.world.𝓛 g.world.𝓜 g.world.𝓡
-    ((λ s x. x), (λ x. x), (λ x. x), λ x. x) in
+take_out-length-requires-clause-runs g c =
+    let laws = g.met.T.Integer in
     (taken-runs (over c.args.run c.requires.kept c.requires.order c.requires.value c.requires.reaching) c.requires.start
     c.insert.new.self.entries
     (put-swallowed g.T.Ord.cmp laws.in_order (over c.args.run c.requires.kept c.requires.order c.requires.value c.requires.reaching) c.requires.start
@@ -57,9 +53,8 @@ take_out-length-requires-clause-runs g c κs within =
     c.in_ok-insert.ensures.entries)).0
 
 pub take_out-length-requires-clause-counted : goal.take_out-length-requires-clause-counted
-take_out-length-requires-clause-counted g c κs within =
-    let laws = g.met.T.Integer g.world.𝓛 g.world.𝓜 g.world.𝓡
-    ((λ s x. x), (λ x. x), (λ x. x), λ x. x) in
+take_out-length-requires-clause-counted g c =
+    let laws = g.met.T.Integer in
     (taken-runs (over c.args.run c.requires.kept c.requires.order c.requires.value c.requires.reaching) c.requires.start
     c.insert.new.self.entries
     (put-swallowed g.T.Ord.cmp laws.in_order (over c.args.run c.requires.kept c.requires.order c.requires.value c.requires.reaching) c.requires.start
@@ -67,14 +62,13 @@ take_out-length-requires-clause-counted g c κs within =
     c.in_ok-insert.ensures.entries)).1
 
 pub take_out-length-requires-clause-fits : goal.take_out-length-requires-clause-fits
-take_out-length-requires-clause-fits g c κs within =
+take_out-length-requires-clause-fits g c =
     kept-fits g.T.Integer.rank g.T.Integer.value_count c.args.map.now.entries _ c.requires.kept
 
 -- the length with the new run is the number of members then
 pub add_length-requires-clause-fits : goal.add_length-requires-clause-fits
-add_length-requires-clause-fits g c κs within =
-    let laws = g.met.T.Integer g.world.𝓛 g.world.𝓜 g.world.𝓡
-    ((λ s x. x), (λ x. x), (λ x. x), λ x. x) in
+add_length-requires-clause-fits g c =
+    let laws = g.met.T.Integer in
     let rank = g.T.Integer.rank in
     let n = g.T.Integer.value_count in
     let number = g.T.SafeLen.SafeLength.number in
@@ -97,8 +91,7 @@ add_length-requires-clause-fits g c κs within =
 -- the new run takes in the others
 pub returns-clause-inserted : goal.returns-clause-inserted
 returns-clause-inserted g c =
-    let laws = g.met.T.Integer g.world.𝓛 g.world.𝓜 g.world.𝓡
-    ((λ s x. x), (λ x. x), (λ x. x), λ x. x) in
+    let laws = g.met.T.Integer in
     let number = g.T.SafeLen.SafeLength.number in
     let swallows = put-swallowed g.T.Ord.cmp laws.in_order
     (over c.args.run c.requires.kept c.requires.order c.requires.value c.requires.reaching)

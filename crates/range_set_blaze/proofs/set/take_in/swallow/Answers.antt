@@ -6,7 +6,7 @@ use Rattle.range_set_blaze.proofs.set.take_in.swallow.Goals as goal
 
 -- no run comes before the last
 pub put_over-requires-clause-alone : goal.put_over-requires-clause-alone
-put_over-requires-clause-alone g c κs within alone =
+put_over-requires-clause-alone g c alone =
     let rank = g.T.Integer.rank in
     let n = g.T.Integer.value_count in
     (none-before rank n c.args.map.now.entries
@@ -15,7 +15,7 @@ put_over-requires-clause-alone g c κs within alone =
     c.in_default.is).0
 
 pub put_over-requires-clause-free : goal.put_over-requires-clause-free
-put_over-requires-clause-free g c κs within =
+put_over-requires-clause-free g c =
     let rank = g.T.Integer.rank in
     let n = g.T.Integer.value_count in
     (none-before rank n c.args.map.now.entries
@@ -36,7 +36,7 @@ returns-in_default-clause-succeeds g c reached =
 
 -- the run before the last starts at a value
 pub is_below-requires-clause-right : goal.is_below-requires-clause-right
-is_below-requires-clause-right g c κs within =
+is_below-requires-clause-right g c =
     let rank = g.T.Integer.rank in
     let n = g.T.Integer.value_count in
     before-value rank n c.args.map.now.entries
@@ -46,7 +46,7 @@ is_below-requires-clause-right g c κs within =
 
 -- it starts up to the start, and doesn't reach it
 pub put_over-requires-then-not-reaches-clause-alone : goal.put_over-requires-then-not-reaches-clause-alone
-put_over-requires-then-not-reaches-clause-alone g c κs within alone =
+put_over-requires-then-not-reaches-clause-alone g c alone =
     let rank = g.T.Integer.rank in
     let n = g.T.Integer.value_count in
     before-swallowed rank n c.args.map.now.entries
@@ -56,7 +56,7 @@ put_over-requires-then-not-reaches-clause-alone g c κs within alone =
     (lt-fails c.is_below.result _ _ c.is_below.ensures c.if-is_below.false)
 
 pub put_over-requires-then-not-reaches-clause-free : goal.put_over-requires-then-not-reaches-clause-free
-put_over-requires-then-not-reaches-clause-free g c κs within =
+put_over-requires-then-not-reaches-clause-free g c =
     let rank = g.T.Integer.rank in
     let n = g.T.Integer.value_count in
     before-free rank n c.args.map.now.entries
@@ -81,7 +81,7 @@ returns-then-not-reaches-clause-succeeds g c reached =
 
 -- it starts up to the start, and reaches it
 pub join-requires-clause-alone : goal.join-requires-clause-alone
-join-requires-clause-alone g c κs within alone =
+join-requires-clause-alone g c alone =
     let rank = g.T.Integer.rank in
     let n = g.T.Integer.value_count in
     before-swallowed rank n c.args.map.now.entries
@@ -91,7 +91,7 @@ join-requires-clause-alone g c κs within alone =
     (lt-fails c.is_below.result _ _ c.is_below.ensures c.if-is_below.false)
 
 pub join-requires-clause-first : goal.join-requires-clause-first
-join-requires-clause-first g c κs within =
+join-requires-clause-first g c =
     let rank = g.T.Integer.rank in
     let n = g.T.Integer.value_count in
     before-reaching rank n c.args.map.now.entries

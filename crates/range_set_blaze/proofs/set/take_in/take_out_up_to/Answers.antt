@@ -20,7 +20,7 @@ loop-run-init g c = record {
 
 -- the last run up to the end starts at it or below
 pub is_below-requires-clause-right : goal.is_below-requires-clause-right
-is_below-requires-clause-right g c κs within =
+is_below-requires-clause-right g c =
     let rank = g.T.Integer.rank in
     let starts = All-last (λ (entry : g.row.T.Denot × g.row.T.Denot).
     rank entry.0 ≤ rank c.args.last) c.in-Some.ensures.front (entry_of c.in-Some.run')
@@ -31,17 +31,15 @@ is_below-requires-clause-right g c κs within =
 
 -- it has values, and no more than are counted
 pub take_off_length-requires-clause-some : goal.take_off_length-requires-clause-some
-take_off_length-requires-clause-some g c κs within =
-    let laws = g.met.T.Integer g.world.𝓛 g.world.𝓜 g.world.𝓡
-    ((λ s x. x), (λ x. x), (λ x. x), λ x. x) in
+take_off_length-requires-clause-some g c =
+    let laws = g.met.T.Integer in
     (taking-counted g.T.Ord.cmp g.T.Integer.rank g.T.Integer.value_count laws.in_order _ _
     c.requires.order _ _ _ _ c.loop-run.invariant c.in-Some.run' c.in-Some.ensures
     (c.is_below.ensures.0 c.if-not-is_below.false) c.requires.runs c.requires.counted).0
 
 pub take_off_length-requires-clause-counted : goal.take_off_length-requires-clause-counted
-take_off_length-requires-clause-counted g c κs within =
-    let laws = g.met.T.Integer g.world.𝓛 g.world.𝓜 g.world.𝓡
-    ((λ s x. x), (λ x. x), (λ x. x), λ x. x) in
+take_off_length-requires-clause-counted g c =
+    let laws = g.met.T.Integer in
     (taking-counted g.T.Ord.cmp g.T.Integer.rank g.T.Integer.value_count laws.in_order _ _
     c.requires.order _ _ _ _ c.loop-run.invariant c.in-Some.run' c.in-Some.ensures
     (c.is_below.ensures.0 c.if-not-is_below.false) c.requires.runs c.requires.counted).1
@@ -49,8 +47,7 @@ take_off_length-requires-clause-counted g c κs within =
 -- one more is taken out
 pub loop-run-smaller : goal.loop-run-smaller
 loop-run-smaller g c =
-    let laws = g.met.T.Integer g.world.𝓛 g.world.𝓜 g.world.𝓡
-    ((λ s x. x), (λ x. x), (λ x. x), λ x. x) in
+    let laws = g.met.T.Integer in
     taking-shorter g.T.Ord.cmp g.T.Integer.rank g.T.Integer.value_count laws.in_order _ _
     c.requires.order _ _ _ _ c.loop-run.invariant c.in-Some.run' c.in-Some.ensures
     (c.is_below.ensures.0 c.if-not-is_below.false) c.remove.new.self.entries
@@ -58,8 +55,7 @@ loop-run-smaller g c =
 
 pub loop-run-preserved : goal.loop-run-preserved
 loop-run-preserved g c =
-    let laws = g.met.T.Integer g.world.𝓛 g.world.𝓜 g.world.𝓡
-    ((λ s x. x), (λ x. x), (λ x. x), λ x. x) in
+    let laws = g.met.T.Integer in
     taking-next g.T.Ord.cmp g.T.Integer.rank g.T.Integer.value_count laws.in_order _ _
     c.requires.order _ _ _ _ c.loop-run.invariant c.in-Some.run' c.in-Some.ensures
     (c.is_below.ensures.0 c.if-not-is_below.false) c.remove.new.self.entries
@@ -68,8 +64,7 @@ loop-run-preserved g c =
 -- no more is to be taken out
 pub returns-then-not-is_below-clause-spared : goal.returns-then-not-is_below-clause-spared
 returns-then-not-is_below-clause-spared g c =
-    let laws = g.met.T.Integer g.world.𝓛 g.world.𝓜 g.world.𝓡
-    ((λ s x. x), (λ x. x), (λ x. x), λ x. x) in
+    let laws = g.met.T.Integer in
     let below = lt-fails c.is_below.result _ _ c.is_below.ensures c.if-not-is_below.true in
     (taking-done g.T.Ord.cmp g.T.Integer.rank g.T.Integer.value_count laws.in_order _ _
     c.requires.order _ _ _ _ c.loop-run.invariant
@@ -78,8 +73,7 @@ returns-then-not-is_below-clause-spared g c =
 
 pub returns-then-not-is_below-clause-others : goal.returns-then-not-is_below-clause-others
 returns-then-not-is_below-clause-others g c =
-    let laws = g.met.T.Integer g.world.𝓛 g.world.𝓜 g.world.𝓡
-    ((λ s x. x), (λ x. x), (λ x. x), λ x. x) in
+    let laws = g.met.T.Integer in
     let below = lt-fails c.is_below.result _ _ c.is_below.ensures c.if-not-is_below.true in
     (taking-done g.T.Ord.cmp g.T.Integer.rank g.T.Integer.value_count laws.in_order _ _
     c.requires.order _ _ _ _ c.loop-run.invariant
@@ -89,8 +83,7 @@ returns-then-not-is_below-clause-others g c =
 -- none is left up to the end
 pub returns-in_default-clause-spared : goal.returns-in_default-clause-spared
 returns-in_default-clause-spared g c =
-    let laws = g.met.T.Integer g.world.𝓛 g.world.𝓜 g.world.𝓡
-    ((λ s x. x), (λ x. x), (λ x. x), λ x. x) in
+    let laws = g.met.T.Integer in
     let rank = g.T.Integer.rank in
     (taking-done g.T.Ord.cmp rank g.T.Integer.value_count laws.in_order _ _
     c.requires.order _ _ _ _ c.loop-run.invariant
@@ -99,8 +92,7 @@ returns-in_default-clause-spared g c =
 
 pub returns-in_default-clause-others : goal.returns-in_default-clause-others
 returns-in_default-clause-others g c =
-    let laws = g.met.T.Integer g.world.𝓛 g.world.𝓜 g.world.𝓡
-    ((λ s x. x), (λ x. x), (λ x. x), λ x. x) in
+    let laws = g.met.T.Integer in
     let rank = g.T.Integer.rank in
     (taking-done g.T.Ord.cmp rank g.T.Integer.value_count laws.in_order _ _
     c.requires.order _ _ _ _ c.loop-run.invariant

@@ -5,8 +5,8 @@ use Rattle.rsb_streams.proofs.VecSources.{vec-calls, vec-source}
 use Rattle.rsb_streams.proofs.check_sorted_disjoint.CheckSortedDisjoint+T+IntoIter+RangeInclusive+T+A.try_new.Goals as goal
 
 -- the list is canonical, since no position is bad
-pub new-requires-after_bounds : goal.new-requires-after_bounds
-new-requires-after_bounds g c κs within = λ source becomes.
+pub new-requires : goal.new-requires
+new-requires g c = λ source becomes.
     vec-source g.T.Integer.rank g.T.Integer.value_count source
     (subst (λ items. IsCanonicalIn g.T.Integer.value_count (intervals_of g.T.Integer.rank items))
     (c.deref.ensures.value ∙ sym becomes.0) (c.in_default.ensures.none.0 refl))

@@ -1,8 +1,10 @@
-use Rattle.std.proofs.Common.{sym, ap, ◌∙◌}
+use Rattle.std.proofs.Common.{◌<◌, true, sym, ap, subst, ◌∙◌}
+use Rattle.std.specs.Iterator.{size}
+use Rattle.rsb_streams.specs.OddPieces.{OddAnswers}
 use Rattle.rsb_streams.proofs.Compare.{IsRanked}
-use Rattle.rsb_streams.proofs.OddEnds.{last-answers}
+use Rattle.rsb_streams.proofs.OddEnds.{last-answers, rests}
 use Rattle.rsb_streams.proofs.OddStates.{HasPassed}
-use Rattle.rsb_streams.proofs.OddTurns.{apart-answers, apart-goes, both-end, end-below, first-ends, gap-answers, gap-goes, next-above, next_end-below, second-ends, so-passed}
+use Rattle.rsb_streams.proofs.OddTurns.{apart-answers, apart-goes, both-end, end-below, fewer, first-ends, gap-answers, gap-goes, next-above, next_end-below, second-ends, so-begins, so-passed}
 use Rattle.rsb_streams.proofs.Sources.{IsLawful}
 use Rattle.rsb_streams.proofs.odd_pieces.OddPiecesDraw.draw.Given.{Over}
 use Rattle.rsb_streams.proofs.odd_pieces.OddPiecesDraw.draw.Invariants.{source}
@@ -21,6 +23,15 @@ ranked g = record {
   matches = g.met.T.Ord.matches_partial_cmp;
   in_order = g.met.T.Integer.in_order;
 }
+
+-- a range begins where none is pending
+pub loop-range-preserved-in_default-end : goal.loop-range-preserved-in_default-end
+loop-range-preserved-in_default-end g c =
+    so-begins g.T.Integer.rank g.T.Integer.value_count (source g) (laws g)
+    g.T.PartialOrd.partial_cmp g.T.Ord.cmp (ranked g) c.args.self.now c.loop-range.self
+    c.draw.new.self c.into_inner-next.result.0 c.into_inner-next.result.1 c.in-Some.range
+    c.loop-range.invariant c.in-Some.ensures.steps c.in-Some.ensures.goes
+    c.into_inner-next.ensures.start c.into_inner-next.ensures.end c.in_default-end.is
 
 -- a range is pending, and the next one starts past it
 pub returns-then-lt-clause-steps : goal.returns-then-lt-clause-steps
@@ -176,3 +187,25 @@ returns-clause-steps g c =
     c.in_ok-end.end c.new-2.result (sym c.take.ensures.value ∙ c.in_ok-end.was)
     c.new-2.ensures.exhausted c.new-2.ensures.start
     c.new-2.ensures.end c.take.new.self
+
+-- fewer are to come
+pub loop-range-smaller : goal.loop-range-smaller
+loop-range-smaller g c =
+    subst (λ iter. size (g.I.Draw.draws_left iter)
+    < size (g.I.Draw.draws_left c.loop-range.self.iter)) (sym (passed-else g c).iter)
+    (fewer g.T.Integer.rank g.T.Integer.value_count (source g) (laws g)
+    g.T.PartialOrd.partial_cmp g.T.Ord.cmp (ranked g) c.args.self.now c.loop-range.self
+    c.draw.new.self c.into_inner-next.result.0 c.into_inner-next.result.1 c.in-Some.range
+    c.loop-range.invariant c.in-Some.ensures.steps c.in-Some.ensures.goes
+    c.into_inner-next.ensures.start c.into_inner-next.ensures.end).1
+
+-- none is pending at the end, and nothing comes
+pub returns-in_err-end-clause-steps : goal.returns-in_err-end-clause-steps
+returns-in_err-end-clause-steps g c =
+    subst (λ answer. OddAnswers g.T.Integer.rank g.T.Integer.value_count (source g).can_next
+    (source g).may_give c.args.self.now answer
+    (record { iter = c.draw.new.self; done = true; start = c.loop-range.self.start; end = c.take.new.self }))
+    (sym c.from_residual.ensures)
+    (rests g.T.Integer.rank g.T.Integer.value_count (source g) (laws g) c.args.self.now
+    c.loop-range.self c.draw.new.self c.loop-range.invariant c.in_default.ensures.steps
+    (sym c.take.ensures.value ∙ c.in_err-end.was) c.take.new.self)

@@ -15,10 +15,8 @@ right_laws g = record { answers = g.met.R.Draw.answers; sorted = g.met.R.Draw.so
 ranked : (g : Over) → IsRanked g.T.Integer.rank g.T.Integer.value_count g.T.PartialOrd.partial_cmp
     g.T.Ord.cmp
 ranked g =
-    let order = g.met.T.Ord g.world.𝓛 g.world.𝓜 g.world.𝓡
-    ((λ s x. x), (λ x. x), (λ x. x), λ x. x) in
-    let integer = g.met.T.Integer g.world.𝓛 g.world.𝓜 g.world.𝓡
-    ((λ s x. x), (λ x. x), (λ x. x), λ x. x) in
+    let order = g.met.T.Ord in
+    let integer = g.met.T.Integer in
     record { matches = order.matches_partial_cmp; in_order = integer.in_order }
 
 -- the right stream alone has ended
@@ -36,8 +34,7 @@ pub returns-then-ne : goal.returns-then-ne
 returns-then-ne g c =
     let rank = g.T.Integer.rank in
     let n = g.T.Integer.value_count in
-    let order = g.met.T.PartialOrd g.world.𝓛 g.world.𝓜 g.world.𝓡
-    ((λ s x. x), (λ x. x), (λ x. x), λ x. x) in
+    let order = g.met.T.PartialOrd in
     let one = first-range rank n (left g) (left_laws g) c.loop-range.left c.draw.new.self
     c.loop-range.invariant.left_ready c.in-Some.range c.in-Some.ensures.steps c.in-Some.ensures.goes
     in
@@ -60,8 +57,7 @@ pub loop-range-preserved : goal.loop-range-preserved
 loop-range-preserved g c =
     let rank = g.T.Integer.rank in
     let n = g.T.Integer.value_count in
-    let order = g.met.T.PartialOrd g.world.𝓛 g.world.𝓜 g.world.𝓡
-    ((λ s x. x), (λ x. x), (λ x. x), λ x. x) in
+    let order = g.met.T.PartialOrd in
     let one = first-range rank n (left g) (left_laws g) c.loop-range.left c.draw.new.self
     c.loop-range.invariant.left_ready c.in-Some.range c.in-Some.ensures.steps c.in-Some.ensures.goes
     in

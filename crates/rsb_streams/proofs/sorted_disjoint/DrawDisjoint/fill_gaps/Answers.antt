@@ -13,8 +13,7 @@ source g = record {
 
 pub returns-clause-ready : goal.returns-clause-ready
 returns-clause-ready g c =
-    let integer = g.met.T.Integer g.world.𝓛 g.world.𝓜 g.world.𝓡
-    ((λ s x. x), (λ x. x), (λ x. x), λ x. x) in
+    let integer = g.met.T.Integer in
     fresh-can g.T.Integer.rank g.T.Integer.value_count (source g) c.args.self c.over.result
     c.min_value.result c.over.ensures.iter c.over.ensures.start c.min_value.ensures
     (g.met.Self.DrawDisjoint.canonical c.args.self c.requires) c.requires

@@ -27,10 +27,8 @@ laws g = record {
 ranked : (g : Over) → IsRanked g.T.Integer.rank g.T.Integer.value_count g.T.PartialOrd.partial_cmp
     g.T.Ord.cmp
 ranked g =
-    let order = g.met.T.Ord g.world.𝓛 g.world.𝓜 g.world.𝓡
-    ((λ s x. x), (λ x. x), (λ x. x), λ x. x) in
-    let integer = g.met.T.Integer g.world.𝓛 g.world.𝓜 g.world.𝓡
-    ((λ s x. x), (λ x. x), (λ x. x), λ x. x) in
+    let order = g.met.T.Ord in
+    let integer = g.met.T.Integer in
     record { matches = order.matches_partial_cmp; in_order = integer.in_order }
 
 -- the first range starts past the least value

@@ -12,8 +12,7 @@ use Rattle.rsb_streams.proofs.sorted_starts_in_vec.UnionIter+T+SortedStartsInVec
 -- values are ordered as their ranks are
 in_order : (g : Over) → IsInOrder g.T.Integer.rank g.T.Integer.value_count g.T.Ord.cmp
 in_order g =
-    let laws = g.met.T.Integer g.world.𝓛 g.world.𝓜 g.world.𝓡
-    ((λ s x. x), (λ x. x), (λ x. x), λ x. x) in
+    let laws = g.met.T.Integer in
     laws.in_order
 
 -- the sort leaves the starts in order
@@ -24,8 +23,8 @@ ascend g c =
     (always_returns_same _ _ _ (λ a r f' k. search rules))
 
 -- the list has sorted starts
-pub new-requires-after_bounds : goal.new-requires-after_bounds
-new-requires-after_bounds g c κs within = λ source becomes.
+pub new-requires : goal.new-requires
+new-requires g c = λ source becomes.
     let rank = g.T.Integer.rank in
     let n = g.T.Integer.value_count in
     let ran = c.in_ok-kept.ensures.ran in

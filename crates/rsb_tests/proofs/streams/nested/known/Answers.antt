@@ -27,8 +27,8 @@ laws g = drawn-lawful g.T.Integer.rank g.T.Integer.value_count (drawn g) g.I.Ite
     g.I.Iterator.next_gives g.I.Iterator.remaining g.met.I.SortedStarts.drawn
     (record { answers = g.met.I.Draw.answers; sorted = g.met.I.Draw.sorted })
 
-pub new-requires-after_bounds : goal.new-requires-after_bounds
-new-requires-after_bounds g c κs within = λ stream same.
+pub new-requires : goal.new-requires
+new-requires g c = λ stream same.
     let can = subst g.I.Draw.can_draw (sym same) c.requires in
     canonical-source g.T.Integer.rank g.T.Integer.value_count (source g) (laws g) stream
     (g.met.I.SortedStarts.drawn.callable stream can) (g.met.I.DrawDisjoint.canonical stream can)

@@ -2,8 +2,8 @@ use Rattle.std.proofs.Common.{rules, subst, sym}
 use Rattle.rsb_tests.proofs.streams.std_markers.outside_of_kept.Goals as goal
 
 -- the filter may be drawn from: `next` of its stream is `draw`
-pub complement-requires-after_bounds : goal.complement-requires-after_bounds
-complement-requires-after_bounds g c κs within = record {
+pub complement-requires : goal.complement-requires
+complement-requires g c = record {
   source = subst g.I.Draw.can_draw (sym c.filter.ensures.source) c.requires.stream;
   closure = search rules;
   drawn = g.met.I.SortedStarts.drawn;

@@ -1,5 +1,4 @@
 use Rattle.rsb_integer.specs.Runs.{members}
-use Rattle.range_set_blaze.specs.Kept.{runs_of}
 use Rattle.range_set_blaze.specs.Order.{order}
 use Rattle.range_set_blaze.specs.OrderLaws.{order-holds}
 use Rattle.range_set_blaze.proofs.OrderLemmas.{order-unique}
@@ -9,9 +8,7 @@ use Rattle.range_set_blaze.proofs.set.order.RangeSetBlazeOrd.cmp.Goals as goal
 pub returns : goal.returns
 returns g c =
     let n = g.T.Integer.value_count in
-    let rank = g.T.Integer.rank in
-    let left = members (runs_of rank c.self.inside.map.entries) in
-    let right = members (runs_of rank c.other.inside.map.entries) in
-    rw (← c.self.view_is, ← c.other.view_is)
-    (order-unique n left right _ (order n left right) c.compare_runs.ensures.order
-    (order-holds n left right))
+    let left = members c.args.self.now in
+    let right = members c.args.other.now in
+    order-unique n left right _ (order n left right) c.cmp_counted.ensures.order
+    (order-holds n left right)

@@ -1,0 +1,61 @@
+//! Sets that are collected, and extended, as std's collections are. Each answers what the call of
+//! its name does.
+
+ghost use Rattle.rsb_integer.specs.Rank.{intervals_of};
+ghost use Rattle.rsb_integer.specs.Runs.{members};
+ghost use Rattle.range_set_blaze.specs.Algebra.{ranks_of, AddsItems, AddsValues};
+ghost use Rattle.range_set_blaze.specs.Set.{IsSetOf};
+
+use crate::set::RangeSetBlaze;
+use rsb_integer::Integer;
+use std::alloc::{AllocError, Allocator};
+use std::ops::RangeInclusive;
+
+/// `values.collect(alloc)?`: the set of values in any order. Without memory nothing is made.
+impl<T: Integer, A: Allocator + Copy> FromIterator<T> for RangeSetBlaze<T, A> {
+    type Alloc = A;
+
+    ghost from_iter_gives = { λ values set. IsSetOf set (ranks_of T.rank values) };
+
+    fn from_iter<J: IntoIterator<Item = T>>(alloc: A, values: J) -> Result<Self, AllocError> {
+        RangeSetBlaze::from_iter_values(alloc, values)
+    }
+}
+
+/// `ranges.collect(alloc)?`: the set of the values of ranges in any order, of which some may be
+/// empty. Without memory nothing is made.
+impl<T: Integer, A: Allocator + Copy> FromIterator<RangeInclusive<T>> for RangeSetBlaze<T, A> {
+    type Alloc = A;
+
+    ghost from_iter_gives = { λ ranges set. IsSetOf set (members (intervals_of T.rank ranges)) };
+
+    fn from_iter<J: IntoIterator<Item = RangeInclusive<T>>>(
+        alloc: A,
+        ranges: J,
+    ) -> Result<Self, AllocError> {
+        RangeSetBlaze::from_iter(alloc, ranges)
+    }
+}
+
+/// `Extend::extend(&mut set, values)?`: adds values in any order. Without memory those that came
+/// before stay added.
+impl<T: Integer, A: Allocator + Clone> Extend<T> for RangeSetBlaze<T, A> {
+    ghost extend_gives = { AddsValues T.rank };
+
+    fn extend<J: IntoIterator<Item = T>>(&mut self, values: J) -> Result<(), AllocError> {
+        self.extend_values(values)
+    }
+}
+
+/// `Extend::extend(&mut set, ranges)?`: adds the values of ranges in any order. Without memory those
+/// of the ranges that came before stay added.
+impl<T: Integer, A: Allocator + Clone> Extend<RangeInclusive<T>> for RangeSetBlaze<T, A> {
+    ghost extend_gives = { AddsItems T.rank };
+
+    fn extend<J: IntoIterator<Item = RangeInclusive<T>>>(
+        &mut self,
+        ranges: J,
+    ) -> Result<(), AllocError> {
+        RangeSetBlaze::extend(self, ranges)
+    }
+}

@@ -1,0 +1,90 @@
+//! The operators of std on sets, and `Clone`. Each answers what the call of its name does.
+
+ghost use Rattle.std.specs.Prelude.{◌≡◌, IfOk};
+ghost use Rattle.rsb_integer.specs.Runs.{members};
+ghost use Rattle.rsb_integer.specs.Selection.{
+  difference,
+  intersection,
+  symmetric_difference,
+  union,
+};
+ghost use Rattle.range_set_blaze.specs.Algebra.{IsComplementOf};
+ghost use Rattle.range_set_blaze.specs.Set.{IsSetOf};
+
+use crate::set::RangeSetBlaze;
+use rsb_integer::Integer;
+use std::alloc::{AllocError, Allocator};
+use std::ops::{BitAnd, BitOr, BitXor, Not, Sub};
+
+/// `(&a | &b)?`: what lies in either of two sets. Without memory nothing is made.
+impl<'a, 'b, T: Integer, A: Allocator + Copy, B: Allocator> BitOr<&'b RangeSetBlaze<T, B>>
+    for &'a RangeSetBlaze<T, A> {
+    type Output = Result<RangeSetBlaze<T, A>, AllocError>;
+
+    ghost bitor_gives = { λ left right made. IfOk made (λ set.
+        IsSetOf set (union (members left.now) (members right.now))) };
+
+    fn bitor(self, other: &'b RangeSetBlaze<T, B>) -> Self::Output {
+        RangeSetBlaze::bitor(self, other)
+    }
+}
+
+/// `(&a & &b)?`: what two sets both have. Without memory nothing is made.
+impl<'a, 'b, T: Integer, A: Allocator + Copy, B: Allocator> BitAnd<&'b RangeSetBlaze<T, B>>
+    for &'a RangeSetBlaze<T, A> {
+    type Output = Result<RangeSetBlaze<T, A>, AllocError>;
+
+    ghost bitand_gives = { λ left right made. IfOk made (λ set.
+        IsSetOf set (intersection (members left.now) (members right.now))) };
+
+    fn bitand(self, other: &'b RangeSetBlaze<T, B>) -> Self::Output {
+        RangeSetBlaze::bitand(self, other)
+    }
+}
+
+/// `(&a - &b)?`: what the first set has and the second lacks. Without memory nothing is made.
+impl<'a, 'b, T: Integer, A: Allocator + Copy, B: Allocator> Sub<&'b RangeSetBlaze<T, B>>
+    for &'a RangeSetBlaze<T, A> {
+    type Output = Result<RangeSetBlaze<T, A>, AllocError>;
+
+    ghost sub_gives = { λ left right made. IfOk made (λ set.
+        IsSetOf set (difference (members left.now) (members right.now))) };
+
+    fn sub(self, other: &'b RangeSetBlaze<T, B>) -> Self::Output {
+        RangeSetBlaze::sub(self, other)
+    }
+}
+
+/// `(&a ^ &b)?`: what lies in one of two sets alone. Without memory nothing is made.
+impl<'a, 'b, T: Integer, A: Allocator + Copy, B: Allocator> BitXor<&'b RangeSetBlaze<T, B>>
+    for &'a RangeSetBlaze<T, A> {
+    type Output = Result<RangeSetBlaze<T, A>, AllocError>;
+
+    ghost bitxor_gives = { λ left right made. IfOk made (λ set.
+        IsSetOf set (symmetric_difference (members left.now) (members right.now))) };
+
+    fn bitxor(self, other: &'b RangeSetBlaze<T, B>) -> Self::Output {
+        RangeSetBlaze::bitxor(self, other)
+    }
+}
+
+/// `(!&a)?`: the values that the set lacks. Without memory nothing is made.
+impl<'a, T: Integer, A: Allocator + Copy> Not for &'a RangeSetBlaze<T, A> {
+    type Output = Result<RangeSetBlaze<T, A>, AllocError>;
+
+    ghost not_gives = { λ set made. IfOk made (λ lacking.
+        IsComplementOf T.value_count lacking set.now) };
+
+    fn not(self) -> Self::Output {
+        RangeSetBlaze::not(self)
+    }
+}
+
+/// `set.clone()?`: a copy has the same runs. Without memory nothing is made.
+impl<T: Integer, A: Allocator + Copy> Clone for RangeSetBlaze<T, A> {
+    ghost is_clone = { λ set copy. copy ≡ set };
+
+    fn clone(&self) -> Result<Self, AllocError> {
+        RangeSetBlaze::clone(self)
+    }
+}

@@ -1,0 +1,244 @@
+//! Sets as a Rust user writes them: operators, copies, `collect` and `Extend`.
+
+ghost use Rattle.std.specs.Prelude.{◌≡◌, IfOk};
+ghost use Rattle.rsb_integer.specs.Runs.{members};
+ghost use Rattle.rsb_integer.specs.Selection.{
+  difference,
+  intersection,
+  symmetric_difference,
+  union,
+};
+ghost use Rattle.range_set_blaze.specs.Algebra.{ranks_of, IsComplementOf};
+ghost use Rattle.range_set_blaze.specs.Set.{IsSetOf};
+
+use crate::tables::gives;
+use range_set_blaze::{Integer, RangeSetBlaze};
+use std::alloc::{AllocError, Allocator, Global};
+use std::ops::Not;
+use std::test::*;
+
+/// What lies in either of two sets, by a copy of one.
+fn either<T: Integer, A: Allocator + Copy>(
+    left: &RangeSetBlaze<T, A>,
+    right: &RangeSetBlaze<T, A>,
+) -> Result<RangeSetBlaze<T, A>, AllocError>
+    ensures { IfOk result (λ set. IsSetOf set (union (members left.now) (members right.now))) }
+{
+    let copy = left.clone()?;
+    &copy | right
+}
+
+/// What both of two sets have.
+fn both<T: Integer, A: Allocator + Copy>(
+    left: &RangeSetBlaze<T, A>,
+    right: &RangeSetBlaze<T, A>,
+) -> Result<RangeSetBlaze<T, A>, AllocError>
+    ensures { IfOk result (λ set.
+        IsSetOf set (intersection (members left.now) (members right.now))) }
+{
+    left & right
+}
+
+/// What the first of two sets has and the second lacks.
+fn rest<T: Integer, A: Allocator + Copy>(
+    left: &RangeSetBlaze<T, A>,
+    right: &RangeSetBlaze<T, A>,
+) -> Result<RangeSetBlaze<T, A>, AllocError>
+    ensures { IfOk result (λ set.
+        IsSetOf set (difference (members left.now) (members right.now))) }
+{
+    left - right
+}
+
+/// What lies in one of two sets alone.
+fn alone<T: Integer, A: Allocator + Copy>(
+    left: &RangeSetBlaze<T, A>,
+    right: &RangeSetBlaze<T, A>,
+) -> Result<RangeSetBlaze<T, A>, AllocError>
+    ensures { IfOk result (λ set.
+        IsSetOf set (symmetric_difference (members left.now) (members right.now))) }
+{
+    left ^ right
+}
+
+/// A set and what is said of it: a user's own type, with an operator of its own.
+#[derive(Drop)]
+struct Named<T: Integer> {
+    set: RangeSetBlaze<T>,
+    name: char,
+}
+
+impl<'a, T: Integer> Not for &'a Named<T> {
+    type Output = Result<Named<T>, AllocError>;
+
+    ghost not_gives = { λ named made. IfOk made (λ lacking.
+        IsComplementOf T.value_count lacking.set named.now.set) };
+
+    fn not(self) -> Self::Output {
+        Ok(Named {
+            set: (!&self.set)?,
+            name: self.name,
+        })
+    }
+}
+
+/// The set of the values of a list.
+fn of_list<T: Integer>(alloc: Global, values: Vec<T>) -> Result<RangeSetBlaze<T>, AllocError>
+    ensures { IfOk result (λ set. IsSetOf set (ranks_of T.rank values.items)) }
+{
+    values.into_iter().collect(alloc)
+}
+
+/// The set of the values of a slice.
+fn of_slice<T: Integer>(alloc: Global, values: &[T]) -> Result<RangeSetBlaze<T>, AllocError>
+    ensures { IfOk result (λ set. IsSetOf set (ranks_of T.rank values.now)) }
+{
+    values.iter().copied().collect(alloc)
+}
+
+/// The set of the ranges with these ends.
+fn of_ends<T: Integer>(alloc: Global, ends: &[(T, T)]) -> Result<RangeSetBlaze<T>, AllocError> {
+    ends.iter().map(|(start, end)| *start..=*end).collect(alloc)
+}
+
+/// Adds the values of a slice.
+fn add_slice<T: Integer>(set: &mut RangeSetBlaze<T>, values: &[T]) -> Result<(), AllocError> {
+    Extend::extend(set, values.iter().copied())
+}
+
+/// The ranges with these ends.
+type Ends<T> = &'static [(T, T)];
+
+/// Two sets, and what they have together, both, the first but not the second, and one alone; and
+/// what the first lacks.
+struct Row<T: 'static> {
+    left: Ends<T>,
+    right: Ends<T>,
+    either: Ends<T>,
+    both: Ends<T>,
+    rest: Ends<T>,
+    alone: Ends<T>,
+    lacking: Ends<T>,
+}
+
+static BYTES: Row<u8> = Row {
+    left: &[(1, 3), (7, 255)],
+    right: &[(0, 0), (9, 20)],
+    either: &[(0, 3), (7, 255)],
+    both: &[(9, 20)],
+    rest: &[(1, 3), (7, 8), (21, 255)],
+    alone: &[(0, 3), (7, 8), (21, 255)],
+    lacking: &[(0, 0), (4, 6)],
+};
+
+static NUMBERS: Row<i32> = Row {
+    left: &[(i32::MIN, -1), (5, 9)],
+    right: &[(-1, 5)],
+    either: &[(i32::MIN, 9)],
+    both: &[(-1, -1), (5, 5)],
+    rest: &[(i32::MIN, -2), (6, 9)],
+    alone: &[(i32::MIN, -2), (0, 4), (6, 9)],
+    lacking: &[(0, 4), (10, i32::MAX)],
+};
+
+static LETTERS: Row<char> = Row {
+    left: &[('a', 'f'), ('\u{D7FF}', '\u{D7FF}')],
+    right: &[('d', 'd'), ('\u{E000}', char::MAX)],
+    either: &[('a', 'f'), ('\u{D7FF}', char::MAX)],
+    both: &[('d', 'd')],
+    rest: &[('a', 'c'), ('e', 'f'), ('\u{D7FF}', '\u{D7FF}')],
+    alone: &[('a', 'c'), ('e', 'f'), ('\u{D7FF}', char::MAX)],
+    lacking: &[('\0', '`'), ('g', '\u{D7FE}'), ('\u{E000}', char::MAX)],
+};
+
+/// Whether the operators make of the sets of a row what it says.
+fn operators_make<T: Integer + 'static>(alloc: Global, row: &Row<T>) -> Result<bool, AllocError> {
+    let left = of_ends(alloc, row.left)?;
+    let right = of_ends(alloc, row.right)?;
+    Ok(
+        gives(either(&left, &right)?.ranges(), row.either)
+            && gives(both(&left, &right)?.ranges(), row.both)
+            && gives(rest(&left, &right)?.ranges(), row.rest)
+            && gives(alone(&left, &right)?.ranges(), row.alone),
+    )
+}
+
+/// Whether a user's operator makes of the first set of a row what that lacks.
+fn own_operator_makes<T: Integer + 'static>(
+    alloc: Global,
+    row: &Row<T>,
+) -> Result<bool, AllocError> {
+    let named = Named {
+        set: of_ends(alloc, row.left)?,
+        name: 'l',
+    };
+    let lacking = (!&named)?;
+    Ok(lacking.name == 'l' && gives(lacking.set.ranges(), row.lacking))
+}
+
+#[test]
+fn operators_make_sets(rt: HostRuntime) -> Result<(), Fail> {
+    assert!(rt; operators_make(rt.alloc(), &BYTES)? && own_operator_makes(rt.alloc(), &BYTES)?);
+    assert!(rt; operators_make(rt.alloc(), &NUMBERS)? && own_operator_makes(rt.alloc(), &NUMBERS)?);
+    assert!(rt; operators_make(rt.alloc(), &LETTERS)? && own_operator_makes(rt.alloc(), &LETTERS)?);
+    Ok(())
+}
+
+/// Whether the set of some values, with more added, has these runs, and this greatest member.
+fn collects<T: Integer>(
+    alloc: Global,
+    values: &[T],
+    more: &[T],
+    wanted: &[(T, T)],
+    greatest: T,
+) -> Result<bool, AllocError> {
+    let mut set = of_slice(alloc, values)?;
+    add_slice(&mut set, more)?;
+    Ok(gives(set.ranges(), wanted) && set.last() == Some(greatest))
+}
+
+#[test]
+fn values_are_collected_and_added(rt: HostRuntime) -> Result<(), Fail> {
+    let alloc = rt.alloc();
+    assert!(rt;
+        collects(
+            alloc,
+            &[3, 1, 255, 3],
+            &[0, 2_u8],
+            &[(0, 3), (255, 255)],
+            255
+        )?
+    );
+    assert!(rt;
+        collects(
+            alloc,
+            &[9, -7],
+            &[8, i32::MIN],
+            &[(i32::MIN, i32::MIN), (-7, -7), (8, 9)],
+            9
+        )?
+    );
+    assert!(rt;
+        collects(
+            alloc,
+            &['\u{E000}', 'a'],
+            &['\u{D7FF}'],
+            &[('a', 'a'), ('\u{D7FF}', '\u{E000}')],
+            '\u{E000}'
+        )?
+    );
+    Ok(())
+}
+
+#[test]
+fn tens_of_thousands_are_collected(rt: HostRuntime) -> Result<(), Fail> {
+    let alloc = rt.alloc();
+    let even: RangeSetBlaze<i32> = (0..20_000)
+        .map(|half| i32::saturating_mul(half, 2))
+        .collect(alloc)?;
+    assert!(rt; even.ranges_len() == 20_000);
+    let odd = (&RangeSetBlaze::from(alloc, 0..=39_999)? - &even)?;
+    assert!(rt; (&even | &odd)?.ranges_len() == 1 && (&even & &odd)?.is_empty());
+    assert!(rt; (&even ^ &odd)?.len() == 40_000 && even.clone()? == even);
+    Ok(())
+}
