@@ -231,6 +231,26 @@ fn values_are_collected_and_added(rt: HostRuntime) -> Result<(), Fail> {
 }
 
 #[test]
+fn lists_and_ranges_are_collected_and_added(rt: HostRuntime) -> Result<(), Fail> {
+    let alloc = rt.alloc();
+    let mut set = of_list(alloc, Vec::from_array(alloc, [4, 1, 4, 2])?)?;
+    assert!(rt; gives(set.ranges(), &[(1, 2), (4, 4)]));
+    Extend::extend(&mut set, [8..=9, 3..=1, -1..=1])?;
+    assert!(rt; gives(set.ranges(), &[(-1, 2), (4, 4), (8, 9)]));
+    Ok(())
+}
+
+#[test]
+fn a_list_of_sets_is_copied(rt: HostRuntime) -> Result<(), Fail> {
+    let alloc = rt.alloc();
+    let mut sets = Vec::new(alloc);
+    sets.push(of_ends(alloc, &[(1_u8, 2), (7, 255)])?)?;
+    let copies = sets.clone()?;
+    assert!(rt; copies.len() == 1 && copies.first() == sets.first());
+    Ok(())
+}
+
+#[test]
 fn tens_of_thousands_are_collected(rt: HostRuntime) -> Result<(), Fail> {
     let alloc = rt.alloc();
     let even: RangeSetBlaze<i32> = (0..20_000)
