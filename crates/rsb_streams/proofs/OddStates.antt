@@ -1,10 +1,9 @@
 -- The states of the pieces that an odd number of ranges covers.
-use Rattle.std.proofs.Common.{◌≡◌, ℕ, ◌+◌, ◌<◌, ◌≤◌, true, false, cond, max, min, nat_le, [], ◌∷◌, length, sym, ap, ◌∙◌, arith}
-use Rattle.std.proofs.lemmas.Bool.Decides.{nat_tests}
-use Rattle.std.specs.Prelude.{Option, Some, None}
+use Rattle.std.proofs.Common.{◌≡◌, ℕ, ◌-◌, ◌≤◌, Bool, false, List, [], ◌∷◌, ◌++◌, length, refl, sym, ap, ◌∙◌, arith}
+use Rattle.std.specs.Option.{option_flatten}
+use Rattle.std.specs.Prelude.{Option, Some, None, remove, slice_get}
 use Rattle.rsb_integer.specs.Runs.{Interval}
-use Rattle.rsb_integer.proofs.MembersLemmas.{same_interval}
-use Rattle.rsb_streams.specs.OddPieces.{begun_from, ends_of, pending}
+use Rattle.rsb_streams.specs.OddPieces.{begun_from, ends_in, ends_of, first_end, past_both, pending, HasOneEnd}
 use Rattle.rsb_streams.specs.Stream.{run_if_any}
 use Rattle.rsb_streams.specs.declared.odd_pieces.OddPieces.{OddPieces}
 
@@ -21,11 +20,6 @@ one-held (Some end) = omega arith
 abbrev pub between : {T : Type 0} → (T → ℕ) → T → T → Interval
 between rank start end = record { first = rank start; last = rank end }
 
--- what lies past the lesser of two ends, to the greater
-abbrev pub past_both : {T : Type 0} → (T → ℕ) → T → T → Interval
-past_both rank end other =
-    record { first = min (rank end) (rank other) + 1; last = max (rank end) (rank other) }
-
 -- what lies past the lesser of two ends is pending
 pub record HasPassed {T I : Type 0} (rank : T → ℕ) (j : I) (end other : T)
     (s : OddPieces T I) : Type 0 where
@@ -33,47 +27,58 @@ pub record HasPassed {T I : Type 0} (rank : T → ℕ) (j : I) (end other : T)
   pub undone : s.done ≡ false
   pub left : pending rank s ≡ run_if_any (past_both rank end other)
 
--- an interval with members stands
-one-run : (run other : Interval) → run.first ≤ run.last → run.first ≡ other.first
-    → run.last ≡ other.last → run ∷ [] ≡ run_if_any other
-one-run run other ordered first last =
-    let test : nat_le other.first other.last ≡ true = grind (arith, nat_tests) in
-    ap (λ each. each ∷ []) (same_interval run other first last)
-    ∙ sym (ap (λ each. cond each (other ∷ []) []) test)
+-- a vector of one end gives that one
+popped-by : {T : Type 0} (held : Option T)
+    → option_flatten (slice_get (ends_in held) (length (ends_in held) - 1)) ≡ held
+popped-by None = refl
+popped-by (Some end) = refl
 
--- the first one ends first
-pub passed-first : {T I : Type 0} (rank : T → ℕ) (j : I) (end other : T) (s : OddPieces T I)
-    → s.iter ≡ j → s.done ≡ false → s.end ≡ Some other → rank s.start ≡ rank end + 1
-    → rank end < rank other → HasPassed rank j end other s
-passed-first rank j end other s same undone held start less = record {
-  iter = same;
+-- ---- the ends in a vector, of which there is one at most before a range is drawn
+
+-- the first is the pending one
+pub first_end-ends_in : {T : Type 0} (held : Option T) → first_end (ends_in held) ≡ held
+first_end-ends_in None = refl
+first_end-ends_in (Some end) = refl
+
+-- and there is no other
+pub one-end : {T : Type 0} (held : Option T) → HasOneEnd (ends_in held)
+one-end held = ap ends_in (sym (first_end-ends_in held))
+
+module _ {T : Type 0} (ends : List (Option T)) (one : HasOneEnd ends) where
+  -- a range begins where none is pending
+  pub pushed-none : (pushed : List (Option T)) (other : T) → None ≡ first_end ends
+      → pushed ≡ ends ++ Some other ∷ [] → pushed ≡ ends_in (Some other)
+  pushed-none pushed other is push =
+      push ∙ ap (λ each. each ++ Some other ∷ []) (one ∙ ap ends_in (sym is))
+
+  -- and where one is, its end is the first
+  pub pushed-some : (pushed : List (Option T)) (end other : T) → Some end ≡ first_end ends
+      → pushed ≡ ends ++ Some other ∷ [] → pushed ≡ Some end ∷ Some other ∷ []
+  pushed-some pushed end other is push =
+      push ∙ ap (λ each. each ++ Some other ∷ []) (one ∙ ap ends_in (sym is))
+
+  -- so the other is left where the first is taken out
+  pub removed-first : (pushed left : List (Option T)) (end other : T) → Some end ≡ first_end ends
+      → pushed ≡ ends ++ Some other ∷ [] → left ≡ remove pushed 0 → left ≡ ends_in (Some other)
+  removed-first pushed left end other is push taken =
+      taken ∙ ap (λ each. remove each 0) (pushed-some pushed end other is push)
+
+  -- the last one is the first one
+  pub popped-end : (popped : Option (Option T)) (held : Option T)
+      → popped ≡ slice_get ends (length ends - 1) → held ≡ option_flatten popped
+      → first_end ends ≡ held
+  popped-end popped held is flat =
+      sym (popped-by (first_end ends))
+      ∙ ap (λ each. option_flatten (slice_get each (length each - 1))) (sym one)
+      ∙ ap option_flatten (sym is) ∙ sym flat
+
+-- what lies past the lesser of two ends is pending, by the parts of the state
+pub passed-by : {T I : Type 0} (rank : T → ℕ) (j : I) (end other start : T) (done : Bool)
+    (held : Option T) → done ≡ false
+    → begun_from rank start held ≡ run_if_any (past_both rank end other)
+    → HasPassed rank j end other (record { iter = j; done = done; start = start; end = held })
+passed-by rank j end other start done held undone left = record {
+  iter = refl;
   undone = undone;
-  left = ap (begun_from rank s.start) held
-      ∙ one-run (between rank s.start other) (past_both rank end other) (omega arith) (omega arith)
-      (omega arith);
+  left = left;
 }
-
--- the second one does
-pub passed-second : {T I : Type 0} (rank : T → ℕ) (j : I) (end other : T) (s : OddPieces T I)
-    → s.iter ≡ j → s.done ≡ false → s.end ≡ Some end → rank s.start ≡ rank other + 1
-    → rank other < rank end → HasPassed rank j end other s
-passed-second rank j end other s same undone held start less = record {
-  iter = same;
-  undone = undone;
-  left = ap (begun_from rank s.start) held
-      ∙ one-run (between rank s.start end) (past_both rank end other) (omega arith) (omega arith)
-      (omega arith);
-}
-
--- both end at once
-pub passed-both : {T I : Type 0} (rank : T → ℕ) (j : I) (end other : T) (s : OddPieces T I)
-    → s.iter ≡ j → s.done ≡ false → s.end ≡ None → rank end ≤ rank other → rank other ≤ rank end
-    → HasPassed rank j end other s
-passed-both rank j end other s same undone held most least =
-    let past = past_both rank end other in
-    let test : nat_le past.first past.last ≡ false = grind (arith, nat_tests) in
-    record {
-      iter = same;
-      undone = undone;
-      left = ap (begun_from rank s.start) held ∙ sym (ap (λ each. cond each (past ∷ []) []) test);
-    }

@@ -9,7 +9,7 @@ use Rattle.std.specs.declared.ops.RangeInclusive.{RangeInclusive}
 use Rattle.rsb_integer.specs.Rank.{interval_of}
 use Rattle.rsb_integer.specs.Runs.{Interval}
 use Rattle.rsb_integer.proofs.MembersLemmas.{same_interval}
-use Rattle.rsb_streams.specs.OddPieces.{odd_may_give, odd_remaining, oddly_covered, pieces_of, pending, ends_of, ArePieces, IsGoing, IsTwofold, OddAnswers, OddReady, OddSoFar}
+use Rattle.rsb_streams.specs.OddPieces.{odd_may_give, odd_remaining, oddly_covered, past_both, pieces_of, pending, ends_of, ArePieces, IsGoing, IsTwofold, OddAnswers, OddReady, OddSoFar}
 use Rattle.rsb_streams.specs.Stream.{Outcomes, ◌⊆◌, run_if_any, unless, HasOutcome}
 use Rattle.rsb_streams.specs.declared.odd_pieces.OddPieces.{OddPieces}
 use Rattle.rsb_streams.proofs.Compare.{IsRanked, less-rank, not_less-rank}
@@ -18,7 +18,7 @@ use Rattle.rsb_streams.proofs.OddLemmas.{past-twofold, pieces-before, pieces-fir
 use Rattle.rsb_streams.proofs.Sources.{Source, IsLawful, range-start, range-end}
 use Rattle.rsb_streams.proofs.UnionLemmas.{head-sorted}
 use Rattle.rsb_streams.proofs.OddEnds.{so-by}
-use Rattle.rsb_streams.proofs.OddStates.{state, between, one-held, passed-both, passed-first, passed-second, past_both, HasPassed}
+use Rattle.rsb_streams.proofs.OddStates.{state, between, one-held, HasPassed}
 
 module _ {I T : Type 0} (rank : T → ℕ) (n : ℕ) (source : Source I T) where
   -- the pieces may be drawn
@@ -114,9 +114,9 @@ module _ {I T : Type 0} (rank : T → ℕ) (n : ℕ) (source : Source I T) where
             (sym so_now.undone) at
 
         -- it begins where none is pending
-        pub so-begins : was.end ≡ None → SoFar entry next_state
+        pub so-begins : None ≡ was.end → SoFar entry next_state
         so-begins is =
-            let so = so-by rank n source entry was None so_now is in
+            let so = so-by rank n source entry was None so_now (sym is) in
             let less = fewer in
             let nearer = so.nearer in
             from-state (SoFar entry) (record {
@@ -129,10 +129,10 @@ module _ {I T : Type 0} (rank : T → ℕ) (n : ℕ) (source : Source I T) where
             })
 
         -- one is pending
-        module _ (end : T) (is : was.end ≡ Some end) where
+        module _ (end : T) (is : Some end ≡ was.end) where
           -- so it was before
           so : SoFar entry (state was.iter was.start (Some end))
-          so = so-by rank n source entry was (Some end) so_now is
+          so = so-by rank n source entry was (Some end) so_now (sym is)
 
           -- both, and what comes after them
           twofold : (given : List Interval) → source.may_give j given
@@ -149,26 +149,12 @@ module _ {I T : Type 0} (rank : T → ℕ) (n : ℕ) (source : Source I T) where
               (λ given at. rw at.2 (twofold at.0 at.1).sorted)
 
           -- all four ends are values
-          both-values : (rank was.start < n) × (rank end < n) × (rank next < n) × (rank next_end < n)
+          pub both-values : (rank was.start < n) × (rank end < n) × (rank next < n) × (rank next_end < n)
           both-values =
               let all = pending-facts in
               let low = all.1 in
               let high = all.2 in
               (omega (arith, low, high), high, next-values.0, next-values.1)
-
-          -- where the pending end is less than the next one, it is not the greatest value
-          pub end-below : true ≡ partial_lt partial_cmp end next_end → rank end + 1 < n
-          end-below test =
-              let less = less-rank rank n partial_cmp cmp ranked end next_end both-values.1
-              both-values.3 test in
-              omega (arith, less, both-values.3)
-
-          -- nor is the next one, where it is less
-          pub next_end-below : true ≡ partial_lt partial_cmp next_end end → rank next_end + 1 < n
-          next_end-below test =
-              let less = less-rank rank n partial_cmp cmp ranked next_end end both-values.3
-              both-values.1 test in
-              omega (arith, less, both-values.1)
 
           -- where the pending one starts before the next one, so do others
           pub next-above : true ≡ partial_lt partial_cmp was.start next → 0 < rank next
@@ -176,33 +162,6 @@ module _ {I T : Type 0} (rank : T → ℕ) (n : ℕ) (source : Source I T) where
               let less = less-rank rank n partial_cmp cmp ranked was.start next both-values.0
               both-values.2 test in
               omega (arith, less)
-
-          -- the pending one ends first
-          pub first-ends : (now : OddPieces T I) → now.iter ≡ j → now.done ≡ was.done
-              → now.end ≡ Some next_end → rank now.start ≡ rank end + 1
-              → true ≡ partial_lt partial_cmp end next_end → HasPassed rank j end next_end now
-          first-ends now same done held start test =
-              passed-first rank j end next_end now same (done ∙ so_now.undone) held start
-              (less-rank rank n partial_cmp cmp ranked end next_end both-values.1 both-values.3 test)
-
-          -- the next one does
-          pub second-ends : (now : OddPieces T I) → now.iter ≡ j → now.done ≡ was.done
-              → now.end ≡ was.end → rank now.start ≡ rank next_end + 1
-              → true ≡ partial_lt partial_cmp next_end end → HasPassed rank j end next_end now
-          second-ends now same done held start test =
-              passed-second rank j end next_end now same (done ∙ so_now.undone) (held ∙ is) start
-              (less-rank rank n partial_cmp cmp ranked next_end end both-values.3 both-values.1 test)
-
-          -- both end at once
-          pub both-end : (now : OddPieces T I) → now.iter ≡ j → now.done ≡ was.done
-              → now.end ≡ None → false ≡ partial_lt partial_cmp next_end end
-              → false ≡ partial_lt partial_cmp end next_end → HasPassed rank j end next_end now
-          both-end now same done held most least =
-              passed-both rank j end next_end now same (done ∙ so_now.undone) held
-              (not_less-rank rank n partial_cmp cmp ranked next_end end both-values.3 both-values.1
-              most)
-              (not_less-rank rank n partial_cmp cmp ranked end next_end both-values.1 both-values.3
-              least)
 
           -- the pending one comes first where the other starts past it
           pub apart-answers : true ≡ partial_lt partial_cmp end next → (answer : RangeInclusive T)

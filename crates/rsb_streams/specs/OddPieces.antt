@@ -1,5 +1,5 @@
 -- The pieces of ranges that an odd number of them covers, where no rank lies in more than two.
-use Rattle.std.proofs.Common.{◌≡◌, ℕ, ◌+◌, ◌≤◌, Bool, true, false, List, [], ◌∷◌, ◌++◌, length, map, refl}
+use Rattle.std.proofs.Common.{◌≡◌, ℕ, ◌+◌, ◌≤◌, Bool, true, false, max, min, List, [], ◌∷◌, ◌++◌, length, map, refl}
 use Rattle.std.specs.Prelude.{Option, Some, None}
 use Rattle.std.specs.Iterator.{Count, count_map, count_unless, size}
 use Rattle.std.specs.declared.ops.RangeInclusive.{RangeInclusive}
@@ -47,10 +47,34 @@ begun_from rank start (Some end) = record { first = rank start; last = rank end 
 abbrev pub pending : {T I : Type 0} → (T → ℕ) → OddPieces T I → List Interval
 pending rank s = begun_from rank s.start s.end
 
+-- what lies past the lesser of two ends, to the greater
+abbrev pub past_both : {T : Type 0} → (T → ℕ) → T → T → Interval
+past_both rank end other =
+    record { first = min (rank end) (rank other) + 1; last = max (rank end) (rank other) }
+
 -- the end that is pending, as a list
 abbrev pub ends_of : {T : Type 0} → Option T → List T
 ends_of None = []
 ends_of (Some end) = end ∷ []
+
+-- and as the items of a vector
+abbrev pub ends_in : {T : Type 0} → Option T → List (Option T)
+ends_in None = []
+ends_in (Some end) = Some end ∷ []
+
+-- the first of the ends in a vector
+abbrev pub first_end : {T : Type 0} → List (Option T) → Option T
+first_end [] = None
+first_end (end ∷ ends) = end
+
+-- a vector has one end at most
+abbrev pub HasOneEnd : {T : Type 0} → List (Option T) → Type 0
+HasOneEnd ends = ends ≡ ends_in (first_end ends)
+
+-- pieces whose pending end is the first of a vector
+abbrev pub holding : {T I : Type 0} → OddPieces T I → List (Option T) → OddPieces T I
+holding s ends =
+    record { iter = s.iter; done = s.done; start = s.start; end = first_end ends }
 
 -- what lies in an odd number of the pending range and of those to come, and nothing at the end
 abbrev pub odd_may_give : {T I : Type 0} → (T → ℕ) → ℕ → (I → Outcomes) → OddPieces T I → Outcomes
@@ -85,6 +109,11 @@ module _ {T I : Type 0} (rank : T → ℕ) (n : ℕ) (can_next : I → Type 0)
       pub going : IsGoing now
       pub same : odd_may_give rank n may_give now ⊆ odd_may_give rank n may_give entry
       pub nearer : size (odd_remaining remaining now) ≤ size (odd_remaining remaining entry)
+
+    -- so it is where the pending end lies in a vector, which has one at most
+    pub record OddHeld (entry now : OddPieces T I) (ends : List (Option T)) : Type 0 where
+      pub one : HasOneEnd ends
+      pub so : OddSoFar entry (holding now ends)
 
     -- the pieces come by their starts, there are some lists of them, and they end, by whether all
     -- was told

@@ -1,16 +1,36 @@
 //! What lies in one of the ranges of a source alone, where no value lies in more than two.
 
-ghost use Rattle.std.specs.Prelude.{◌≡◌, ◌≤◌, None, false, length};
+ghost use Rattle.std.specs.Iterator.{MakesProgress};
+ghost use Rattle.std.specs.Prelude.{
+  ◌≡◌,
+  ◌<◌,
+  ◌≤◌,
+  [],
+  ◌∷◌,
+  IfNone,
+  None,
+  Some,
+  false,
+  length,
+};
 ghost use Rattle.rsb_streams.specs.OddPieces.{
+  begun_from,
+  ends_in,
   ends_of,
+  first_end,
+  holding,
   odd-keeps,
   odd_may_give,
   odd_remaining,
+  past_both,
+  HasOneEnd,
   OddAnswers,
   OddReady,
 };
+ghost use Rattle.rsb_streams.specs.Stream.{run_if_any};
 
 use crate::draw::Draw;
+use arrayvec::ArrayVec;
 use rsb_integer::Integer;
 use std::ops::RangeInclusive;
 
@@ -23,7 +43,7 @@ pub(crate) struct OddPieces<T, I> {
     done: bool,
     // Up to where the range was told that has begun and not ended.
     start: T,
-    // Its end. The range just drawn is the second one, and one of the two ends before the next draw.
+    // Its end, between two calls. While a call runs, the pending ends lie in a vector.
     end: Option<T>,
 }
 
@@ -51,6 +71,91 @@ impl<T, I> OddPieces<T, I> {
     }
 }
 
+/// A vector of the end that is pending, if there is one.
+fn ends_with<T: Copy>(end: Option<T>) -> ArrayVec<Option<T>, 2>
+    ensures { result.items ≡ ends_in end }
+{
+    let mut ends = ArrayVec::new();
+    if end.is_some() {
+        ends.push(end);
+    }
+    ends
+}
+
+/// The first of the ends that are pending.
+fn first_end<T: Copy>(ends: &ArrayVec<Option<T>, 2>) -> Option<T>
+    ensures { result ≡ first_end ends.now.items }
+{
+    ends.first().copied().flatten()
+}
+
+/// Takes the lesser of two pending ends out, or both where they are one: what both ranges have is
+/// left out. What lies past it starts at `start`.
+fn pass_lesser<T: Integer>(
+    start: &mut T,
+    ends: &mut ArrayVec<Option<T>, 2>,
+    end: T,
+    next_end: T,
+)
+    requires end { T.rank end < T.value_count }
+    requires next_end { T.rank next_end < T.value_count }
+    requires both { ends.old.items ≡ Some end ∷ Some next_end ∷ [] }
+    ensures one { HasOneEnd ends.new.items }
+    ensures passed { begun_from T.rank start.new (first_end ends.new.items)
+        ≡ run_if_any (past_both T.rank end next_end) }
+{
+    if end < next_end {
+        ends.remove(0);
+        *start = end.add_one();
+    } else if next_end < end {
+        ends.pop();
+        *start = next_end.add_one();
+    } else {
+        ends.clear();
+    }
+}
+
+impl<T: Integer, I: Draw<T>> OddPieces<T, I> {
+    /// The next piece. The pending ends lie in a vector: one at most before a range is drawn, and
+    /// with its end two, so a third never comes.
+    fn next_piece(&mut self, ends: &mut ArrayVec<Option<T>, 2>) -> Option<RangeInclusive<T>>
+        requires undone { self.old.done ≡ false }
+        requires ready { OddReady T.rank T.value_count I.can_draw I.may_give
+            (holding self.old ends.old.items) }
+        requires one { HasOneEnd ends.old.items }
+        ensures one { HasOneEnd ends.new.items }
+        ensures ended { IfNone result (ends.new.items ≡ []) }
+        ensures steps { OddAnswers T.rank T.value_count I.can_draw I.may_give
+            (holding self.old ends.old.items) result (holding self.new ends.new.items) }
+        ensures goes { MakesProgress (OddReady T.rank T.value_count I.can_draw I.may_give)
+            (odd_remaining I.draws_left)
+            (holding self.old ends.old.items) result (holding self.new ends.new.items) }
+    {
+        while let Some(range) = self.iter.draw() {
+            let (next, next_end) = range.into_inner();
+            let start = self.start;
+            let pending = first_end(ends);
+            ends.push(Some(next_end));
+            let Some(end) = pending else {
+                self.start = next;
+                continue;
+            };
+            if end < next {
+                ends.remove(0);
+                self.start = next;
+                return Some(start..=end);
+            }
+            pass_lesser(&mut self.start, ends, end, next_end);
+            if start < next {
+                return Some(start..=next.sub_one());
+            }
+        }
+        self.done = true;
+        let end = ends.pop().flatten()?;
+        Some(self.start..=end)
+    }
+}
+
 impl<T: Integer, I: Draw<T>> Draw<T> for OddPieces<T, I> {
     ghost can_draw = { OddReady T.rank T.value_count I.can_draw I.may_give };
 
@@ -64,35 +169,10 @@ impl<T: Integer, I: Draw<T>> Draw<T> for OddPieces<T, I> {
         if self.done {
             return None;
         }
-        while let Some(range) = self.iter.draw() {
-            let (next, next_end) = range.into_inner();
-            let start = self.start;
-            let Some(end) = self.end else {
-                self.start = next;
-                self.end = Some(next_end);
-                continue;
-            };
-            if end < next {
-                self.start = next;
-                self.end = Some(next_end);
-                return Some(start..=end);
-            }
-            // What both have is left out, up to the lesser end.
-            if end < next_end {
-                self.start = end.add_one();
-                self.end = Some(next_end);
-            } else if next_end < end {
-                self.start = next_end.add_one();
-            } else {
-                self.end = None;
-            }
-            if start < next {
-                return Some(start..=next.sub_one());
-            }
-        }
-        self.done = true;
-        let end = self.end.take()?;
-        Some(self.start..=end)
+        let mut ends = ends_with(self.end.take());
+        let piece = self.next_piece(&mut ends);
+        self.end = first_end(&ends);
+        piece
     }
 
     ghost answers = { λ s t item gives. gives.answers };

@@ -1,0 +1,171 @@
+use Rattle.std.proofs.Common.{refl}
+use Rattle.std.specs.Prelude.{Some, None}
+use Rattle.rsb_integer.specs.Room.{fits_memory}
+use Rattle.rsb_streams.specs.OddPieces.{first_end, holding}
+use Rattle.rsb_streams.proofs.Compare.{IsRanked}
+use Rattle.rsb_streams.proofs.OddEnds.{last-answers, rests}
+use Rattle.rsb_streams.proofs.OddStates.{passed-by, popped-end, pushed-none, pushed-some, removed-first}
+use Rattle.rsb_streams.proofs.OddTurns.{apart-answers, apart-goes, both-values, gap-answers, gap-goes, next-above, so-begins, so-passed}
+use Rattle.rsb_streams.proofs.Sources.{IsLawful}
+use Rattle.rsb_streams.proofs.odd_pieces.OddPieces.next_piece.Given.{Over}
+use Rattle.rsb_streams.proofs.odd_pieces.OddPieces.next_piece.Invariants.{source}
+use Rattle.rsb_streams.proofs.odd_pieces.OddPieces.next_piece.Goals as goal
+
+laws : (g : Over) → IsLawful g.T.Integer.rank g.T.Integer.value_count (source g)
+laws g = record {
+  answers = g.met.I.Draw.answers;
+  sorted = g.met.I.Draw.sorted;
+}
+
+ranked : (g : Over) → IsRanked g.T.Integer.rank g.T.Integer.value_count g.T.PartialOrd.partial_cmp
+    g.T.Ord.cmp
+ranked g = record {
+  matches = g.met.T.Ord.matches_partial_cmp;
+  in_order = g.met.T.Integer.in_order;
+}
+
+-- a range begins where none is pending
+pub loop-range-preserved-in_default-pending : goal.loop-range-preserved-in_default-pending
+loop-range-preserved-in_default-pending g c =
+    let ends = pushed-none c.loop-range.ends.items c.loop-range.invariant.one c.push.new.self.items
+    c.into_inner-next.result.1 c.in_default-pending.ensures c.push.ensures.items in
+    record {
+      one = rw ends refl;
+      so = rw ends (so-begins g.T.Integer.rank g.T.Integer.value_count (source g) (laws g)
+          g.T.PartialOrd.partial_cmp g.T.Ord.cmp (ranked g) (holding c.args.self.now c.args.ends.now.items)
+          (holding c.loop-range.self c.loop-range.ends.items)
+          c.draw.new.self c.into_inner-next.result.0 c.into_inner-next.result.1 c.in-Some.range
+          c.loop-range.invariant.so c.in-Some.ensures.steps c.in-Some.ensures.goes
+          c.into_inner-next.ensures.start c.into_inner-next.ensures.end c.in_default-pending.ensures);
+    }
+
+-- a range is pending, and the next one starts past it
+pub returns-then-lt-clause-steps : goal.returns-then-lt-clause-steps
+returns-then-lt-clause-steps g c =
+    let left = removed-first c.loop-range.ends.items c.loop-range.invariant.one
+    c.push.new.self.items c.remove.new.self.items c.in-Some-pending.end
+    c.into_inner-next.result.1 c.in-Some-pending.ensures c.push.ensures.items
+    c.remove.ensures.items in
+    rw left (apart-answers g.T.Integer.rank g.T.Integer.value_count (source g) (laws g)
+    g.T.PartialOrd.partial_cmp g.T.Ord.cmp (ranked g) (holding c.args.self.now c.args.ends.now.items)
+    (holding c.loop-range.self c.loop-range.ends.items)
+    c.draw.new.self c.into_inner-next.result.0 c.into_inner-next.result.1 c.in-Some.range
+    c.loop-range.invariant.so c.in-Some.ensures.steps c.in-Some.ensures.goes
+    c.into_inner-next.ensures.start c.into_inner-next.ensures.end c.in-Some-pending.end
+    c.in-Some-pending.ensures c.if-lt.ensures c.new.result
+    c.new.ensures.exhausted c.new.ensures.start c.new.ensures.end)
+
+pub returns-then-lt-clause-goes : goal.returns-then-lt-clause-goes
+returns-then-lt-clause-goes g c =
+    let left = removed-first c.loop-range.ends.items c.loop-range.invariant.one
+    c.push.new.self.items c.remove.new.self.items c.in-Some-pending.end
+    c.into_inner-next.result.1 c.in-Some-pending.ensures c.push.ensures.items
+    c.remove.ensures.items in
+    rw left (apart-goes g.T.Integer.rank g.T.Integer.value_count (source g) (laws g)
+    g.T.PartialOrd.partial_cmp g.T.Ord.cmp (ranked g) (holding c.args.self.now c.args.ends.now.items)
+    (holding c.loop-range.self c.loop-range.ends.items)
+    c.draw.new.self c.into_inner-next.result.0 c.into_inner-next.result.1 c.in-Some.range
+    c.loop-range.invariant.so c.in-Some.ensures.steps c.in-Some.ensures.goes
+    c.into_inner-next.ensures.start c.into_inner-next.ensures.end c.in-Some-pending.end
+    c.in-Some-pending.ensures c.new.result)
+
+-- both have begun, and their ends are values
+pub pass_lesser-requires : goal.pass_lesser-requires
+pass_lesser-requires g c =
+    let values = both-values g.T.Integer.rank g.T.Integer.value_count (source g) (laws g)
+    g.T.PartialOrd.partial_cmp g.T.Ord.cmp (ranked g) (holding c.args.self.now c.args.ends.now.items)
+    (holding c.loop-range.self c.loop-range.ends.items)
+    c.draw.new.self c.into_inner-next.result.0 c.into_inner-next.result.1 c.in-Some.range
+    c.loop-range.invariant.so c.in-Some.ensures.steps c.in-Some.ensures.goes
+    c.into_inner-next.ensures.start c.into_inner-next.ensures.end c.in-Some-pending.end
+    c.in-Some-pending.ensures in
+    (
+      fits_memory _ (g.met.T.Integer.two_ends_fit c.into_inner-next.result.0),
+      (values.1, (values.3, pushed-some c.loop-range.ends.items c.loop-range.invariant.one
+      c.push.new.self.items c.in-Some-pending.end c.into_inner-next.result.1
+      c.in-Some-pending.ensures c.push.ensures.items)),
+    )
+
+-- what lies before the second is told
+pub sub_one-requires : goal.sub_one-requires
+sub_one-requires g c =
+    next-above g.T.Integer.rank g.T.Integer.value_count (source g) (laws g)
+    g.T.PartialOrd.partial_cmp g.T.Ord.cmp (ranked g) (holding c.args.self.now c.args.ends.now.items)
+    (holding c.loop-range.self c.loop-range.ends.items)
+    c.draw.new.self c.into_inner-next.result.0 c.into_inner-next.result.1 c.in-Some.range
+    c.loop-range.invariant.so c.in-Some.ensures.steps c.in-Some.ensures.goes
+    c.into_inner-next.ensures.start c.into_inner-next.ensures.end c.in-Some-pending.end
+    c.in-Some-pending.ensures c.if-lt-2.ensures
+
+pub returns-then-lt-2-clause-steps : goal.returns-then-lt-2-clause-steps
+returns-then-lt-2-clause-steps g c =
+    let passed = passed-by g.T.Integer.rank c.draw.new.self c.in-Some-pending.end
+    c.into_inner-next.result.1 c.pass_lesser.new.start c.loop-range.self.done
+    (first_end c.pass_lesser.new.ends.items) c.loop-range.invariant.so.undone
+    c.pass_lesser.ensures.passed in
+    gap-answers g.T.Integer.rank g.T.Integer.value_count (source g) (laws g)
+    g.T.PartialOrd.partial_cmp g.T.Ord.cmp (ranked g) (holding c.args.self.now c.args.ends.now.items)
+    (holding c.loop-range.self c.loop-range.ends.items)
+    c.draw.new.self c.into_inner-next.result.0 c.into_inner-next.result.1 c.in-Some.range
+    c.loop-range.invariant.so c.in-Some.ensures.steps c.in-Some.ensures.goes
+    c.into_inner-next.ensures.start c.into_inner-next.ensures.end c.in-Some-pending.end
+    c.in-Some-pending.ensures c.if-lt.ensures _ passed
+    c.if-lt-2.ensures c.sub_one.result c.new-then-lt-2.result
+    c.sub_one.ensures c.new-then-lt-2.ensures.exhausted c.new-then-lt-2.ensures.start
+    c.new-then-lt-2.ensures.end
+
+pub returns-then-lt-2-clause-goes : goal.returns-then-lt-2-clause-goes
+returns-then-lt-2-clause-goes g c =
+    let passed = passed-by g.T.Integer.rank c.draw.new.self c.in-Some-pending.end
+    c.into_inner-next.result.1 c.pass_lesser.new.start c.loop-range.self.done
+    (first_end c.pass_lesser.new.ends.items) c.loop-range.invariant.so.undone
+    c.pass_lesser.ensures.passed in
+    gap-goes g.T.Integer.rank g.T.Integer.value_count (source g) (laws g)
+    g.T.PartialOrd.partial_cmp g.T.Ord.cmp (ranked g) (holding c.args.self.now c.args.ends.now.items)
+    (holding c.loop-range.self c.loop-range.ends.items)
+    c.draw.new.self c.into_inner-next.result.0 c.into_inner-next.result.1 c.in-Some.range
+    c.loop-range.invariant.so c.in-Some.ensures.steps c.in-Some.ensures.goes
+    c.into_inner-next.ensures.start c.into_inner-next.ensures.end c.in-Some-pending.end
+    c.in-Some-pending.ensures c.if-lt.ensures _ passed c.new-then-lt-2.result
+
+-- nothing lies before it
+pub loop-range-preserved : goal.loop-range-preserved
+loop-range-preserved g c =
+    let passed = passed-by g.T.Integer.rank c.draw.new.self c.in-Some-pending.end
+    c.into_inner-next.result.1 c.pass_lesser.new.start c.loop-range.self.done
+    (first_end c.pass_lesser.new.ends.items) c.loop-range.invariant.so.undone
+    c.pass_lesser.ensures.passed in
+    record {
+      one = c.pass_lesser.ensures.one;
+      so = so-passed g.T.Integer.rank g.T.Integer.value_count (source g) (laws g)
+      g.T.PartialOrd.partial_cmp g.T.Ord.cmp (ranked g) (holding c.args.self.now c.args.ends.now.items)
+      (holding c.loop-range.self c.loop-range.ends.items)
+      c.draw.new.self c.into_inner-next.result.0 c.into_inner-next.result.1 c.in-Some.range
+      c.loop-range.invariant.so c.in-Some.ensures.steps c.in-Some.ensures.goes
+      c.into_inner-next.ensures.start c.into_inner-next.ensures.end c.in-Some-pending.end
+      c.in-Some-pending.ensures c.if-lt.ensures _ passed c.if-lt-2.ensures;
+    }
+
+-- none is pending at the end, and nothing comes
+pub returns-in_err-end-clause-steps : goal.returns-in_err-end-clause-steps
+returns-in_err-end-clause-steps g c =
+    let none = popped-end c.loop-range.ends.items c.loop-range.invariant.one c.pop.result None
+    c.pop.ensures.value c.in_err-end.ensures in
+    rw c.from_residual.ensures (rests g.T.Integer.rank g.T.Integer.value_count (source g) (laws g)
+    (holding c.args.self.now c.args.ends.now.items)
+    (holding c.loop-range.self c.loop-range.ends.items)
+    c.draw.new.self c.loop-range.invariant.so c.in_default.ensures.steps none
+    (first_end c.pop.new.self.items))
+
+-- what is pending comes last
+pub returns-clause-steps : goal.returns-clause-steps
+returns-clause-steps g c =
+    let last = popped-end c.loop-range.ends.items c.loop-range.invariant.one c.pop.result
+    (Some c.in_ok-end.end) c.pop.ensures.value c.in_ok-end.ensures in
+    last-answers g.T.Integer.rank g.T.Integer.value_count (source g) (laws g)
+    (holding c.args.self.now c.args.ends.now.items)
+    (holding c.loop-range.self c.loop-range.ends.items)
+    c.draw.new.self c.loop-range.invariant.so c.in_default.ensures.steps
+    c.in_ok-end.end c.new-2.result last
+    c.new-2.ensures.exhausted c.new-2.ensures.start c.new-2.ensures.end
+    (first_end c.pop.new.self.items)
