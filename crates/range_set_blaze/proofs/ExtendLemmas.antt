@@ -1,6 +1,7 @@
 -- Ranges and values that are added one after the other.
-use Rattle.std.proofs.Common.{◌≡◌, ◌↔◌, ℕ, Bool, false, ◌&&◌, ◌||◌, nat_le, nat_lt, ◌+◌, List, [], ◌∷◌, ◌++◌, append-nil, refl, sym, ◌∙◌, ap, subst, inl, inr, arith}
+use Rattle.std.proofs.Common.{◌≡◌, ◌↔◌, ℕ, Bool, true, false, ◌&&◌, ◌||◌, nat_le, nat_lt, ◌+◌, List, [], ◌∷◌, ◌++◌, append-nil, refl, sym, ◌∙◌, ap, subst, inl, inr, arith}
 use Rattle.std.proofs.Math.Bool.{or-false, or_assoc, or_comm}
+use Rattle.std.proofs.iter.runs.Made.{run, to_end}
 use Rattle.std.proofs.lemmas.Bool.{cases_lt}
 use Rattle.std.proofs.lemmas.Bool.Decides.{nat_tests}
 use Rattle.std.proofs.lemmas.List.{map-append}
@@ -13,6 +14,7 @@ use Rattle.rsb_integer.specs.Runs.{Interval, covers, members, IsNonEmpty}
 use Rattle.rsb_integer.specs.Selection.{Selection}
 use Rattle.rsb_integer.proofs.MembersLemmas.{covers-outside, members-append, members-cons}
 use Rattle.rsb_integer.proofs.RangeLemmas.{interval_of-some}
+use Rattle.rsb_streams.specs.Items.{GaveAll, GaveRun}
 use Rattle.range_set_blaze.specs.Algebra.{ranks_of, AddsFrontOf, AddsItems, AddsValues}
 use Rattle.range_set_blaze.specs.Set.{only, Adds}
 use Rattle.range_set_blaze.proofs.KeptLemmas.{le-fails}
@@ -76,15 +78,15 @@ module _ {T : Type 0} (rank : T → ℕ) where
       (range : RangeInclusive T) → AddsItems rank old ranges mid
       → Adds mid new (λ point. covers point (interval_of rank range))
       → AddsItems rank old (ranges ++ range ∷ []) new
-  adds-range_after old mid new ranges range first second point =
+  adds-range_after old mid new ranges range first second = record { adds = λ point.
       let run = interval_of rank range in
       let items = intervals_of rank ranges in
-      adds-after old mid new (members items) (λ point. covers point run) first second point
+      adds-after old mid new (members items) (λ point. covers point run) first.adds second point
       ∙ ap (λ test. members old point || (members items point || test))
       (sym (members-cons run [] point ∙ or-false (covers point run)))
       ∙ ap (λ test. members old point || test) (sym (members-append items (run ∷ []) point))
       ∙ ap (λ runs. members old point || members runs point)
-      (sym (map-append (interval_of rank) ranges (range ∷ [])))
+      (sym (map-append (interval_of rank) ranges (range ∷ []))) }
 
   -- the ranks of values and one more
   ranks_of-after : (values : List T) (value : T) (point : ℕ)
@@ -100,9 +102,9 @@ module _ {T : Type 0} (rank : T → ℕ) where
   pub adds-value_after : (old mid new : List Interval) (values : List T) (value : T)
       → AddsValues rank old values mid → Adds mid new (only (rank value))
       → AddsValues rank old (values ++ value ∷ []) new
-  adds-value_after old mid new values value first second point =
-      adds-after old mid new (ranks_of rank values) (only (rank value)) first second point
-      ∙ ap (λ test. members old point || test) (sym (ranks_of-after values value point))
+  adds-value_after old mid new values value first second = record { adds = λ point.
+      adds-after old mid new (ranks_of rank values) (only (rank value)) first.adds second point
+      ∙ ap (λ test. members old point || test) (sym (ranks_of-after values value point)) }
 
 -- ---- what is left of a source is a list
 
@@ -135,7 +137,7 @@ module _ {T E : Type 0} (rank : T → ℕ) (given : List (RangeInclusive T)) (ru
       (ap (intervals_of rank)
       (sym (given-all (YieldsFirst (λ (s : List (RangeInclusive T)). s)) (λ s. s)
       (λ s t item call. call) (λ s t call. call.0) extends.1 extends.0 extends.4) ∙ extends.2) ∙ is)
-      extends.3
+      extends.3.adds
   extended-all (Err error) extends = tt
 
   -- or by a front of them
@@ -153,8 +155,28 @@ module _ {T E : Type 0} (rank : T → ℕ) (given : List (RangeInclusive T)) (ru
           (λ s t item call. call) (λ s t call. call.0) extends.1 extends.0 extends.4.0 extends.4.1)
           ∙ map-append (interval_of rank) extends.1 extends.4.0;
     };
-    adds = extends.3;
+    adds = extends.3.adds;
   }
+
+-- ---- what was given is a run of calls
+
+module _ {J I X : Type 0} (becomes : J → I → Type 0) (steps : I → Option X → I → Type 0)
+    (value : J) where
+  -- items that came up to `None` are a whole run
+  pub ended-run : (Fact : List X → Type 0) (iter last next : I) (items : List X)
+      → becomes value iter → Yields steps iter items last → steps last None next → Fact items
+      → GaveRun becomes steps value Fact
+  ended-run Fact iter last next items is came ended fact = (
+    iter,
+    is,
+    (run steps iter items true (to_end steps iter items (next, (last, came, ended))), refl, refl, fact),
+  )
+
+  -- so are all items that a value gave
+  pub gave-run : (Fact : List X → Type 0) → GaveAll becomes steps value Fact
+      → GaveRun becomes steps value Fact
+  gave-run Fact gave = ended-run Fact gave.0 gave.3.1.0 gave.3.0 gave.1 gave.2 gave.3.1.1 gave.3.1.2
+      gave.4
 
 -- a fact that holds stands after a refusal too
 pub on_err-holds : {T E P : Type 0} (result : Result T E) → P → OnErr result P

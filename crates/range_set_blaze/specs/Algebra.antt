@@ -4,7 +4,7 @@ use Rattle.rsb_integer.specs.Front.{IsFrontOf}
 use Rattle.rsb_integer.specs.Rank.{intervals_of}
 use Rattle.rsb_integer.specs.Runs.{Interval, members}
 use Rattle.rsb_integer.specs.Selection.{Selection, any_of}
-use Rattle.range_set_blaze.specs.Set.{only, Adds}
+use Rattle.range_set_blaze.specs.Set.{only, Adds, IsSetOf}
 use Rattle.std.specs.declared.ops.RangeInclusive.{RangeInclusive}
 
 -- the set has those ranks of a type of n values that the other lacks, and no others
@@ -12,18 +12,26 @@ abbrev pub IsComplementOf : ℕ → List Interval → List Interval → Type 0
 IsComplementOf n set other = (rank : ℕ) → members set rank
     ≡ (nat_lt rank n && not (members other rank))
 
+-- the set has the ranks of the items, and no others. (This and the next two are records, since the
+-- search for a caller's clause follows the items into a record, and not into an equation for each
+-- rank.)
+pub record IsSetOfItems {T : Type 0} (rank : T → ℕ) (items : List (RangeInclusive T))
+    (set : List Interval) : Type 0 where
+  pub has : IsSetOf set (members (intervals_of rank items))
+
 -- the new set has the members of the old one and the ranks of the items, and no others
-abbrev pub AddsItems : {T : Type 0} → (T → ℕ) → List Interval → List (RangeInclusive T)
-    → List Interval → Type 0
-AddsItems rank old items new = Adds old new (members (intervals_of rank items))
+pub record AddsItems {T : Type 0} (rank : T → ℕ) (old : List Interval)
+    (items : List (RangeInclusive T)) (new : List Interval) : Type 0 where
+  pub adds : Adds old new (members (intervals_of rank items))
 
 -- the ranks of the values of a list
 abbrev pub ranks_of : {T : Type 0} → (T → ℕ) → List T → Selection
 ranks_of rank values = any_of (map (λ value. only (rank value)) values)
 
 -- the new set has the members of the old one and the ranks of the values, and no others
-abbrev pub AddsValues : {T : Type 0} → (T → ℕ) → List Interval → List T → List Interval → Type 0
-AddsValues rank old values new = Adds old new (ranks_of rank values)
+pub record AddsValues {T : Type 0} (rank : T → ℕ) (old : List Interval) (values : List T)
+    (new : List Interval) : Type 0 where
+  pub adds : Adds old new (ranks_of rank values)
 
 -- the new set has the members of the old one and the ranks of the first of the runs, and no others
 pub record AddsFrontOf (old new runs : List Interval) : Type 0 where

@@ -1,6 +1,7 @@
 -- What becomes an iterator, by the items that its calls give.
 use Rattle.std.specs.Prelude.{List, Option}
 use Rattle.std.specs.Iterator.{Count, Drains, IsFinite}
+use Rattle.std.specs.Iterator.Runs.{WholeRun}
 
 -- whatever the value becomes as an iterator may be called, and ends
 abbrev pub IsEnding : {J I : Type 0} → (J → I → Type 0) → (I → Type 0) → (I → Count) → J → Type 0
@@ -12,3 +13,10 @@ abbrev pub GaveAll : {J I X : Type 0} → (J → I → Type 0) → (I → Option
     → (List X → Type 0) → Type 0
 GaveAll {I = I} {X} becomes steps value Fact = (iter : I) × (items : List X) × becomes value iter
     × Drains steps iter items × Fact items
+
+-- the same, by a run of its calls: in this form a search finds what a caller says of a list or a
+-- slice that it handed in
+abbrev pub GaveRun : {J I X : Type 0} → (J → I → Type 0) → (I → Option X → I → Type 0) → J
+    → (List X → Type 0) → Type 0
+GaveRun {I = I} becomes steps value Fact = (iter : I) × becomes value iter
+    × WholeRun steps iter (λ run. Fact run.items)

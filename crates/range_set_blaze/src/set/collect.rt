@@ -1,9 +1,10 @@
 //! Sets that are collected, and extended, as std's collections are. Each answers what the call of
 //! its name does.
 
-ghost use Rattle.rsb_integer.specs.Rank.{intervals_of};
-ghost use Rattle.rsb_integer.specs.Runs.{members};
-ghost use Rattle.range_set_blaze.specs.Algebra.{ranks_of, AddsItems, AddsValues};
+ghost use Rattle.std.specs.Iterator.{ExtendsWithItems};
+ghost use Rattle.std.specs.Prelude.{OnOk};
+ghost use Rattle.rsb_streams.specs.Items.{GaveRun, IsEnding};
+ghost use Rattle.range_set_blaze.specs.Algebra.{ranks_of, AddsItems, AddsValues, IsSetOfItems};
 ghost use Rattle.range_set_blaze.specs.Set.{IsSetOf};
 
 use crate::set::RangeSetBlaze;
@@ -27,7 +28,7 @@ impl<T: Integer, A: Allocator + Copy> FromIterator<T> for RangeSetBlaze<T, A> {
 impl<T: Integer, A: Allocator + Copy> FromIterator<RangeInclusive<T>> for RangeSetBlaze<T, A> {
     type Alloc = A;
 
-    ghost from_iter_gives = { λ ranges set. IsSetOf set (members (intervals_of T.rank ranges)) };
+    ghost from_iter_gives = { IsSetOfItems T.rank };
 
     fn from_iter<J: IntoIterator<Item = RangeInclusive<T>>>(
         alloc: A,
@@ -42,7 +43,13 @@ impl<T: Integer, A: Allocator + Copy> FromIterator<RangeInclusive<T>> for RangeS
 impl<T: Integer, A: Allocator + Clone> Extend<T> for RangeSetBlaze<T, A> {
     ghost extend_gives = { AddsValues T.rank };
 
-    fn extend<J: IntoIterator<Item = T>>(&mut self, values: J) -> Result<(), AllocError> {
+    fn extend<J: IntoIterator<Item = T>>(&mut self, values: J) -> Result<(), AllocError>
+        requires { IsEnding J.into_iter_gives J.IntoIter.can_next J.IntoIter.remaining values }
+        ensures ran { ExtendsWithItems J.into_iter_gives J.IntoIter.next_gives
+            (AddsValues T.rank) values self.old self.new result }
+        ensures runs { OnOk result (GaveRun J.into_iter_gives J.IntoIter.next_gives values
+            (λ items. AddsValues T.rank self.old items self.new)) }
+    {
         self.extend_values(values)
     }
 }
@@ -55,7 +62,13 @@ impl<T: Integer, A: Allocator + Clone> Extend<RangeInclusive<T>> for RangeSetBla
     fn extend<J: IntoIterator<Item = RangeInclusive<T>>>(
         &mut self,
         ranges: J,
-    ) -> Result<(), AllocError> {
+    ) -> Result<(), AllocError>
+        requires { IsEnding J.into_iter_gives J.IntoIter.can_next J.IntoIter.remaining ranges }
+        ensures ran { ExtendsWithItems J.into_iter_gives J.IntoIter.next_gives
+            (AddsItems T.rank) ranges self.old self.new result }
+        ensures runs { OnOk result (GaveRun J.into_iter_gives J.IntoIter.next_gives ranges
+            (λ items. AddsItems T.rank self.old items self.new)) }
+    {
         RangeSetBlaze::extend(self, ranges)
     }
 }

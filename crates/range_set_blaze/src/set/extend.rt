@@ -4,7 +4,7 @@ ghost use Rattle.std.specs.Prelude.{◌≡◌, ◌↔◌, [], IfOk, IsTrue, OnEr
 ghost use Rattle.std.specs.Iterator.{ExtendsWithItems};
 ghost use Rattle.rsb_integer.specs.Rank.{interval_of, intervals_of};
 ghost use Rattle.rsb_integer.specs.Runs.{covers, members, IsNonEmpty};
-ghost use Rattle.rsb_streams.specs.Items.{GaveAll, IsEnding};
+ghost use Rattle.rsb_streams.specs.Items.{GaveAll, GaveRun, IsEnding};
 ghost use Rattle.range_set_blaze.specs.Algebra.{ranks_of, AddsFrontOf, AddsItems, AddsValues};
 ghost use Rattle.range_set_blaze.specs.Set.{Adds, IsSetOf};
 
@@ -27,6 +27,8 @@ impl<T: Integer, A: Allocator + Clone> RangeSetBlaze<T, A> {
         requires ready { IsEnding J.into_iter_gives J.IntoIter.can_next J.IntoIter.remaining ranges }
         ensures members { ExtendsWithItems J.into_iter_gives J.IntoIter.next_gives
             (AddsItems T.rank) ranges self.old self.new result }
+        ensures runs { OnOk result (GaveRun J.into_iter_gives J.IntoIter.next_gives ranges
+            (λ items. AddsItems T.rank self.old items self.new)) }
     {
         for range in ranges {
             self.add_range(range)?;
@@ -40,6 +42,8 @@ impl<T: Integer, A: Allocator + Clone> RangeSetBlaze<T, A> {
         requires ready { IsEnding J.into_iter_gives J.IntoIter.can_next J.IntoIter.remaining values }
         ensures members { ExtendsWithItems J.into_iter_gives J.IntoIter.next_gives
             (AddsValues T.rank) values self.old self.new result }
+        ensures runs { OnOk result (GaveRun J.into_iter_gives J.IntoIter.next_gives values
+            (λ items. AddsValues T.rank self.old items self.new)) }
     {
         for value in values {
             self.insert(value)?;
@@ -72,6 +76,9 @@ impl<T: Integer, A: Allocator + Copy> RangeSetBlaze<T, A> {
         ensures members { IfOk result (λ set.
             GaveAll J.into_iter_gives J.IntoIter.next_gives ranges
             (λ items. IsSetOf set (members (intervals_of T.rank items)))) }
+        ensures runs { IfOk result (λ set.
+            GaveRun J.into_iter_gives J.IntoIter.next_gives ranges
+            (λ items. IsSetOf set (members (intervals_of T.rank items)))) }
     {
         let union = UnionIter::from_iter(alloc, ranges)?;
         Self::from_sorted_disjoint(alloc, union)
@@ -86,6 +93,9 @@ impl<T: Integer, A: Allocator + Copy> RangeSetBlaze<T, A> {
         requires ready { IsEnding J.into_iter_gives J.IntoIter.can_next J.IntoIter.remaining values }
         ensures members { IfOk result (λ set.
             GaveAll J.into_iter_gives J.IntoIter.next_gives values
+            (λ items. IsSetOf set (ranks_of T.rank items))) }
+        ensures runs { IfOk result (λ set.
+            GaveRun J.into_iter_gives J.IntoIter.next_gives values
             (λ items. IsSetOf set (ranks_of T.rank items))) }
     {
         let singles = Singles::new(values.into_iter());
