@@ -1,5 +1,6 @@
 //! What lies in one of two streams alone.
 
+ghost use Rattle.std.specs.Iterator.{MakesProgress};
 ghost use Rattle.std.specs.Prelude.{◌≡◌, ◌≤◌, length};
 ghost use Rattle.rsb_streams.specs.Outcomes.{canonical-starts};
 ghost use Rattle.rsb_streams.specs.Stream.{drawn-itself, GivesSymmetricDifference, IsReadyAnd};
@@ -29,8 +30,9 @@ pub struct SymDiffIter<T, L, R> {
 }
 
 impl<T, L, R> SymDiffIter<T, L, R> {
-    /// How many ends it holds of ranges that have begun and not ended: one at most, beside that of
-    /// the range which a call has just drawn, so two at every moment. (Own.)
+    /// How many ends it holds of ranges that have begun and not ended: one at most. While a call
+    /// runs, that of the range which it has drawn lies beside it, in a vector of two that is never
+    /// asked to hold a third. (Own.)
     pub fn pending_ends(&self) -> usize
         ensures ends { result ≡ length (ends_held self.now) }
         ensures bound { result ≤ 1 }
@@ -66,7 +68,17 @@ impl<T: Integer, L: Draw<T>, R: Draw<T>> Iterator for SymDiffIter<T, L, R> {
 
     ghost remaining = { one_remaining L.draws_left R.draws_left };
 
-    fn next(&mut self) -> Option<RangeInclusive<T>> {
+    // One end at most is left pending. While the call runs, they lie in a vector of two.
+    fn next(&mut self) -> Option<RangeInclusive<T>>
+        requires { one_can_next T.rank T.value_count L.can_draw L.may_give
+            R.can_draw R.may_give self.old }
+        ensures steps { one_steps T.rank T.value_count L.can_draw L.may_give
+            R.can_draw R.may_give self.old result self.new }
+        ensures goes { MakesProgress (one_can_next T.rank T.value_count L.can_draw L.may_give
+            R.can_draw R.may_give) (one_remaining L.draws_left R.draws_left)
+            self.old result self.new }
+        ensures ends { length (ends_held self.new) ≤ 1 }
+    {
         self.iter.next()
     }
 }

@@ -1,6 +1,6 @@
 //! Sets as a Rust user writes them: operators, copies, `collect` and `Extend`.
 
-ghost use Rattle.std.specs.Prelude.{◌≡◌, IfOk};
+ghost use Rattle.std.specs.Prelude.{◌≡◌, IfOk, OnOk};
 ghost use Rattle.rsb_integer.specs.Runs.{members};
 ghost use Rattle.rsb_integer.specs.Selection.{
   difference,
@@ -8,13 +8,19 @@ ghost use Rattle.rsb_integer.specs.Selection.{
   symmetric_difference,
   union,
 };
-ghost use Rattle.range_set_blaze.specs.Algebra.{ranks_of, IsComplementOf};
+ghost use Rattle.range_set_blaze.specs.Algebra.{
+  ranks_of,
+  AddsItems,
+  AddsValues,
+  IsComplementOf,
+  IsSetOfItems,
+};
 ghost use Rattle.range_set_blaze.specs.Set.{IsSetOf};
 
 use crate::tables::gives;
 use range_set_blaze::{Integer, RangeSetBlaze};
 use std::alloc::{AllocError, Allocator, Global};
-use std::ops::Not;
+use std::ops::{Not, RangeInclusive};
 use std::test::*;
 
 /// What lies in either of two sets, by a copy of one.
@@ -96,14 +102,48 @@ fn of_slice<T: Integer>(alloc: Global, values: &[T]) -> Result<RangeSetBlaze<T>,
     values.iter().copied().collect(alloc)
 }
 
+/// The set of the ranges of a list.
+fn of_ranges<T: Integer>(
+    alloc: Global,
+    ranges: Vec<RangeInclusive<T>>,
+) -> Result<RangeSetBlaze<T>, AllocError>
+    ensures { IfOk result (IsSetOfItems T.rank ranges.items) }
+{
+    ranges.into_iter().collect(alloc)
+}
+
+/// Adds the ranges of a list.
+fn add_ranges<T: Integer>(
+    set: &mut RangeSetBlaze<T>,
+    ranges: Vec<RangeInclusive<T>>,
+) -> Result<(), AllocError>
+    ensures { OnOk result (AddsItems T.rank set.old ranges.items set.new) }
+{
+    Extend::extend(set, ranges)
+}
+
 /// The set of the ranges with these ends.
 fn of_ends<T: Integer>(alloc: Global, ends: &[(T, T)]) -> Result<RangeSetBlaze<T>, AllocError> {
     ends.iter().map(|(start, end)| *start..=*end).collect(alloc)
 }
 
 /// Adds the values of a slice.
-fn add_slice<T: Integer>(set: &mut RangeSetBlaze<T>, values: &[T]) -> Result<(), AllocError> {
+fn add_slice<T: Integer>(set: &mut RangeSetBlaze<T>, values: &[T]) -> Result<(), AllocError>
+    ensures { OnOk result (AddsValues T.rank set.old values.now set.new) }
+{
     Extend::extend(set, values.iter().copied())
+}
+
+/// Whether the members of a set come in this order from the back.
+fn comes_back<T: Integer>(set: &RangeSetBlaze<T>, wanted: &[T]) -> bool {
+    let mut place = 0_usize;
+    for value in set.iter().rev() {
+        if wanted.get(place) != Some(&value) {
+            return false;
+        }
+        place = place.wrapping_add(1);
+    }
+    place == wanted.len()
 }
 
 /// The ranges with these ends.
@@ -234,9 +274,12 @@ fn values_are_collected_and_added(rt: HostRuntime) -> Result<(), Fail> {
 fn lists_and_ranges_are_collected_and_added(rt: HostRuntime) -> Result<(), Fail> {
     let alloc = rt.alloc();
     let mut set = of_list(alloc, Vec::from_array(alloc, [4, 1, 4, 2])?)?;
-    assert!(rt; gives(set.ranges(), &[(1, 2), (4, 4)]));
+    assert!(rt; gives(set.ranges(), &[(1, 2), (4, 4)]) && comes_back(&set, &[4, 2, 1]));
     Extend::extend(&mut set, [8..=9, 3..=1, -1..=1])?;
     assert!(rt; gives(set.ranges(), &[(-1, 2), (4, 4), (8, 9)]));
+    let mut letters = of_ranges(alloc, Vec::from_array(alloc, ['c'..='d', 'b'..='a'])?)?;
+    add_ranges(&mut letters, Vec::from_array(alloc, ['a'..='a'])?)?;
+    assert!(rt; comes_back(&letters, &['d', 'c', 'a']));
     Ok(())
 }
 
