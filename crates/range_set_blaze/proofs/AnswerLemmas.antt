@@ -1,15 +1,18 @@
 -- What a test answers about the runs, and which are kept by it.
 use Rattle.std.proofs.Common.{◌≡◌, ℕ, Bool, true, false, cond, ◌<◌, List, [], ◌∷◌, ◌++◌, append-nil, length, Option, Some, None, refl, sym, ap, ◌∙◌, arith}
 use denote.Param.Members.{Called, Mut}
+use denote.Ref.{Bor}
 use Rattle.std.specs.Fn.{AlwaysReturns}
 use Rattle.std.specs.List.{filter, sum_by}
+use Rattle.std.proofs.lemmas.Fn.{FoldsTo-push}
 use Rattle.std.proofs.lemmas.List.{map-append}
 use Rattle.std.proofs.lemmas.List.Elements.{filter-append}
 use Rattle.std.specs.declared.ops.RangeInclusive.{RangeInclusive}
-use Rattle.rsb_integer.specs.Rank.{interval_of}
+use Rattle.rsb_integer.specs.Rank.{interval_of, intervals_of}
 use Rattle.rsb_integer.specs.Runs.{Interval, length_of, IsCanonicalIn}
 use Rattle.rsb_streams.specs.Sublists.{sublist-canonical, IsSublist}
 use Rattle.range_set_blaze.specs.Kept.{entry_of, entry_run, run_of, runs_of, IsKept}
+use Rattle.range_set_blaze.specs.Retain.{IsAsked}
 use Rattle.range_set_blaze.specs.declared.set.run.Run.{Run}
 use Rattle.range_set_blaze.proofs.KeptLemmas.{sum_by-canonical}
 use Rattle.range_set_blaze.proofs.RetainLemmas.{asked-coming, to_come, IsRetaining}
@@ -29,6 +32,13 @@ computes-next g P f a r f' called always = (
   record { at = λ xs. (always.at (a ∷ xs) r f' called).1 },
 )
 
+-- a call after some calls
+pub asks-more : {F X : Type 0} (g : Mut F (Bor X × Unit {0}) Bool) (f mid last : F)
+    (items : List X) (shown : Bor X) (answer : Bool) → IsAsked g f items mid
+    → Called g mid (shown, tt) answer last → IsAsked g f (items ++ shown.now ∷ []) last
+asks-more g f mid last items shown answer asked called = FoldsTo-push _ _ _ _ _ _ asked
+    (answer, record { shown = shown; shows = refl; called = called })
+
 -- ---- what the answers select
 
 module _ {T : Type 0} (rank : T → ℕ) (n total number : ℕ) (old now : List (T × T)) (run : Run T)
@@ -46,6 +56,17 @@ module _ {T : Type 0} (rank : T → ℕ) (n total number : ℕ) (old now : List 
       (sym (λ i. cond (answer i) (run_of rank run ∷ []) []))
       ∙ sym (filter-append keeps (runs_of rank retaining.done) (run_of rank run ∷ []))
       ∙ ap (filter keeps) (sym (map-append (entry_run rank) retaining.done (entry_of run ∷ [])))
+
+  -- it was asked about after those before it
+  pub asked-more : (asked : List (RangeInclusive T)) (range : RangeInclusive T)
+      → intervals_of rank asked ≡ runs_of rank retaining.done
+      → interval_of rank range ≡ run_of rank run
+      → intervals_of rank (asked ++ range ∷ []) ≡ runs_of rank (retaining.done ++ entry_of run ∷ [])
+  asked-more asked range listed is =
+      map-append (interval_of rank) asked (range ∷ [])
+      ∙ ap (λ (items : List Interval). items ++ interval_of rank range ∷ []) listed
+      ∙ ap (λ (each : Interval). runs_of rank retaining.done ++ each ∷ []) is
+      ∙ sym (map-append (entry_run rank) retaining.done (entry_of run ∷ []))
 
   -- and without it where it is false
   pub exact-drop : (keeps : Interval → Bool)
@@ -106,6 +127,12 @@ module _ {T : Type 0} (rank : T → ℕ) (n total number : ℕ) (old now : List 
       → runs_of rank retaining.kept ≡ filter keeps (runs_of rank retaining.done)
       → runs_of rank now ≡ filter keeps (runs_of rank old)
   retained-exact keeps same = rw (all-done.0, all-done.1) same
+
+  -- all were asked about
+  pub retained-asked : (asked : List (RangeInclusive T))
+      → intervals_of rank asked ≡ runs_of rank retaining.done
+      → intervals_of rank asked ≡ runs_of rank old
+  retained-asked asked listed = listed ∙ sym (ap (runs_of rank) all-done.0)
 
   -- what is there are some of the old runs
   pub retained-runs : IsSublist (runs_of rank now) (runs_of rank old)

@@ -1,9 +1,12 @@
 -- What `retain` asks about, and what it keeps.
-use Rattle.std.specs.Prelude.{◌≡◌, ℕ, zero, suc, Bool, ◌||◌, ◌+◌, ◌<◌, List, [], ◌∷◌, ◌++◌, map, Option, None, Some}
+use Rattle.std.specs.Prelude.{◌≡◌, ℕ, zero, suc, Bool, false, ◌||◌, ◌+◌, ◌<◌, List, [], ◌∷◌, ◌++◌, map, Option, None, Some}
 use Rattle.std.specs.Fn.{AlwaysReturns, CalledAt, Mut}
 use Rattle.std.specs.List.{FoldsTo, sum_by}
+use Rattle.std.specs.Range.{range_inclusive_start, range_inclusive_end, range_inclusive_exhausted}
+use Rattle.std.specs.declared.ops.RangeInclusive.{RangeInclusive}
 use denote.Ref.{Bor}
 use Rattle.rsb_integer.specs.Front.{IsFrontOf}
+use Rattle.rsb_integer.specs.Rank.{interval_of, intervals_of}
 use Rattle.rsb_integer.specs.Runs.{Interval, covers, length_of, members, AllEndBelow, IsCanonicalFrom}
 use Rattle.rsb_integer.specs.Selection.{Selection, union}
 use Rattle.range_set_blaze.specs.Kept.{run_of, runs_of}
@@ -25,21 +28,34 @@ module _ {F T : Type 0} (rank : T → ℕ) (n : ℕ) (g : Mut F (Bor T × Unit {
   abbrev pub AnswersByRank : Selection → F → Type 0
   AnswersByRank keeps = AlwaysReturns g (λ a r. rank a.0.now < n → r ≡ keeps (rank a.0.now))
 
-module _ {F T : Type 0} (rank : T → ℕ) (g : Mut F (Bor T × Unit {0}) Bool) where
-  -- calls from f on at these values, one after the other, lead to the last state
-  abbrev pub IsAsked : F → List T → F → Type 0
-  IsAsked f values last =
-      FoldsTo (λ before value after. (answer : Bool) × CalledAt g before value answer after)
-      f values last
+-- each call from f on answers at a range that was not iterated to its end, of values of a type of n,
+-- what `keeps` says of its ranks
+abbrev pub AnswersByRun : {F T : Type 0} (rank : T → ℕ) (n : ℕ)
+    (g : Mut F (Bor (RangeInclusive T) × Unit {0}) Bool) → (Interval → Bool) → F → Type 0
+AnswersByRun rank n g keeps = AlwaysReturns g (λ a r.
+    range_inclusive_exhausted a.0.now ≡ false → rank (range_inclusive_start a.0.now) < n
+    → rank (range_inclusive_end a.0.now) < n → r ≡ keeps (interval_of rank a.0.now))
 
+-- calls from f on at these items, one after the other, lead to the last state
+abbrev pub IsAsked : {F X : Type 0} → Mut F (Bor X × Unit {0}) Bool → F → List X → F → Type 0
+IsAsked g f items last =
+    FoldsTo (λ before item after. (answer : Bool) × CalledAt g before item answer after) f items last
+
+-- from f on, each run of the set was asked about once, in ascending order
+abbrev pub AsksRuns : {F T : Type 0} (rank : T → ℕ)
+    (g : Mut F (Bor (RangeInclusive T) × Unit {0}) Bool) → F → List Interval → Type 0
+AsksRuns {F} {T} rank g f set = (ranges : List (RangeInclusive T)) × (last : F)
+    × IsAsked g f ranges last × (intervals_of rank ranges ≡ set)
+
+module _ {F T : Type 0} (rank : T → ℕ) (g : Mut F (Bor T × Unit {0}) Bool) where
   -- from f on, each member of the set was asked about once, in ascending order
   abbrev pub AsksAll : F → List Interval → Type 0
-  AsksAll f set = (values : List T) × (last : F) × IsAsked f values last
+  AsksAll f set = (values : List T) × (last : F) × IsAsked g f values last
       × (map rank values ≡ ascending_ranks set)
 
   -- and so was a front of the members
   abbrev pub AsksFront : F → List Interval → Type 0
-  AsksFront f set = (values : List T) × (last : F) × IsAsked f values last
+  AsksFront f set = (values : List T) × (last : F) × IsAsked g f values last
       × IsFrontOf (map rank values) (ascending_ranks set)
 
 module _ {T : Type 0} (rank : T → ℕ) where

@@ -1,14 +1,12 @@
 //! Runs and values that are kept by a test.
 
 ghost use Rattle.std.specs.Prelude.{◌≡◌, Bool, [], IsOk, OnErr, OnOk};
-ghost use Rattle.std.specs.Fn.{ComputesKey};
 ghost use Rattle.std.specs.List.{filter};
-ghost use Rattle.rsb_integer.specs.Rank.{interval_of};
 ghost use Rattle.rsb_integer.specs.Runs.{Interval, members};
 ghost use Rattle.rsb_integer.specs.Selection.{intersection, IsSubset, Selection};
 ghost use Rattle.rsb_streams.specs.Sublists.{IsSublist};
 ghost use Rattle.range_set_blaze.specs.Kept.{runs_of, IsKept};
-ghost use Rattle.range_set_blaze.specs.Retain.{AnswersByRank, AsksAll, AsksFront};
+ghost use Rattle.range_set_blaze.specs.Retain.{AnswersByRank, AnswersByRun, AsksAll, AsksFront, AsksRuns};
 ghost use Rattle.range_set_blaze.specs.Set.{IsSetOf};
 
 use crate::set::RangeSetBlaze;
@@ -54,8 +52,9 @@ impl<T: Integer, A: Allocator> RangeSetBlaze<T, A> {
 
         // Where the answers depend on the range alone, the runs are those that they select.
         ensures exact { (keeps : Interval → Bool)
-            → ComputesKey F.FnMut (λ range. keeps (interval_of T.rank range)) f
+            → AnswersByRun T.rank T.value_count F.FnMut keeps f
             → self.new ≡ filter keeps self.old }
+        ensures asked { AsksRuns T.rank F.FnMut f self.old }
     {
         let length = self.length;
         self.length = retain_runs(&mut self.map, f, length);
@@ -74,8 +73,9 @@ fn retain_runs<T: Integer, A: Allocator, F: FnMut(&RangeInclusive<T>) -> bool>(
     ensures kept { IsKept T.rank T.value_count map.new.entries (T.SafeLen.number result) }
     ensures runs { IsSublist (runs_of T.rank map.new.entries) (runs_of T.rank map.old.entries) }
     ensures exact { (keeps : Interval → Bool)
-        → ComputesKey F.FnMut (λ range. keeps (interval_of T.rank range)) f
+        → AnswersByRun T.rank T.value_count F.FnMut keeps f
         → runs_of T.rank map.new.entries ≡ filter keeps (runs_of T.rank map.old.entries) }
+    ensures asked { AsksRuns T.rank F.FnMut f (runs_of T.rank map.old.entries) }
 {
     let mut f = f;
     let mut length = total;

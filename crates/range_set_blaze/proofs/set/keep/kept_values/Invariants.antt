@@ -28,7 +28,7 @@ invariant-loop-left g l =
           × ((point : ℕ) → has point
           ≡ intersection (difference (members old) (members todo)) keeps point);
       asked : List g.row.T.Denot;
-      calls : IsAsked rank g.F.FnMut l.initial.f asked l.f;
+      calls : IsAsked g.F.FnMut l.initial.f asked l.f;
       listed : ascending_ranks old ≡ map rank asked ++ ascending_ranks todo;
     }
 

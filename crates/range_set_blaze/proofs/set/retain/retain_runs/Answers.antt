@@ -1,7 +1,8 @@
-use Rattle.std.proofs.Common.{◌∙◌, [], ap, length, arith, refl, sym}
+use Rattle.std.proofs.Common.{◌<◌, ◌∙◌, ◌∷◌, ◌++◌, [], ap, length, arith, refl, sym}
+use Rattle.std.specs.Range.{range_inclusive_start, range_inclusive_end}
 use denote.Param.Always.{mut_next}
 use Rattle.range_set_blaze.proofs.PointLemmas.{kept-ascending, kept-fits}
-use Rattle.range_set_blaze.proofs.AnswerLemmas.{computes-next, exact-drop, exact-keep, fewer-coming, range-run, retained-exact, retained-kept, retained-runs}
+use Rattle.range_set_blaze.proofs.AnswerLemmas.{asked-more, asks-more, computes-next, exact-drop, exact-keep, fewer-coming, range-run, retained-asked, retained-exact, retained-kept, retained-runs}
 use Rattle.range_set_blaze.proofs.RetainLemmas.{asked-counted, asked-order, drop-ascending, retaining-drop, retaining-keep}
 use Rattle.range_set_blaze.proofs.set.retain.retain_runs.Goals as goal
 use Rattle.range_set_blaze.proofs.set.retain.retain_runs.Goals.{then-not-f, else-not-f}
@@ -11,9 +12,12 @@ pub loop-next-init : goal.loop-next-init
 loop-next-init g c =
     let rank = g.T.Integer.rank in
     let n = g.T.Integer.value_count in
-    let entries = c.args.map.now.entries in (
-      (λ always. always),
-      (
+    let entries = c.args.map.now.entries in
+    record {
+      callable = λ always. always;
+      asked = [];
+      calls = refl;
+      runs = (
         record {
           done = [];
           kept = [];
@@ -26,22 +30,23 @@ loop-next-init g c =
           fits = kept-fits rank n entries _ c.requires.kept;
           next_is = c.first_run-next.ensures;
         },
-        (λ keeps computes. (computes, refl)),
-      ),
-    )
+        (λ keeps answers. (answers, refl)),
+        refl,
+      );
+    }
 
 -- it has no more values than are counted
 pub take_off_length-requires-clause-some : goal.take_off_length-requires-clause-some
 take_off_length-requires-clause-some g c =
     (asked-order g.T.Integer.rank g.T.Integer.value_count _ _ _ _ c.in-Some.run'
     c.requires.kept.canonical
-    (rw c.in-Some.is at c.loop-next.invariant.1.0)).0
+    (rw c.in-Some.is at c.loop-next.invariant.runs.0)).0
 
 pub take_off_length-requires-clause-counted : goal.take_off_length-requires-clause-counted
 take_off_length-requires-clause-counted g c =
     asked-counted g.T.Integer.rank g.T.Integer.value_count _ _ _ _ c.in-Some.run'
     c.requires.kept.canonical
-    (rw c.in-Some.is at c.loop-next.invariant.1.0) c.requires.kept.length
+    (rw c.in-Some.is at c.loop-next.invariant.runs.0) c.requires.kept.length
 
 pub run_after-next-requires-clause-ascending : goal.run_after-next-requires-clause-ascending
 run_after-next-requires-clause-ascending g c =
@@ -50,27 +55,27 @@ run_after-next-requires-clause-ascending g c =
       | then-not-f w ↦ rw w.map-is
           (drop-ascending g.T.Integer.rank g.T.Integer.value_count _ _ _ _ c.in-Some.run'
           c.requires.kept.canonical
-          (rw c.in-Some.is at c.loop-next.invariant.1.0) g.T.Ord.cmp laws.in_order
+          (rw c.in-Some.is at c.loop-next.invariant.runs.0) g.T.Ord.cmp laws.in_order
           w.remove.new.self.entries w.remove.ensures.entries)
-      | else-not-f w ↦ rw w.map-is c.loop-next.invariant.1.0.ascending
+      | else-not-f w ↦ rw w.map-is c.loop-next.invariant.runs.0.ascending
     ]
 
 pub run_after-next-requires-clause-value : goal.run_after-next-requires-clause-value
 run_after-next-requires-clause-value g c =
     (asked-order g.T.Integer.rank g.T.Integer.value_count _ _ _ _ c.in-Some.run'
     c.requires.kept.canonical
-    (rw c.in-Some.is at c.loop-next.invariant.1.0)).1
+    (rw c.in-Some.is at c.loop-next.invariant.runs.0)).1
 
 -- none is to come
 pub returns-clause-kept : goal.returns-clause-kept
 returns-clause-kept g c =
     retained-kept g.T.Integer.rank g.T.Integer.value_count _ _ _ _ c.requires.kept
-    (rw c.in_default.is at c.loop-next.invariant.1.0)
+    (rw c.in_default.is at c.loop-next.invariant.runs.0)
 
 pub returns-clause-runs : goal.returns-clause-runs
 returns-clause-runs g c =
     retained-runs g.T.Integer.rank g.T.Integer.value_count _ _ _ _ c.requires.kept
-    (rw c.in_default.is at c.loop-next.invariant.1.0)
+    (rw c.in_default.is at c.loop-next.invariant.runs.0)
 
 -- one more was asked about
 pub loop-next-smaller : goal.loop-next-smaller
@@ -78,7 +83,7 @@ loop-next-smaller g c =
     let laws = g.met.T.Integer in
     let rank = g.T.Integer.rank in
     let n = g.T.Integer.value_count in
-    let before = rw c.in-Some.is at c.loop-next.invariant.1.0 in
+    let before = rw c.in-Some.is at c.loop-next.invariant.runs.0 in
     let todo = ap length before.next_is.parts in
     elim c.if-not-f.branch [
       | then-not-f w ↦ rw (w.map-is, c.in-Some.is)
@@ -98,51 +103,68 @@ loop-next-preserved g c =
     let laws = g.met.T.Integer in
     let rank = g.T.Integer.rank in
     let n = g.T.Integer.value_count in
-    let asked = rw c.in-Some.is at c.loop-next.invariant.1 in
-    let before = asked.0 in
-    let exact = asked.1 in
+    let held = rw c.in-Some.is at c.loop-next.invariant.runs in
     let run = c.in-Some.run' in
     let ranks = range-run rank c.new.result run c.new.ensures.start c.new.ensures.end
     c.new.ensures.exhausted in
+    let order = asked-order rank n _ _ _ _ run c.requires.kept.canonical held.0 in
+    let starts : rank (range_inclusive_start c.new.result) < n =
+    rw c.new.ensures.start (omega (arith, order.0, order.1)) in
+    let ends : rank (range_inclusive_end c.new.result) < n = rw c.new.ensures.end order.1 in
     elim c.if-not-f.branch [
-      | then-not-f w ↦ rw (w.map-is, w.length-is) (
-        (λ always. mut_next g.F.FnMut _ _ _ _ _ c.f.ensures refl
-            (c.loop-next.invariant.0 always)),
-        (
-          retaining-drop rank n _ _ _ _ run c.requires.kept.canonical before
-              g.T.Ord.cmp laws.in_order w.remove.new.self.entries w.remove.ensures.entries
-              c.run_after-next.result (rw w.map-is at c.run_after-next.ensures) _
-              w.take_off_length.ensures,
-          (λ keeps computes.
-              let answers = computes-next g.F.FnMut _ _ _ _ _ c.f.ensures
-              (exact keeps computes).0 in (
-                answers.1,
-                exact-drop rank n _ _ _ _ run before keeps
-                    (exact keeps computes).1
-                    (ap keeps (sym ranks) ∙ sym answers.0 ∙ w.if-not-f.true),
-              )),
-        ),
-      )
-      | else-not-f w ↦ rw (w.map-is, w.length-is) (
-        (λ always. mut_next g.F.FnMut _ _ _ _ _ c.f.ensures refl
-            (c.loop-next.invariant.0 always)),
-        (
-          retaining-keep rank n _ _ _ _ run c.requires.kept.canonical before
-              c.run_after-next.result (rw w.map-is at c.run_after-next.ensures),
-          (λ keeps computes.
-              let answers = computes-next g.F.FnMut _ _ _ _ _ c.f.ensures
-              (exact keeps computes).0 in (
-                answers.1,
-                exact-keep rank n _ _ _ _ run before keeps
-                    (exact keeps computes).1
-                    (ap keeps (sym ranks) ∙ sym answers.0 ∙ w.if-not-f.false),
-              )),
-        ),
-      )
+      | then-not-f w ↦ rw (w.map-is, w.length-is) (record {
+        callable = λ always. mut_next g.F.FnMut _ _ _ _ _ c.f.ensures refl (c.loop-next.invariant.callable always);
+        asked = c.loop-next.invariant.asked ++ c.new.result ∷ [];
+        calls = asks-more g.F.FnMut _ _ _ _ _ _ c.loop-next.invariant.calls c.f.ensures;
+        runs = (
+          retaining-drop rank n _ _ _ _ run c.requires.kept.canonical held.0
+            g.T.Ord.cmp laws.in_order w.remove.new.self.entries w.remove.ensures.entries
+            c.run_after-next.result (rw w.map-is at c.run_after-next.ensures) _
+            w.take_off_length.ensures,
+          (λ keeps answers.
+            let before = held.1 keeps answers in
+            let next = computes-next g.F.FnMut _ _ _ _ _ c.f.ensures before.0 in
+            let answer = next.0 c.new.ensures.exhausted starts ends in (
+              next.1,
+              exact-drop rank n _ _ _ _ run held.0 keeps before.1
+                  (ap keeps (sym ranks) ∙ sym answer ∙ w.if-not-f.true),
+            )),
+          asked-more rank n _ _ _ _ run held.0 c.loop-next.invariant.asked c.new.result held.2 ranks,
+        );
+      })
+      | else-not-f w ↦ rw (w.map-is, w.length-is) (record {
+        callable = λ always. mut_next g.F.FnMut _ _ _ _ _ c.f.ensures refl (c.loop-next.invariant.callable always);
+        asked = c.loop-next.invariant.asked ++ c.new.result ∷ [];
+        calls = asks-more g.F.FnMut _ _ _ _ _ _ c.loop-next.invariant.calls c.f.ensures;
+        runs = (
+          retaining-keep rank n _ _ _ _ run c.requires.kept.canonical held.0
+            c.run_after-next.result (rw w.map-is at c.run_after-next.ensures),
+          (λ keeps answers.
+            let before = held.1 keeps answers in
+            let next = computes-next g.F.FnMut _ _ _ _ _ c.f.ensures before.0 in
+            let answer = next.0 c.new.ensures.exhausted starts ends in (
+              next.1,
+              exact-keep rank n _ _ _ _ run held.0 keeps before.1
+                  (ap keeps (sym ranks) ∙ sym answer ∙ w.if-not-f.false),
+            )),
+          asked-more rank n _ _ _ _ run held.0 c.loop-next.invariant.asked c.new.result held.2 ranks,
+        );
+      })
     ]
 
 pub returns-clause-exact : goal.returns-clause-exact
-returns-clause-exact g c keeps computes =
-    let asked = rw c.in_default.is at c.loop-next.invariant.1 in
-    retained-exact g.T.Integer.rank g.T.Integer.value_count _ _ _ _ c.requires.kept asked.0 keeps
-    (asked.1 keeps computes).1
+returns-clause-exact g c keeps answers =
+    let held = rw c.in_default.is at c.loop-next.invariant.runs in
+    retained-exact g.T.Integer.rank g.T.Integer.value_count _ _ _ _ c.requires.kept held.0
+    keeps (held.1 keeps answers).1
+
+-- each was asked about
+pub returns-clause-asked : goal.returns-clause-asked
+returns-clause-asked g c =
+    let held = rw c.in_default.is at c.loop-next.invariant.runs in (
+      c.loop-next.invariant.asked,
+      c.loop-next.f,
+      c.loop-next.invariant.calls,
+      retained-asked g.T.Integer.rank g.T.Integer.value_count _ _ _ _ c.requires.kept held.0
+          c.loop-next.invariant.asked held.2,
+    )
