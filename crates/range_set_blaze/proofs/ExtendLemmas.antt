@@ -78,15 +78,17 @@ module _ {T : Type 0} (rank : T → ℕ) where
       (range : RangeInclusive T) → AddsItems rank old ranges mid
       → Adds mid new (λ point. covers point (interval_of rank range))
       → AddsItems rank old (ranges ++ range ∷ []) new
-  adds-range_after old mid new ranges range first second = record { adds = λ point.
-      let run = interval_of rank range in
-      let items = intervals_of rank ranges in
-      adds-after old mid new (members items) (λ point. covers point run) first.adds second point
-      ∙ ap (λ test. members old point || (members items point || test))
-      (sym (members-cons run [] point ∙ or-false (covers point run)))
-      ∙ ap (λ test. members old point || test) (sym (members-append items (run ∷ []) point))
-      ∙ ap (λ runs. members old point || members runs point)
-      (sym (map-append (interval_of rank) ranges (range ∷ []))) }
+  adds-range_after old mid new ranges range first second = record {
+    adds = λ point.
+        let run = interval_of rank range in
+        let items = intervals_of rank ranges in
+        adds-after old mid new (members items) (λ point. covers point run) first.adds second point
+        ∙ ap (λ test. members old point || (members items point || test))
+        (sym (members-cons run [] point ∙ or-false (covers point run)))
+        ∙ ap (λ test. members old point || test) (sym (members-append items (run ∷ []) point))
+        ∙ ap (λ runs. members old point || members runs point)
+        (sym (map-append (interval_of rank) ranges (range ∷ [])));
+  }
 
   -- the ranks of values and one more
   ranks_of-after : (values : List T) (value : T) (point : ℕ)
@@ -102,9 +104,11 @@ module _ {T : Type 0} (rank : T → ℕ) where
   pub adds-value_after : (old mid new : List Interval) (values : List T) (value : T)
       → AddsValues rank old values mid → Adds mid new (only (rank value))
       → AddsValues rank old (values ++ value ∷ []) new
-  adds-value_after old mid new values value first second = record { adds = λ point.
-      adds-after old mid new (ranks_of rank values) (only (rank value)) first.adds second point
-      ∙ ap (λ test. members old point || test) (sym (ranks_of-after values value point)) }
+  adds-value_after old mid new values value first second = record {
+    adds = λ point.
+        adds-after old mid new (ranks_of rank values) (only (rank value)) first.adds second point
+        ∙ ap (λ test. members old point || test) (sym (ranks_of-after values value point));
+  }
 
 -- ---- what is left of a source is a list
 

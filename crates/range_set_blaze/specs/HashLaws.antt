@@ -1,7 +1,7 @@
 -- Why equal sets feed a hasher the same: a law cites no `proofs/`.
 use Rattle.std.specs.Hash.{HashWrites}
-use Rattle.std.specs.Prelude.{◌≡◌, ℕ, true, false, ◌&&◌, nat_lt, ◌++◌, ◌<◌, ◌≤◌, List, flat_map}
-use Rattle.std.proofs.Common.{refl, sym, ◌∙◌, ap, inl, inr, arith}
+use Rattle.std.specs.Prelude.{◌≡◌, ℕ, true, false, ◌&&◌, nat_lt, ◌++◌, ◌≤◌, List, flat_map}
+use Rattle.std.proofs.Common.{sym, ◌∙◌, ap, inl, inr, arith}
 use Rattle.std.proofs.lemmas.Bool.{cases_lt}
 use Rattle.std.proofs.lemmas.Bool.Decides.{nat_tests}
 use Rattle.rsb_integer.specs.Runs.{Interval, members}

@@ -1,5 +1,5 @@
 -- What the contracts of a set say where it is parted at a rank.
-use Rattle.std.specs.Prelude.{◌≡◌, ℕ, nat_le, ◌+◌, List, [], ◌∷◌}
+use Rattle.std.specs.Prelude.{◌≡◌, ℕ, nat_le, ◌+◌, List}
 use Rattle.rsb_integer.specs.Runs.{members, IsCanonicalIn}
 use Rattle.rsb_integer.specs.Selection.{Selection, count, intersection}
 use Rattle.range_set_blaze.specs.Kept.{runs_of}

@@ -2,8 +2,9 @@
 //! stands `cmp_counted`, the order of two sets with the turns that it takes.
 
 pub use crate::set::hash::run_bounds_are_ends;
-pub use crate::set::order::cmp_counted;
+pub use crate::set::order::{cmp_counted, order_by_least_difference};
 pub use rsb_integer::laws::{
     canonical_lists_are_runs, complement_twice, de_morgan, difference_by_complement,
     equal_members_equal_lists, offsets_undo_length, symmetric_by_union,
 };
+pub use rsb_streams::laws::one_filled_list;

@@ -1,10 +1,14 @@
-//! All public types and traits of this crate and of those below it, but `UnsortedDisjoint`. The laws
-//! are in `laws`.
+//! All public names of this crate and of those below it, but `UnsortedDisjoint`.
 
 pub use crate::into_iter::IntoIter;
 pub use crate::into_range_set_blaze::IntoRangeSetBlaze;
 pub use crate::into_ranges_iter::IntoRangesIter;
 pub use crate::iter::Iter;
+pub use crate::laws::{
+    canonical_lists_are_runs, cmp_counted, complement_twice, de_morgan, difference_by_complement,
+    equal_members_equal_lists, offsets_undo_length, one_filled_list, order_by_least_difference,
+    run_bounds_are_ends, symmetric_by_union,
+};
 pub use crate::ranges_iter::RangesIter;
 pub use crate::set::RangeSetBlaze;
 pub use rsb_integer::Integer;

@@ -91,12 +91,7 @@ fn first_end<T: Copy>(ends: &ArrayVec<Option<T>, 2>) -> Option<T>
 
 /// Takes the lesser of two pending ends out, or both where they are one: what both ranges have is
 /// left out. What lies past it starts at `start`.
-fn pass_lesser<T: Integer>(
-    start: &mut T,
-    ends: &mut ArrayVec<Option<T>, 2>,
-    end: T,
-    next_end: T,
-)
+fn pass_lesser<T: Integer>(start: &mut T, ends: &mut ArrayVec<Option<T>, 2>, end: T, next_end: T)
     requires end { T.rank end < T.value_count }
     requires next_end { T.rank next_end < T.value_count }
     requires both { ends.old.items ≡ Some end ∷ Some next_end ∷ [] }

@@ -1,7 +1,8 @@
 //! How sets compare.
 
-ghost use Rattle.std.specs.Prelude.{◌≡◌, ℕ, ◌+◌, ◌≤◌, [], ◌∷◌, length, min, refl, MatchOption, Some};
-ghost use Rattle.rsb_integer.specs.Runs.{members, IsCanonicalIn};
+ghost use Rattle.std.specs.Prelude.{◌≡◌, ◌↔◌, ℕ, ◌+◌, ◌≤◌, List, [], ◌∷◌, length, min, refl, IsTrue, MatchOption, Some};
+ghost use Rattle.rsb_integer.specs.Runs.{Interval, members, IsCanonicalIn};
+ghost use Rattle.rsb_integer.specs.Selection.{Agree};
 ghost use Rattle.range_set_blaze.specs.Kept.{entry_of, runs_of};
 ghost use Rattle.range_set_blaze.specs.Order.{AreTurns, HasOrder};
 ghost use Rattle.range_set_blaze.specs.OrderLaws.{set_cmp, set_eq, sets_equivalence, sets_partial_equivalence, sets_partial_order, sets_ties, sets_total};
@@ -66,6 +67,21 @@ pub fn cmp_counted<T: Integer, A: Allocator, B: Allocator>(
 {
     compare_runs(&a.map, &b.map)
 }
+
+/// What `==`, `cmp` and `partial_cmp` of sets answer, without lists of members. Two sets are equal
+/// exactly where no rank tells them apart. Else, of the least rank in which they differ, the one that
+/// has it is less where the other has a later member, and greater where not. (Own.)
+pub fn order_by_least_difference<T: Integer>()
+    ensures equal { (left right : List Interval)
+        → IsTrue (⟦<RangeSetBlaze<T> as PartialEq>⟧.eq left right)
+        ↔ Agree T.value_count (members left) (members right) }
+    ensures order { (left right : List Interval)
+        → HasOrder T.value_count (members left) (members right)
+        (⟦<RangeSetBlaze<T> as Ord>⟧.cmp left right) }
+    ensures partial { (left right : List Interval)
+        → ⟦<RangeSetBlaze<T> as PartialOrd>⟧.partial_cmp left right
+        ≡ Some (⟦<RangeSetBlaze<T> as Ord>⟧.cmp left right) }
+{}
 
 // The order of the sets of two lists of runs, and the turns that it took.
 fn compare_runs<T: Integer, A: Allocator, B: Allocator>(

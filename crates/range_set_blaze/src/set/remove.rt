@@ -2,9 +2,10 @@
 
 ghost use Rattle.std.specs.Prelude.{◌≡◌, ◌↔◌, ◌+◌, ◌<◌, ◌≤◌, ℕ, [], IfOk, IfSome, IsFalse, IsNone, IsOk, IsSome, IsTrue, OnErr, OnOk};
 ghost use Rattle.rsb_integer.specs.Runs.{members, IsCanonicalIn};
+ghost use Rattle.range_set_blaze.specs.BothEnds.{TakesGreatest, TakesLeast};
 ghost use Rattle.range_set_blaze.specs.Kept.{entry_of, runs_of, IsKept};
 ghost use Rattle.range_set_blaze.specs.Places.{up_to, EndsWith, IsRemoved};
-ghost use Rattle.range_set_blaze.specs.Set.{only, IsGreatest, IsLeast, Removes};
+ghost use Rattle.range_set_blaze.specs.Set.{only, IsLeast, Removes};
 
 use crate::set::RangeSetBlaze;
 use crate::set::entries::{move_end, run_up_to};
@@ -60,10 +61,8 @@ impl<T: Integer, A: Allocator + Clone> RangeSetBlaze<T, A> {
     pub fn pop_first(&mut self) -> Result<Option<T>, AllocError>
         ensures none { IfOk result (λ found. IsNone found ↔ (self.old ≡ [])) }
         ensures unchanged { IfOk result (λ found. IsNone found → self.new ≡ self.old) }
-        ensures found { IfOk result (λ found. IfSome found (λ first.
-            IsLeast T.value_count (members self.old) (T.rank first))) }
-        ensures members { IfOk result (λ found. IfSome found (λ first.
-            Removes self.old self.new (only (T.rank first)))) }
+        ensures takes { IfOk result (λ found.
+            TakesLeast T.rank T.value_count (members self.old) found (members self.new)) }
         ensures err { OnErr result (self.new ≡ self.old) }
 
         // No memory is taken of the empty set, nor where the first run has one member.
@@ -83,10 +82,7 @@ impl<T: Integer, A: Allocator + Clone> RangeSetBlaze<T, A> {
     pub fn pop_last(&mut self) -> Option<T>
         ensures none { IsNone result ↔ (self.old ≡ []) }
         ensures unchanged { IsNone result → self.new ≡ self.old }
-        ensures found { IfSome result (λ last.
-            IsGreatest T.value_count (members self.old) (T.rank last)) }
-        ensures members { IfSome result (λ last.
-            Removes self.old self.new (only (T.rank last))) }
+        ensures takes { TakesGreatest T.rank T.value_count (members self.old) result (members self.new) }
     {
         let last = self.last()?;
         // No run goes on past the last value, so no memory is wanted.

@@ -1,9 +1,13 @@
 //! `retain` and `ranges_retain`, on rows worked by hand.
 
+ghost use Rattle.std.specs.List.{filter};
+ghost use Rattle.std.specs.Prelude.{◌≡◌, nat_lt};
+
 use crate::set::calls::{Answer, Change};
 use crate::set::rows::{Table, changes, has};
 use crate::tables::set_of;
-use range_set_blaze::RangeSetBlaze;
+use range_set_blaze::{Integer, RangeSetBlaze};
+use std::alloc::Allocator;
 use std::test::*;
 
 /// Runs of nineteen members.
@@ -69,10 +73,17 @@ fn even_values_are_kept(rt: HostRuntime) {
     assert!(rt; answer == Ok(true));
 }
 
+/// Keeps the runs of more than one value.
+fn keep_long<T: Integer, A: Allocator>(set: &mut RangeSetBlaze<T, A>)
+    ensures { set.new ≡ filter (λ run. nat_lt run.first run.last) set.old }
+{
+    set.ranges_retain(|range| range.start() < range.end());
+}
+
 #[test]
 fn runs_of_one_value_are_left_out(rt: HostRuntime) -> Result<(), Fail> {
     let mut set = set_of(rt.alloc(), &[(1, 3), (7, 7), (9, 10)])?;
-    set.ranges_retain(|range| range.start() < range.end());
+    keep_long(&mut set);
     assert!(rt; has(&set, &[(1, 3), (9, 10)]));
     Ok(())
 }

@@ -24,6 +24,6 @@ fn an_end_is_held_between_two_answers(rt: HostRuntime) {
 fn it_ends_for_good(rt: HostRuntime) {
     let mut alone = RangeOnce::new(1..=5).symmetric_difference(RangeOnce::new(1..=3));
     assert!(rt; alone.next() == Some(4..=5));
-    assert!(rt; alone.next().is_none());
+    assert!(rt; alone.next().is_none() && alone.pending_ends() == 0);
     assert!(rt; alone.next().is_none());
 }

@@ -29,7 +29,7 @@ after : (g : Over) (t : Iter g.row.T.Denot g.row.I.Denot)
     g.I.DoubleEndedIterator.can_next_back g.I.DoubleEndedIterator.next_back_gives t
 after g t both ready = can_go_back g.T.Integer.rank g.T.Integer.value_count g.I.Draw.can_draw
     g.I.Draw.may_give g.I.DoubleEndedIterator.can_next_back
-    g.I.DoubleEndedIterator.next_back_gives t (record { both_ends = both; ready = ready; })
+    g.I.DoubleEndedIterator.next_back_gives t (record { both_ends = both; ready = ready })
 
 -- the stream may be asked from the back
 pub next_back-requires : goal.next_back-requires

@@ -1,4 +1,4 @@
-use Rattle.std.proofs.Common.{List, ◌∙◌, subst}
+use Rattle.std.proofs.Common.{◌∙◌, subst}
 use Rattle.std.proofs.IntoIterSteps.{All-taken}
 use Rattle.std.proofs.lemmas.Result.{IfOk-weaker}
 use Rattle.range_set_blaze.specs.Algebra.{ranks_of}

@@ -118,17 +118,17 @@ loop-next-preserved g c =
         calls = asks-more g.F.FnMut _ _ _ _ _ _ c.loop-next.invariant.calls c.f.ensures;
         runs = (
           retaining-drop rank n _ _ _ _ run c.requires.kept.canonical held.0
-            g.T.Ord.cmp laws.in_order w.remove.new.self.entries w.remove.ensures.entries
-            c.run_after-next.result (rw w.map-is at c.run_after-next.ensures) _
-            w.take_off_length.ensures,
+              g.T.Ord.cmp laws.in_order w.remove.new.self.entries w.remove.ensures.entries
+              c.run_after-next.result (rw w.map-is at c.run_after-next.ensures) _
+              w.take_off_length.ensures,
           (λ keeps answers.
-            let before = held.1 keeps answers in
-            let next = computes-next g.F.FnMut _ _ _ _ _ c.f.ensures before.0 in
-            let answer = next.0 c.new.ensures.exhausted starts ends in (
-              next.1,
-              exact-drop rank n _ _ _ _ run held.0 keeps before.1
-                  (ap keeps (sym ranks) ∙ sym answer ∙ w.if-not-f.true),
-            )),
+              let before = held.1 keeps answers in
+              let next = computes-next g.F.FnMut _ _ _ _ _ c.f.ensures before.0 in
+              let answer = next.0 c.new.ensures.exhausted starts ends in (
+                next.1,
+                exact-drop rank n _ _ _ _ run held.0 keeps before.1
+                    (ap keeps (sym ranks) ∙ sym answer ∙ w.if-not-f.true),
+              )),
           asked-more rank n _ _ _ _ run held.0 c.loop-next.invariant.asked c.new.result held.2 ranks,
         );
       })
@@ -138,15 +138,15 @@ loop-next-preserved g c =
         calls = asks-more g.F.FnMut _ _ _ _ _ _ c.loop-next.invariant.calls c.f.ensures;
         runs = (
           retaining-keep rank n _ _ _ _ run c.requires.kept.canonical held.0
-            c.run_after-next.result (rw w.map-is at c.run_after-next.ensures),
+              c.run_after-next.result (rw w.map-is at c.run_after-next.ensures),
           (λ keeps answers.
-            let before = held.1 keeps answers in
-            let next = computes-next g.F.FnMut _ _ _ _ _ c.f.ensures before.0 in
-            let answer = next.0 c.new.ensures.exhausted starts ends in (
-              next.1,
-              exact-keep rank n _ _ _ _ run held.0 keeps before.1
-                  (ap keeps (sym ranks) ∙ sym answer ∙ w.if-not-f.false),
-            )),
+              let before = held.1 keeps answers in
+              let next = computes-next g.F.FnMut _ _ _ _ _ c.f.ensures before.0 in
+              let answer = next.0 c.new.ensures.exhausted starts ends in (
+                next.1,
+                exact-keep rank n _ _ _ _ run held.0 keeps before.1
+                    (ap keeps (sym ranks) ∙ sym answer ∙ w.if-not-f.false),
+              )),
           asked-more rank n _ _ _ _ run held.0 c.loop-next.invariant.asked c.new.result held.2 ranks,
         );
       })

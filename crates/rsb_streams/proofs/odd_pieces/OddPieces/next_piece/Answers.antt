@@ -78,12 +78,17 @@ pass_lesser-requires g c =
     c.draw.new.self c.into_inner-next.result.0 c.into_inner-next.result.1 c.in-Some.range
     c.loop-range.invariant.so c.in-Some.ensures.steps c.in-Some.ensures.goes
     c.into_inner-next.ensures.start c.into_inner-next.ensures.end c.in-Some-pending.end
-    c.in-Some-pending.ensures in
-    (
+    c.in-Some-pending.ensures in (
       fits_memory _ (g.met.T.Integer.two_ends_fit c.into_inner-next.result.0),
-      (values.1, (values.3, pushed-some c.loop-range.ends.items c.loop-range.invariant.one
-      c.push.new.self.items c.in-Some-pending.end c.into_inner-next.result.1
-      c.in-Some-pending.ensures c.push.ensures.items)),
+      (
+        values.1,
+        (
+          values.3,
+          pushed-some c.loop-range.ends.items c.loop-range.invariant.one
+              c.push.new.self.items c.in-Some-pending.end c.into_inner-next.result.1
+              c.in-Some-pending.ensures c.push.ensures.items,
+        ),
+      ),
     )
 
 -- what lies before the second is told
@@ -138,12 +143,12 @@ loop-range-preserved g c =
     record {
       one = c.pass_lesser.ensures.one;
       so = so-passed g.T.Integer.rank g.T.Integer.value_count (source g) (laws g)
-      g.T.PartialOrd.partial_cmp g.T.Ord.cmp (ranked g) (holding c.args.self.now c.args.ends.now.items)
-      (holding c.loop-range.self c.loop-range.ends.items)
-      c.draw.new.self c.into_inner-next.result.0 c.into_inner-next.result.1 c.in-Some.range
-      c.loop-range.invariant.so c.in-Some.ensures.steps c.in-Some.ensures.goes
-      c.into_inner-next.ensures.start c.into_inner-next.ensures.end c.in-Some-pending.end
-      c.in-Some-pending.ensures c.if-lt.ensures _ passed c.if-lt-2.ensures;
+          g.T.PartialOrd.partial_cmp g.T.Ord.cmp (ranked g) (holding c.args.self.now c.args.ends.now.items)
+          (holding c.loop-range.self c.loop-range.ends.items)
+          c.draw.new.self c.into_inner-next.result.0 c.into_inner-next.result.1 c.in-Some.range
+          c.loop-range.invariant.so c.in-Some.ensures.steps c.in-Some.ensures.goes
+          c.into_inner-next.ensures.start c.into_inner-next.ensures.end c.in-Some-pending.end
+          c.in-Some-pending.ensures c.if-lt.ensures _ passed c.if-lt-2.ensures;
     }
 
 -- none is pending at the end, and nothing comes

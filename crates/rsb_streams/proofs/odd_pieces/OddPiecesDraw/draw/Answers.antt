@@ -14,11 +14,15 @@ first_end-self-requires g c = fits_memory _ (g.met.T.Integer.two_ends_fit c.args
 -- it has the pending end
 pub next_piece-piece-requires : goal.next_piece-piece-requires
 next_piece-piece-requires g c =
-    let ends = c.ends_with-ends.ensures ∙ ap ends_in c.take.ensures.value in
-    (
+    let ends = c.ends_with-ends.ensures ∙ ap ends_in c.take.ensures.value in (
       fits_memory _ (g.met.T.Integer.two_ends_fit c.args.self.now.start),
-      (c.if-self.false, (rw (ends, first_end-ends_in c.args.self.now.end) c.requires,
-      subst HasOneEnd (sym ends) (one-end c.args.self.now.end))),
+      (
+        c.if-self.false,
+        (
+          rw (ends, first_end-ends_in c.args.self.now.end) c.requires,
+          subst HasOneEnd (sym ends) (one-end c.args.self.now.end),
+        ),
+      ),
     )
 
 -- and what is left of it is pending then
