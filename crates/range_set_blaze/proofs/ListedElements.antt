@@ -9,7 +9,7 @@ use Rattle.rsb_integer.specs.Runs.{Interval, members, IsCanonicalIn}
 use Rattle.rsb_streams.specs.Listed.{listed_may_give}
 use Rattle.rsb_streams.specs.Stream.{just, unless}
 use Rattle.rsb_streams.proofs.CheckLemmas.{none-if_empty}
-use Rattle.range_set_blaze.specs.BothEnds.{between_ends, can_go_back, held, runs_left, AnswersLast, GivesGreatest, GivesLeast, GoesBack, IsListReady, IsOverSet, IsWhole, ListedReady, ListedReadyBack, TakesGreatest, TakesLeast}
+use Rattle.range_set_blaze.specs.BothEnds.{between_ends, held, runs_left, AnswersLast, GivesGreatest, GivesLeast, GoesBack, IsListReady, IsOverSet, IsWhole, ListedReady, ListedReadyBack, TakesGreatest, TakesLeast}
 use Rattle.range_set_blaze.specs.declared.iter.Iter.{Iter}
 
 -- the list that a stream may still give, by whether it has ended
@@ -74,16 +74,6 @@ module _ {T : Type 0} (rank : T → ℕ) (n : ℕ) where
     answers = listed-last;
   }
 
-  -- and so does an iterator over its elements that may be called
-  pub listed-ready_back : (s : Iter T (List (RangeInclusive T))) → ListedReady rank n s
-      → ListedReadyBack rank n s
-  listed-ready_back s ready =
-      can_go_back rank n (IsListReady rank n) (listed_may_give rank (λ ranges. ranges))
-      (IsListReady rank n) (YieldsLast (λ ranges. ranges)) s (record {
-        both_ends = listed-goes_back;
-        ready = ready;
-      })
-
   -- ---- an iterator of which nothing is taken yet
 
   module _ (ranges : List (RangeInclusive T)) (s : Iter T (List (RangeInclusive T)))
@@ -116,7 +106,10 @@ module _ {T : Type 0} (rank : T → ℕ) (n : ℕ) where
 
     -- and goes from both ends
     pub whole-ready_back : IsCanonicalIn n (intervals_of rank ranges) → ListedReadyBack rank n s
-    whole-ready_back canonical = listed-ready_back s (whole-ready canonical)
+    whole-ready_back canonical = record {
+      both_ends = listed-goes_back;
+      ready = whole-ready canonical;
+    }
 
     -- so it has the members of a set of which these are the runs
     pub whole-over : (set : List Interval) → intervals_of rank ranges ≡ set → IsCanonicalIn n set

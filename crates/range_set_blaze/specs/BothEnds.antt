@@ -121,20 +121,6 @@ module _ {T I : Type 0} (rank : T → ℕ) (n : ℕ) (can_draw : I → Type 0)
         pub both_ends : GoesBack
         pub ready : ElementsReady s
 
-      -- so it is, in a word that no search looks into: `rev` asks it of the iterator that it holds
-      unfoldable pub CanGoBack : Iter T I → Type 0
-      CanGoBack s = ElementsReadyBack s
-
-      -- what it says
-      pub goes_back : (s : Iter T I) → CanGoBack s → ElementsReadyBack s
-      unfolding CanGoBack
-      goes_back s ready = ready
-
-      -- and how it is shown
-      pub can_go_back : (s : Iter T I) → ElementsReadyBack s → CanGoBack s
-      unfolding CanGoBack
-      can_go_back s ready = ready
-
 -- ---- where the state of the stream shows the list of the ranges to come
 
 module _ {T : Type 0} (rank : T → ℕ) (n : ℕ) where
@@ -148,7 +134,7 @@ module _ {T : Type 0} (rank : T → ℕ) (n : ℕ) where
 
   -- it may be called from the back
   abbrev pub ListedReadyBack : Iter T (List (RangeInclusive T)) → Type 0
-  ListedReadyBack = CanGoBack rank n IsListReady (listed_may_give rank (λ ranges. ranges))
+  ListedReadyBack = ElementsReadyBack rank n IsListReady (listed_may_give rank (λ ranges. ranges))
       IsListReady (YieldsLast (λ ranges. ranges))
 
 -- what is left, as intervals in ascending order

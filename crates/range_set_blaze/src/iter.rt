@@ -6,8 +6,8 @@ ghost use Rattle.std.specs.Prelude.{IfSome};
 ghost use Rattle.range_set_blaze.specs.BothEnds.{
   elements_left,
   ranges_left,
-  CanGoBack,
   ElementsReady,
+  ElementsReadyBack,
   GivesGreatest,
   GivesLeast,
 };
@@ -71,7 +71,7 @@ impl<T: Integer, I: SortedDisjoint<T>> Iterator for Iter<T, I> {
 impl<T: Integer, I: SortedDisjoint<T>> FusedIterator for Iter<T, I> {}
 
 impl<T: Integer, I: SortedDisjoint<T> + DoubleEndedIterator> DoubleEndedIterator for Iter<T, I> {
-    ghost can_next_back = { CanGoBack T.rank T.value_count I.can_draw I.may_give
+    ghost can_next_back = { ElementsReadyBack T.rank T.value_count I.can_draw I.may_give
         I.can_next_back I.next_back_gives };
 
     ghost next_back_gives = { GivesGreatest T.rank T.value_count I.can_draw I.may_give };

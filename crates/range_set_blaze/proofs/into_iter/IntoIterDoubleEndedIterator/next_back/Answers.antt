@@ -1,13 +1,7 @@
 use Rattle.range_set_blaze.specs.BothEnds.{runs_left}
-use Rattle.range_set_blaze.proofs.ListedElements.{listed-greatest, listed-ready_back}
+use Rattle.range_set_blaze.proofs.ListedElements.{listed-greatest}
 use Rattle.range_set_blaze.proofs.TakesLemmas.{greatest-goes}
 use Rattle.range_set_blaze.proofs.into_iter.IntoIterDoubleEndedIterator.next_back.Goals as goal
-
--- it goes from both ends
-pub next_back-requires : goal.next_back-requires
-next_back-requires g c =
-    listed-ready_back g.T.Integer.rank g.T.Integer.value_count c.self.inside.elements
-    c.self.invariant
 
 -- the greatest element of those that are left
 pub returns-clause-steps : goal.returns-clause-steps

@@ -3,45 +3,15 @@ use Rattle.std.specs.Prelude.{None, Some}
 use Rattle.rsb_integer.specs.Rank.{interval_of}
 use Rattle.rsb_integer.specs.Runs.{IsEmpty}
 use Rattle.rsb_streams.specs.Stream.{unless}
-use Rattle.range_set_blaze.specs.BothEnds.{can_go_back, goes_back, CanGoBack, ElementsReady, ElementsReadyBack, GoesBack}
-use Rattle.range_set_blaze.specs.declared.iter.Iter.{Iter}
 use Rattle.range_set_blaze.proofs.BackTurns.{greatest-drawn, greatest-ended, greatest-held, over-nothing}
 use Rattle.range_set_blaze.proofs.ElementsLeft.{counted-alike, fewer-drawn_back, fewer-other, goes-drawn, goes-ended, goes-held, item-last}
-use Rattle.range_set_blaze.proofs.iter.IterDoubleEndedIterator.next_back.Given.{Over}
 use Rattle.range_set_blaze.proofs.iter.IterDoubleEndedIterator.next_back.Goals as goal
-
--- what may be called goes from both ends
-before : (g : Over) (s : Iter g.row.T.Denot g.row.I.Denot)
-    → CanGoBack g.T.Integer.rank g.T.Integer.value_count g.I.Draw.can_draw g.I.Draw.may_give
-    g.I.DoubleEndedIterator.can_next_back g.I.DoubleEndedIterator.next_back_gives s
-    → ElementsReadyBack g.T.Integer.rank g.T.Integer.value_count g.I.Draw.can_draw
-    g.I.Draw.may_give g.I.DoubleEndedIterator.can_next_back
-    g.I.DoubleEndedIterator.next_back_gives s
-before g = goes_back g.T.Integer.rank g.T.Integer.value_count g.I.Draw.can_draw g.I.Draw.may_give
-    g.I.DoubleEndedIterator.can_next_back g.I.DoubleEndedIterator.next_back_gives
-
--- and may be called again
-after : (g : Over) (t : Iter g.row.T.Denot g.row.I.Denot)
-    → GoesBack g.T.Integer.rank g.T.Integer.value_count g.I.Draw.can_draw g.I.Draw.may_give
-    g.I.DoubleEndedIterator.can_next_back g.I.DoubleEndedIterator.next_back_gives
-    → ElementsReady g.T.Integer.rank g.T.Integer.value_count g.I.Draw.can_draw g.I.Draw.may_give t
-    → CanGoBack g.T.Integer.rank g.T.Integer.value_count g.I.Draw.can_draw g.I.Draw.may_give
-    g.I.DoubleEndedIterator.can_next_back g.I.DoubleEndedIterator.next_back_gives t
-after g t both ready = can_go_back g.T.Integer.rank g.T.Integer.value_count g.I.Draw.can_draw
-    g.I.Draw.may_give g.I.DoubleEndedIterator.can_next_back
-    g.I.DoubleEndedIterator.next_back_gives t (record { both_ends = both; ready = ready })
-
--- the stream may be asked from the back
-pub next_back-requires : goal.next_back-requires
-next_back-requires g c =
-    let ready = before g c.args.self.now c.requires in
-    ready.both_ends.callable c.args.self.now.ranges (ready.ready.callable c.if-self.false)
 
 -- the last of what is held from the back
 pub returns-in-Some-clause-steps : goal.returns-in-Some-clause-steps
 returns-in-Some-clause-steps g c =
     greatest-held g.T.Integer.rank g.T.Integer.value_count g.I.Draw.can_draw g.I.Draw.may_give
-    c.args.self.now (before g c.args.self.now c.requires).ready c.range_next_back.new.range c.in-Some.last
+    c.args.self.now c.requires.ready c.range_next_back.new.range c.in-Some.last
     c.in-Some.ensures.none c.in-Some.ensures.last c.in-Some.ensures.rest
 
 pub returns-in-Some-clause-goes : goal.returns-in-Some-clause-goes
@@ -51,7 +21,10 @@ returns-in-Some-clause-goes g c =
     (interval_of g.T.Integer.rank c.range_next_back.new.range) c.in-Some.ensures.none
     c.in-Some.ensures.rest in
     goes-held g.T.Integer.rank g.T.Integer.value_count g.I.Draw.draws_left _ c.args.self.now _
-    (after g _ (before g c.args.self.now c.requires).both_ends (returns-in-Some-clause-steps g c).ready)
+    (record {
+      both_ends = c.requires.both_ends;
+      ready = (returns-in-Some-clause-steps g c).ready;
+    })
     (λ finite. finite) (Some c.in-Some.last) refl refl (omega (arith, fewer))
 
 -- the last of what is held from the front, where the stream had ended before
@@ -60,7 +33,7 @@ returns-then-self-clause-steps g c =
     let s = c.args.self.now in
     let none : IsEmpty (interval_of g.T.Integer.rank s.back) = c.in_default.ensures.none.0 refl in
     greatest-ended g.T.Integer.rank g.T.Integer.value_count g.I.Draw.can_draw g.I.Draw.may_give
-    s (before g c.args.self.now c.requires).ready none (record {
+    s c.requires.ready none (record {
       ranges = s.ranges;
       done = s.done;
       front = c.range_next_back-then-self.new.range;
@@ -68,7 +41,7 @@ returns-then-self-clause-steps g c =
     })
     c.range_next_back-then-self.result
     (over-nothing g.T.Integer.rank g.T.Integer.value_count g.I.Draw.can_draw g.I.Draw.may_give s
-    (before g c.args.self.now c.requires).ready none c.if-self.true)
+    c.requires.ready none c.if-self.true)
     c.if-self.true (c.in_default.ensures.rest.none (omega (arith, none)))
     c.range_next_back-then-self.ensures.none c.range_next_back-then-self.ensures.last
     c.range_next_back-then-self.ensures.rest
@@ -82,7 +55,10 @@ returns-then-self-clause-goes g c =
     let rest = interval_of g.T.Integer.rank c.range_next_back-then-self.new.range in
     let none : IsEmpty (interval_of g.T.Integer.rank s.back) = c.in_default.ensures.none.0 refl in
     goes-ended g.T.Integer.rank g.T.Integer.value_count g.I.Draw.draws_left _ s _
-    (after g _ (before g c.args.self.now c.requires).both_ends (returns-then-self-clause-steps g c).ready)
+    (record {
+      both_ends = c.requires.both_ends;
+      ready = (returns-then-self-clause-steps g c).ready;
+    })
     (λ finite. finite) item c.if-self.true
     (fewer-other item run rest
     (interval_of g.T.Integer.rank s.back) (interval_of g.T.Integer.rank c.range_next_back.new.range)
@@ -96,7 +72,7 @@ returns-in_default-next_back-clause-steps g c =
     let s = c.args.self.now in
     let none : IsEmpty (interval_of g.T.Integer.rank s.back) = c.in_default.ensures.none.0 refl in
     greatest-ended g.T.Integer.rank g.T.Integer.value_count g.I.Draw.can_draw g.I.Draw.may_give
-    s (before g c.args.self.now c.requires).ready none (record {
+    s c.requires.ready none (record {
       ranges = c.next_back.new.self;
       done = true;
       front = c.range_next_back-in_default-next_back.new.range;
@@ -104,7 +80,7 @@ returns-in_default-next_back-clause-steps g c =
     })
     c.range_next_back-in_default-next_back.result
     (subst (λ done. unless done (g.I.Draw.may_give s.ranges) []) (sym c.if-self.false)
-    ((before g c.args.self.now c.requires).both_ends.answers s.ranges c.next_back.new.self None
+    (c.requires.both_ends.answers s.ranges c.next_back.new.self None
     c.in_default-next_back.ensures.steps))
     refl (c.in_default.ensures.rest.none (omega (arith, none)))
     c.range_next_back-in_default-next_back.ensures.none
@@ -127,7 +103,10 @@ returns-in_default-next_back-clause-goes g c =
       front = c.range_next_back-in_default-next_back.new.range;
       back = c.range_next_back.new.range;
     })
-    (after g _ (before g c.args.self.now c.requires).both_ends (returns-in_default-next_back-clause-steps g c).ready)
+    (record {
+      both_ends = c.requires.both_ends;
+      ready = (returns-in_default-next_back-clause-steps g c).ready;
+    })
     (alike.ends c.in_default-next_back.ensures.goes.rests) item refl
     (fewer-other item run rest
     (interval_of g.T.Integer.rank s.back) (interval_of g.T.Integer.rank c.range_next_back.new.range)
@@ -141,11 +120,11 @@ returns-clause-steps g c =
     let s = c.args.self.now in
     let none : IsEmpty (interval_of g.T.Integer.rank s.back) = c.in_default.ensures.none.0 refl in
     greatest-drawn g.T.Integer.rank g.T.Integer.value_count g.I.Draw.can_draw g.I.Draw.may_give
-    s (before g c.args.self.now c.requires).ready none c.if-self.false c.next_back.new.self c.in-Some-next_back.range
+    s c.requires.ready none c.if-self.false c.next_back.new.self c.in-Some-next_back.range
     c.range_next_back-2.new.range c.range_next_back-2.result
-    ((before g c.args.self.now c.requires).both_ends.answers s.ranges c.next_back.new.self (Some c.in-Some-next_back.range)
+    (c.requires.both_ends.answers s.ranges c.next_back.new.self (Some c.in-Some-next_back.range)
     c.in-Some-next_back.ensures.steps)
-    ((before g c.args.self.now c.requires).both_ends.drawable c.next_back.new.self c.in-Some-next_back.ensures.goes.keeps)
+    (c.requires.both_ends.drawable c.next_back.new.self c.in-Some-next_back.ensures.goes.keeps)
     c.range_next_back-2.ensures.none c.range_next_back-2.ensures.last
     c.range_next_back-2.ensures.rest
 
@@ -164,7 +143,10 @@ returns-clause-goes g c =
       front = s.front;
       back = c.range_next_back-2.new.range;
     })
-    (after g _ (before g c.args.self.now c.requires).both_ends (returns-clause-steps g c).ready)
+    (record {
+      both_ends = c.requires.both_ends;
+      ready = (returns-clause-steps g c).ready;
+    })
     (alike.ends (λ finite. (c.in-Some-next_back.ensures.goes.on finite).1))
     item c.if-self.false refl
     (alike.fewer (λ finite. (c.in-Some-next_back.ensures.goes.on finite).2))
