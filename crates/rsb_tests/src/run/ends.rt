@@ -3,11 +3,55 @@
 use std::io;
 use std::io::{ErrorKind, Read, Write};
 
-/// Gives one byte a call, with an interruption before each, and may fail where the bytes end.
+/// Each kind of failure but an interruption.
+pub(crate) static KINDS: [ErrorKind; 40] = [
+    ErrorKind::NotFound,
+    ErrorKind::PermissionDenied,
+    ErrorKind::ConnectionRefused,
+    ErrorKind::ConnectionReset,
+    ErrorKind::HostUnreachable,
+    ErrorKind::NetworkUnreachable,
+    ErrorKind::ConnectionAborted,
+    ErrorKind::NotConnected,
+    ErrorKind::AddrInUse,
+    ErrorKind::AddrNotAvailable,
+    ErrorKind::NetworkDown,
+    ErrorKind::BrokenPipe,
+    ErrorKind::AlreadyExists,
+    ErrorKind::WouldBlock,
+    ErrorKind::NotADirectory,
+    ErrorKind::IsADirectory,
+    ErrorKind::DirectoryNotEmpty,
+    ErrorKind::ReadOnlyFilesystem,
+    ErrorKind::FilesystemLoop,
+    ErrorKind::StaleNetworkFileHandle,
+    ErrorKind::InvalidInput,
+    ErrorKind::InvalidData,
+    ErrorKind::TimedOut,
+    ErrorKind::WriteZero,
+    ErrorKind::StorageFull,
+    ErrorKind::NotSeekable,
+    ErrorKind::QuotaExceeded,
+    ErrorKind::FileTooLarge,
+    ErrorKind::ResourceBusy,
+    ErrorKind::ExecutableFileBusy,
+    ErrorKind::Deadlock,
+    ErrorKind::CrossesDevices,
+    ErrorKind::TooManyLinks,
+    ErrorKind::InvalidFilename,
+    ErrorKind::ArgumentListTooLong,
+    ErrorKind::Unsupported,
+    ErrorKind::UnexpectedEof,
+    ErrorKind::OutOfMemory,
+    ErrorKind::InProgress,
+    ErrorKind::Other,
+];
+
+/// Gives one byte a call, with an interruption before each. Where the bytes end it may fail, once.
 #[derive(Drop)]
 pub struct Dripping<'a> {
     pub bytes: &'a [u8],
-    pub fails: bool,
+    pub failure: Option<ErrorKind>,
     pub is_interrupted: bool,
 }
 
@@ -17,21 +61,21 @@ impl Read for Dripping<'_> {
         if self.is_interrupted {
             return Err(io::Error::from(ErrorKind::Interrupted));
         }
-        if self.fails && self.bytes.is_empty() {
-            return Err(io::Error::from(ErrorKind::Other));
+        if self.bytes.is_empty() && let Some(kind) = self.failure.take() {
+            return Err(io::Error::from(kind));
         }
         let count = self.bytes.len().min(buf.len()).min(1);
         self.bytes.read(&mut buf[..count])
     }
 }
 
-/// Takes one byte a call, with an interruption before each, until it is full. Then it fails, or
-/// takes none.
+/// Takes one byte a call, with an interruption before each, until it is full. Then it fails, once,
+/// and takes the rest, or it takes no more.
 #[derive(Drop)]
 pub struct Filling {
     pub taken: Vec<u8>,
     pub room: usize,
-    pub fails: bool,
+    pub failure: Option<ErrorKind>,
     pub is_interrupted: bool,
 }
 
@@ -46,12 +90,13 @@ impl Write for Filling {
         };
         if self.taken.len() < self.room {
             self.taken.push(*first)?;
-            Ok(1)
-        } else if self.fails {
-            Err(io::Error::from(ErrorKind::Other))
-        } else {
-            Ok(0)
+            return Ok(1);
         }
+        let Some(kind) = self.failure.take() else {
+            return Ok(0);
+        };
+        self.room = usize::MAX;
+        Err(io::Error::from(kind))
     }
 
     fn flush(&mut self) -> io::Result<()> {

@@ -1,9 +1,10 @@
 //! The program from bytes to bytes.
 
-use crate::run::ends::{Dripping, Filling};
+use crate::run::ends::{Dripping, Filling, KINDS};
 use crate::run::sessions::{ALL_COMMANDS, ALL_REPLIES, REPLIES, SESSION};
 use rsb_commands::{Fault, finish, run, start};
 use std::alloc::Global;
+use std::io::ErrorKind;
 use std::process::ExitCode;
 use std::test::*;
 
@@ -149,62 +150,66 @@ fn bad_lines_are_told_by_their_number(rt: HostRuntime) {
 fn one_byte_a_call_and_interruptions_change_nothing(rt: HostRuntime) {
     let mut input = Dripping {
         bytes: SESSION,
-        fails: false,
+        failure: None,
         is_interrupted: false,
     };
     let mut output = Filling {
         taken: Vec::new(rt.alloc()),
         room: REPLIES.len(),
-        fails: true,
+        failure: Some(ErrorKind::Other),
         is_interrupted: false,
     };
     assert_eq!(rt; run(rt.alloc(), &mut input, &mut output), Ok(()));
     assert_eq!(rt; output.taken.as_slice(), REPLIES);
 }
 
+// A second read would find the input's end.
 #[test]
-fn a_failed_read_is_told_and_nothing_is_written(rt: HostRuntime) {
-    for bytes in [
-        b"".as_slice(),
-        b"len 0\n".as_slice(),
-        b"nonsense\n".as_slice(),
-    ] {
-        let mut input = Dripping {
-            bytes,
-            fails: true,
-            is_interrupted: false,
-        };
-        let mut output = Vec::new(rt.alloc());
-        let told = run(rt.alloc(), &mut input, &mut output);
-        assert_eq!(rt; told, Err(Fault::Io), "after {} bytes", bytes.len());
-        assert!(rt; output.is_empty(), "after {} bytes", bytes.len());
+fn a_read_that_fails_once_in_any_way_is_told_and_nothing_is_written(rt: HostRuntime) {
+    for kind in KINDS {
+        for bytes in [
+            b"".as_slice(),
+            b"len 0\n".as_slice(),
+            b"nonsense\n".as_slice(),
+        ] {
+            let mut input = Dripping {
+                bytes,
+                failure: Some(kind),
+                is_interrupted: false,
+            };
+            let mut output = Vec::new(rt.alloc());
+            let told = run(rt.alloc(), &mut input, &mut output);
+            assert_eq!(rt; told, Err(Fault::Io), "{kind:?} after {} bytes", bytes.len());
+            assert!(rt; output.is_empty(), "{kind:?} after {} bytes", bytes.len());
+        }
     }
 }
 
+/// Whether a writer with room for so many bytes, which then fails once or takes no more, is told
+/// as a failure, and has just that front of the replies.
+fn is_told_where_it_stopped(alloc: Global, room: usize, failure: Option<ErrorKind>) -> bool {
+    let mut input = SESSION;
+    let mut output = Filling {
+        taken: Vec::new(alloc),
+        room,
+        failure,
+        is_interrupted: false,
+    };
+    run(alloc, &mut input, &mut output) == Err(Fault::Io)
+        && REPLIES.get(..room) == Some(output.taken.as_slice())
+}
+
+// A second write would be taken.
 #[test]
-fn a_failed_write_is_told_where_it_stopped(rt: HostRuntime) {
-    for (room, fails) in [
-        (0, true),
-        (0, false),
-        (3, true),
-        (3, false),
-        (33, true),
-        (33, false),
-    ] {
-        let mut input = SESSION;
-        let mut output = Filling {
-            taken: Vec::new(rt.alloc()),
-            room,
-            fails,
-            is_interrupted: false,
-        };
-        let told = run(rt.alloc(), &mut input, &mut output);
-        assert_eq!(rt; told, Err(Fault::Io), "room for {room} bytes");
-        assert_eq!(rt;
-            output.taken.as_slice(),
-            &REPLIES[..room],
-            "room for {room} bytes"
-        );
+fn a_write_that_fails_once_in_any_way_is_told_where_it_stopped(rt: HostRuntime) {
+    for room in [0, 3, 33] {
+        assert!(rt; is_told_where_it_stopped(rt.alloc(), room, None), "room for {room} bytes");
+        for kind in KINDS {
+            assert!(rt;
+                is_told_where_it_stopped(rt.alloc(), room, Some(kind)),
+                "{kind:?} at {room} bytes"
+            );
+        }
     }
 }
 
@@ -223,13 +228,13 @@ fn many_lines_and_a_long_one_are_answered(rt: HostRuntime) -> Result<(), Fail> {
     wanted.extend_from_slice(b"0\n")?;
     let mut input = Dripping {
         bytes: &lines,
-        fails: false,
+        failure: None,
         is_interrupted: false,
     };
     let mut output = Filling {
         taken: Vec::new(rt.alloc()),
         room: wanted.len(),
-        fails: true,
+        failure: Some(ErrorKind::Other),
         is_interrupted: false,
     };
     assert_eq!(rt; run(rt.alloc(), &mut input, &mut output), Ok(()));
@@ -237,37 +242,41 @@ fn many_lines_and_a_long_one_are_answered(rt: HostRuntime) -> Result<(), Fail> {
     Ok(())
 }
 
-// Lines that add a thousand single values, apart, and one that shows them.
+/// Lines that add a hundred thousand single values, apart, and then work on sets of as many runs.
 fn many_values(alloc: Global) -> Result<Vec<u8>, Fail> {
     let mut lines = Vec::new(alloc);
-    for i in 1_000..2_000u16 {
-        let n = 2 * u32::from(i);
-        let line = format!(in alloc; "add 0 {n} {n}\n")?;
+    for half in 0..100_000u32 {
+        let value = half.saturating_mul(2);
+        let line = format!(in alloc; "add 0 {value} {value}\n")?;
         lines.extend_from_slice(line.as_bytes())?;
     }
-    lines.extend_from_slice(b"show 0\n")?;
+    lines.extend_from_slice(
+        b"or 1 0 9\nand 2 0 1\nxor 3 0 9\nsub 4 0 9\nnot 5 0\ndel 1 100000\ncmp 2 3\nlen 4\nshow 0\n",
+    )?;
     Ok(lines)
 }
 
-// What is replied to those lines.
+/// What is replied to those lines.
 fn many_replies(alloc: Global) -> Result<Vec<u8>, Fail> {
     let mut replies = Vec::new(alloc);
-    for _ in 0..1_000u16 {
+    for _ in 0..100_000u32 {
         replies.extend_from_slice(b"true\n")?;
     }
-    replies.extend_from_slice(b"2000..=2000")?;
-    for i in 1_001..2_000u16 {
-        let n = 2 * u32::from(i);
-        let range = format!(in alloc; ", {n}..={n}")?;
+    replies.extend_from_slice(b"100000\n100000\n100000\n100000\n100001\ntrue\nequal\n100000\n")?;
+    replies.extend_from_slice(b"0..=0")?;
+    for half in 1..100_000u32 {
+        let value = half.saturating_mul(2);
+        let range = format!(in alloc; ", {value}..={value}")?;
         replies.extend_from_slice(range.as_bytes())?;
     }
     replies.extend_from_slice(b"\n")?;
     Ok(replies)
 }
 
-// The text of one reply is longer than a page.
+// More than a megabyte of input, more runs than a length of sixteen bits counts, and a reply that is
+// longer than many pages.
 #[test]
-fn many_ranges_are_shown(rt: HostRuntime) -> Result<(), Fail> {
+fn a_hundred_thousand_lines_are_answered(rt: HostRuntime) -> Result<(), Fail> {
     let lines = many_values(rt.alloc())?;
     let wanted = many_replies(rt.alloc())?;
     let mut rest = lines.as_slice();
@@ -308,7 +317,7 @@ fn the_program_ends_by_its_outcome(rt: HostRuntime) {
         let mut output = Filling {
             taken: Vec::new(rt.alloc()),
             room,
-            fails: true,
+            failure: Some(ErrorKind::Other),
             is_interrupted: false,
         };
         let code = start(rt.alloc(), &mut rest, &mut output, &mut errors);

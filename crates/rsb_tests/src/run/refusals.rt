@@ -3,6 +3,7 @@
 use crate::run::ends::Filling;
 use linked_list_allocator::LocalHeap;
 use rsb_commands::{Command, Fault, Reply, SetNo, run, run_commands, start};
+use std::io::ErrorKind;
 use std::process::ExitCode;
 use std::test::*;
 
@@ -115,7 +116,7 @@ fn a_failed_write_is_told_before_refused_memory(rt: HostRuntime) -> Result<(), F
         let mut output = Filling {
             taken: Vec::new(rt.alloc()),
             room: 11,
-            fails: true,
+            failure: Some(ErrorKind::Other),
             is_interrupted: false,
         };
         let are_first_written = run(&heap, &mut input, &mut output) == Err(Fault::NoMemory)
@@ -126,7 +127,7 @@ fn a_failed_write_is_told_before_refused_memory(rt: HostRuntime) -> Result<(), F
             let mut output = Filling {
                 taken: Vec::new(rt.alloc()),
                 room: 4,
-                fails: true,
+                failure: Some(ErrorKind::Other),
                 is_interrupted: false,
             };
             let told = run(&heap, &mut input, &mut output);

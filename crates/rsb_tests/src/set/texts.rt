@@ -1,6 +1,7 @@
 //! The texts of sets, and of their iterators.
 
 use crate::tables::set_of;
+use linked_list_allocator::LocalHeap;
 use range_set_blaze::RangeSetBlaze;
 use std::test::*;
 
@@ -11,6 +12,29 @@ fn runs_are_written_with_a_comma_between_two(rt: HostRuntime) -> Result<(), Fail
     assert!(rt; text.as_str() == "-10..=-5, 1..=2");
     let debug = format!(in rt.alloc(); "{set:?}")?;
     assert!(rt; debug.as_str() == "-10..=-5, 1..=2");
+    let padded = format!(in rt.alloc(); "{set:40}{set:+}")?;
+    assert!(rt; padded.as_str() == "-10..=-5, 1..=2-10..=-5, 1..=2");
+    Ok(())
+}
+
+// A text that finds no memory midway is none, and not a shorter one.
+#[test]
+fn a_text_is_whole_or_refused(rt: HostRuntime) -> Result<(), Fail> {
+    let set = set_of(rt.alloc(), &[(1, 2), (5, 6), (9, 9), (20, 30), (40, 50), (60, 70)])?;
+    let mut is_refused = false;
+    let mut is_whole = false;
+    for size in 4..60usize {
+        let heap = LocalHeap::new(rt.alloc(), 16 * size)?;
+        match format!(in &heap; "{set}") {
+            Ok(text) => {
+                let wanted = "1..=2, 5..=6, 9..=9, 20..=30, 40..=50, 60..=70";
+                assert!(rt; text.as_str() == wanted, "size {size}");
+                is_whole = true;
+            }
+            Err(_) => is_refused = true,
+        }
+    }
+    assert!(rt; is_refused && is_whole);
     Ok(())
 }
 

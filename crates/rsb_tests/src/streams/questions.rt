@@ -155,6 +155,62 @@ fn questions_of_two_streams(rt: HostRuntime) {
     }
 }
 
+/// A question about one stream or two.
+#[derive(Clone, Copy, Debug)]
+enum Question {
+    IsEmpty,
+    IsUniversal,
+    Equal,
+    IsSubset,
+    IsSuperset,
+    IsDisjoint,
+}
+
+/// How many ranges a question draws of the streams of two tables.
+fn drawn_by(question: Question, left: Ranges, right: Ranges) -> (u32, u32) {
+    let (mut lefts, mut rights) = (0_u32, 0_u32);
+    let left = stream_of(left).filter(|_| {
+        lefts = lefts.saturating_add(1);
+        true
+    });
+    let right = stream_of(right).filter(|_| {
+        rights = rights.saturating_add(1);
+        true
+    });
+    match question {
+        Question::IsEmpty => left.is_empty(),
+        Question::IsUniversal => left.is_universal(),
+        Question::Equal => left.equal(right),
+        Question::IsSubset => left.is_subset(right),
+        Question::IsSuperset => left.is_superset(right),
+        Question::IsDisjoint => left.is_disjoint(right),
+    };
+    (lefts, rights)
+}
+
+/// Two streams of four ranges each that differ in the second.
+const LEFT: Ranges = &[(0, 1), (10, 12), (20, 29), (40, 49)];
+
+/// See `LEFT`.
+const RIGHT: Ranges = &[(0, 1), (11, 12), (20, 29), (40, 49)];
+
+/// A question, two streams, and how many ranges are drawn of each.
+static DRAWN: [(Question, Ranges, Ranges, (u32, u32)); 6] = [
+    (Question::IsEmpty, LEFT, RIGHT, (1, 0)),
+    (Question::IsUniversal, LEFT, RIGHT, (1, 0)),
+    (Question::Equal, LEFT, RIGHT, (2, 2)),
+    (Question::IsSubset, LEFT, RIGHT, (2, 2)),
+    (Question::IsSuperset, LEFT, RIGHT, (4, 4)),
+    (Question::IsDisjoint, LEFT, RIGHT, (1, 1)),
+];
+
+#[test]
+fn questions_stop_where_they_are_answered(rt: HostRuntime) {
+    for (question, left, right, wanted) in &DRAWN {
+        assert_eq!(rt; drawn_by(*question, left, right), *wanted, "{question:?}");
+    }
+}
+
 #[test]
 fn streams_of_the_same_ranges_are_equal(rt: HostRuntime) {
     let left = RangeOnce::new(1u8..=2).union(RangeOnce::new(4..=4));

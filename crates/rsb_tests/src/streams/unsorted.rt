@@ -88,11 +88,11 @@ fn union_sorts_ranges_and_skips_empty_ones(rt: HostRuntime) -> Result<(), Fail> 
 }
 
 #[test]
-fn union_sorts_some_thousand_ranges_that_descend(rt: HostRuntime) -> Result<(), Fail> {
+fn union_sorts_seventy_thousand_ranges_that_descend(rt: HostRuntime) -> Result<(), Fail> {
     let mut ranges = Vec::new(rt.alloc());
     let mut wanted = Vec::new(rt.alloc());
-    for i in 0..3000i32 {
-        let start = 30_000i32.saturating_sub(i.saturating_mul(10));
+    for i in 0..70_000i32 {
+        let start = 700_000i32.saturating_sub(i.saturating_mul(10));
         ranges.push(start..=start.saturating_add(3))?;
         let wanted_start = i.saturating_mul(10).saturating_add(10);
         wanted.push((wanted_start, wanted_start.saturating_add(3)))?;
