@@ -7,13 +7,17 @@ use Rattle.rsb_integer.specs.Runs.{Interval, IsAfterFirst, IsCanonicalIn, IsEmpt
 use Rattle.rsb_streams.specs.Fused.{fused_can, fused_may_give}
 use Rattle.rsb_streams.specs.Stream.{Outcomes, unless, Answers}
 use Rattle.rsb_streams.proofs.CheckLemmas.{none-if_empty}
-use Rattle.range_set_blaze.specs.BothEnds.{between_ends, held, stream_of, ElementsReady, GivesLeast}
+use Rattle.range_set_blaze.specs.BothEnds.{between_ends, elements_ready, held, is_ready, stream_of, ElementsReady, IsReady, GivesLeast}
 use Rattle.range_set_blaze.specs.declared.iter.Iter.{Iter}
 use Rattle.range_set_blaze.proofs.TakenLemmas.{some-if_any}
 use Rattle.range_set_blaze.proofs.TurnLemmas.{along, turn-front, TurnsLeast}
 
 module _ {T I : Type 0} (rank : T → ℕ) (n : ℕ) (can_draw : I → Type 0) (may_give : I → Outcomes)
-    (s : Iter T I) (ready : ElementsReady rank n can_draw may_give s) where
+    (s : Iter T I) (may_call : ElementsReady rank n can_draw may_give s) where
+  -- what is known of an iterator that may be called
+  ready : IsReady rank n can_draw may_give s
+  ready = is_ready rank n can_draw may_give s may_call
+
   -- what the stream may give before the call, if it may give `rest` after it
   record HasPrior (item : Option T) (t : Iter T I) (rest : List Interval) : Type 0 where
     pub prior : List Interval
@@ -33,10 +37,10 @@ module _ {T I : Type 0} (rank : T → ℕ) (n : ℕ) (can_draw : I → Type 0) (
       let has = priors rest may in
       has.turns (ready.canonical (between_ends rank s has.prior) (has.prior, has.may, refl)) in
       record {
-        ready = record {
+        ready = elements_ready rank n can_draw may_give t (record {
           callable = callable;
           canonical = λ runs at. subst (IsCanonicalIn n) (sym at.2) (turn at.0 at.1).canonical;
-        };
+        });
         takes = λ runs at.
             let has = priors at.0 at.1 in (
               between_ends rank s has.prior,

@@ -9,7 +9,7 @@ use Rattle.rsb_integer.specs.Runs.{Interval, members, IsCanonicalIn}
 use Rattle.rsb_streams.specs.Listed.{listed_may_give}
 use Rattle.rsb_streams.specs.Stream.{just, unless}
 use Rattle.rsb_streams.proofs.CheckLemmas.{none-if_empty}
-use Rattle.range_set_blaze.specs.BothEnds.{between_ends, held, runs_left, AnswersLast, GivesGreatest, GivesLeast, GoesBack, IsListReady, IsOverSet, IsWhole, ListedReady, ListedReadyBack, TakesGreatest, TakesLeast}
+use Rattle.range_set_blaze.specs.BothEnds.{between_ends, elements_ready, held, is_ready, runs_left, AnswersLast, GivesGreatest, GivesLeast, GoesBack, IsListReady, IsOverSet, IsWhole, ListedReady, ListedReadyBack, TakesGreatest, TakesLeast}
 use Rattle.range_set_blaze.specs.declared.iter.Iter.{Iter}
 
 -- the list that a stream may still give, by whether it has ended
@@ -88,14 +88,17 @@ module _ {T : Type 0} (rank : T → ℕ) (n : ℕ) where
 
     -- it may be called
     pub whole-ready : IsCanonicalIn n (intervals_of rank ranges) → ListedReady rank n s
-    whole-ready canonical = record {
-      callable = λ undone. subst (IsListReady rank n) (sym whole.source) canonical;
-      canonical = λ runs at.
-          let rest : at.0 ≡ intervals_of rank s.ranges =
-          subst (λ done. unless done (just (intervals_of rank s.ranges)) at.0) whole.undone at.1 in
-          subst (IsCanonicalIn n)
-          (sym (at.2 ∙ whole-between at.0 ∙ rest ∙ ap (intervals_of rank) whole.source)) canonical;
-    }
+    whole-ready canonical =
+        elements_ready rank n (IsListReady rank n) (listed_may_give rank (λ ranges. ranges)) s (record {
+          callable = λ undone. subst (IsListReady rank n) (sym whole.source) canonical;
+          canonical = λ runs at.
+              let rest : at.0 ≡ intervals_of rank s.ranges =
+              subst (λ done. unless done (just (intervals_of rank s.ranges)) at.0) whole.undone at.1
+              in
+              subst (IsCanonicalIn n)
+              (sym (at.2 ∙ whole-between at.0 ∙ rest ∙ ap (intervals_of rank) whole.source))
+              canonical;
+        })
 
     -- it has the intervals of the list
     pub whole-runs : runs_left rank s ≡ intervals_of rank ranges
@@ -127,5 +130,7 @@ module _ {T : Type 0} (rank : T → ℕ) (n : ℕ) where
       → IsCanonicalIn n (runs_left rank s)
   listed-canonical s ready =
       let rest = cond s.done [] (intervals_of rank s.ranges) in
-      ready.canonical (between_ends rank s rest)
+      let known = is_ready rank n (IsListReady rank n) (listed_may_give rank (λ ranges. ranges)) s
+      ready in
+      known.canonical (between_ends rank s rest)
       (rest, listed-may s.done (intervals_of rank s.ranges), refl)

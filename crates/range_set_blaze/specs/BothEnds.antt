@@ -79,9 +79,24 @@ ranges_left left s = record {
 module _ {T I : Type 0} (rank : T → ℕ) (n : ℕ) (can_draw : I → Type 0)
     (may_give : I → Outcomes) where
   -- the stream may be drawn from or has ended, and what is left is canonical
-  pub record ElementsReady (s : Iter T I) : Type 0 where
+  pub record IsReady (s : Iter T I) : Type 0 where
     pub callable : fused_can can_draw (stream_of s)
     pub canonical : left_between rank may_give s ⊆ IsCanonicalIn n
+
+  -- so the iterator may be called, in a word that no search looks into: `rev` asks it of the
+  -- iterator that it holds
+  unfoldable pub ElementsReady : Iter T I → Type 0
+  ElementsReady s = IsReady s
+
+  -- what it says
+  pub is_ready : (s : Iter T I) → ElementsReady s → IsReady s
+  unfolding ElementsReady
+  is_ready s ready = ready
+
+  -- and how it is shown
+  pub elements_ready : (s : Iter T I) → IsReady s → ElementsReady s
+  unfolding ElementsReady
+  elements_ready s ready = ready
 
   -- whatever may be left after the call, something was left before it of which the item was the
   -- least member, and the iterator may be called again

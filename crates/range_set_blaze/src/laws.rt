@@ -1,6 +1,7 @@
 //! Laws that callers rely on: functions that do nothing, each with a law for its clause. Beside them
 //! stands `cmp_counted`, the order of two sets with the turns that it takes.
 
+pub use crate::set::elements::elements_stand_for_sets;
 pub use crate::set::hash::run_bounds_are_ends;
 pub use crate::set::order::{cmp_counted, order_by_least_difference};
 pub use rsb_integer::laws::{

@@ -9,7 +9,7 @@ ghost use Rattle.range_set_blaze.specs.Set.{IsGreatest, IsLeast};
 mod algebra;
 mod bulk;
 mod collect;
-mod elements;
+pub(crate) mod elements;
 mod entries;
 mod extend;
 mod fill;

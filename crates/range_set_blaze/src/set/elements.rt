@@ -3,7 +3,14 @@
 ghost use Rattle.std.specs.Prelude.{◌≡◌, IfOk};
 ghost use Rattle.rsb_integer.specs.Runs.{members};
 ghost use Rattle.rsb_integer.specs.Selection.{intersection};
-ghost use Rattle.range_set_blaze.specs.BothEnds.{runs_left, IsOverSet, ListedReady, ListedReadyBack};
+ghost use Rattle.range_set_blaze.specs.BothEnds.{
+  runs_left,
+  IsOverSet,
+  ListedReady,
+  ListedReadyBack,
+  TakesGreatest,
+  TakesLeast,
+};
 ghost use Rattle.range_set_blaze.specs.Set.{ranks_in, IsSetOf};
 
 use crate::into_iter::IntoIter;
@@ -76,6 +83,20 @@ impl<T: Integer, A: Allocator> IntoIterator for RangeSetBlaze<T, A> {
         }
     }
 }
+
+/// What the elements of a set stand for: the set whose runs are left of them. `next` takes out its
+/// least member and `next_back` its greatest, and each answers `None` exactly where it is empty.
+/// (Own.)
+pub fn elements_stand_for_sets<'a, T: Integer + 'a>()
+    ensures next { (s t : _) (item : _)
+        → ⟦<Iter<T, RangesIter<'a, T>> as Iterator>⟧.next_gives s item t
+        → TakesLeast T.rank T.value_count (members (runs_left T.rank s)) item
+        (members (runs_left T.rank t)) }
+    ensures next_back { (s t : _) (item : _)
+        → ⟦<Iter<T, RangesIter<'a, T>> as DoubleEndedIterator>⟧.next_back_gives s item t
+        → TakesGreatest T.rank T.value_count (members (runs_left T.rank s)) item
+        (members (runs_left T.rank t)) }
+{}
 
 impl<T: Integer, A: Allocator + Copy> RangeSetBlaze<T, A> {
     /// The members between two bounds in ascending order, from both ends, as an iterator that owns

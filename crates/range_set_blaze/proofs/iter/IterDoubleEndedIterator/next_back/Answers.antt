@@ -3,9 +3,17 @@ use Rattle.std.specs.Prelude.{None, Some}
 use Rattle.rsb_integer.specs.Rank.{interval_of}
 use Rattle.rsb_integer.specs.Runs.{IsEmpty}
 use Rattle.rsb_streams.specs.Stream.{unless}
+use Rattle.range_set_blaze.specs.BothEnds.{is_ready}
 use Rattle.range_set_blaze.proofs.BackTurns.{greatest-drawn, greatest-ended, greatest-held, over-nothing}
 use Rattle.range_set_blaze.proofs.ElementsLeft.{counted-alike, fewer-drawn_back, fewer-other, goes-drawn, goes-ended, goes-held, item-last}
 use Rattle.range_set_blaze.proofs.iter.IterDoubleEndedIterator.next_back.Goals as goal
+
+-- the stream may be asked from the back
+pub next_back-requires : goal.next_back-requires
+next_back-requires g c =
+    c.requires.both_ends.callable c.args.self.now.ranges
+    ((is_ready g.T.Integer.rank g.T.Integer.value_count g.I.Draw.can_draw g.I.Draw.may_give
+    c.args.self.now c.requires.ready).callable c.if-self.false)
 
 -- the last of what is held from the back
 pub returns-in-Some-clause-steps : goal.returns-in-Some-clause-steps

@@ -3,9 +3,16 @@ use Rattle.std.specs.Prelude.{None, Some}
 use Rattle.rsb_integer.specs.Rank.{interval_of}
 use Rattle.rsb_integer.specs.Runs.{IsEmpty}
 use Rattle.rsb_streams.specs.Stream.{unless}
+use Rattle.range_set_blaze.specs.BothEnds.{is_ready}
 use Rattle.range_set_blaze.proofs.ElementsLeft.{fewer-drawn, fewer-turned, goes-drawn, goes-ended, goes-held, item-first}
 use Rattle.range_set_blaze.proofs.FrontTurns.{least-drawn, least-ended, least-held}
 use Rattle.range_set_blaze.proofs.iter.IterIterator.next.Goals as goal
+
+-- the stream may be drawn from
+pub draw-requires : goal.draw-requires
+draw-requires g c =
+    (is_ready g.T.Integer.rank g.T.Integer.value_count g.I.Draw.can_draw g.I.Draw.may_give
+    c.args.self.now c.requires).callable c.if-self.false
 
 -- the first of what is held from the front
 pub returns-in-Some-clause-steps : goal.returns-in-Some-clause-steps
