@@ -4,6 +4,7 @@ use crate::run::ends::{Dripping, Filling, KINDS};
 use crate::run::sessions::{ALL_COMMANDS, ALL_REPLIES, REPLIES, SESSION};
 use rsb_commands::{Fault, finish, run, start};
 use std::alloc::Global;
+use std::fmt::Write;
 use std::io::ErrorKind;
 use std::process::ExitCode;
 use std::test::*;
@@ -242,34 +243,32 @@ fn many_lines_and_a_long_one_are_answered(rt: HostRuntime) -> Result<(), Fail> {
     Ok(())
 }
 
-/// Lines that add a hundred thousand single values, apart, and then work on sets of as many runs.
-fn many_values(alloc: Global) -> Result<Vec<u8>, Fail> {
-    let mut lines = Vec::new(alloc);
+/// Lines that add a hundred thousand single values, apart, work on sets of as many runs, and show
+/// two thousand of these.
+fn many_values(alloc: Global) -> Result<String, Fail> {
+    let mut lines = String::new(alloc);
     for half in 0..100_000u32 {
         let value = half.saturating_mul(2);
-        let line = format!(in alloc; "add 0 {value} {value}\n")?;
-        lines.extend_from_slice(line.as_bytes())?;
+        write!(lines, "add 0 {value} {value}\n")?;
     }
-    lines.extend_from_slice(
-        b"or 1 0 9\nand 2 0 1\nxor 3 0 9\nsub 4 0 9\nnot 5 0\ndel 1 100000\ncmp 2 3\nlen 4\nshow 0\n",
-    )?;
+    lines.push_str("or 1 0 9\nand 2 0 1\nxor 3 0 9\nsub 4 0 9\nnot 5 0\ndel 1 100000\n")?;
+    lines.push_str("cmp 2 3\nlen 4\nadd 6 0 3999\nand 6 6 0\nshow 6\n")?;
     Ok(lines)
 }
 
 /// What is replied to those lines.
-fn many_replies(alloc: Global) -> Result<Vec<u8>, Fail> {
-    let mut replies = Vec::new(alloc);
+fn many_replies(alloc: Global) -> Result<String, Fail> {
+    let mut replies = String::new(alloc);
     for _ in 0..100_000u32 {
-        replies.extend_from_slice(b"true\n")?;
+        replies.push_str("true\n")?;
     }
-    replies.extend_from_slice(b"100000\n100000\n100000\n100000\n100001\ntrue\nequal\n100000\n")?;
-    replies.extend_from_slice(b"0..=0")?;
-    for half in 1..100_000u32 {
+    replies.push_str("100000\n100000\n100000\n100000\n100001\ntrue\n")?;
+    replies.push_str("equal\n100000\ntrue\n2000\n0..=0")?;
+    for half in 1..2_000u32 {
         let value = half.saturating_mul(2);
-        let range = format!(in alloc; ", {value}..={value}")?;
-        replies.extend_from_slice(range.as_bytes())?;
+        write!(replies, ", {value}..={value}")?;
     }
-    replies.extend_from_slice(b"\n")?;
+    replies.push_str("\n")?;
     Ok(replies)
 }
 
@@ -279,10 +278,10 @@ fn many_replies(alloc: Global) -> Result<Vec<u8>, Fail> {
 fn a_hundred_thousand_lines_are_answered(rt: HostRuntime) -> Result<(), Fail> {
     let lines = many_values(rt.alloc())?;
     let wanted = many_replies(rt.alloc())?;
-    let mut rest = lines.as_slice();
+    let mut rest = lines.as_bytes();
     let mut output = Vec::new(rt.alloc());
     assert!(rt; run(rt.alloc(), &mut rest, &mut output) == Ok(()));
-    assert!(rt; output.as_slice() == wanted.as_slice());
+    assert!(rt; output.as_slice() == wanted.as_bytes());
     Ok(())
 }
 

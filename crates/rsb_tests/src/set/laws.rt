@@ -2,7 +2,8 @@
 
 use range_set_blaze::laws::{
     canonical_lists_are_runs, complement_twice, de_morgan, difference_by_complement,
-    equal_members_equal_lists, offsets_undo_length, run_bounds_are_ends, symmetric_by_union,
+    elements_stand_for_sets, equal_members_equal_lists, offsets_undo_length, order_by_least_difference, run_bounds_are_ends,
+    symmetric_by_union,
 };
 use rsb_streams::laws::one_filled_list;
 
@@ -12,7 +13,9 @@ fn laws_can_be_cited_at_a_type() {
     canonical_lists_are_runs::<u8>();
     equal_members_equal_lists::<u8>();
     offsets_undo_length::<u8>();
+    order_by_least_difference::<u8>();
     run_bounds_are_ends::<u8>();
+    elements_stand_for_sets::<u8>();
     one_filled_list::<u8>();
     complement_twice::<u8>();
     de_morgan::<u8>();

@@ -1,93 +1,92 @@
-//! Every call on sets of seventy thousand runs: more than a length of sixteen bits counts.
+//! Every call on sets of seventy thousand runs, more than a length of sixteen bits counts: none gives
+//! up at a size.
 
 use crate::set::calls::{Change, Making, carry_out, make};
-use crate::set::cells::{Cell, agree, cells, reckon, runs_made};
 use crate::set::rows::has;
 use range_set_blaze::RangeSetBlaze;
 use std::alloc::{AllocError, Global};
 use std::test::*;
 
-/// Cells of the values from 0 on, of which one set has the first three of each five, seventy
-/// thousand times, and another the fourth.
-fn fifths(alloc: Global) -> Result<Vec<Cell>, AllocError> {
-    let mut cells = cells(alloc, -10, 350_020)?;
-    for cell in cells.iter_mut() {
-        let is_within = cell.start >= 0 && cell.start < 350_000;
-        cell.is_member = is_within && cell.start % 5 < 3;
-        cell.is_other = is_within && cell.start % 5 == 3;
-    }
-    Ok(cells)
-}
-
 /// Seventy thousand runs that start at a value and each fifth from it on, and end so many values
-/// later, put in in an order that jumps.
+/// later.
 fn every_fifth(alloc: Global, first: i32, more: i32) -> Result<RangeSetBlaze<i32>, AllocError> {
-    let mut set = RangeSetBlaze::new(alloc);
-    for place in 0..70_000i32 {
-        let jump = place.saturating_mul(1237) % 70_000;
-        let start = first.saturating_add(jump.saturating_mul(5));
-        set.ranges_insert(start..=start.saturating_add(more))?;
-    }
-    Ok(set)
+    let runs = (0..70_000i32).map(|place| {
+        let start = first.saturating_add(place.saturating_mul(5));
+        start..=start.saturating_add(more)
+    });
+    RangeSetBlaze::from_iter(alloc, runs)
 }
 
-/// Whether a change of seventy thousand runs, beside as many others, leaves what cells tell.
-fn is_changed(alloc: Global, change: Change) -> Result<bool, AllocError> {
-    let mut cells = fifths(alloc)?;
-    let mut set = every_fifth(alloc, 0, 2)?;
-    let mut other = every_fifth(alloc, 3, 0)?;
-    let is_begun = agree(alloc, &set, &other, &cells)?;
-    let told = carry_out(alloc, change, &mut set, &mut other)?;
-    let is_told = told == reckon(alloc, change, &mut cells)?;
-    Ok(is_begun && is_told && agree(alloc, &set, &other, &cells)?)
-}
+/// Changes in turn of the set of the first three of each five values from 0 on, beside that of the
+/// fourth, and how many runs and members each leaves.
+static CHANGED: [(Change, usize, u64); 22] = [
+    (Change::Insert(-5), 70_001, 210_001),
+    (Change::Insert(170_003), 70_001, 210_002),
+    (Change::Insert(170_004), 70_000, 210_003),
+    (Change::Replace(180_004), 70_000, 210_004),
+    (Change::Remove(150_000), 70_000, 210_003),
+    (Change::Remove(150_101), 70_001, 210_002),
+    (Change::Take(150_201), 70_002, 210_001),
+    (Change::PopFirst, 70_001, 210_000),
+    (Change::PopFirst, 70_001, 209_999),
+    (Change::PopLast, 70_001, 209_998),
+    (Change::SplitOff(349_001), 69_802, 209_400),
+    (Change::SplitOff(348_003), 69_602, 208_802),
+    (Change::Retain(3, 1), 92_801, 139_200),
+    (Change::RangesRetain(7, 1), 79_542, 119_313),
+    (Change::Append, 109_770, 189_313),
+    (Change::ExtendValues(4, 349_990), 95_057, 229_484),
+    (Change::Extend, 95_057, 229_484),
+    (Change::BitorAssign, 95_057, 229_484),
+    (Change::BitorAssignOwned, 95_057, 229_484),
+    (Change::RangesInsert(10, 349_980), 7, 349_982),
+    (Change::RangesInsert(-5, 350_005), 1, 350_011),
+    (Change::Clear, 0, 0),
+];
 
 #[test]
-fn seventy_thousand_runs_are_changed(rt: HostRuntime) {
-    let changes = [
-        Change::Insert(-5),
-        Change::Insert(170_003),
-        Change::Insert(170_004),
-        Change::Replace(170_004),
-        Change::RangesInsert(10, 349_980),
-        Change::RangesInsert(-5, 350_005),
-        Change::Remove(150_000),
-        Change::Remove(150_001),
-        Change::Take(150_001),
-        Change::PopFirst,
-        Change::PopLast,
-        Change::SplitOff(180_001),
-        Change::SplitOff(180_003),
-        Change::Retain(2, 1),
-        Change::RangesRetain(4, 1),
-        Change::Clear,
-        Change::Extend,
-        Change::ExtendValues(2, 349_990),
-        Change::Append,
-        Change::BitorAssign,
-        Change::BitorAssignOwned,
-    ];
-    for change in changes {
-        assert!(rt; is_changed(rt.alloc(), change) == Ok(true), "{change:?}");
+fn seventy_thousand_runs_are_changed(rt: HostRuntime) -> Result<(), Fail> {
+    let mut set = every_fifth(rt.alloc(), 0, 2)?;
+    let singles = every_fifth(rt.alloc(), 3, 0)?;
+    for (change, count, members) in &CHANGED {
+        let mut other = RangeSetBlaze::new(rt.alloc());
+        if change.adds() {
+            other = singles.clone()?;
+        }
+        carry_out(rt.alloc(), *change, &mut set, &mut other)?;
+        assert!(rt;
+            set.ranges_len() == *count && set.len() == *members,
+            "{change:?}"
+        );
     }
+    Ok(())
 }
 
-/// Whether a making of two sets of seventy thousand runs gives what cells tell.
-fn is_made(alloc: Global, making: Making) -> Result<bool, AllocError> {
-    let cells = fifths(alloc)?;
-    let set = every_fifth(alloc, 0, 2)?;
-    let other = every_fifth(alloc, 3, 0)?;
-    let made = make(alloc, making, &set, &other)?;
-    let wanted = runs_made(alloc, making, &cells)?;
-    Ok(has(&made, &wanted) && agree(alloc, &set, &other, &cells)?)
-}
+/// A making of the same two sets, and how many runs and members it makes.
+static MADE: [(Making, usize, u64); 10] = [
+    (Making::Clone, 70_000, 210_000),
+    (Making::Bitor, 70_000, 280_000),
+    (Making::Bitand, 0, 0),
+    (Making::Sub, 70_000, 210_000),
+    (Making::Bitxor, 70_000, 280_000),
+    (Making::Not, 70_001, 4_294_757_296),
+    (Making::FromIter, 70_000, 280_000),
+    (Making::FromIterValues(2, 280_004), 70_001, 70_001),
+    (Making::FromSortedDisjoint, 70_000, 210_000),
+    (Making::IntoRangeSetBlaze, 70_000, 210_000),
+];
 
 #[test]
 fn seventy_thousand_runs_or_values_make_sets(rt: HostRuntime) -> Result<(), Fail> {
-    for making in Making::ALL {
-        assert!(rt; is_made(rt.alloc(), making)?, "{making:?}");
+    let runs = every_fifth(rt.alloc(), 0, 2)?;
+    let singles = every_fifth(rt.alloc(), 3, 0)?;
+    for (making, count, members) in &MADE {
+        let made = make(rt.alloc(), *making, &runs, &singles)?;
+        assert!(rt;
+            made.ranges_len() == *count && made.len() == *members,
+            "{making:?}"
+        );
     }
-    assert!(rt; is_made(rt.alloc(), Making::FromIterValues(2, 280_004))?);
     assert!(rt; has(&RangeSetBlaze::from_array(rt.alloc(), [7; 70_000])?, &[(7, 7)]));
     Ok(())
 }
@@ -96,9 +95,10 @@ fn seventy_thousand_runs_or_values_make_sets(rt: HostRuntime) -> Result<(), Fail
 fn seventy_thousand_gaps_are_filled(rt: HostRuntime) -> Result<(), Fail> {
     let mut set = every_fifth(rt.alloc(), 0, 2)?;
     for place in 0..70_000i32 {
-        let start = place.saturating_mul(5).saturating_add(3);
+        // In an order that jumps.
+        let start = (place.saturating_mul(1237) % 70_000).saturating_mul(5);
         assert!(rt;
-            set.ranges_insert(start..=start.saturating_add(1))?,
+            set.ranges_insert(start.saturating_add(3)..=start.saturating_add(4))?,
             "at {place}"
         );
     }
@@ -109,7 +109,8 @@ fn seventy_thousand_gaps_are_filled(rt: HostRuntime) -> Result<(), Fail> {
 #[test]
 fn seventy_thousand_runs_are_looked_up(rt: HostRuntime) -> Result<(), Fail> {
     let set = every_fifth(rt.alloc(), 0, 2)?;
-    for value in 0..350_000i32 {
+    for place in 0..50_000i32 {
+        let value = place.saturating_mul(7);
         assert!(rt; set.contains(value) == (value % 5 < 3), "at {value}");
     }
     assert!(rt; set.first() == Some(0) && set.last() == Some(349_997));

@@ -188,20 +188,40 @@ fn drawn_by(question: Question, left: Ranges, right: Ranges) -> (u32, u32) {
     (lefts, rights)
 }
 
-/// Two streams of four ranges each that differ in the second.
-const LEFT: Ranges = &[(0, 1), (10, 12), (20, 29), (40, 49)];
+/// A stream of nine ranges.
+const LEFT: Ranges = &[
+    (0, 1),
+    (10, 12),
+    (20, 29),
+    (40, 49),
+    (60, 69),
+    (80, 89),
+    (100, 109),
+    (120, 129),
+    (140, 149),
+];
 
-/// See `LEFT`.
-const RIGHT: Ranges = &[(0, 1), (11, 12), (20, 29), (40, 49)];
+/// One that differs from it in the second range and the third.
+const RIGHT: Ranges = &[
+    (0, 1),
+    (11, 12),
+    (21, 29),
+    (40, 49),
+    (60, 69),
+    (80, 89),
+    (100, 109),
+    (120, 129),
+    (140, 149),
+];
 
 /// A question, two streams, and how many ranges are drawn of each.
 static DRAWN: [(Question, Ranges, Ranges, (u32, u32)); 6] = [
     (Question::IsEmpty, LEFT, RIGHT, (1, 0)),
     (Question::IsUniversal, LEFT, RIGHT, (1, 0)),
     (Question::Equal, LEFT, RIGHT, (2, 2)),
-    (Question::IsSubset, LEFT, RIGHT, (2, 2)),
-    (Question::IsSuperset, LEFT, RIGHT, (4, 4)),
-    (Question::IsDisjoint, LEFT, RIGHT, (1, 1)),
+    (Question::IsSubset, LEFT, RIGHT, (4, 3)),
+    (Question::IsSuperset, LEFT, RIGHT, (9, 9)),
+    (Question::IsDisjoint, LEFT, RIGHT, (3, 3)),
 ];
 
 #[test]
