@@ -61,7 +61,9 @@ impl Read for Dripping<'_> {
         if self.is_interrupted {
             return Err(io::Error::from(ErrorKind::Interrupted));
         }
-        if self.bytes.is_empty() && let Some(kind) = self.failure.take() {
+        if self.bytes.is_empty()
+            && let Some(kind) = self.failure.take()
+        {
             return Err(io::Error::from(kind));
         }
         let count = self.bytes.len().min(buf.len()).min(1);

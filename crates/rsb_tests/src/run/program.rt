@@ -180,7 +180,12 @@ fn a_read_that_fails_once_in_any_way_is_told_and_nothing_is_written(rt: HostRunt
             };
             let mut output = Vec::new(rt.alloc());
             let told = run(rt.alloc(), &mut input, &mut output);
-            assert_eq!(rt; told, Err(Fault::Io), "{kind:?} after {} bytes", bytes.len());
+            assert_eq!(rt;
+                told,
+                Err(Fault::Io),
+                "{kind:?} after {} bytes",
+                bytes.len()
+            );
             assert!(rt; output.is_empty(), "{kind:?} after {} bytes", bytes.len());
         }
     }
@@ -204,7 +209,10 @@ fn is_told_where_it_stopped(alloc: Global, room: usize, failure: Option<ErrorKin
 #[test]
 fn a_write_that_fails_once_in_any_way_is_told_where_it_stopped(rt: HostRuntime) {
     for room in [0, 3, 33] {
-        assert!(rt; is_told_where_it_stopped(rt.alloc(), room, None), "room for {room} bytes");
+        assert!(rt;
+            is_told_where_it_stopped(rt.alloc(), room, None),
+            "room for {room} bytes"
+        );
         for kind in KINDS {
             assert!(rt;
                 is_told_where_it_stopped(rt.alloc(), room, Some(kind)),

@@ -2,8 +2,8 @@
 
 use range_set_blaze::laws::{
     canonical_lists_are_runs, complement_twice, de_morgan, difference_by_complement,
-    elements_stand_for_sets, equal_members_equal_lists, offsets_undo_length, order_by_least_difference, run_bounds_are_ends,
-    symmetric_by_union,
+    elements_stand_for_sets, equal_members_equal_lists, offsets_undo_length,
+    order_by_least_difference, run_bounds_are_ends, symmetric_by_union,
 };
 use rsb_streams::laws::one_filled_list;
 

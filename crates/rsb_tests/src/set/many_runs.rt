@@ -87,7 +87,12 @@ fn seventy_thousand_runs_or_values_make_sets(rt: HostRuntime) -> Result<(), Fail
             "{making:?}"
         );
     }
-    assert!(rt; has(&RangeSetBlaze::from_array(rt.alloc(), [7; 70_000])?, &[(7, 7)]));
+    assert!(rt;
+        has(
+            &RangeSetBlaze::from_array(rt.alloc(), [7; 70_000])?,
+            &[(7, 7)]
+        )
+    );
     Ok(())
 }
 

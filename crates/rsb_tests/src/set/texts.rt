@@ -20,7 +20,10 @@ fn runs_are_written_with_a_comma_between_two(rt: HostRuntime) -> Result<(), Fail
 // A text that finds no memory midway is none, and not a shorter one.
 #[test]
 fn a_text_is_whole_or_refused(rt: HostRuntime) -> Result<(), Fail> {
-    let set = set_of(rt.alloc(), &[(1, 2), (5, 6), (9, 9), (20, 30), (40, 50), (60, 70)])?;
+    let set = set_of(
+        rt.alloc(),
+        &[(1, 2), (5, 6), (9, 9), (20, 30), (40, 50), (60, 70)],
+    )?;
     let mut is_refused = false;
     let mut is_whole = false;
     for size in 4..60usize {
