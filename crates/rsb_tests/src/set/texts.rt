@@ -6,7 +6,9 @@ use range_set_blaze::RangeSetBlaze;
 use std::test::*;
 
 #[test]
-fn runs_are_written_with_a_comma_between_two(rt: HostRuntime) -> Result<(), Fail> {
+fn runs_are_written_with_a_comma_between_two_and_nothing_of_none(
+    rt: HostRuntime,
+) -> Result<(), Fail> {
     let set = RangeSetBlaze::from_iter(rt.alloc(), [1..=2, 2..=2, -10..=-5, 1..=0])?;
     let text = format!(in rt.alloc(); "{set}")?;
     assert!(rt; text.as_str() == "-10..=-5, 1..=2");
@@ -14,6 +16,8 @@ fn runs_are_written_with_a_comma_between_two(rt: HostRuntime) -> Result<(), Fail
     assert!(rt; debug.as_str() == "-10..=-5, 1..=2");
     let padded = format!(in rt.alloc(); "{set:40}{set:+}")?;
     assert!(rt; padded.as_str() == "-10..=-5, 1..=2-10..=-5, 1..=2");
+    let nothing = RangeSetBlaze::<i32>::new(rt.alloc());
+    assert!(rt; format!(in rt.alloc(); "{nothing}{nothing:?}")?.is_empty());
     Ok(())
 }
 
@@ -38,14 +42,6 @@ fn a_text_is_whole_or_refused(rt: HostRuntime) -> Result<(), Fail> {
         }
     }
     assert!(rt; is_refused && is_whole);
-    Ok(())
-}
-
-#[test]
-fn nothing_is_written_of_an_empty_set(rt: HostRuntime) -> Result<(), Fail> {
-    let set = RangeSetBlaze::<i32>::new(rt.alloc());
-    let text = format!(in rt.alloc(); "{set}{set:?}")?;
-    assert!(rt; text.as_str() == "");
     Ok(())
 }
 
