@@ -232,13 +232,6 @@ fn questions_stop_where_they_are_answered(rt: HostRuntime) {
 }
 
 #[test]
-fn streams_of_the_same_ranges_are_equal(rt: HostRuntime) {
-    let left = RangeOnce::new(1u8..=2).union(RangeOnce::new(4..=4));
-    let right = RangeOnce::new(4..=4).union(RangeOnce::new(1..=2));
-    assert!(rt; left.equal(right));
-}
-
-#[test]
 fn questions_of_ranges_without_members(rt: HostRuntime) {
     assert!(rt; RangeOnce::new(1u8..=0).is_empty() && !RangeOnce::new(0u8..=0).is_empty());
     assert!(rt; RangeOnce::new(1u8..=0).equal(RangeOnce::new(9..=8)));
@@ -248,6 +241,9 @@ fn questions_of_ranges_without_members(rt: HostRuntime) {
 
 #[test]
 fn questions_of_results(rt: HostRuntime) {
+    let left = RangeOnce::new(1u8..=2).union(RangeOnce::new(4..=4));
+    let right = RangeOnce::new(4..=4).union(RangeOnce::new(1..=2));
+    assert!(rt; left.equal(right));
     assert!(rt; RangeOnce::new(0u8..=255).complement().is_empty());
     assert!(rt;
         !RangeOnce::new(1u8..=0)
