@@ -93,7 +93,7 @@ fn stopped_commands_keep_their_replies(rt: HostRuntime) -> Result<(), Fail> {
 }
 
 #[test]
-fn refused_memory_ends_with_status_3(rt: HostRuntime) -> Result<(), Fail> {
+fn refused_memory_ends_with_status_3_and_no_commands_with_0(rt: HostRuntime) -> Result<(), Fail> {
     let heap = LocalHeap::new(rt.alloc(), 64)?;
     let mut input = COMMANDS;
     let mut output = Vec::new(rt.alloc());
@@ -101,7 +101,10 @@ fn refused_memory_ends_with_status_3(rt: HostRuntime) -> Result<(), Fail> {
     let code = start(&heap, &mut input, &mut output, &mut errors);
     assert_eq!(rt; code, ExitCode::from(3));
     assert_eq!(rt; errors.as_slice(), b"no memory\n".as_slice());
-    assert!(rt; output.is_empty());
+    // No commands want no memory.
+    let mut nothing = b"".as_slice();
+    let code = start(&heap, &mut nothing, &mut output, &mut errors);
+    assert!(rt; code == ExitCode::SUCCESS && output.is_empty());
     Ok(())
 }
 
