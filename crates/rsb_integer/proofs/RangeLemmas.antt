@@ -45,6 +45,17 @@ module _ {T : Type 0} (rank : T → ℕ) where
       (rank (range_inclusive_end range)))
       (exhausted-some range ordered)
 
+  -- the interval of a range by its ends, where it was not iterated to its end
+  pub interval_of-ends : (range : RangeInclusive T) (start end : T)
+      → range_inclusive_start range ≡ start → range_inclusive_end range ≡ end
+      → range_inclusive_exhausted range ≡ false
+      → interval_of rank range ≡ record { first = rank start; last = rank end }
+  interval_of-ends range start end starts ends some =
+      ap (λ exhausted. interval_by exhausted (rank (range_inclusive_start range))
+      (rank (range_inclusive_end range))) some
+      ∙ ap (λ value. interval_by false (rank value) (rank (range_inclusive_end range))) starts
+      ∙ ap (λ value. interval_by false (rank start) (rank value)) ends
+
 -- in a type of n values that are ordered as their places are
 module _ {T : Type 0} (rank : T → ℕ) (n : ℕ) (cmp : T → T → Ordering)
     (exact : CmpEqualImpliesEq cmp)
