@@ -29,8 +29,8 @@ empty-by true test told first last is tells holds = inl refl
 empty-by false true told first last is tells holds = absurd (cc)
 empty-by false false told first last is tells holds = inr (leb-false first last is)
 
-module _ {T : Type 0} (rank : T → ℕ) (n : ℕ) (partial_cmp : T → T → Option Ordering)
-    (cmp : T → T → Ordering) (ranked : IsRanked rank n partial_cmp cmp) where
+module _ {T : Type 0} {rank : T → ℕ} {n : ℕ} {partial_cmp : T → T → Option Ordering}
+    {cmp : T → T → Ordering} (ranked : IsRanked rank n partial_cmp cmp) where
   -- the ranks of a range, by whether it was iterated to its end
   abbrev interval_at : Bool → RangeInclusive T → Interval
   interval_at exhausted range = cond exhausted (record { first = 1; last = 0 })
@@ -52,7 +52,7 @@ module _ {T : Type 0} (rank : T → ℕ) (n : ℕ) (partial_cmp : T → T → Op
     -- the test of its ends is one of ranks
     tested : nat_le (rank (range_inclusive_start range)) (rank (range_inclusive_end range))
         ≡ partial_le partial_cmp (range_inclusive_start range) (range_inclusive_end range)
-    tested = sym (at_most-by rank n partial_cmp cmp ranked (range_inclusive_start range)
+    tested = sym (at_most-by ranked (range_inclusive_start range)
         (range_inclusive_end range) start end)
 
     -- a range that is not told to be empty is proper
@@ -99,7 +99,7 @@ module _ {T : Type 0} (rank : T → ℕ) (n : ℕ) (partial_cmp : T → T → Op
   past-true (Some next) range start is end within told =
       let value = next-value n (rank (range_inclusive_end range)) (rank next) end
       (λ last. let no = is.none.1 last in absurd (cc)) is.next in
-      let less = less-rank rank n partial_cmp cmp ranked next start value within told in
+      let less = less-rank ranked next start value within told in
       omega (arith, less, is.next)
 
   -- one that is not does not
@@ -112,7 +112,7 @@ module _ {T : Type 0} (rank : T → ℕ) (n : ℕ) (partial_cmp : T → T → Op
   past-false (Some next) range start is end within told =
       let value = next-value n (rank (range_inclusive_end range)) (rank next) end
       (λ last. let no = is.none.1 last in absurd (cc)) is.next in
-      let most = not_less-rank rank n partial_cmp cmp ranked next start value within told in
+      let most = not_less-rank ranked next start value within told in
       omega (arith, most, is.next)
 
   -- what a test of a start answered
@@ -197,7 +197,7 @@ module _ {T : Type 0} (rank : T → ℕ) (n : ℕ) (partial_cmp : T → T → Op
       pub joined-first : (interval_of rank whole).first
           ≡ min (interval_of rank one).first (interval_of rank other).first
       joined-first =
-          let least = min-rank rank n partial_cmp cmp ranked (range_inclusive_start one)
+          let least = min-rank ranked (range_inclusive_start one)
           (range_inclusive_start other) one_value other_value in
           ap (λ exhausted. (interval_at exhausted whole).first) fresh
           ∙ omega (arith, ap rank start, least, one_start, other_start)
@@ -206,7 +206,7 @@ module _ {T : Type 0} (rank : T → ℕ) (n : ℕ) (partial_cmp : T → T → Op
       pub joined-last : (interval_of rank whole).last
           ≡ max (interval_of rank one).last (interval_of rank other).last
       joined-last =
-          let most = max-rank rank n partial_cmp cmp ranked (range_inclusive_end one)
+          let most = max-rank ranked (range_inclusive_end one)
           (range_inclusive_end other) one_last other_last in
           ap (λ exhausted. (interval_at exhausted whole).last) fresh
           ∙ omega (arith, ap rank end, most, one_end, other_end)

@@ -3,14 +3,16 @@ use Rattle.std.proofs.Common.{◌≡◌, ℕ, ◌+◌, ◌<◌, ◌≤◌, false
 use Rattle.std.proofs.lemmas.List.{map-append, nil_from_length}
 use Rattle.std.proofs.lemmas.List.Elements.{All-nil, All-cons}
 use Rattle.std.specs.Array.Iter.{array_into_iter_items, array_steps}
-use Rattle.std.specs.Iterator.{Count, at_most}
+use Rattle.std.specs.Iterator.{at_most}
 use Rattle.std.specs.Range.{range_inclusive_start, range_inclusive_end, range_inclusive_exhausted}
 use Rattle.std.specs.declared.array.IntoIter.{IntoIter}
+use Rattle.std.specs.declared.iter.Iterator.{Ghosts as Iteration}
 use Rattle.std.specs.declared.ops.RangeInclusive.{RangeInclusive}
 use Rattle.rsb_integer.specs.Rank.{interval_of, intervals_of}
 use Rattle.rsb_integer.specs.Runs.{Interval, AllEndBelow, IsCanonicalFrom, IsCanonicalIn}
 use Rattle.rsb_integer.proofs.CanonicalLemmas.{canonical-front}
-use Rattle.rsb_streams.specs.Calls.{IsSource, calls-steps}
+use Rattle.rsb_streams.specs.Calls.{IsSource}
+use Rattle.rsb_streams.specs.CallsLaws.{calls-steps}
 use Rattle.rsb_streams.specs.Stream.{HasSortedStarts, HasSortedStartsFrom}
 use Rattle.rsb_streams.proofs.LawfulSources.{sorted-front}
 use Rattle.rsb_streams.proofs.ListedSources.{listed-yields}
@@ -83,25 +85,25 @@ module _ {T : Type 0} (size : ℕ) (rank : T → ℕ) where
   Items = IntoIter (RangeInclusive T) size
 
   -- it may always be called
-  abbrev can : Items → Type 0
-  can s = Unit {0}
-
-  -- how many items are left
-  abbrev left : Items → Count
-  left s = at_most (length (array_into_iter_items s))
+  abbrev items : Iteration Items (RangeInclusive T)
+  items = record {
+    can_next = λ s. Unit {0};
+    next_gives = array_steps;
+    remaining = λ s. at_most (length (array_into_iter_items s));
+  }
 
   -- it is a source of a law that the fronts of a list keep, where its items keep that
   array-source : (law : List Interval → Type 0)
       → ((runs others : List Interval) → law (runs ++ others) → law runs) → (s : Items)
-      → law (intervals_of rank (array_into_iter_items s)) → IsSource rank can array_steps left law s
+      → law (intervals_of rank (array_into_iter_items s)) → IsSource rank items law s
   array-source law front s lawful = record {
     callable = tt;
     finite = tt;
     fronts = λ ranges t all.
-        let whole = listed-yields rank can array_steps left array_into_iter_items
+        let whole = listed-yields rank items array_into_iter_items
         (λ s t range call. call) (λ s t call. nil_from_length (array_into_iter_items s) call.0)
         ranges s t
-        (calls-steps rank can array_steps left ranges s t all) in
+        (calls-steps rank items ranges s t all) in
         front (intervals_of rank ranges) (intervals_of rank (array_into_iter_items t))
         (subst law (ap (intervals_of rank) whole
         ∙ map-append (interval_of rank) ranges (array_into_iter_items t)) lawful);
@@ -110,19 +112,19 @@ module _ {T : Type 0} (size : ℕ) (rank : T → ℕ) where
   -- so it is of a canonical list
   pub array-canonical : (n : ℕ) (s : Items)
       → IsCanonicalIn n (intervals_of rank (array_into_iter_items s))
-      → IsSource rank can array_steps left (IsCanonicalIn n) s
+      → IsSource rank items (IsCanonicalIn n) s
   array-canonical n = array-source (IsCanonicalIn n) (canonical-front n)
 
   -- and of one by starts
   pub array-sorted : (n : ℕ) (s : Items)
       → HasSortedStarts n (intervals_of rank (array_into_iter_items s))
-      → IsSource rank can array_steps left (HasSortedStarts n) s
+      → IsSource rank items (HasSortedStarts n) s
   array-sorted n = array-source (HasSortedStarts n) (sorted-front n 0)
 
   -- an array of ranges apart becomes a source of a canonical list
   pub array-apart : (n : ℕ) (ranges : List (RangeInclusive T)) → AreApartFrom rank n 0 ranges
       → (s : Items) → array_into_iter_items s ≡ ranges
-      → IsSource rank can array_steps left (IsCanonicalIn n) s
+      → IsSource rank items (IsCanonicalIn n) s
   array-apart n ranges apart s is =
       array-canonical n s
       (subst (λ left. IsCanonicalIn n (intervals_of rank left)) (sym is)
@@ -132,7 +134,7 @@ module _ {T : Type 0} (size : ℕ) (rank : T → ℕ) where
   pub array-by_starts : (n : ℕ) (ranges : List (RangeInclusive T))
       → AreByStartsFrom rank n 0 ranges
       → (s : Items) → array_into_iter_items s ≡ ranges
-      → IsSource rank can array_steps left (HasSortedStarts n) s
+      → IsSource rank items (HasSortedStarts n) s
   array-by_starts n ranges sorted s is =
       array-sorted n s
       (subst (λ left. HasSortedStarts n (intervals_of rank left)) (sym is)

@@ -5,6 +5,7 @@ use Rattle.std.specs.Prelude.{None}
 use Rattle.std.specs.Iterator.{Yields}
 use Rattle.std.specs.declared.ops.RangeInclusive.{RangeInclusive}
 use Rattle.rsb_integer.specs.Rank.{interval_of}
+use Rattle.rsb_integer.specs.declared.integer.Integer.{Ghosts as Elements}
 use Rattle.rsb_streams.specs.FillGapsIter.{FillSteps, fill_may_give}
 use Rattle.rsb_streams.specs.declared.fill_gaps_iter.FillGapsIter.{FillGapsIter}
 use Rattle.std.proofs.Math.Bool.{not-not}
@@ -13,6 +14,7 @@ use Rattle.rsb_integer.specs.Selection.{Selection, Agree, complement, difference
 use Rattle.rsb_integer.proofs.RunsLemmas.{runs-along, runs-members}
 use Rattle.rsb_streams.specs.Outcomes.{runs-exist}
 use Rattle.rsb_streams.specs.Stream.{Outcomes, ◌⊆◌, joined, just, runs_by, runs_by_two}
+use Rattle.rsb_streams.specs.declared.draw.Draw.{Ghosts as Stream}
 
 -- ---- less given gives less
 
@@ -176,13 +178,12 @@ difference-by_complements n P Q Gaps Union gaps either runs may = λ nothing. ma
 -- ---- runs and gaps
 
 -- what the calls told until `None` is a list that might come
-pub filled-drawn : {T I : Type 0} (rank : T → ℕ) (n : ℕ) (can_next : I → Type 0)
-    (may_give : I → Outcomes) (items : List (RangeInclusive T × Bool)) (s t u : FillGapsIter T I)
-    → Yields (FillSteps rank n can_next may_give) s items t
-    → FillSteps rank n can_next may_give t None u
-    → fill_may_give rank n may_give s (map (λ pair. (interval_of rank pair.0, pair.1)) items)
-filled-drawn rank n can_next may_give [] s t u all end =
-    subst (λ each. fill_may_give rank n may_give each []) (sym all) end.answers
-filled-drawn rank n can_next may_give (item ∷ items) s t u all end =
-    all.1.answers (map (λ pair. (interval_of rank pair.0, pair.1)) items)
-    (filled-drawn rank n can_next may_give items all.0 t u all.2 end)
+pub filled-drawn : {T N I : Type 0} (integer : Elements T N) (stream : Stream I T N)
+    (items : List (RangeInclusive T × Bool)) (s t u : FillGapsIter T I)
+    → Yields (FillSteps integer stream) s items t → FillSteps integer stream t None u
+    → fill_may_give integer stream s (map (λ pair. (interval_of integer.rank pair.0, pair.1)) items)
+filled-drawn integer stream [] s t u all end =
+    subst (λ each. fill_may_give integer stream each []) (sym all) end.answers
+filled-drawn integer stream (item ∷ items) s t u all end =
+    all.1.answers (map (λ pair. (interval_of integer.rank pair.0, pair.1)) items)
+    (filled-drawn integer stream items all.0 t u all.2 end)

@@ -1,4 +1,6 @@
 -- Two streams drawn from in turn, as long as they answer the same ranges.
+use Rattle.rsb_integer.specs.declared.integer.Integer.{Ghosts as Elements}
+use Rattle.rsb_streams.specs.declared.draw.Draw.{Ghosts as Stream}
 use Rattle.std.proofs.Common.{◌≡◌, ◌↔◌, ℕ, Bool, true, false, not, List, [], ◌∷◌, ◌++◌, refl, sym, subst, append_assoc}
 use Rattle.std.specs.Prelude.{Option, Some, None, IsTrue, is_some}
 use Rattle.std.specs.Iterator.{MakesProgress}
@@ -8,7 +10,7 @@ use Rattle.rsb_integer.specs.Runs.{Interval, members, IsCanonicalIn}
 use Rattle.rsb_integer.specs.Selection.{Agree}
 use Rattle.rsb_integer.proofs.CanonicalLemmas.{canonical-same}
 use Rattle.rsb_streams.specs.Stream.{◌⊆◌, SomeOutcomes}
-use Rattle.rsb_streams.proofs.Sources.{Source, IsLawful}
+use Rattle.rsb_streams.proofs.Sources.{IsLawful}
 
 -- lists that go on alike after the same front are the same
 same-rest : (front left right : List Interval) → front ++ left ≡ front ++ right → left ≡ right
@@ -28,12 +30,15 @@ unequal-tells n left right canonical also_canonical unequal = (
       same))),
 )
 
-module _ {L R T : Type 0} (rank : T → ℕ) (n : ℕ) (left : Source L T) (right : Source R T)
+module _ {L R T N : Type 0} (integer : Elements T N) (left : Stream L T N)
+    (right : Stream R T N)
     (first : L) (second : R) where
+  open integer use {rank, value_count as n}
+
   -- both may be drawn from, and what they gave so far is one list
   pub record SameSoFar (s : L) (t : R) : Type 0 where
-    pub left_ready : left.can_next s
-    pub right_ready : right.can_next t
+    pub left_ready : left.can_draw s
+    pub right_ready : right.can_draw t
     pub given : List Interval
     pub left_given : (rest : List Interval) → left.may_give s rest
         → left.may_give first (given ++ rest)
@@ -41,7 +46,7 @@ module _ {L R T : Type 0} (rank : T → ℕ) (n : ℕ) (left : Source L T) (righ
         → right.may_give second (given ++ rest)
 
   -- at first they gave nothing
-  pub same-none : left.can_next first → right.can_next second → SameSoFar first second
+  pub same-none : left.can_draw first → right.can_draw second → SameSoFar first second
   same-none left_ready right_ready = record {
     left_ready = left_ready;
     right_ready = right_ready;
@@ -50,12 +55,12 @@ module _ {L R T : Type 0} (rank : T → ℕ) (n : ℕ) (left : Source L T) (righ
     right_given = λ rest at. at;
   }
 
-  module _ (left_laws : IsLawful rank n left) (right_laws : IsLawful rank n right)
+  module _ (left_laws : IsLawful integer left) (right_laws : IsLawful integer right)
       (s : L) (t : R) (so_far : SameSoFar s t) where
     -- after ranges with the same ranks they gave the same
     pub same-more : (range counterpart : RangeInclusive T) (next : L) (other : R)
-        → left.steps s (Some range) next → left.can_next next
-        → right.steps t (Some counterpart) other → right.can_next other
+        → left.draw_gives s (Some range) next → left.can_draw next
+        → right.draw_gives t (Some counterpart) other → right.can_draw other
         → interval_of rank range ≡ interval_of rank counterpart
         → SameSoFar next other
     same-more range counterpart next other left_call left_ready right_call right_ready same =
@@ -72,7 +77,7 @@ module _ {L R T : Type 0} (rank : T → ℕ) (n : ℕ) (left : Source L T) (righ
         }
 
     -- where both end, they have the same members
-    both-end : (next : L) (other : R) → left.steps s None next → right.steps t None other
+    both-end : (next : L) (other : R) → left.draw_gives s None next → right.draw_gives t None other
         → SomeOutcomes (left.may_give first) (right.may_give second)
         (λ one two. IsTrue true ↔ Agree n (members one) (members two))
     both-end next other left_call right_call = λ nothing.
@@ -99,8 +104,8 @@ module _ {L R T : Type 0} (rank : T → ℕ) (n : ℕ) (left : Source L T) (righ
 
       -- where the left stream ends, they have the same members exactly where the right one does too
       pub left-ends : (item : Option (RangeInclusive T)) (test : Bool) (next : L) (other : R)
-          → left.steps s None next → right.steps t item other
-          → MakesProgress right.can_next right.remaining t item other → is_some item ≡ not test
+          → left.draw_gives s None next → right.draw_gives t item other
+          → MakesProgress right.can_draw right.draws_left t item other → is_some item ≡ not test
           → SomeOutcomes (left.may_give first) (right.may_give second)
           (λ one two. IsTrue test ↔ Agree n (members one) (members two))
       left-ends None true next other left_call right_call goes is =
@@ -116,7 +121,7 @@ module _ {L R T : Type 0} (rank : T → ℕ) (n : ℕ) (left : Source L T) (righ
 
       -- where the right stream alone ends, they have other members
       pub right-ends : (range : RangeInclusive T) (next : L) (other : R)
-          → left.steps s (Some range) next → left.can_next next → right.steps t None other
+          → left.draw_gives s (Some range) next → left.can_draw next → right.draw_gives t None other
           → SomeOutcomes (left.may_give first) (right.may_give second)
           (λ one two. IsTrue false ↔ Agree n (members one) (members two))
       right-ends range next other left_call ready right_call = λ nothing.
@@ -128,8 +133,8 @@ module _ {L R T : Type 0} (rank : T → ℕ) (n : ℕ) (left : Source L T) (righ
 
       -- where they answer ranges with other ranks, they have other members
       pub ranges-differ : (range counterpart : RangeInclusive T) (next : L) (other : R)
-          → left.steps s (Some range) next → left.can_next next
-          → right.steps t (Some counterpart) other → right.can_next other
+          → left.draw_gives s (Some range) next → left.can_draw next
+          → right.draw_gives t (Some counterpart) other → right.can_draw other
           → ¬ (interval_of rank range ≡ interval_of rank counterpart)
           → SomeOutcomes (left.may_give first) (right.may_give second)
           (λ one two. IsTrue false ↔ Agree n (members one) (members two))

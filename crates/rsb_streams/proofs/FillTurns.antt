@@ -1,4 +1,6 @@
 -- One answer of the runs and gaps of a stream.
+use Rattle.rsb_integer.specs.declared.integer.Integer.{Ghosts as Elements}
+use Rattle.rsb_streams.specs.declared.draw.Draw.{Ghosts as Stream}
 use Rattle.std.proofs.Common.{◌≡◌, ◌↔◌, ℕ, ◌+◌, ◌-◌, ◌<◌, ◌≤◌, Bool, true, false, List, [], ◌∷◌, refl, sym, ap, ◌∙◌, subst, arith}
 use Rattle.std.proofs.lemmas.List.Elements.{All-tail}
 use Rattle.std.specs.Prelude.{Option, Some, None, IfSome, IsNone}
@@ -11,36 +13,38 @@ use Rattle.rsb_integer.proofs.CanonicalLemmas.{canonical-lower}
 use Rattle.rsb_streams.specs.FillGapsIter.{FilledOutcomes, FillsFrom, values_from, FillSteps, GivesFilled, fill_can_next, fill_may_give, fill_remaining, fills_after}
 use Rattle.rsb_streams.specs.NotIter.{NotReady}
 use Rattle.rsb_streams.specs.Outcomes.{canonical-sorted, sorted-below}
-use Rattle.rsb_streams.specs.PutBack.{IsFresh, IsPutBack}
+use Rattle.rsb_streams.specs.PutBack.{put_back, IsFresh, IsPutBack}
 use Rattle.rsb_streams.specs.Stream.{◌⊆◌, SomeOutcome}
 use Rattle.rsb_streams.specs.declared.fill_gaps_iter.FillGapsIter.{FillGapsIter}
 use Rattle.rsb_streams.specs.declared.put_back.PutBack.{PutBack}
 use Rattle.rsb_streams.proofs.FillLemmas.{fills-all, fills-end, fills-gap, fills-last, fills-run}
 use Rattle.rsb_streams.proofs.Compare.{next-value}
 use Rattle.rsb_streams.proofs.NotTurns.{answered}
-use Rattle.rsb_streams.proofs.Sources.{Source, IsLawful, put_back_source, put_back-lawful, fresh-may, fresh-ready, put_back-may, put_back-ready, range-start, range-end}
+use Rattle.rsb_streams.proofs.Sources.{IsLawful, fresh-may, fresh-ready, put_back-lawful, put_back-may, put_back-ready, range-end, range-start}
 use Rattle.rsb_streams.proofs.UnionLemmas.{head-sorted}
 
-module _ {I T : Type 0} (rank : T → ℕ) (n : ℕ) (source : Source I T) where
+module _ {I T N : Type 0} (integer : Elements T N) (source : Stream I T N) where
+  open integer use {rank, value_count as n}
+
   -- the stream, with what is put back
-  abbrev held : Source (PutBack T I) T
-  held = put_back_source rank n source
+  abbrev held : Stream (PutBack T I) T N
+  held = put_back integer source
 
   -- the stream is ready for a gap from a value on
   abbrev Ready : PutBack T I → T → Type 0
-  Ready = NotReady rank n held.can_next held.may_give
+  Ready = NotReady integer held
 
   -- the runs and gaps may be asked for
   abbrev can : FillGapsIter T I → Type 0
-  can = fill_can_next rank n source.can_next source.may_give
+  can = fill_can_next integer source
 
   -- what they may be
   abbrev may : FillGapsIter T I → FilledOutcomes
-  may = fill_may_give rank n source.may_give
+  may = fill_may_give integer source
 
   -- what is known of a call
   abbrev Answered : FillGapsIter T I → Option (RangeInclusive T × Bool) → FillGapsIter T I → Type 0
-  Answered = FillSteps rank n source.can_next source.may_give
+  Answered = FillSteps integer source
 
   -- a state
   abbrev state : PutBack T I → Option T → FillGapsIter T I
@@ -51,13 +55,13 @@ module _ {I T : Type 0} (rank : T → ℕ) (n : ℕ) (source : Source I T) where
       (begins : s.start ≡ Some least) (is_least : rank least ≡ 0)
       (canonical : source.may_give iter ⊆ IsCanonicalIn n) where
     -- they may be asked for where the stream may be drawn from
-    pub fresh-can : source.can_next iter → 2 ≤ n → can s
+    pub fresh-can : source.can_draw iter → 2 ≤ n → can s
     fresh-can drawable some = subst (λ start. can (state s.iter start)) (sym begins) (record {
-      callable = fresh-ready rank n source iter s.iter fresh drawable (λ runs at.
+      callable = fresh-ready integer source iter s.iter fresh drawable (λ runs at.
           let all = canonical runs at in canonical-sorted n 0 runs all.0 all.1);
       value = omega (arith, is_least, some);
       ahead = λ runs at. subst (λ from. IsCanonicalFrom from runs) (sym is_least)
-          (canonical runs (fresh-may rank n source iter s.iter fresh runs at)).0;
+          (canonical runs (fresh-may integer source iter s.iter fresh runs at)).0;
     })
 
     -- they are the filled list of what the stream may give
@@ -65,14 +69,14 @@ module _ {I T : Type 0} (rank : T → ℕ) (n : ℕ) (source : Source I T) where
     fresh-filled pairs at = λ nothing.
         subst (λ start. fills_after rank n start (held.may_give s.iter) pairs) begins at
         (λ given might fills.
-        let given_may = fresh-may rank n source iter s.iter fresh given might in
+        let given_may = fresh-may integer source iter s.iter fresh given might in
         nothing given given_may (fills-all n given pairs (canonical given given_may)
         (subst (λ from. FillsFrom n from given pairs) is_least fills)))
 
-  module _ (laws : IsLawful rank n source) where
+  module _ (laws : IsLawful integer source) where
     -- the stream with what is put back keeps the laws
-    held_laws : IsLawful rank n held
-    held_laws = put_back-lawful rank n source laws
+    held_laws : IsLawful integer held
+    held_laws = put_back-lawful integer source laws
 
     module _ (i j : PutBack T I) (now : Option T) (start : T) (ready_now : can (state i now))
         (is : now ≡ Some start) where
@@ -94,13 +98,13 @@ module _ {I T : Type 0} (rank : T → ℕ) (n : ℕ) (source : Source I T) where
       -- ---- the stream has ended
 
       -- the gap to the greatest value
-      pub last-gap : (greatest : T) (answer : RangeInclusive T) → held.steps i None j
+      pub last-gap : (greatest : T) (answer : RangeInclusive T) → held.draw_gives i None j
           → rank greatest + 1 ≡ n → range_inclusive_exhausted answer ≡ false
           → range_inclusive_start answer ≡ start → range_inclusive_end answer ≡ greatest
           → Answered (state i now) (Some (answer, false)) (state j None)
       last-gap greatest answer call top fresh from to =
           let low = ready.value in
-          let gap = answered rank n held start greatest answer fresh from to in
+          let gap = answered integer held start greatest answer fresh from to in
           answers-at (answer, false) (state j None) (λ rest none nothing.
           nothing [] (held_laws.answers i j None call)
           (subst (λ each. FillsFrom n (rank start) [] ((interval_of rank answer, false) ∷ each))
@@ -110,8 +114,8 @@ module _ {I T : Type 0} (rank : T → ℕ) (n : ℕ) (source : Source I T) where
           (omega (arith, low, top)) top))))
 
       -- ---- one range of the stream
-      module _ (range : RangeInclusive T) (call : held.steps i (Some range) j)
-          (goes : MakesProgress held.can_next held.remaining i (Some range) j) where
+      module _ (range : RangeInclusive T) (call : held.draw_gives i (Some range) j)
+          (goes : MakesProgress held.can_draw held.draws_left i (Some range) j) where
         -- the ranks of the range
         abbrev run : Interval
         run = interval_of rank range
@@ -159,12 +163,12 @@ module _ {I T : Type 0} (rank : T → ℕ) (n : ℕ) (source : Source I T) where
           -- the stream is ready for the range
           ready-run : can (state w (Some next))
           ready-run = record {
-            callable = put_back-ready rank n source range j w call.room put goes.keeps
+            callable = put_back-ready integer source range j w call.room put goes.keeps
                 (λ rest at. ready.callable.sorted (run ∷ rest) (comes rest at).0);
             value = let all = facts in let is_first = first in
                 omega (arith, all.1, all.2, is_first);
             ahead = λ runs at.
-                let found = put_back-may rank n source range j w runs call.room put at in
+                let found = put_back-may integer source range j w runs call.room put at in
                 let canonical = (comes found.0 found.1).1 in
                 let is_first = first in
                 subst (IsCanonicalFrom (rank next)) (sym found.2)
@@ -177,12 +181,12 @@ module _ {I T : Type 0} (rank : T → ℕ) (n : ℕ) (source : Source I T) where
               → range_inclusive_end answer ≡ last
               → Answered (state i now) (Some (answer, false)) (state w (Some next))
           gap-answers last answer one fresh from to =
-              let gap = answered rank n held start last answer fresh from to in
+              let gap = answered integer held start last answer fresh from to in
               let all = facts in
               let is_first = first in
               answers-at (answer, false) (state w (Some next)) (λ rest at nothing.
               at (λ given might fills.
-              let found = put_back-may rank n source range j w given call.room put might in
+              let found = put_back-may integer source range j w given call.room put might in
               let canonical = (comes found.0 found.1).1 in
               let fills_run : FillsFrom n run.first (run ∷ found.0) rest =
               subst (λ each. FillsFrom n run.first each rest) found.2
@@ -196,7 +200,7 @@ module _ {I T : Type 0} (rank : T → ℕ) (n : ℕ) (source : Source I T) where
 
           -- and fewer values lie from there on
           pub gap-goes : (answer : RangeInclusive T)
-              → MakesProgress {A = RangeInclusive T × Bool} can (fill_remaining rank n) (state i now) (Some (answer, false))
+              → MakesProgress {A = RangeInclusive T × Bool} can (fill_remaining integer) (state i now) (Some (answer, false))
               (state w (Some next))
           gap-goes answer =
               let after = ready-run in
@@ -271,7 +275,7 @@ module _ {I T : Type 0} (rank : T → ℕ) (n : ℕ) (source : Source I T) where
               omega (arith, begin, all.1, all.2, is_first, is_last, more)
 
           -- so the call makes progress
-          pub run-goes : MakesProgress {A = RangeInclusive T × Bool} can (fill_remaining rank n) (state i now)
+          pub run-goes : MakesProgress {A = RangeInclusive T × Bool} can (fill_remaining integer) (state i now)
               (Some (range, true)) (state j next)
           run-goes =
               let past = ready-past next none more in

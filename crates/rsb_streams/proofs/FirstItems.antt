@@ -1,4 +1,6 @@
 -- What the first call of `next` tells.
+use Rattle.rsb_integer.specs.declared.integer.Integer.{Ghosts as Elements}
+use Rattle.rsb_streams.specs.declared.draw.Draw.{Ghosts as Stream}
 use Rattle.std.proofs.Common.{◌≡◌, ◌↔◌, ℕ, ◌+◌, ◌<◌, ◌≤◌, Bool, true, false, not, nat_le, List, [], ◌∷◌, refl, ◌∙◌, inl, inr, arith}
 use Rattle.std.proofs.lemmas.Bool.Decides.{nat_tests}
 use Rattle.std.specs.Prelude.{Option, Some, None, IsTrue, is_some}
@@ -11,14 +13,16 @@ use Rattle.rsb_integer.proofs.ListLemmas.{not_both}
 use Rattle.rsb_integer.proofs.MembersLemmas.{members-below, members-head, members-tail}
 use Rattle.rsb_streams.specs.Outcomes.{canonical-sorted}
 use Rattle.rsb_streams.specs.Stream.{◌⊆◌, SomeOutcome}
-use Rattle.rsb_streams.proofs.Sources.{Source, IsLawful}
+use Rattle.rsb_streams.proofs.Sources.{IsLawful}
 use Rattle.rsb_streams.proofs.UnionLemmas.{head-sorted}
 
-module _ {S T : Type 0} (rank : T → ℕ) (n : ℕ) (source : Source S T) (laws : IsLawful rank n source)
-    (s t : S) (ready : source.can_next s) where
+module _ {S T N : Type 0} (integer : Elements T N) (source : Stream S T N) (laws : IsLawful integer source)
+    (s t : S) (ready : source.can_draw s) where
+  open integer use {rank, value_count as n}
+
   -- nothing comes exactly where there is no member
-  pub tells-nothing : (item : Option (RangeInclusive T)) (test : Bool) → source.steps s item t
-      → MakesProgress source.can_next source.remaining s item t → is_some item ≡ not test
+  pub tells-nothing : (item : Option (RangeInclusive T)) (test : Bool) → source.draw_gives s item t
+      → MakesProgress source.can_draw source.draws_left s item t → is_some item ≡ not test
       → SomeOutcome (source.may_give s) (λ runs. IsTrue test ↔ IsNothing (members runs))
   tells-nothing None true call goes is =
       λ nothing. nothing [] (laws.answers s t None call) ((λ _ place. refl), (λ _. refl))
@@ -37,8 +41,8 @@ module _ {S T : Type 0} (rank : T → ℕ) (n : ℕ) (source : Source S T) (laws
 
   -- what holds of each canonical list that begins with the first range holds of what comes
   pub first-tells : (range : RangeInclusive T) (Fact : List Interval → Type 0)
-      → source.steps s (Some range) t
-      → MakesProgress source.can_next source.remaining s (Some range) t
+      → source.draw_gives s (Some range) t
+      → MakesProgress source.can_draw source.draws_left s (Some range) t
       → source.may_give s ⊆ IsCanonicalIn n
       → ((rest : List Interval) → IsCanonicalIn n (interval_of rank range ∷ rest)
       → Fact (interval_of rank range ∷ rest))
@@ -50,8 +54,8 @@ module _ {S T : Type 0} (rank : T → ℕ) (n : ℕ) (source : Source S T) (laws
       (fact rest (canonical (interval_of rank range ∷ rest) before)))
 
   -- the first range is in order, and lies in the type
-  pub first-range : (range : RangeInclusive T) → source.steps s (Some range) t
-      → MakesProgress source.can_next source.remaining s (Some range) t
+  pub first-range : (range : RangeInclusive T) → source.draw_gives s (Some range) t
+      → MakesProgress source.can_draw source.draws_left s (Some range) t
       → ((interval_of rank range).first ≤ (interval_of rank range).last)
       × ((interval_of rank range).last < n)
   first-range range call goes =

@@ -2,51 +2,53 @@
 use Rattle.std.proofs.Common.{◌≡◌, ℕ, List, [], ◌∷◌, ◌++◌, refl, sym, ap, ◌∙◌, subst, inl, inr, arith}
 use Rattle.std.proofs.lemmas.List.{append-nil, map-append}
 use Rattle.std.specs.Prelude.{Option, Some, None}
-use Rattle.std.specs.Iterator.{Count, IsFinite, Yields, YieldsFirst, item_count}
+use Rattle.std.specs.Iterator.{IsFinite, Yields, YieldsFirst, item_count}
+use Rattle.std.specs.declared.iter.Iterator.{Ghosts as Iteration}
 use Rattle.std.specs.declared.ops.RangeInclusive.{RangeInclusive}
 use Rattle.rsb_integer.specs.Rank.{interval_of, intervals_of}
 use Rattle.rsb_integer.specs.Runs.{IsCanonicalIn}
 use Rattle.rsb_integer.proofs.CanonicalLemmas.{canonical-front, canonical-tail}
-use Rattle.rsb_streams.specs.Calls.{Call, IsSource, calls_give, calls-steps}
+use Rattle.rsb_streams.specs.Calls.{Call, IsSource, calls_give}
+use Rattle.rsb_streams.specs.CallsLaws.{calls-steps}
 use Rattle.rsb_streams.specs.Stream.{◌⊆◌, just}
 
-module _ {S T : Type 0} (rank : T → ℕ) (can_next : S → Type 0)
-    (steps : S → Option (RangeInclusive T) → S → Type 0) (remaining : S → Count)
+module _ {S T : Type 0} (rank : T → ℕ) (iterator : Iteration S (RangeInclusive T))
     (left : S → List (RangeInclusive T))
-    (some : (s t : S) (range : RangeInclusive T) → steps s (Some range) t → left s ≡ range ∷ left t)
-    (none : (s t : S) → steps s None t → left s ≡ []) where
+    (some : (s t : S) (range : RangeInclusive T) → iterator.next_gives s (Some range) t
+    → left s ≡ range ∷ left t)
+    (none : (s t : S) → iterator.next_gives s None t → left s ≡ []) where
   -- calls give the list from its head on
-  pub listed-yields : (ranges : List (RangeInclusive T)) (s t : S) → Yields steps s ranges t
+  pub listed-yields : (ranges : List (RangeInclusive T)) (s t : S) → Yields iterator.next_gives s ranges t
       → left s ≡ ranges ++ left t
   listed-yields [] s t all = ap left all
   listed-yields (range ∷ ranges) s t all =
       some s all.0 range all.1 ∙ ap (λ rest. range ∷ rest) (listed-yields ranges all.0 t all.2)
 
-  module _ (finite : (s : S) → IsFinite (remaining s))
-      (more : (s : S) (range : RangeInclusive T) (ranges : List (RangeInclusive T)) → can_next s
+  module _ (finite : (s : S) → IsFinite (iterator.remaining s))
+      (more : (s : S) (range : RangeInclusive T) (ranges : List (RangeInclusive T)) → iterator.can_next s
       → left s ≡ range ∷ ranges → (t : S)
-      × Call rank can_next steps remaining s (Some range) t) where
+      × Call rank iterator s (Some range) t) where
     -- calls give a front of the list, leave the rest, and another call may be made
-    called : (ranges : List (RangeInclusive T)) (s t : S) → can_next s
-        → Yields (Call rank can_next steps remaining) s ranges t → (left s ≡ ranges ++ left t)
-        × can_next t
-    called [] s t can all = (ap left all, subst can_next all can)
+    called : (ranges : List (RangeInclusive T)) (s t : S) → iterator.can_next s
+        → Yields (Call rank iterator) s ranges t → (left s ≡ ranges ++ left t)
+        × iterator.can_next t
+    called [] s t can all = (ap left all, subst iterator.can_next all can)
     called (range ∷ ranges) s t can all =
         let rest = called ranges all.0 t (all.1.nearer (finite s)).0 all.2 in
         (some s all.0 range all.1.gives ∙ ap (λ rest. range ∷ rest) rest.0, rest.1)
 
     -- where no call gives a range, none is left
-    stuck : (t : S) → can_next t
+    stuck : (t : S) → iterator.can_next t
         → ((range : RangeInclusive T) (u : S)
-        → ¬ (Call rank can_next steps remaining t (Some range) u))
+        → ¬ (Call rank iterator t (Some range) u))
         → (ranges : List (RangeInclusive T)) → left t ≡ ranges → ranges ≡ []
     stuck t can never [] is = refl
     stuck t can never (range ∷ ranges) is =
         let next = more t range ranges can is in absurd (never range next.0 next.1)
 
     -- the calls give the whole list, and nothing else
-    pub listed-calls : (s : S) → can_next s
-        → calls_give rank can_next steps remaining s ⊆ just (intervals_of rank (left s))
+    pub listed-calls : (s : S) → iterator.can_next s
+        → calls_give rank iterator s ⊆ just (intervals_of rank (left s))
     listed-calls s can runs at =
         let ranges = at.0 in
         let all = called ranges s at.1 can at.3 in
@@ -63,28 +65,24 @@ module _ {T : Type 0} (rank : T → ℕ) (n : ℕ) where
   abbrev Ranges : Type 0
   Ranges = List (RangeInclusive T)
 
-  -- it may be called where they are canonical
-  abbrev can : Ranges → Type 0
-  can ranges = IsCanonicalIn n (intervals_of rank ranges)
-
-  -- a call gives the first of them
-  abbrev first : Ranges → Option (RangeInclusive T) → Ranges → Type 0
-  first = YieldsFirst (λ ranges. ranges)
-
-  -- how many are left
-  abbrev size_of : Ranges → Count
-  size_of = item_count (λ ranges. ranges)
+  -- it may be called where they are canonical, and a call gives the first of them
+  abbrev pub itself : Iteration Ranges (RangeInclusive T)
+  itself = record {
+    can_next = λ ranges. IsCanonicalIn n (intervals_of rank ranges);
+    next_gives = YieldsFirst (λ ranges. ranges);
+    remaining = item_count (λ ranges. ranges);
+  }
 
   -- where a range is left, a call gives it
-  more-left : (s : Ranges) (range : RangeInclusive T) (ranges : Ranges) → can s → s ≡ range ∷ ranges
-      → (t : Ranges) × Call rank can first size_of s (Some range) t
+  more-left : (s : Ranges) (range : RangeInclusive T) (ranges : Ranges) → itself.can_next s → s ≡ range ∷ ranges
+      → (t : Ranges) × Call rank itself s (Some range) t
   more-left s range ranges canonical is = (
     ranges,
     record {
       gives = is;
       nearer = λ finite. (
         canonical-tail n (interval_of rank range) (intervals_of rank ranges)
-            (subst can is canonical),
+            (subst itself.can_next is canonical),
         tt,
         rw is (omega arith),
       );
@@ -92,21 +90,21 @@ module _ {T : Type 0} (rank : T → ℕ) (n : ℕ) where
   )
 
   -- its calls give it
-  pub list-calls : (s : Ranges) → can s
-      → calls_give rank can first size_of s ⊆ just (intervals_of rank s)
+  pub list-calls : (s : Ranges) → itself.can_next s
+      → calls_give rank itself s ⊆ just (intervals_of rank s)
   list-calls =
-      listed-calls rank can first size_of (λ ranges. ranges) (λ s t range call. call)
+      listed-calls rank itself (λ ranges. ranges) (λ s t range call. call)
       (λ s t call. call.0)
       (λ s. tt) more-left
 
   -- and it is a source
-  pub list-source : (s : Ranges) → can s → IsSource rank can first size_of (IsCanonicalIn n) s
+  pub list-source : (s : Ranges) → itself.can_next s → IsSource rank itself (IsCanonicalIn n) s
   list-source s canonical = record {
     callable = canonical;
     finite = tt;
     fronts = λ ranges t all.
-        let whole = listed-yields rank can first size_of (λ each. each) (λ s t range call. call)
-        (λ s t call. call.0) ranges s t (calls-steps rank can first size_of ranges s t all) in
+        let whole = listed-yields rank itself (λ each. each) (λ s t range call. call)
+        (λ s t call. call.0) ranges s t (calls-steps rank itself ranges s t all) in
         canonical-front n (intervals_of rank ranges) (intervals_of rank t)
         (subst (IsCanonicalIn n) (ap (intervals_of rank) whole ∙ map-append (interval_of rank) ranges t)
         canonical);

@@ -1,4 +1,6 @@
 -- One answer of a merge.
+use Rattle.rsb_integer.specs.declared.integer.Integer.{Ghosts as Elements}
+use Rattle.rsb_streams.specs.declared.draw.Draw.{Ghosts as Stream}
 use Rattle.std.proofs.Common.{◌≡◌, ℕ, ◌<◌, ◌≤◌, List, [], ◌∷◌, refl, sym, subst, inl, inr, arith}
 use Rattle.std.specs.Prelude.{Option, Some, None}
 use Rattle.std.specs.Iterator.{MakesProgress}
@@ -6,12 +8,13 @@ use Rattle.std.specs.Range.{range_inclusive_start}
 use Rattle.std.specs.declared.ops.RangeInclusive.{RangeInclusive}
 use Rattle.rsb_integer.specs.Rank.{interval_of}
 use Rattle.rsb_integer.specs.Runs.{Interval}
-use Rattle.rsb_streams.specs.Merge.{MergeReady, merge_may_give, merge_remaining, merge-starts, both-finite}
-use Rattle.rsb_streams.specs.PutBack.{IsPutBack, put_back-rests}
-use Rattle.rsb_streams.specs.Stream.{Outcomes, ◌⊆◌, just, merges, AnswersAndRests, HasSortedStarts, HasSortedStartsFrom, IsMergeOf}
+use Rattle.rsb_streams.specs.Merge.{merge}
+use Rattle.rsb_streams.specs.MergeLaws.{both-finite, merge-starts}
+use Rattle.rsb_streams.specs.PutBack.{put_back, IsPutBack}
+use Rattle.rsb_streams.specs.Stream.{Outcomes, ◌⊆◌, just, merges, HasSortedStarts, HasSortedStartsFrom, IsMergeOf}
 use Rattle.rsb_streams.specs.declared.merge.Merge.{Merge}
 use Rattle.rsb_streams.specs.declared.put_back.PutBack.{PutBack}
-use Rattle.rsb_streams.proofs.Sources.{Source, IsLawful, put_back_source, put_back-lawful, range-start, put_back-may, put_back-ready, put_back-size}
+use Rattle.rsb_streams.proofs.Sources.{IsLawful, put_back-lawful, put_back-may, put_back-ready, put_back-rests, put_back-size, range-start}
 use Rattle.rsb_streams.proofs.UnionLemmas.{head-sorted}
 
 -- ---- outcomes, in a type of n values
@@ -56,42 +59,45 @@ no-merges n P Q first second (run ∷ runs) may = absurd (may (λ left right at 
     (subst (λ each. IsMergeOf each [] (run ∷ runs)) (first left at) merged) in
     absurd (cc)))
 
-module _ {L R T : Type 0} (rank : T → ℕ) (n : ℕ) (left : Source L T) (right : Source R T)
-    (left_laws : IsLawful rank n left) (right_laws : IsLawful rank n right) where
+module _ {L R T N : Type 0} (integer : Elements T N) (left : Stream L T N)
+    (right : Stream R T N)
+    (left_laws : IsLawful integer left) (right_laws : IsLawful integer right) where
+  open integer use {rank, value_count as n}
+
   -- the left stream, with what is put back
-  abbrev lefts : Source (PutBack T L) T
-  lefts = put_back_source rank n left
+  abbrev lefts : Stream (PutBack T L) T N
+  lefts = put_back integer left
 
   -- the right stream, with what is put back
-  abbrev rights : Source (PutBack T R) T
-  rights = put_back_source rank n right
+  abbrev rights : Stream (PutBack T R) T N
+  rights = put_back integer right
 
   -- the left one keeps the laws
-  left_held : IsLawful rank n lefts
-  left_held = put_back-lawful rank n left left_laws
+  left_held : IsLawful integer lefts
+  left_held = put_back-lawful integer left left_laws
 
   -- the right one keeps the laws
-  right_held : IsLawful rank n rights
-  right_held = put_back-lawful rank n right right_laws
+  right_held : IsLawful integer rights
+  right_held = put_back-lawful integer right right_laws
 
   -- the merge may be called
   abbrev Ready : Merge T L R → Type 0
-  Ready = MergeReady rank n left.can_next left.may_give right.can_next right.may_give
+  Ready = (merge integer left right).can_draw
 
   -- what the merge may give
   abbrev may : Merge T L R → Outcomes
-  may = merge_may_give rank n left.may_give right.may_give
+  may = (merge integer left right).may_give
 
   -- what is known of a call of the merge
   abbrev Answered : Merge T L R → Option (RangeInclusive T) → Merge T L R → Type 0
-  Answered = AnswersAndRests rank Ready may
+  Answered = (merge integer left right).draw_gives
 
   -- nothing comes of the left stream
   pub only-right : (s t : Merge T L R) (item : Option (RangeInclusive T)) → Ready s
-      → lefts.steps s.left None t.left → rights.steps s.right item t.right → Answered s item t
+      → lefts.draw_gives s.left None t.left → rights.draw_gives s.right item t.right → Answered s item t
   only-right s t None ready none call =
-      let first = put_back-rests rank n left.can_next left.may_give left.steps s.left t.left none in
-      let second = put_back-rests rank n right.can_next right.may_give right.steps s.right t.right
+      let first = put_back-rests integer left s.left t.left none in
+      let second = put_back-rests integer right s.right t.right
       call in
       record {
         answers = λ nothing. nothing [] [] (left_held.answers s.left t.left None none)
@@ -102,7 +108,7 @@ module _ {L R T : Type 0} (rank : T → ℕ) (n : ℕ) (left : Source L T) (righ
         );
       }
   only-right s t (Some range) ready none call =
-      let first = put_back-rests rank n left.can_next left.may_give left.steps s.left t.left none in
+      let first = put_back-rests integer left s.left t.left none in
       record {
         answers = head-right n (lefts.may_give s.left) (rights.may_give s.right)
             (lefts.may_give t.left)
@@ -115,10 +121,10 @@ module _ {L R T : Type 0} (rank : T → ℕ) (n : ℕ) (left : Source L T) (righ
 
   -- nothing more comes of the right stream
   pub only-left : (s t : Merge T L R) (range : RangeInclusive T) → Ready s
-      → lefts.steps s.left (Some range) t.left → rights.steps s.right None t.right
+      → lefts.draw_gives s.left (Some range) t.left → rights.draw_gives s.right None t.right
       → Answered s (Some range) t
   only-left s t range ready call none =
-      let second = put_back-rests rank n right.can_next right.may_give right.steps s.right t.right
+      let second = put_back-rests integer right s.right t.right
       none in
       record {
         answers = head-left n (lefts.may_give s.left) (rights.may_give s.right)
@@ -133,10 +139,10 @@ module _ {L R T : Type 0} (rank : T → ℕ) (n : ℕ) (left : Source L T) (righ
   -- both streams give a range
   module _ (s : Merge T L R) (u : PutBack T L) (v : PutBack T R) (first second : RangeInclusive T)
       (ready : Ready s)
-      (left_call : lefts.steps s.left (Some first) u)
-      (right_call : rights.steps s.right (Some second) v)
-      (left_goes : MakesProgress lefts.can_next lefts.remaining s.left (Some first) u)
-      (right_goes : MakesProgress rights.can_next rights.remaining s.right (Some second) v) where
+      (left_call : lefts.draw_gives s.left (Some first) u)
+      (right_call : rights.draw_gives s.right (Some second) v)
+      (left_goes : MakesProgress lefts.can_draw lefts.draws_left s.left (Some first) u)
+      (right_goes : MakesProgress rights.can_draw rights.draws_left s.right (Some second) v) where
     -- the left range is non-empty and lies in the type
     left_first : (0 ≤ (interval_of rank first).first)
         × ((interval_of rank first).first ≤ (interval_of rank first).last)
@@ -173,7 +179,7 @@ module _ {L R T : Type 0} (rank : T → ℕ) (n : ℕ) (left : Source L T) (righ
       held-left : (runs : List Interval) → lefts.may_give w runs
           → lefts.may_give s.left runs × HasSortedStartsFrom n (interval_of rank second).first runs
       held-left runs at =
-          let found = put_back-may rank n left first u w runs left_call.room put at in
+          let found = put_back-may integer left first u w runs left_call.room put at in
           let before = left_held.answers s.left u (Some first) left_call found.0 found.1 in
           let sorted = ready.left.sorted (interval_of rank first ∷ found.0) before in
           let low = range-start rank first left_first.1 in
@@ -197,22 +203,22 @@ module _ {L R T : Type 0} (rank : T → ℕ) (n : ℕ) (left : Source L T) (righ
       }
 
       -- the merge may be called again, and is nearer its end
-      pub right-goes : MakesProgress Ready (merge_remaining left.remaining right.remaining) s
+      pub right-goes : MakesProgress Ready (merge integer left right).draws_left s
           (Some second)
           (record { left = w; right = v })
       right-goes =
           let one = left_goes.on (left_held.sorted s.left ready.left).ends in
           let two = right_goes.on (right_held.sorted s.right ready.right).ends in
-          let back = put_back-ready rank n left first u w left_call.room put one.0
+          let back = put_back-ready integer left first u w left_call.room put one.0
           (λ rest at. ready.left.sorted (interval_of rank first ∷ rest)
           (left_held.answers s.left u (Some first) left_call rest at)) in
-          let more = put_back-size rank n left first u w left_call.room put in
+          let more = put_back-size integer left first u w left_call.room put in
           let after : Ready (record { left = w; right = v }) = record
           { left = back; right = two.0 } in
           record {
             on = λ finite. (
               after,
-              both-finite (lefts.remaining w) (rights.remaining v) (left_held.sorted w back).ends
+              both-finite (lefts.draws_left w) (rights.draws_left v) (left_held.sorted w back).ends
                   two.1,
               omega (arith, more, one.2, two.2),
             );
@@ -228,7 +234,7 @@ module _ {L R T : Type 0} (rank : T → ℕ) (n : ℕ) (left : Source L T) (righ
       held-right : (runs : List Interval) → rights.may_give w runs
           → rights.may_give s.right runs × HasSortedStartsFrom n (interval_of rank first).first runs
       held-right runs at =
-          let found = put_back-may rank n right second v w runs right_call.room put at in
+          let found = put_back-may integer right second v w runs right_call.room put at in
           let before = right_held.answers s.right v (Some second) right_call found.0 found.1 in
           let sorted = ready.right.sorted (interval_of rank second ∷ found.0) before in
           let low = range-start rank first left_first.1 in
@@ -252,22 +258,22 @@ module _ {L R T : Type 0} (rank : T → ℕ) (n : ℕ) (left : Source L T) (righ
       }
 
       -- the merge may be called again, and is nearer its end
-      pub left-goes : MakesProgress Ready (merge_remaining left.remaining right.remaining) s
+      pub left-goes : MakesProgress Ready (merge integer left right).draws_left s
           (Some first)
           (record { left = u; right = w })
       left-goes =
           let one = left_goes.on (left_held.sorted s.left ready.left).ends in
           let two = right_goes.on (right_held.sorted s.right ready.right).ends in
-          let back = put_back-ready rank n right second v w right_call.room put two.0
+          let back = put_back-ready integer right second v w right_call.room put two.0
           (λ rest at. ready.right.sorted (interval_of rank second ∷ rest)
           (right_held.answers s.right v (Some second) right_call rest at)) in
-          let more = put_back-size rank n right second v w right_call.room put in
+          let more = put_back-size integer right second v w right_call.room put in
           let after : Ready (record { left = u; right = w }) = record
           { left = one.0; right = back } in
           record {
             on = λ finite. (
               after,
-              both-finite (lefts.remaining u) (rights.remaining w) one.1
+              both-finite (lefts.draws_left u) (rights.draws_left w) one.1
                   (right_held.sorted w back).ends,
               omega (arith, more, one.2, two.2),
             );

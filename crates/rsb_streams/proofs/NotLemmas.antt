@@ -9,9 +9,11 @@ use Rattle.rsb_integer.specs.Selection.{Selection, Agree, complement}
 use Rattle.rsb_integer.proofs.CanonicalLemmas.{canonical-lower}
 use Rattle.rsb_integer.proofs.MembersLemmas.{members-below, members-head, members-tail}
 use Rattle.rsb_integer.proofs.RunsLemmas.{runs-along, runs-canonical, runs-from_canonical, runs-members}
+use Rattle.rsb_integer.specs.declared.integer.Integer.{Ghosts as Elements}
 use Rattle.rsb_streams.specs.NotIter.{NotReady}
 use Rattle.rsb_streams.specs.Stream.{Outcomes, ◌⊆◌, gaps_from, runs_by}
 use Rattle.rsb_streams.proofs.UnionLemmas.{runs-start}
+use Rattle.rsb_streams.specs.declared.draw.Draw.{Ghosts as Stream}
 
 -- ---- single ranks
 
@@ -139,11 +141,13 @@ gap-last n low gap from order to =
 
 -- ---- a complement that was just made
 
-module _ {T I : Type 0} (rank : T → ℕ) (n : ℕ) (can_next : I → Type 0) (may_give : I → Outcomes)
-    (iter : I) (least : T) (is : rank least ≡ 0) where
-  -- the input may be called, and the first gap may start at the least value
-  pub fresh-ready : can_next iter → 2 ≤ n → may_give iter ⊆ IsCanonicalIn n
-      → NotReady rank n can_next may_give iter least
+module _ {T N I : Type 0} (integer : Elements T N) (source : Stream I T N) (iter : I) (least : T)
+    (is : integer.rank least ≡ 0) where
+  open integer use {rank, value_count as n}
+
+  -- the input may be drawn from, and the first gap may start at the least value
+  pub fresh-ready : source.can_draw iter → 2 ≤ n → source.may_give iter ⊆ IsCanonicalIn n
+      → NotReady integer source iter least
   fresh-ready ready some canonical = record {
     callable = ready;
     value = omega arith;
@@ -151,8 +155,8 @@ module _ {T I : Type 0} (rank : T → ℕ) (n : ℕ) (can_next : I → Type 0) (
   }
 
   -- the gaps from the least value on are the complement
-  pub fresh-gaps : runs_by n (gaps_from (rank least)) (may_give iter) ⊆ runs_by n complement
-      (may_give iter)
+  pub fresh-gaps : runs_by n (gaps_from (rank least)) (source.may_give iter) ⊆ runs_by n complement
+      (source.may_give iter)
   fresh-gaps runs at = λ nothing. at (λ given might all. nothing given might
       (runs-along n (gaps_from (rank least) (members given)) (complement (members given)) runs
       (λ place within. gaps-above (rank least) place (members given) (omega arith)) all))

@@ -1,4 +1,6 @@
 -- The loop of a complement.
+use Rattle.rsb_integer.specs.declared.integer.Integer.{Ghosts as Elements}
+use Rattle.rsb_streams.specs.declared.draw.Draw.{Ghosts as Stream}
 use Rattle.std.proofs.Common.{◌≡◌, ◌↔◌, ℕ, ◌+◌, ◌<◌, ◌≤◌, true, false, List, [], ◌∷◌, refl, sym, ap, ◌∙◌, subst, arith}
 use Rattle.std.specs.Prelude.{Option, Some, None, IfSome, IsNone}
 use Rattle.std.specs.Iterator.{Count, IsFinite, MakesProgress, size}
@@ -8,7 +10,7 @@ use Rattle.rsb_integer.specs.Rank.{interval_of}
 use Rattle.rsb_integer.specs.Runs.{Interval, members, IsCanonicalIn, AreRuns}
 use Rattle.rsb_integer.proofs.CanonicalLemmas.{canonical-lower}
 use Rattle.rsb_integer.proofs.RunsLemmas.{runs-along}
-use Rattle.rsb_streams.specs.NotIter.{NotReady, gaps_after, not_can_next, not_may_give, not_remaining}
+use Rattle.rsb_streams.specs.NotIter.{gaps_after, not_iter, NotReady}
 use Rattle.rsb_streams.specs.Outcomes.{canonical-sorted, sorted-below}
 use Rattle.rsb_streams.specs.Stream.{Outcomes, ◌⊆◌, just, gaps_from, runs_by, AnswersAndRests, HasSortedStartsFrom, SomeOutcome}
 use Rattle.rsb_streams.specs.declared.not_iter.NotIter.{NotIter}
@@ -16,25 +18,27 @@ use Rattle.std.specs.Ordering.{partial_lt}
 use Rattle.std.specs.declared.cmp.Ordering.{Ordering}
 use Rattle.rsb_streams.proofs.Compare.{IsRanked, less-rank, next-value, not_less-rank}
 use Rattle.rsb_streams.proofs.NotLemmas.{gap-then, gap-last, gaps-along, no-gaps}
-use Rattle.rsb_streams.proofs.Sources.{Source, IsLawful, range-start, range-end}
+use Rattle.rsb_streams.proofs.Sources.{IsLawful, range-start, range-end}
 use Rattle.rsb_streams.proofs.UnionLemmas.{head-sorted}
 
-module _ {I T : Type 0} (rank : T → ℕ) (n : ℕ) (source : Source I T) where
+module _ {I T N : Type 0} (integer : Elements T N) (source : Stream I T N) where
+  open integer use {rank, value_count as n}
+
   -- the input is ready for a gap from a value on
   abbrev Ready : I → T → Type 0
-  Ready = NotReady rank n source.can_next source.may_give
+  Ready = NotReady integer source
 
   -- the complement may be called
   abbrev can : NotIter T I → Type 0
-  can = not_can_next rank n source.can_next source.may_give
+  can = (not_iter integer source).can_draw
 
   -- what the complement may give
   abbrev may : NotIter T I → Outcomes
-  may = not_may_give rank n source.may_give
+  may = (not_iter integer source).may_give
 
   -- how many gaps are left at most
   abbrev left : NotIter T I → Count
-  left = not_remaining source.remaining
+  left = (not_iter integer source).draws_left
 
   -- what may come now might come at the entry
   pub record SoFar (entry now : NotIter T I) : Type 0 where
@@ -69,11 +73,11 @@ module _ {I T : Type 0} (rank : T → ℕ) (n : ℕ) (source : Source I T) where
         rests = (so.ready, nothing);
       }
 
-  module _ (laws : IsLawful rank n source) where
+  module _ (laws : IsLawful integer source) where
     -- the gap to the greatest value
     pub last-gap : (entry : NotIter T I) (i j : I) (now : Option T) (start greatest : T)
         (answer : RangeInclusive T)
-        → SoFar entry (record { iter = i; start = now }) → now ≡ Some start → source.steps i None j
+        → SoFar entry (record { iter = i; start = now }) → now ≡ Some start → source.draw_gives i None j
         → rank greatest + 1 ≡ n → range_inclusive_exhausted answer ≡ false
         → range_inclusive_start answer ≡ start → range_inclusive_end answer ≡ greatest
         → Answered entry (Some answer) (record { iter = j; start = None })
@@ -96,8 +100,8 @@ module _ {I T : Type 0} (rank : T → ℕ) (n : ℕ) (source : Source I T) where
         (next : Option T)
         (range : RangeInclusive T) (so_now : SoFar entry (record { iter = i; start = now }))
         (is : now ≡ Some start)
-        (call : source.steps i (Some range) j)
-        (goes : MakesProgress source.can_next source.remaining i (Some range) j)
+        (call : source.draw_gives i (Some range) j)
+        (goes : MakesProgress source.can_draw source.draws_left i (Some range) j)
         (from : past_gap ≡ range_inclusive_start range) (to : end ≡ range_inclusive_end range)
         (none : IsNone next ↔ (rank end + 1 ≡ n))
         (some : IfSome next (λ each. rank each ≡ rank end + 1)) where
@@ -131,7 +135,7 @@ module _ {I T : Type 0} (rank : T → ℕ) (n : ℕ) (source : Source I T) where
       starts-at = range-start rank range facts.1 ∙ sym (ap rank from)
 
       -- the two values are told apart by their ranks
-      module _ (partial_cmp : T → T → Option Ordering) (cmp : T → T → Ordering)
+      module _ {partial_cmp : T → T → Option Ordering} {cmp : T → T → Ordering}
           (ranked : IsRanked rank n partial_cmp cmp) where
         -- the gap may start at a value of the type
         low : rank start < n
@@ -143,11 +147,11 @@ module _ {I T : Type 0} (rank : T → ℕ) (n : ℕ) (source : Source I T) where
 
         -- where the gap's start is less than the range's, so is its rank
         pub gap-less : true ≡ partial_lt partial_cmp start past_gap → rank start < rank past_gap
-        gap-less test = less-rank rank n partial_cmp cmp ranked start past_gap low high test
+        gap-less test = less-rank ranked start past_gap low high test
 
         -- where it is not, the range's start has no greater rank
         pub gap-none : false ≡ partial_lt partial_cmp start past_gap → rank past_gap ≤ rank start
-        gap-none test = not_less-rank rank n partial_cmp cmp ranked start past_gap low high test
+        gap-none test = not_less-rank ranked start past_gap low high test
 
       -- the range ends at the rank of its end
       last-is : run.last ≡ rank end
@@ -227,7 +231,7 @@ module _ {I T : Type 0} (rank : T → ℕ) (n : ℕ) (source : Source I T) where
           (gaps-along n (rank start) run given (omega (arith, all.0, low, most)) all.1) runs)))
 
       -- fewer gaps are left
-      fewer : (finite : IsFinite (source.remaining i))
+      fewer : (finite : IsFinite (source.draws_left i))
           → IsFinite (left (record { iter = j; start = next }))
           × (size (left (record { iter = j; start = next })) < size (left entry))
       fewer finite = fewer-by next
@@ -242,7 +246,7 @@ module _ {I T : Type 0} (rank : T → ℕ) (n : ℕ) (source : Source I T) where
               (less.1, omega (arith, less.2))
 
       -- the input ends
-      input-ends : IsFinite (source.remaining i)
+      input-ends : IsFinite (source.draws_left i)
       input-ends = (laws.sorted i so.ready.callable).ends
 
       -- a call that answers a gap makes progress

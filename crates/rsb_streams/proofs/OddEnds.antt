@@ -1,34 +1,38 @@
 -- Where the pieces that an odd number of ranges covers begin and end.
+use Rattle.rsb_integer.specs.declared.integer.Integer.{Ghosts as Elements}
+use Rattle.rsb_streams.specs.declared.draw.Draw.{Ghosts as Stream}
 use Rattle.std.proofs.Common.{◌≡◌, ℕ, true, false, List, [], ◌∷◌, ◌++◌, sym, subst}
 use Rattle.std.specs.Prelude.{Option, Some, None}
 use Rattle.std.specs.Range.{range_inclusive_start, range_inclusive_end, range_inclusive_exhausted}
 use Rattle.std.specs.declared.ops.RangeInclusive.{RangeInclusive}
 use Rattle.rsb_integer.specs.Rank.{interval_of}
 use Rattle.rsb_integer.specs.Runs.{Interval}
-use Rattle.rsb_streams.specs.OddPieces.{odd_may_give, oddly_covered, begun_from, pieces_of, pending, ArePieces, IsTwofold, OddAnswers, OddReady, OddSoFar}
+use Rattle.rsb_streams.specs.OddPieces.{odd_may_give, oddly_covered, begun_from, pieces_of, pending, ArePieces, IsTwofold, odd_pieces}
 use Rattle.rsb_streams.specs.Stream.{Outcomes, ◌⊆◌, unless}
 use Rattle.rsb_streams.specs.declared.odd_pieces.OddPieces.{OddPieces}
 use Rattle.rsb_streams.proofs.NotTurns.{answered}
 use Rattle.rsb_streams.proofs.OddLemmas.{no-pieces, pieces-first}
-use Rattle.rsb_streams.proofs.Sources.{Source, IsLawful}
-use Rattle.rsb_streams.proofs.OddStates.{state, between}
+use Rattle.rsb_streams.proofs.Sources.{IsLawful}
+use Rattle.rsb_streams.proofs.OddStates.{OddSoFar, state, between}
 
-module _ {I T : Type 0} (rank : T → ℕ) (n : ℕ) (source : Source I T) where
+module _ {I T N : Type 0} (integer : Elements T N) (source : Stream I T N) where
+  open integer use {rank, value_count as n}
+
   -- the pieces may be drawn
   abbrev can : OddPieces T I → Type 0
-  can = OddReady rank n source.can_next source.may_give
+  can = (odd_pieces integer source).can_draw
 
   -- what they may be
   abbrev may : OddPieces T I → Outcomes
-  may = odd_may_give rank n source.may_give
+  may = odd_may_give integer source
 
   -- what may come now might come at the entry
   abbrev SoFar : OddPieces T I → OddPieces T I → Type 0
-  SoFar = OddSoFar rank n source.can_next source.may_give source.remaining
+  SoFar = OddSoFar integer source
 
   -- what is known of a call
   abbrev Answered : OddPieces T I → Option (RangeInclusive T) → OddPieces T I → Type 0
-  Answered = OddAnswers rank n source.can_next source.may_give
+  Answered = (odd_pieces integer source).draw_gives
 
   -- what the entry has, by the parts of a state that is not at its end
   pub so-by : (entry was : OddPieces T I) (held : Option T) → SoFar entry was → was.end ≡ held
@@ -42,10 +46,10 @@ module _ {I T : Type 0} (rank : T → ℕ) (n : ℕ) (source : Source I T) where
   module _ (iter : I) (s : OddPieces T I) (same_source : s.iter ≡ iter)
       (none : s.end ≡ None) where
     -- they may be drawn where the source may, and no rank lies in more than two of its ranges
-    pub fresh-going : source.can_next iter
+    pub fresh-going : source.can_draw iter
         → ((given : List Interval) → source.may_give iter given → IsTwofold n given) → can s
     fresh-going ready twofold = λ undone. record {
-      callable = subst source.can_next (sym same_source) ready;
+      callable = subst source.can_draw (sym same_source) ready;
       twofold = λ given at. subst (λ held. IsTwofold n (begun_from rank s.start held ++ given))
           (sym none) (twofold given (subst (λ each. source.may_give each given) same_source at));
     }
@@ -59,10 +63,10 @@ module _ {I T : Type 0} (rank : T → ℕ) (n : ℕ) (source : Source I T) where
         (subst (λ held. ArePieces n (oddly_covered (begun_from rank s.start held ++ given)) pieces)
         none all))
 
-  module _ (laws : IsLawful rank n source) where
+  module _ (laws : IsLawful integer source) where
     -- ---- the source has ended
     module _ (entry was : OddPieces T I) (j : I) (so_now : SoFar entry was)
-        (call : source.steps was.iter None j) where
+        (call : source.draw_gives was.iter None j) where
       -- the state at the end
       abbrev final : Option T → OddPieces T I
       final left = record { iter = j; done = true; start = was.start; end = left }
@@ -86,7 +90,7 @@ module _ {I T : Type 0} (rank : T → ℕ) (n : ℕ) (source : Source I T) where
           let so = so-by entry was (Some end) so_now is in
           let none = laws.answers was.iter j None call in
           let sorted = (so.going.twofold [] none).sorted in
-          let gap = answered rank n source was.start end answer fresh from to in
+          let gap = answered integer source was.start end answer fresh from to in
           record {
             answers = λ rest at. so.same (interval_of rank answer ∷ rest) (λ nothing.
                 nothing [] none

@@ -1,10 +1,13 @@
 -- The states of the pieces that an odd number of ranges covers.
 use Rattle.std.proofs.Common.{◌≡◌, ℕ, ◌-◌, ◌≤◌, Bool, false, List, [], ◌∷◌, ◌++◌, length, refl, sym, ap, ◌∙◌, arith}
+use Rattle.std.specs.Iterator.{size}
 use Rattle.std.specs.Option.{option_flatten}
 use Rattle.std.specs.Prelude.{Option, Some, None, remove, slice_get}
 use Rattle.rsb_integer.specs.Runs.{Interval}
-use Rattle.rsb_streams.specs.OddPieces.{begun_from, ends_in, ends_of, first_end, past_both, pending, HasOneEnd}
-use Rattle.rsb_streams.specs.Stream.{run_if_any}
+use Rattle.rsb_integer.specs.declared.integer.Integer.{Ghosts as Elements}
+use Rattle.rsb_streams.specs.OddPieces.{begun_from, ends_in, ends_of, first_end, holding, odd_may_give, odd_remaining, past_both, pending, HasOneEnd, IsGoing}
+use Rattle.rsb_streams.specs.Stream.{◌⊆◌, run_if_any}
+use Rattle.rsb_streams.specs.declared.draw.Draw.{Ghosts as Stream}
 use Rattle.rsb_streams.specs.declared.odd_pieces.OddPieces.{OddPieces}
 
 -- a state of the pieces that is not at its end
@@ -82,3 +85,18 @@ passed-by rank j end other start done held undone left = record {
   undone = undone;
   left = left;
 }
+
+-- ---- a loop over pieces
+
+module _ {T N I : Type 0} (integer : Elements T N) (stream : Stream I T N) where
+  -- what may come now might come at the entry
+  pub record OddSoFar (entry now : OddPieces T I) : Type 0 where
+    pub undone : now.done ≡ false
+    pub going : IsGoing integer stream now
+    pub same : odd_may_give integer stream now ⊆ odd_may_give integer stream entry
+    pub nearer : size (odd_remaining integer stream now) ≤ size (odd_remaining integer stream entry)
+
+  -- so it is where the pending end lies in a vector, which has one at most
+  pub record OddHeld (entry now : OddPieces T I) (ends : List (Option T)) : Type 0 where
+    pub one : HasOneEnd ends
+    pub so : OddSoFar entry (holding now ends)

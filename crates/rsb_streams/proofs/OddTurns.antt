@@ -1,4 +1,6 @@
 -- One more range, for the pieces that an odd number of ranges covers.
+use Rattle.rsb_integer.specs.declared.integer.Integer.{Ghosts as Elements}
+use Rattle.rsb_streams.specs.declared.draw.Draw.{Ghosts as Stream}
 use Rattle.std.proofs.Common.{◌≡◌, ℕ, ◌+◌, ◌<◌, ◌≤◌, true, false, List, ◌∷◌, ◌++◌, length, refl, sym, ap, ◌∙◌, subst, arith}
 use Rattle.std.specs.Prelude.{Option, Some, None}
 use Rattle.std.specs.Ordering.{partial_lt}
@@ -9,45 +11,47 @@ use Rattle.std.specs.declared.ops.RangeInclusive.{RangeInclusive}
 use Rattle.rsb_integer.specs.Rank.{interval_of}
 use Rattle.rsb_integer.specs.Runs.{Interval}
 use Rattle.rsb_integer.proofs.MembersLemmas.{same_interval}
-use Rattle.rsb_streams.specs.OddPieces.{odd_may_give, odd_remaining, oddly_covered, past_both, pieces_of, pending, ends_of, ArePieces, IsGoing, IsTwofold, OddAnswers, OddReady, OddSoFar}
+use Rattle.rsb_streams.specs.OddPieces.{odd_may_give, odd_remaining, oddly_covered, past_both, pieces_of, pending, ends_of, ArePieces, IsGoing, IsTwofold, odd_pieces}
 use Rattle.rsb_streams.specs.Stream.{Outcomes, ◌⊆◌, run_if_any, unless, HasOutcome}
 use Rattle.rsb_streams.specs.declared.odd_pieces.OddPieces.{OddPieces}
 use Rattle.rsb_streams.proofs.Compare.{IsRanked, less-rank, not_less-rank}
 use Rattle.rsb_streams.proofs.NotTurns.{answered}
 use Rattle.rsb_streams.proofs.OddLemmas.{past-twofold, pieces-before, pieces-first, pieces-past, twofold-tail}
-use Rattle.rsb_streams.proofs.Sources.{Source, IsLawful, range-start, range-end}
+use Rattle.rsb_streams.proofs.Sources.{IsLawful, range-start, range-end}
 use Rattle.rsb_streams.proofs.UnionLemmas.{head-sorted}
 use Rattle.rsb_streams.proofs.OddEnds.{so-by}
-use Rattle.rsb_streams.proofs.OddStates.{state, between, one-held, HasPassed}
+use Rattle.rsb_streams.proofs.OddStates.{OddSoFar, state, between, one-held, HasPassed}
 
-module _ {I T : Type 0} (rank : T → ℕ) (n : ℕ) (source : Source I T) where
+module _ {I T N : Type 0} (integer : Elements T N) (source : Stream I T N) where
+  open integer use {rank, value_count as n}
+
   -- the pieces may be drawn
   abbrev can : OddPieces T I → Type 0
-  can = OddReady rank n source.can_next source.may_give
+  can = (odd_pieces integer source).can_draw
 
   -- what they may be
   abbrev may : OddPieces T I → Outcomes
-  may = odd_may_give rank n source.may_give
+  may = odd_may_give integer source
 
   -- how many are left at most
   abbrev left_of : OddPieces T I → Count
-  left_of = odd_remaining source.remaining
+  left_of = odd_remaining integer source
 
   -- what may come now might come at the entry
   abbrev SoFar : OddPieces T I → OddPieces T I → Type 0
-  SoFar = OddSoFar rank n source.can_next source.may_give source.remaining
+  SoFar = OddSoFar integer source
 
   -- what is known of a call
   abbrev Answered : OddPieces T I → Option (RangeInclusive T) → OddPieces T I → Type 0
-  Answered = OddAnswers rank n source.can_next source.may_give
+  Answered = (odd_pieces integer source).draw_gives
 
   -- the values are told apart by their ranks
-  module _ (laws : IsLawful rank n source) (partial_cmp : T → T → Option Ordering)
-      (cmp : T → T → Ordering) (ranked : IsRanked rank n partial_cmp cmp) where
+  module _ (laws : IsLawful integer source) {partial_cmp : T → T → Option Ordering}
+      {cmp : T → T → Ordering} (ranked : IsRanked rank n partial_cmp cmp) where
     -- ---- one more range
     module _ (entry was : OddPieces T I) (j : I) (next next_end : T) (range : RangeInclusive T)
-        (so_now : SoFar entry was) (call : source.steps was.iter (Some range) j)
-        (goes : MakesProgress source.can_next source.remaining was.iter (Some range) j)
+        (so_now : SoFar entry was) (call : source.draw_gives was.iter (Some range) j)
+        (goes : MakesProgress source.can_draw source.draws_left was.iter (Some range) j)
         (from : next ≡ range_inclusive_start range) (to : next_end ≡ range_inclusive_end range)
       where
         -- something may come after it
@@ -80,7 +84,7 @@ module _ {I T : Type 0} (rank : T → ℕ) (n : ℕ) (source : Source I T) where
             subst (λ run. source.may_give was.iter (run ∷ given)) is_run (before given at)
 
         -- fewer are to come
-        pub fewer : IsFinite (source.remaining j) × (size (source.remaining j) < size (source.remaining was.iter))
+        pub fewer : IsFinite (source.draws_left j) × (size (source.draws_left j) < size (source.draws_left was.iter))
         fewer =
             let on = goes.on (laws.sorted was.iter so_now.going.callable).ends in
             (on.1, on.2)
@@ -96,7 +100,7 @@ module _ {I T : Type 0} (rank : T → ℕ) (n : ℕ) (source : Source I T) where
         -- where it alone is pending, the pieces may be drawn
         going-next : ((given : List Interval) → source.may_give j given
             → IsTwofold n (between rank next next_end ∷ given))
-            → IsGoing rank n source.can_next source.may_give (state j next (Some next_end))
+            → IsGoing integer source (state j next (Some next_end))
         going-next twofold = record {
           callable = goes.keeps;
           twofold = twofold;
@@ -116,7 +120,7 @@ module _ {I T : Type 0} (rank : T → ℕ) (n : ℕ) (source : Source I T) where
         -- it begins where none is pending
         pub so-begins : None ≡ was.end → SoFar entry next_state
         so-begins is =
-            let so = so-by rank n source entry was None so_now (sym is) in
+            let so = so-by integer source entry was None so_now (sym is) in
             let less = fewer in
             let nearer = so.nearer in
             from-state (SoFar entry) (record {
@@ -132,7 +136,7 @@ module _ {I T : Type 0} (rank : T → ℕ) (n : ℕ) (source : Source I T) where
         module _ (end : T) (is : Some end ≡ was.end) where
           -- so it was before
           so : SoFar entry (state was.iter was.start (Some end))
-          so = so-by rank n source entry was (Some end) so_now (sym is)
+          so = so-by integer source entry was (Some end) so_now (sym is)
 
           -- both, and what comes after them
           twofold : (given : List Interval) → source.may_give j given
@@ -159,7 +163,7 @@ module _ {I T : Type 0} (rank : T → ℕ) (n : ℕ) (source : Source I T) where
           -- where the pending one starts before the next one, so do others
           pub next-above : true ≡ partial_lt partial_cmp was.start next → 0 < rank next
           next-above test =
-              let less = less-rank rank n partial_cmp cmp ranked was.start next both-values.0
+              let less = less-rank ranked was.start next both-values.0
               both-values.2 test in
               omega (arith, less)
 
@@ -169,11 +173,11 @@ module _ {I T : Type 0} (rank : T → ℕ) (n : ℕ) (source : Source I T) where
               → range_inclusive_end answer ≡ end
               → Answered entry (Some answer) next_state
           apart-answers test answer fresh at_start at_end =
-              let apart = less-rank rank n partial_cmp cmp ranked end next both-values.1
+              let apart = less-rank ranked end next both-values.1
               both-values.2 test in
               let first = between rank was.start end in
               let run = between rank next next_end in
-              let gap = answered rank n source was.start end answer fresh at_start at_end in
+              let gap = answered integer source was.start end answer fresh at_start at_end in
               from-state (Answered entry (Some answer)) (record {
                 answers = λ rest at. so.same (interval_of rank answer ∷ rest) (λ nothing.
                     at (λ given might all.
@@ -206,7 +210,7 @@ module _ {I T : Type 0} (rank : T → ℕ) (n : ℕ) (source : Source I T) where
               (passed : HasPassed rank j end next_end now) where
             -- the next one starts at the end of the pending one at most
             meets : rank next ≤ rank end
-            meets = not_less-rank rank n partial_cmp cmp ranked end next both-values.1 both-values.2 test
+            meets = not_less-rank ranked end next both-values.1 both-values.2 test
 
             -- what is still to come comes of the source as it is then
             same-source : (given : List Interval) → source.may_give now.iter given
@@ -222,9 +226,9 @@ module _ {I T : Type 0} (rank : T → ℕ) (n : ℕ) (source : Source I T) where
                 refl)
 
             -- more pieces may be drawn
-            going-now : IsGoing rank n source.can_next source.may_give now
+            going-now : IsGoing integer source now
             going-now = record {
-              callable = subst source.can_next (sym passed.iter) goes.keeps;
+              callable = subst source.can_draw (sym passed.iter) goes.keeps;
               twofold = twofold-now;
             }
 
@@ -246,9 +250,9 @@ module _ {I T : Type 0} (rank : T → ℕ) (n : ℕ) (source : Source I T) where
                 let less = fewer in
                 let short = one-held now.end in
                 let nearer = so.nearer in
-                let same : size (source.remaining now.iter) ≡ size (source.remaining j) =
-                ap (λ iter. size (source.remaining iter)) passed.iter in
-                let all : size (left_of now) ≡ size (source.remaining now.iter) + length (ends_of now.end) =
+                let same : size (source.draws_left now.iter) ≡ size (source.draws_left j) =
+                ap (λ iter. size (source.draws_left iter)) passed.iter in
+                let all : size (left_of now) ≡ size (source.draws_left now.iter) + length (ends_of now.end) =
                 rw passed.undone refl in
                 omega (arith, less.1, short, nearer, same, all)
 
@@ -258,9 +262,9 @@ module _ {I T : Type 0} (rank : T → ℕ) (n : ℕ) (source : Source I T) where
                 → range_inclusive_exhausted answer ≡ false → range_inclusive_start answer ≡ was.start
                 → range_inclusive_end answer ≡ last → Answered entry (Some answer) now
             gap-answers before_next last answer one fresh at_start at_end =
-                let less = less-rank rank n partial_cmp cmp ranked was.start next both-values.0
+                let less = less-rank ranked was.start next both-values.0
                 both-values.2 before_next in
-                let gap = answered rank n source was.start last answer fresh at_start at_end in
+                let gap = answered integer source was.start last answer fresh at_start at_end in
                 let first = between rank was.start end in
                 let run = between rank next next_end in
                 record {
@@ -291,7 +295,7 @@ module _ {I T : Type 0} (rank : T → ℕ) (n : ℕ) (source : Source I T) where
             -- nothing lies before it, and the loop goes on
             pub so-passed : false ≡ partial_lt partial_cmp was.start next → SoFar entry now
             so-passed not_before =
-                let most = not_less-rank rank n partial_cmp cmp ranked was.start next both-values.0
+                let most = not_less-rank ranked was.start next both-values.0
                 both-values.2 not_before in
                 let less = now-less in
                 record {

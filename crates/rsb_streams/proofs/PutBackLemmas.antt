@@ -1,28 +1,29 @@
 -- How a source goes on of which a range may be put back.
-use Rattle.std.proofs.Common.{◌≡◌, ◌+◌, ◌<◌, ℕ, Bool, true, false, arith}
+use Rattle.std.proofs.Common.{◌≡◌, ◌+◌, ◌<◌, Bool, true, false, arith}
 use Rattle.std.specs.Iterator.{Count, IsFinite, MakesProgress, count_map, count_unless, size}
 use Rattle.std.specs.Option.{option_len}
 use Rattle.std.specs.Prelude.{Option, Some, None, IfNone, OnSome, is_none}
 use Rattle.std.specs.declared.ops.RangeInclusive.{RangeInclusive}
-use Rattle.rsb_streams.specs.PutBack.{put_back_remaining, PutBackReady}
-use Rattle.rsb_streams.specs.Stream.{HasSortedStarts, Keeps, Outcomes}
+use Rattle.rsb_integer.specs.declared.integer.Integer.{Ghosts as Elements}
+use Rattle.rsb_streams.specs.PutBack.{put_back}
+use Rattle.rsb_streams.specs.Rows.{IsSorted}
+use Rattle.rsb_streams.specs.declared.draw.Draw.{Ghosts as Stream}
 use Rattle.rsb_streams.specs.declared.put_back.PutBack.{PutBack}
 
-module _ {T I : Type 0} (rank : T → ℕ) (n : ℕ) (can : I → Type 0) (may_give : I → Outcomes)
-    (left : I → Count)
-    (sorted : (i : I) → can i → Keeps (HasSortedStarts n) (may_give i) (left i)) where
+module _ {T N I : Type 0} (integer : Elements T N) (source : Stream I T N)
+    (sorted : IsSorted integer source) where
   -- it may be drawn from
   abbrev Ready : PutBack T I → Type 0
-  Ready = PutBackReady rank n can may_give
+  Ready = (put_back integer source).can_draw
 
   -- how many are left, by what is held and whether the source has ended
   abbrev left_by : Option (RangeInclusive T) → Bool → I → Count
-  left_by held done i = count_map (λ count. count + option_len held) (count_unless done (left i))
+  left_by held done i = count_map (λ count. count + option_len held) (count_unless done (source.draws_left i))
 
   -- where nothing is held, a draw of a source that has not ended goes on as the source does
   goes-by : (held after : Option (RangeInclusive T)) (done ended : Bool) (i j : I)
       (item : Option (RangeInclusive T)) → held ≡ None → after ≡ None → done ≡ false
-      → ended ≡ is_none item → MakesProgress can left i item j
+      → ended ≡ is_none item → MakesProgress source.can_draw source.draws_left i item j
       → (IsFinite (left_by held done i) → OnSome item
       (Ready (record { held = after; iter = j; done = ended }) × IsFinite (left_by after ended j)
       × (size (left_by after ended j) < size (left_by held done i))))
@@ -48,8 +49,8 @@ module _ {T I : Type 0} (rank : T → ℕ) (n : ℕ) (can : I → Type 0) (may_g
   -- a draw goes on as the source does
   pub drawn-goes : (s : PutBack T I) (after : Option (RangeInclusive T)) (ended : Bool) (j : I)
       (item : Option (RangeInclusive T)) → s.held ≡ None → after ≡ None → s.done ≡ false
-      → ended ≡ is_none item → MakesProgress can left s.iter item j
-      → MakesProgress Ready (put_back_remaining left) s item
+      → ended ≡ is_none item → MakesProgress source.can_draw source.draws_left s.iter item j
+      → MakesProgress Ready (put_back integer source).draws_left s item
       (record { held = after; iter = j; done = ended })
   drawn-goes s after ended j item none over undone end goes =
       let parts = goes-by s.held after s.done ended s.iter j item none over undone end goes in

@@ -2,11 +2,13 @@
 use Rattle.std.proofs.Common.{◌≡◌, ℕ, Bool, true, false, List, ◌∷◌, refl, arith}
 use Rattle.std.specs.Prelude.{Option, Some, None, MatchBool}
 use Rattle.std.specs.declared.iter.Fuse.{Fuse}
+use Rattle.std.specs.declared.iter.Iterator.{Ghosts as Iteration}
 use Rattle.std.specs.declared.ops.RangeInclusive.{RangeInclusive}
-use Rattle.std.specs.Iterator.{Count, IsFinite, MakesProgress}
+use Rattle.std.specs.Iterator.{IsFinite, MakesProgress}
 use Rattle.std.specs.Iterator.Adapters.{fuse_done, fuse_source, fuse_steps}
 use Rattle.rsb_integer.specs.Runs.{Interval}
-use Rattle.rsb_streams.specs.Calls.{IsSource, source-after}
+use Rattle.rsb_streams.specs.Calls.{IsSource}
+use Rattle.rsb_streams.specs.CallsLaws.{source-after}
 use Rattle.rsb_streams.specs.Outcomes.{sorted-lower}
 use Rattle.rsb_streams.specs.Stream.{HasSortedStarts}
 use Rattle.rsb_streams.specs.Fused.{fuse_can_next, fuse_remaining}
@@ -16,42 +18,41 @@ pub sorted-tail : (n : ℕ) (run : Interval) (runs : List Interval) → HasSorte
     → HasSortedStarts n runs
 sorted-tail n run runs sorted = sorted-lower n run.first 0 runs (omega arith) sorted.3
 
-module _ {I T : Type 0} (rank : T → ℕ) (can_next : I → Type 0)
-    (steps : I → Option (RangeInclusive T) → I → Type 0) (remaining : I → Count)
+module _ {I T : Type 0} (rank : T → ℕ) (iterator : Iteration I (RangeInclusive T))
     (law : List Interval → Type 0)
     (tail : (run : Interval) (runs : List Interval) → law (run ∷ runs) → law runs) where
   -- the stream may be called, ends, and its calls give what keeps the law
   abbrev Source : I → Type 0
-  Source = IsSource rank can_next steps remaining law
+  Source = IsSource rank iterator law
 
   -- a call in the `Fuse` makes progress
   abbrev Goes : Fuse I → Option (RangeInclusive T) → Fuse I → Type 0
-  Goes = MakesProgress (fuse_can_next can_next) (fuse_remaining remaining)
+  Goes = MakesProgress (fuse_can_next iterator.can_next) (fuse_remaining iterator.remaining)
 
   -- after a call that gave a range the stream is still such, by whether it had ended
   after-by : (done after : Bool) (s t : I) (range : RangeInclusive T) → (done ≡ false → Source s)
-      → MatchBool done (Some range ≡ None) (steps s (Some range) t) → after ≡ false
+      → MatchBool done (Some range ≡ None) (iterator.next_gives s (Some range) t) → after ≡ false
       → Goes (record { iter = s; done = done }) (Some range) (record { iter = t; done = after })
       → Source t
   after-by true after s t range source call more goes = absurd (cc)
   after-by false true s t range source call more goes = absurd (cc)
   after-by false false s t range source call more goes =
       let on = goes.on (source refl).finite in
-      source-after rank can_next steps remaining law tail s t range (source refl) call
+      source-after rank iterator law tail s t range (source refl) call
       (on.0 refl, on.1, on.2)
 
   -- the law is kept from one call to the next
   pub source-next : (s t : Fuse I) (range : RangeInclusive T) → fuse_can_next Source s
-      → fuse_steps steps s (Some range) t → Goes s (Some range) t → fuse_can_next Source t
+      → fuse_steps iterator.next_gives s (Some range) t → Goes s (Some range) t → fuse_can_next Source t
   source-next s t range source call goes = λ undone.
       after-by (fuse_done s) (fuse_done t) (fuse_source s) (fuse_source t) range source call.0
       call.1 goes
 
   -- a call that makes progress makes it from one such stream to another
   pub source-goes : (s t : Fuse I) (item : Option (RangeInclusive T)) → fuse_can_next Source s
-      → IsFinite (fuse_remaining remaining s)
-      → fuse_steps steps s item t → Goes s item t
-      → MakesProgress (fuse_can_next Source) (fuse_remaining remaining) s item t
+      → IsFinite (fuse_remaining iterator.remaining s)
+      → fuse_steps iterator.next_gives s item t → Goes s item t
+      → MakesProgress (fuse_can_next Source) (fuse_remaining iterator.remaining) s item t
   source-goes s t None source finite call goes = record
       { on = λ _. tt; keeps = tt; rests = goes.rests }
   source-goes s t (Some range) source finite call goes =

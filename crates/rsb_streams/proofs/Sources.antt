@@ -1,47 +1,32 @@
 -- A stream that a proof knows by its laws alone.
-use Rattle.std.proofs.Common.{◌≡◌, ℕ, ◌+◌, ◌≤◌, Bool, false, List, ◌∷◌, sym, ap, subst, arith}
-use Rattle.std.specs.Prelude.{Option, Some, None}
-use Rattle.std.specs.Iterator.{Count, size}
+use Rattle.std.proofs.Common.{◌≡◌, ℕ, ◌+◌, ◌≤◌, Bool, true, false, List, [], ◌∷◌, sym, ap, subst, arith}
+use Rattle.std.specs.Prelude.{Option, Some, None, MatchOption}
+use Rattle.std.specs.Iterator.{size}
 use Rattle.std.specs.Range.{range_inclusive_start, range_inclusive_end}
 use Rattle.std.specs.declared.ops.RangeInclusive.{RangeInclusive}
 use Rattle.rsb_integer.specs.Rank.{interval_of}
 use Rattle.rsb_integer.specs.Runs.{Interval}
+use Rattle.rsb_integer.specs.declared.integer.Integer.{Ghosts as Elements}
 use Rattle.rsb_integer.proofs.RangeLemmas.{interval_of-some}
-use Rattle.rsb_streams.specs.Fused.{Fused, fused_can, fused_left, fused_may_give}
-use Rattle.rsb_streams.specs.PutBack.{HasRoom, IsFresh, IsPutBack, PutBackReady, PutBackSteps, fused_of, put_back_may_give, put_back_remaining, put_back-answers, put_back-keeps}
-use Rattle.rsb_streams.specs.Stream.{Outcomes, ◌⊆◌, after, unless, HasSortedStarts, Answers, IsDrawn, Keeps}
+use Rattle.rsb_streams.specs.Fused.{fused, Fused, fused_may_give}
+use Rattle.rsb_streams.specs.PutBack.{fused_of, put_back, HasRoom, IsFresh, IsPutBack}
+use Rattle.rsb_streams.specs.PutBackLaws.{put_back-answered, put_back-sorted}
+use Rattle.rsb_streams.specs.Rows.{IsAnswered, IsSorted}
+use Rattle.rsb_streams.specs.Stream.{◌⊆◌, after, just, unless, HasSortedStarts}
+use Rattle.rsb_streams.specs.declared.draw.Draw.{Ghosts as Stream}
 use Rattle.rsb_streams.specs.declared.put_back.PutBack.{PutBack}
 
--- the members of `SortedStarts`
-pub record Source (S T : Type 0) : Type 1 where
-  pub can_next : S → Type 0
-  pub steps : S → Option (RangeInclusive T) → S → Type 0
-  pub remaining : S → Count
-  pub may_give : S → Outcomes
+-- the laws of a stream
+pub record IsLawful {S T N : Type 0} (integer : Elements T N) (source : Stream S T N) : Type 0 where
+  pub answers : IsAnswered integer source
+  pub sorted : IsSorted integer source
 
--- its laws
-pub record IsLawful {S T : Type 0} (rank : T → ℕ) (n : ℕ) (source : Source S T) : Type 0 where
-  pub answers : (s t : S) (item : Option (RangeInclusive T)) → source.steps s item t
-      → Answers rank source.may_give s item t
-  pub sorted : (s : S) → source.can_next s
-      → Keeps (HasSortedStarts n) (source.may_give s) (source.remaining s)
-
--- the stream in a `PutBack`
-abbrev pub put_back_source : {S T : Type 0} → (T → ℕ) → ℕ → Source S T → Source (PutBack T S) T
-put_back_source rank n source = record {
-  can_next = PutBackReady rank n source.can_next source.may_give;
-  steps = PutBackSteps source.steps;
-  remaining = put_back_remaining source.remaining;
-  may_give = put_back_may_give rank source.may_give;
-}
-
--- it keeps the laws that the stream keeps
-pub put_back-lawful : {S T : Type 0} (rank : T → ℕ) (n : ℕ) (source : Source S T)
-    → IsLawful rank n source
-    → IsLawful rank n (put_back_source rank n source)
-put_back-lawful rank n source laws = record {
-  answers = put_back-answers rank n source.can_next source.may_give source.steps laws.answers;
-  sorted = put_back-keeps rank n source.can_next source.may_give source.remaining laws.sorted;
+-- the stream of which a range may be put back keeps the laws that the stream keeps
+pub put_back-lawful : {S T N : Type 0} (integer : Elements T N) (source : Stream S T N)
+    → IsLawful integer source → IsLawful integer (put_back integer source)
+put_back-lawful integer source laws = record {
+  answers = put_back-answered integer source laws.answers;
+  sorted = put_back-sorted integer source laws.sorted;
 }
 
 -- the interval of a range that has members begins at the rank of its start
@@ -56,36 +41,13 @@ pub range-end : {T : Type 0} (rank : T → ℕ) (range : RangeInclusive T)
     → (interval_of rank range).last ≡ rank (range_inclusive_end range)
 range-end rank range ordered = ap (λ run. run.last) (interval_of-some rank range ordered)
 
--- the laws of a stream by its `next`: what it answers before its end
-pub record IsLawfulNext {S T : Type 0} (rank : T → ℕ) (n : ℕ) (source : Source S T) : Type 0 where
-  pub answers : (s t : S) (range : RangeInclusive T) → source.steps s (Some range) t
-      → Answers rank source.may_give s (Some range) t
-  pub sorted : (s : S) → source.can_next s
-      → Keeps (HasSortedStarts n) (source.may_give s) (source.remaining s)
-
--- a stream keeps by its `next` the laws that it keeps by its `draw`
-pub drawn-lawful : {S T : Type 0} (rank : T → ℕ) (n : ℕ) (source : Source S T)
-    (can_next : S → Type 0) (next_gives : S → Option (RangeInclusive T) → S → Type 0)
-    (remaining : S → Count)
-    → IsDrawn source.can_next source.steps source.remaining can_next next_gives remaining
-    → IsLawful rank n source
-    → IsLawfulNext rank n (record {
-      can_next = can_next;
-      steps = next_gives;
-      remaining = remaining;
-      may_give = source.may_give;
-    })
-drawn-lawful rank n source can_next next_gives remaining drawn laws = record {
-  answers = λ s t range call. laws.answers s t (Some range) (drawn.gives s t range call);
-  sorted = λ s can. subst (Keeps (HasSortedStarts n) (source.may_give s)) (sym (drawn.counts s))
-      (laws.sorted s (drawn.drawable s can));
-}
-
 -- ---- a range that was put back
-module _ {S T : Type 0} (rank : T → ℕ) (n : ℕ) (source : Source S T) where
+module _ {S T N : Type 0} (integer : Elements T N) (source : Stream S T N) where
+  open integer use {rank, value_count as n}
+
   -- the stream, with what is put back
-  abbrev held_source : Source (PutBack T S) T
-  held_source = put_back_source rank n source
+  abbrev held_source : Stream (PutBack T S) T N
+  held_source = put_back integer source
 
   -- a range comes first, and then what was still to come, by what is held before it and with it
   may-by : (range : RangeInclusive T) (before held : Option (RangeInclusive T)) (s t : Fused S)
@@ -115,12 +77,12 @@ module _ {S T : Type 0} (rank : T → ℕ) (n : ℕ) (source : Source S T) where
   -- the stream may be called where no start falls of the range and what was still to come
   pub put_back-ready : (range : RangeInclusive T) (s t : PutBack T S) → HasRoom s
       → IsPutBack range s t
-      → held_source.can_next s
+      → held_source.can_draw s
       → ((rest : List Interval) → held_source.may_give s rest
       → HasSortedStarts n (interval_of rank range ∷ rest))
-      → held_source.can_next t
+      → held_source.can_draw t
   put_back-ready range s t room put ready sorted = record {
-    callable = subst (fused_can source.can_next) (sym put.iter) ready.callable;
+    callable = subst (fused source).can_draw (sym put.iter) ready.callable;
     sorted = λ runs may.
         let first = put_back-may range s t runs room put may in
         subst (HasSortedStarts n) (sym first.2) (sorted first.0 first.1);
@@ -129,9 +91,9 @@ module _ {S T : Type 0} (rank : T → ℕ) (n : ℕ) (source : Source S T) where
   -- and gives one range more
   pub put_back-size : (range : RangeInclusive T) (s t : PutBack T S) → HasRoom s
       → IsPutBack range s t
-      → size (held_source.remaining t) ≡ size (held_source.remaining s) + 1
+      → size (held_source.draws_left t) ≡ size (held_source.draws_left s) + 1
   put_back-size range s t room put =
-      let left = ap (λ (each : Fused S). size (fused_left source.remaining each)) put.iter in
+      let left = ap (λ (each : Fused S). size ((fused source).draws_left each)) put.iter in
       rw (put.held, room) (omega (arith, left))
 
   -- ---- a stream of which nothing is drawn yet
@@ -150,9 +112,40 @@ module _ {S T : Type 0} (rank : T → ℕ) (n : ℕ) (source : Source S T) where
       fresh.undone fresh.source
 
   -- and may be called where the stream may
-  pub fresh-ready : (iter : S) (s : PutBack T S) → IsFresh iter s → source.can_next iter
-      → source.may_give iter ⊆ HasSortedStarts n → held_source.can_next s
+  pub fresh-ready : (iter : S) (s : PutBack T S) → IsFresh iter s → source.can_draw iter
+      → source.may_give iter ⊆ HasSortedStarts n → held_source.can_draw s
   fresh-ready iter s fresh can sorted = record {
-    callable = λ undone. subst source.can_next (sym fresh.source) can;
+    callable = λ undone. subst source.can_draw (sym fresh.source) can;
     sorted = λ runs at. sorted runs (fresh-may iter s fresh runs at);
   }
+
+  -- ---- a call that answered `None`
+
+  -- nothing comes after it, by whether the stream had ended
+  ended-by : (done : Bool) (t : S) → done ≡ true
+      → (done ≡ false → source.can_draw t) × (unless done (source.may_give t) ⊆ just [])
+  ended-by true t end = ((λ no. absurd (cc)), (λ runs may. may))
+  ended-by false t end = absurd (cc)
+
+  -- and by whether a range was held
+  rests-by : (held : Option (RangeInclusive T)) (s t : Fused S)
+      → MatchOption held ((fused source).draw_gives s None t)
+      (λ range. (None ≡ Some range) × (t ≡ s))
+      → (fused source).can_draw t × ((fused source).may_give t ⊆ just [])
+  rests-by None s t call = ended-by t.done t.iter call.1
+  rests-by (Some range) s t call = let no = call.0 in absurd (cc)
+
+  -- it may be called again, and nothing comes
+  pub put_back-rests : (s t : PutBack T S) → held_source.draw_gives s None t
+      → held_source.can_draw t × (held_source.may_give t ⊆ just [])
+  put_back-rests s t call =
+      let rest = rests-by s.held (fused_of s) (fused_of t) call.call in
+      let nothing : held_source.may_give t ⊆ just [] = λ runs may.
+      rest.1 runs (subst (λ held. after rank held ((fused source).may_give (fused_of t)) runs)
+      call.room may) in (
+        record {
+          callable = rest.0;
+          sorted = λ runs may. rw (nothing runs may) tt;
+        },
+        nothing,
+      )

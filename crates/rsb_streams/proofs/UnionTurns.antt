@@ -1,4 +1,6 @@
 -- The loop of a union.
+use Rattle.rsb_integer.specs.declared.integer.Integer.{Ghosts as Elements}
+use Rattle.rsb_streams.specs.declared.draw.Draw.{Ghosts as Stream}
 use Rattle.std.proofs.Common.{◌≡◌, ℕ, ◌+◌, ◌<◌, ◌≤◌, max, true, false, List, [], ◌∷◌, refl, sym, ap, ◌∙◌, subst, arith}
 use Rattle.std.proofs.lemmas.List.Elements.{All-nil}
 use Rattle.std.specs.Prelude.{Option, Some, None}
@@ -9,45 +11,47 @@ use Rattle.rsb_integer.specs.Rank.{interval_of}
 use Rattle.rsb_integer.specs.Runs.{Interval, members}
 use Rattle.rsb_integer.proofs.ListLemmas.{not_both}
 use Rattle.rsb_integer.proofs.RunsLemmas.{canonical-runs}
-use Rattle.rsb_streams.specs.PutBack.{HasRoom, IsPutBack, put_back-rests}
+use Rattle.rsb_streams.specs.PutBack.{put_back, HasRoom, IsPutBack}
 use Rattle.rsb_streams.specs.Stream.{Outcomes, joined, AnswersAndRests}
-use Rattle.rsb_streams.specs.UnionIter.{union_can_next, union_may_give, union_remaining}
+use Rattle.rsb_streams.specs.UnionIter.{union_iter}
 use Rattle.rsb_streams.specs.declared.put_back.PutBack.{PutBack}
 use Rattle.rsb_streams.specs.declared.union_iter.UnionIter.{UnionIter}
-use Rattle.rsb_streams.proofs.Sources.{Source, IsLawful, put_back_source, put_back-lawful, range-start, range-end, put_back-may, put_back-ready, put_back-size}
+use Rattle.rsb_streams.proofs.Sources.{IsLawful, put_back-lawful, put_back-may, put_back-ready, put_back-rests, put_back-size, range-end, range-start}
 use Rattle.rsb_streams.proofs.UnionLemmas.{Gathers, gathers-first, gathers-more, gathers-answer, next-sorted, next-past, no-runs}
 
-module _ {S T : Type 0} (rank : T → ℕ) (n : ℕ) (source : Source S T) where
+module _ {S T N : Type 0} (integer : Elements T N) (source : Stream S T N) where
+  open integer use {rank, value_count as n}
+
   -- the ranges drawn since the entry cover those from start to end
   pub record SoFar (entry now : PutBack T S) (start end : T) : Type 0 where
     pub room : HasRoom now
-    pub ready : (put_back_source rank n source).can_next now
-    pub gathers : Gathers n ((put_back_source rank n source).may_give entry)
-        ((put_back_source rank n source).may_give now)
+    pub ready : (put_back integer source).can_draw now
+    pub gathers : Gathers n ((put_back integer source).may_give entry)
+        ((put_back integer source).may_give now)
         (record { first = rank start; last = rank end })
-    pub nearer : size ((put_back_source rank n source).remaining now)
-        < size ((put_back_source rank n source).remaining entry)
+    pub nearer : size ((put_back integer source).draws_left now)
+        < size ((put_back integer source).draws_left entry)
 
-  module _ (laws : IsLawful rank n source) where
+  module _ (laws : IsLawful integer source) where
     -- what is held and still to come
     abbrev may : PutBack T S → Outcomes
-    may = (put_back_source rank n source).may_give
+    may = (put_back integer source).may_give
 
     -- how many ranges that is
     abbrev left : PutBack T S → Count
-    left = (put_back_source rank n source).remaining
+    left = (put_back integer source).draws_left
 
     -- the stream with what is held keeps the laws
-    held_laws : IsLawful rank n (put_back_source rank n source)
-    held_laws = put_back-lawful rank n source laws
+    held_laws : IsLawful integer (put_back integer source)
+    held_laws = put_back-lawful integer source laws
 
     -- where it may be called, it ends
-    ends : (s : PutBack T S) → (put_back_source rank n source).can_next s → IsFinite (left s)
+    ends : (s : PutBack T S) → (put_back integer source).can_draw s → IsFinite (left s)
     ends s ready = (held_laws.sorted s ready).ends
 
     -- a call of it makes progress
     abbrev Goes : PutBack T S → Option (RangeInclusive T) → PutBack T S → Type 0
-    Goes s item t = MakesProgress (put_back_source rank n source).can_next left s item t
+    Goes s item t = MakesProgress (put_back integer source).can_draw left s item t
 
     -- the union of the stream
     abbrev Union : Type 0
@@ -56,8 +60,8 @@ module _ {S T : Type 0} (rank : T → ℕ) (n : ℕ) (source : Source S T) where
     -- what is known of a call of the union
     abbrev Answered : Union → Option (RangeInclusive T) → Union → Type 0
     Answered = AnswersAndRests rank
-        (union_can_next rank n source.can_next source.may_give)
-        (union_may_give rank n source.may_give)
+        ((union_iter integer source).can_draw)
+        ((union_iter integer source).may_give)
 
     -- the ranks from a value to another
     abbrev run : T → T → Interval
@@ -65,9 +69,9 @@ module _ {S T : Type 0} (rank : T → ℕ) (n : ℕ) (source : Source S T) where
 
     -- nothing comes
     pub rests : (s t : Union) (item : Option (RangeInclusive T)) → item ≡ None
-        → (put_back_source rank n source).steps s.iter None t.iter → Answered s item t
+        → (put_back integer source).draw_gives s.iter None t.iter → Answered s item t
     rests s t item is call =
-        let nothing = put_back-rests rank n source.can_next source.may_give source.steps
+        let nothing = put_back-rests integer source
         s.iter t.iter call in
         rw is (record {
           answers = λ never. never [] (held_laws.answers s.iter t.iter None call)
@@ -81,8 +85,8 @@ module _ {S T : Type 0} (rank : T → ℕ) (n : ℕ) (source : Source S T) where
 
     -- the first range
     pub begun : (s t : PutBack T S) (range : RangeInclusive T) (start end : T)
-        → (put_back_source rank n source).can_next s
-        → (put_back_source rank n source).steps s (Some range) t
+        → (put_back integer source).can_draw s
+        → (put_back integer source).draw_gives s (Some range) t
         → Goes s (Some range) t → start ≡ range_inclusive_start range → end
         ≡ range_inclusive_end range
         → SoFar s t start end
@@ -104,7 +108,7 @@ module _ {S T : Type 0} (rank : T → ℕ) (n : ℕ) (source : Source S T) where
     -- where the next range starts and ends
     pub next-values : (entry s t : PutBack T S) (start end : T) (range : RangeInclusive T)
         → SoFar entry s start end
-        → (put_back_source rank n source).steps s (Some range) t → Goes s (Some range) t
+        → (put_back integer source).draw_gives s (Some range) t → Goes s (Some range) t
         → (rank (range_inclusive_start range) < n)
         × (rank (range_inclusive_end range) < n)
     next-values entry s t start end range so call goes =
@@ -118,7 +122,7 @@ module _ {S T : Type 0} (rank : T → ℕ) (n : ℕ) (source : Source S T) where
     -- one more range, which overlaps or touches
     pub more : (entry s t : PutBack T S) (start end last : T) (range : RangeInclusive T)
         → SoFar entry s start end
-        → (put_back_source rank n source).steps s (Some range) t → Goes s (Some range) t
+        → (put_back integer source).draw_gives s (Some range) t → Goes s (Some range) t
         → rank (range_inclusive_start range) ≤ rank end + 1
         → rank last ≡ max (rank end) (rank (range_inclusive_end range))
         → SoFar entry t start last
@@ -166,12 +170,12 @@ module _ {S T : Type 0} (rank : T → ℕ) (n : ℕ) (source : Source S T) where
     -- the answer at the end
     pub answer-last : (entry s : PutBack T S) (t : Union) (start end : T)
         (answer : RangeInclusive T)
-        → SoFar entry s start end → (put_back_source rank n source).steps s None t.iter
+        → SoFar entry s start end → (put_back integer source).draw_gives s None t.iter
         → range_inclusive_exhausted answer ≡ false
         → range_inclusive_start answer ≡ start → range_inclusive_end answer ≡ end
         → Answered (record { iter = entry }) (Some answer) t
     answer-last entry s t start end answer so call fresh from to =
-        let nothing = put_back-rests rank n source.can_next source.may_give source.steps
+        let nothing = put_back-rests integer source
         s t.iter call in
         answer-from entry t start end answer fresh from to
         (gathers-answer n (may entry) (may s) (may t.iter) (run start end) so.gathers (λ late at.
@@ -184,14 +188,14 @@ module _ {S T : Type 0} (rank : T → ℕ) (n : ℕ) (source : Source S T) where
     -- the answer where the next range starts apart, and is put back
     module _ (entry s u : PutBack T S) (t : Union) (start end : T) (range answer : RangeInclusive T)
         (so : SoFar entry s start end)
-        (call : (put_back_source rank n source).steps s (Some range) u)
+        (call : (put_back integer source).draw_gives s (Some range) u)
         (goes : Goes s (Some range) u) (put : IsPutBack range u t.iter)
         (apart : rank end + 1 < rank (range_inclusive_start range)) where
       -- what may still come might come before, and its members lie past the run and do not touch it
       past : (late : List Interval) → may t.iter late
           → may s late × ((place : ℕ) → members late place ≡ true → rank end + 2 ≤ place)
       past late at =
-          let first = put_back-may rank n source range u t.iter late call.room put at in
+          let first = put_back-may integer source range u t.iter late call.room put at in
           let before = held_laws.answers s u (Some range) call first.0 first.1 in
           let sorted = so.gathers.sorted (interval_of rank range ∷ first.0) before in
           let low = range-start rank range sorted.1 in (
@@ -210,14 +214,14 @@ module _ {S T : Type 0} (rank : T → ℕ) (n : ℕ) (source : Source S T) where
           (gathers-answer n (may entry) (may s) (may t.iter) (run start end) so.gathers past)
 
       -- the union may be called again, and is nearer its end
-      pub ahead-goes : MakesProgress (union_can_next rank n source.can_next source.may_give)
-          (union_remaining source.remaining) (record { iter = entry }) (Some answer) t
+      pub ahead-goes : MakesProgress ((union_iter integer source).can_draw)
+          (union_iter integer source).draws_left (record { iter = entry }) (Some answer) t
       ahead-goes =
           let on = goes.on (ends s so.ready) in
-          let ready = put_back-ready rank n source range u t.iter call.room put on.0 (λ rest at.
+          let ready = put_back-ready integer source range u t.iter call.room put on.0 (λ rest at.
           so.ready.sorted (interval_of rank range ∷ rest)
           (held_laws.answers s u (Some range) call rest at)) in
-          let one = put_back-size rank n source range u t.iter call.room put in
+          let one = put_back-size integer source range u t.iter call.room put in
           record {
             on = λ finite. (ready, ends t.iter ready, omega (arith, one, on.2, so.nearer));
             keeps = ready;

@@ -4,10 +4,11 @@ use Rattle.std.proofs.lemmas.List.{append-nil}
 use Rattle.std.specs.Fn.{CalledAt}
 use Rattle.std.specs.List.{FoldsTo}
 use Rattle.std.specs.Prelude.{Option, Some, None, MatchBool}
-use Rattle.std.specs.Iterator.{CallableOnAllAt, CallableWhileAt, Count, IsFinite, YieldsThen, count_map, count_min, at_most}
+use Rattle.std.specs.Iterator.{CallableOnAllAt, CallableWhileAt, IsFinite, YieldsThen, count_map, count_min, at_most}
 use Rattle.std.specs.Iterator.Adapters.{filter_callee, filter_source, filter_steps, fuse_done, fuse_source, fuse_steps, skip_count, skip_source, skip_steps, skip_while_callee, skip_while_done_skipping, skip_while_source, skip_while_steps, take_count, take_source, take_steps, take_while_callee, take_while_done, take_while_source, take_while_steps}
 use Rattle.std.specs.declared.iter.Filter.{Filter}
 use Rattle.std.specs.declared.iter.Fuse.{Fuse}
+use Rattle.std.specs.declared.iter.Iterator.{Ghosts as Iteration}
 use Rattle.std.specs.declared.iter.Skip.{Skip}
 use Rattle.std.specs.declared.iter.SkipWhile.{SkipWhile}
 use Rattle.std.specs.declared.iter.Take.{Take}
@@ -15,71 +16,81 @@ use Rattle.std.specs.declared.iter.TakeWhile.{TakeWhile}
 use Rattle.std.specs.declared.ops.RangeInclusive.{RangeInclusive}
 use Rattle.rsb_integer.specs.Front.{IsFrontOf}
 use Rattle.rsb_integer.specs.Runs.{Interval}
+use Rattle.rsb_integer.specs.declared.integer.Integer.{Ghosts as Elements}
 use Rattle.rsb_streams.specs.AdapterCalls.{filter-gives, fuse-gives, skip-gives, skip_while-gives, take-gives, take_while-gives}
-use Rattle.rsb_streams.specs.Adapters.{IsCall, IsRestOf, IsSkipped, filter_can_draw, filter_may_give, front-is_part, fuse_can_draw, part-keeps, part_of, rest-is_part, skip-is_part, skip_can_draw, skip_may_give, skip_while_can_draw, skip_while_may_give, sublist-is_part, take-is_part, take_can_draw, take_may_give, take_while_can_draw, take_while_may_give}
-use Rattle.rsb_streams.specs.Fused.{fuse-keeps, fuse_can_next, fuse_may_give, fuse_remaining}
-use Rattle.rsb_streams.specs.Stream.{Outcomes, Answers, HasOutcome, HasSortedStarts, IsDrawn, Keeps, unless}
-use Rattle.rsb_streams.specs.Sublists.{sublist-none}
+use Rattle.rsb_streams.specs.Adapters.{adapted, filter_draws, fuse_draws, IsCall, IsRestOf, IsSkipped, NextIsDraw, part_of, skip_draws, skip_while_draws, take_draws, take_while_draws}
+use Rattle.rsb_streams.specs.Fused.{fuse_can_next, fuse_may_give, fuse_remaining}
+use Rattle.rsb_streams.specs.FusedLaws.{fuse-keeps}
+use Rattle.rsb_streams.specs.PartLaws.{front-is_part, part-keeps, rest-is_part, skip-is_part, sublist-is_part, take-is_part}
+use Rattle.rsb_streams.specs.Rows.{IsAnswered, IsSorted}
+use Rattle.rsb_streams.specs.Stream.{Outcomes, Answers, HasOutcome, HasSortedStarts, Keeps, unless}
+use Rattle.rsb_streams.specs.SublistsLaws.{sublist-none}
+use Rattle.rsb_streams.specs.declared.draw.Draw.{Ghosts as Stream}
 use denote.Param.Members.{Mut}
 use denote.Ref.{Bor}
 
-module _ {S T : Type 0} (rank : T → ℕ) (n : ℕ) {can_draw : S → Type 0}
-    {draw_gives : S → Option (RangeInclusive T) → S → Type 0} {draws_left : S → Count}
-    (may_give : S → Outcomes) {can_next : S → Type 0}
-    {next_gives : S → Option (RangeInclusive T) → S → Type 0} {remaining : S → Count}
-    (answers : (s t : S) (item : Option (RangeInclusive T)) → draw_gives s item t
-    → Answers rank may_give s item t)
-    (sorted : (s : S) → can_draw s → Keeps (HasSortedStarts n) (may_give s) (draws_left s))
-    (drawn : IsDrawn can_draw draw_gives draws_left can_next next_gives remaining) where
+module _ {S T N : Type 0} (integer : Elements T N) (stream : Stream S T N)
+    (next : Iteration S (RangeInclusive T)) (answers : IsAnswered integer stream)
+    (sorted : IsSorted integer stream) (drawn : NextIsDraw stream next) where
+  open integer use {rank, value_count as n}
+
   -- a range that the stream gives by its `next`
-  gives : (s t : S) (range : RangeInclusive T) → next_gives s (Some range) t
-      → Answers rank may_give s (Some range) t
+  gives : (s t : S) (range : RangeInclusive T) → next.next_gives s (Some range) t
+      → Answers rank stream.may_give s (Some range) t
   gives s t range call = answers s t (Some range) (drawn.gives s t range call)
 
   -- something may come where it may be called
-  some : (s : S) → can_next s → HasOutcome (may_give s)
+  some : (s : S) → next.can_next s → HasOutcome (stream.may_give s)
   some s can = (sorted s (drawn.drawable s can)).some
 
   -- and it ends
-  finite : (s : S) → can_draw s → IsFinite (remaining s)
+  finite : (s : S) → stream.can_draw s → IsFinite (next.remaining s)
   finite s can = subst IsFinite (sym (drawn.counts s)) (sorted s can).ends
 
+  -- the `next` of an adapter is its `draw`
+  adapted-drawn : {A : Type 0} (own : Iteration A (RangeInclusive T)) (Source Closure : A → Type 0)
+      (may_give : A → Outcomes)
+      → ((s : A) → own.can_next s → Source s × Closure s)
+      → ((s : A) → Source s → Closure s → own.can_next s)
+      → ((s t : A) (range : RangeInclusive T) → own.next_gives s (Some range) t
+      → Answers rank may_give s (Some range) t)
+      → ((s t : A) → own.can_next s → own.next_gives s None t → may_give s [])
+      → NextIsDraw (adapted integer stream next own Source Closure may_give) own
+  adapted-drawn own Source Closure may_give opens closes given ended = record {
+    drawable = λ s can.
+        let parts = opens s can in
+        record { source = parts.0; closure = parts.1; drawn = drawn };
+    callable = λ s ready. closes s ready.source ready.closure;
+    gives = λ s t range each. record { call = each; answers = given s t range each };
+    ends = λ s t can each. record { call = each; answers = ended s t can each };
+    counts = λ s. refl;
+  }
+
   module _ {F : Type 0} (call : Mut F (Bor (RangeInclusive T) × Unit {0}) Bool) where
-    pub filter-drawn : IsDrawn
-        (filter_can_draw can_draw draw_gives draws_left can_next next_gives remaining call)
-        (IsCall rank (filter_steps next_gives call) (filter_may_give may_give)) (λ s. remaining (filter_source s))
-        (λ (s : Filter S F). can_next (filter_source s) × IsFinite (remaining (filter_source s))
-        × CallableOnAllAt next_gives call (filter_source s) (filter_callee s))
-        (filter_steps next_gives call) (λ s. remaining (filter_source s))
-    filter-drawn = record {
-      drawable = λ s can. record {
-        source = drawn.drawable (filter_source s) can.0;
-        closure = can.2;
-        drawn = drawn;
-      };
-      callable = λ s ready. (
-        drawn.callable (filter_source s) ready.source,
-        finite (filter_source s) ready.source,
-        ready.closure,
-      );
-      gives = λ s t range each. record {
-        call = each;
-        answers = filter-gives rank may_give next_gives gives call s t range each;
-      };
-      ends = λ s t can each. record {
-        call = each;
-        answers = λ nothing. some (filter_source s) can.0 (λ given at.
-            nothing given at (sublist-none given));
-      };
-      counts = λ s. refl;
+    -- the `next` of a filter
+    abbrev filters : Iteration (Filter S F) (RangeInclusive T)
+    filters = record {
+      can_next = λ s. next.can_next (filter_source s) × IsFinite (next.remaining (filter_source s))
+          × CallableOnAllAt next.next_gives call (filter_source s) (filter_callee s);
+      next_gives = filter_steps next.next_gives call;
+      remaining = λ s. next.remaining (filter_source s);
     }
 
+    pub filter-drawn : NextIsDraw (filter_draws integer stream next call filters) filters
+    filter-drawn = adapted-drawn filters _ _ _
+        (λ s can. (drawn.drawable (filter_source s) can.0, can.2))
+        (λ s source closure. (drawn.callable (filter_source s) source,
+        finite (filter_source s) source, closure))
+        (filter-gives rank stream.may_give next.next_gives gives call)
+        (λ s t can each nothing. some (filter_source s) can.0 (λ given at.
+        nothing given at (sublist-none given)))
+
     -- what it may give comes by starts, there is some of it, and it ends
-    pub filter-keeps : (s : Filter S F)
-        → filter_can_draw can_draw draw_gives draws_left can_next next_gives remaining call s
-        → Keeps (HasSortedStarts n) (filter_may_give may_give s) (remaining (filter_source s))
-    filter-keeps s ready = part-keeps n sublist-is_part (may_give (filter_source s))
-        (draws_left (filter_source s)) (remaining (filter_source s)) (finite (filter_source s) ready.source) (sorted (filter_source s) ready.source)
+    pub filter-sorted : IsSorted integer (filter_draws integer stream next call filters)
+    filter-sorted s ready =
+        let source = filter_source s in
+        part-keeps n sublist-is_part (stream.may_give source) (stream.draws_left source)
+        (next.remaining source) (finite source ready.source) (sorted source ready.source)
 
     -- a `TakeWhile` that ended
     take_while-none : (done : Bool) (given : List Interval)
@@ -87,43 +98,36 @@ module _ {S T : Type 0} (rank : T → ℕ) (n : ℕ) {can_draw : S → Type 0}
     take_while-none true given = refl
     take_while-none false given = record { rest = given; parts = refl }
 
-    pub take_while-drawn : IsDrawn
-        (take_while_can_draw can_draw draw_gives draws_left can_next next_gives remaining call)
-        (IsCall rank (take_while_steps next_gives call) (take_while_may_give may_give)) (λ s. remaining (take_while_source s))
-        (λ (s : TakeWhile S F). can_next (take_while_source s)
-        × CallableWhileAt next_gives call true (take_while_source s) (take_while_callee s))
-        (take_while_steps next_gives call) (λ s. remaining (take_while_source s))
-    take_while-drawn = record {
-      drawable = λ s can. record {
-        source = drawn.drawable (take_while_source s) can.0;
-        closure = can.1;
-        drawn = drawn;
-      };
-      callable = λ s ready. (drawn.callable (take_while_source s) ready.source, ready.closure);
-      gives = λ s t range each. record {
-        call = each;
-        answers = take_while-gives rank may_give next_gives gives call s t range each;
-      };
-      ends = λ s t can each. record {
-        call = each;
-        answers = λ nothing. some (take_while_source s) can.0 (λ given at.
-            nothing given at (take_while-none (take_while_done s) given));
-      };
-      counts = λ s. refl;
+    -- the `next` of a `TakeWhile`
+    abbrev takes_while : Iteration (TakeWhile S F) (RangeInclusive T)
+    takes_while = record {
+      can_next = λ s. next.can_next (take_while_source s)
+          × CallableWhileAt next.next_gives call true (take_while_source s) (take_while_callee s);
+      next_gives = take_while_steps next.next_gives call;
+      remaining = λ s. next.remaining (take_while_source s);
     }
 
+    pub take_while-drawn : NextIsDraw (take_while_draws integer stream next call takes_while)
+        takes_while
+    take_while-drawn = adapted-drawn takes_while _ _ _
+        (λ s can. (drawn.drawable (take_while_source s) can.0, can.1))
+        (λ s source closure. (drawn.callable (take_while_source s) source, closure))
+        (take_while-gives rank stream.may_give next.next_gives gives call)
+        (λ s t can each nothing. some (take_while_source s) can.0 (λ given at.
+        nothing given at (take_while-none (take_while_done s) given)))
+
     -- what it may give comes by starts, there is some of it, and it ends
-    pub take_while-keeps : (s : TakeWhile S F)
-        → take_while_can_draw can_draw draw_gives draws_left can_next next_gives remaining call s
-        → Keeps (HasSortedStarts n) (take_while_may_give may_give s) (remaining (take_while_source s))
-    take_while-keeps s ready = part-keeps n (front-is_part (take_while_done s)) (may_give (take_while_source s))
-        (draws_left (take_while_source s)) (remaining (take_while_source s))
-        (finite (take_while_source s) ready.source) (sorted (take_while_source s) ready.source)
+    pub take_while-sorted : IsSorted integer (take_while_draws integer stream next call takes_while)
+    take_while-sorted s ready =
+        let source = take_while_source s in
+        part-keeps n (front-is_part (take_while_done s)) (stream.may_give source)
+        (stream.draws_left source) (next.remaining source) (finite source ready.source)
+        (sorted source ready.source)
 
     -- a `SkipWhile` that ended, by whether it passed over no more
-    skip_while-none : (started : Bool) (s t : S) → can_next s
-        → MatchBool started (next_gives s None t) (Unit {0})
-        → part_of (may_give s) (λ runs given. MatchBool started (runs ≡ given) (IsRestOf runs given))
+    skip_while-none : (started : Bool) (s t : S) → next.can_next s
+        → MatchBool started (next.next_gives s None t) (Unit {0})
+        → part_of (stream.may_give s) (λ runs given. MatchBool started (runs ≡ given) (IsRestOf runs given))
         []
     skip_while-none true s t can each = λ nothing.
         nothing [] (answers s t None (drawn.ends s t can each)) refl
@@ -131,168 +135,137 @@ module _ {S T : Type 0} (rank : T → ℕ) (n : ℕ) {can_draw : S → Type 0}
         nothing given at (record { passed = given; parts = sym (append-nil given) }))
 
     skip_while-end : (s t : SkipWhile S F) (started : Bool)
-        → MatchBool started (next_gives (skip_while_source s) None (skip_while_source t)
+        → MatchBool started (next.next_gives (skip_while_source s) None (skip_while_source t)
         × (skip_while_done_skipping t ≡ true) × (skip_while_callee t ≡ skip_while_callee s))
         ((xs : List (RangeInclusive T)) × (f : F)
-        × YieldsThen next_gives (skip_while_source s) xs None (skip_while_source t)
+        × YieldsThen next.next_gives (skip_while_source s) xs None (skip_while_source t)
         × FoldsTo (λ p x q. CalledAt call p x true q) (skip_while_callee s) xs f
         × (skip_while_callee t ≡ f))
-        → MatchBool started (next_gives (skip_while_source s) None (skip_while_source t)) (Unit {0})
+        → MatchBool started (next.next_gives (skip_while_source s) None (skip_while_source t)) (Unit {0})
     skip_while-end s t true each = each.0
     skip_while-end s t false each = tt
 
-    pub skip_while-drawn : IsDrawn
-        (skip_while_can_draw can_draw draw_gives draws_left can_next next_gives remaining call)
-        (IsCall rank (skip_while_steps next_gives call) (skip_while_may_give may_give)) (λ s. remaining (skip_while_source s))
-        (λ (s : SkipWhile S F). can_next (skip_while_source s)
-        × IsFinite (remaining (skip_while_source s))
-        × (skip_while_done_skipping s ≡ false
-        → CallableWhileAt next_gives call true (skip_while_source s) (skip_while_callee s)))
-        (skip_while_steps next_gives call) (λ s. remaining (skip_while_source s))
-    skip_while-drawn = record {
-      drawable = λ s can. record {
-        source = drawn.drawable (skip_while_source s) can.0;
-        closure = can.2;
-        drawn = drawn;
-      };
-      callable = λ s ready. (
-        drawn.callable (skip_while_source s) ready.source,
-        finite (skip_while_source s) ready.source,
-        ready.closure,
-      );
-      gives = λ s t range each. record {
-        call = each;
-        answers = skip_while-gives rank may_give next_gives gives call s t range each;
-      };
-      ends = λ s t can each. record {
-        call = each;
-        answers = skip_while-none (skip_while_done_skipping s) (skip_while_source s) (skip_while_source t)
-            can.0 (skip_while-end s t (skip_while_done_skipping s) each);
-      };
-      counts = λ s. refl;
+    -- the `next` of a `SkipWhile`
+    abbrev skips_while : Iteration (SkipWhile S F) (RangeInclusive T)
+    skips_while = record {
+      can_next = λ s. next.can_next (skip_while_source s)
+          × IsFinite (next.remaining (skip_while_source s))
+          × (skip_while_done_skipping s ≡ false → CallableWhileAt next.next_gives call true
+          (skip_while_source s) (skip_while_callee s));
+      next_gives = skip_while_steps next.next_gives call;
+      remaining = λ s. next.remaining (skip_while_source s);
     }
 
+    pub skip_while-drawn : NextIsDraw (skip_while_draws integer stream next call skips_while)
+        skips_while
+    skip_while-drawn = adapted-drawn skips_while _ _ _
+        (λ s can. (drawn.drawable (skip_while_source s) can.0, can.2))
+        (λ s source closure. (drawn.callable (skip_while_source s) source,
+        finite (skip_while_source s) source, closure))
+        (skip_while-gives rank stream.may_give next.next_gives gives call)
+        (λ s t can each. skip_while-none (skip_while_done_skipping s) (skip_while_source s)
+        (skip_while_source t) can.0 (skip_while-end s t (skip_while_done_skipping s) each))
+
     -- what it may give comes by starts, there is some of it, and it ends
-    pub skip_while-keeps : (s : SkipWhile S F)
-        → skip_while_can_draw can_draw draw_gives draws_left can_next next_gives remaining call s
-        → Keeps (HasSortedStarts n) (skip_while_may_give may_give s) (remaining (skip_while_source s))
-    skip_while-keeps s ready = part-keeps n (rest-is_part (skip_while_done_skipping s)) (may_give (skip_while_source s))
-        (draws_left (skip_while_source s)) (remaining (skip_while_source s))
-        (finite (skip_while_source s) ready.source) (sorted (skip_while_source s) ready.source)
+    pub skip_while-sorted : IsSorted integer (skip_while_draws integer stream next call skips_while)
+    skip_while-sorted s ready =
+        let source = skip_while_source s in
+        part-keeps n (rest-is_part (skip_while_done_skipping s)) (stream.may_give source)
+        (stream.draws_left source) (next.remaining source) (finite source ready.source)
+        (sorted source ready.source)
 
   -- a `Take` that ended, by how many more it gives
-  take-none : (count : ℕ) (s t : S) → can_next s → (0 < count → next_gives s None t)
-      → part_of (may_give s) (λ runs given. runs ≡ take count given) []
+  take-none : (count : ℕ) (s t : S) → next.can_next s → (0 < count → next.next_gives s None t)
+      → part_of (stream.may_give s) (λ runs given. runs ≡ take count given) []
   take-none zero s t can each = λ nothing. some s can (λ given at. nothing given at refl)
   take-none (suc count) s t can each = λ nothing.
       nothing [] (answers s t None (drawn.ends s t can (each (omega arith)))) refl
 
-  pub take-drawn : IsDrawn
-      (take_can_draw can_draw draw_gives draws_left can_next next_gives remaining)
-      (IsCall rank (take_steps next_gives) (take_may_give may_give))
-      (λ s. count_min (at_most (take_count s)) (remaining (take_source s)))
-      (λ s. can_next (take_source s)) (take_steps next_gives)
-      (λ s. count_min (at_most (take_count s)) (remaining (take_source s)))
-  take-drawn = record {
-    drawable = λ s can. record {
-      source = drawn.drawable (take_source s) can;
-      closure = tt;
-      drawn = drawn;
-    };
-    callable = λ s ready. drawn.callable (take_source s) ready.source;
-    gives = λ s t range each. record {
-      call = each;
-      answers = take-gives rank may_give next_gives gives s t range each;
-    };
-    ends = λ s t can each. record {
-      call = each;
-      answers = take-none (take_count s) (take_source s) (take_source t) can each;
-    };
-    counts = λ s. refl;
+  -- the `next` of a `Take`
+  abbrev takes : Iteration (Take S) (RangeInclusive T)
+  takes = record {
+    can_next = λ s. next.can_next (take_source s);
+    next_gives = take_steps next.next_gives;
+    remaining = λ s. count_min (at_most (take_count s)) (next.remaining (take_source s));
   }
 
+  pub take-drawn : NextIsDraw (take_draws integer stream next takes) takes
+  take-drawn = adapted-drawn takes _ _ _
+      (λ s can. (drawn.drawable (take_source s) can, tt))
+      (λ s source closure. drawn.callable (take_source s) source)
+      (take-gives rank stream.may_give next.next_gives gives)
+      (λ s t. take-none (take_count s) (take_source s) (take_source t))
+
   -- what it may give comes by starts, there is some of it, and it ends
-  pub take-keeps : (s : Take S)
-      → take_can_draw can_draw draw_gives draws_left can_next next_gives remaining s
-      → Keeps (HasSortedStarts n) (take_may_give may_give s) (count_min (at_most (take_count s)) (remaining (take_source s)))
-  take-keeps s ready = part-keeps n (take-is_part (take_count s)) (may_give (take_source s))
-      (draws_left (take_source s)) (count_min (at_most (take_count s)) (remaining (take_source s))) (tt) (sorted (take_source s) ready.source)
+  pub take-sorted : IsSorted integer (take_draws integer stream next takes)
+  take-sorted s ready =
+      let source = take_source s in
+      part-keeps n (take-is_part (take_count s)) (stream.may_give source)
+      (stream.draws_left source) (takes.remaining s) tt (sorted source ready.source)
 
   -- a `Skip` that ended, by how many it still skips
-  skip-none : (count : ℕ) (s t : S) (ranges : List (RangeInclusive T)) → can_next s
-      → YieldsThen next_gives s ranges None t → length ranges ≤ count
-      → part_of (may_give s) (IsSkipped next_gives s count) []
+  skip-none : (count : ℕ) (s t : S) (ranges : List (RangeInclusive T)) → next.can_next s
+      → YieldsThen next.next_gives s ranges None t → length ranges ≤ count
+      → part_of (stream.may_give s) (IsSkipped next.next_gives s count) []
   skip-none zero s t [] can each most = λ nothing.
       nothing [] (answers s t None (drawn.ends s t can
-      (subst (λ from. next_gives from None t) (sym each.1) each.2))) (inl refl)
+      (subst (λ from. next.next_gives from None t) (sym each.1) each.2))) (inl refl)
   skip-none zero s t (range ∷ ranges) can each most = absurd (omega (arith, most))
   skip-none (suc count) s t ranges can each most = λ nothing. some s can (λ given at.
       nothing given at (inr (omega arith, refl, (ranges, t, each, most))))
 
-  pub skip-drawn : IsDrawn
-      (skip_can_draw can_draw draw_gives draws_left can_next next_gives remaining)
-      (IsCall rank (skip_steps next_gives) (skip_may_give next_gives may_give))
-      (λ s. count_map (λ left. left - skip_count s) (remaining (skip_source s)))
-      (λ s. can_next (skip_source s)) (skip_steps next_gives)
-      (λ s. count_map (λ left. left - skip_count s) (remaining (skip_source s)))
-  skip-drawn = record {
-    drawable = λ s can. record {
-      source = drawn.drawable (skip_source s) can;
-      closure = tt;
-      drawn = drawn;
-    };
-    callable = λ s ready. drawn.callable (skip_source s) ready.source;
-    gives = λ s t range each. record {
-      call = each;
-      answers = skip-gives rank may_give next_gives gives s t range each;
-    };
-    ends = λ s t can each. record {
-      call = each;
-      answers = skip-none (skip_count s) (skip_source s) (skip_source t) each.1.0 can each.1.1 each.1.2;
-    };
-    counts = λ s. refl;
+  -- the `next` of a `Skip`
+  abbrev skips : Iteration (Skip S) (RangeInclusive T)
+  skips = record {
+    can_next = λ s. next.can_next (skip_source s);
+    next_gives = skip_steps next.next_gives;
+    remaining = λ s. count_map (λ left. left - skip_count s) (next.remaining (skip_source s));
   }
 
+  pub skip-drawn : NextIsDraw (skip_draws integer stream next skips) skips
+  skip-drawn = adapted-drawn skips _ _ _
+      (λ s can. (drawn.drawable (skip_source s) can, tt))
+      (λ s source closure. drawn.callable (skip_source s) source)
+      (skip-gives rank stream.may_give next.next_gives gives)
+      (λ s t can each. skip-none (skip_count s) (skip_source s) (skip_source t) each.1.0 can
+      each.1.1 each.1.2)
+
   -- what it may give comes by starts, there is some of it, and it ends
-  pub skip-keeps : (s : Skip S)
-      → skip_can_draw can_draw draw_gives draws_left can_next next_gives remaining s
-      → Keeps (HasSortedStarts n) (skip_may_give next_gives may_give s) (count_map (λ left. left - skip_count s) (remaining (skip_source s)))
-  skip-keeps s ready = part-keeps n (skip-is_part next_gives (skip_source s) (skip_count s)) (may_give (skip_source s))
-      (draws_left (skip_source s)) (count_map (λ left. left - skip_count s) (remaining (skip_source s)))
-      (finite (skip_source s) ready.source) (sorted (skip_source s) ready.source)
+  pub skip-sorted : IsSorted integer (skip_draws integer stream next skips)
+  skip-sorted s ready =
+      let source = skip_source s in
+      part-keeps n (skip-is_part next.next_gives source (skip_count s)) (stream.may_give source)
+      (stream.draws_left source) (skips.remaining s) (finite source ready.source)
+      (sorted source ready.source)
 
   -- a `Fuse` that answered `None`, by whether it had ended before
-  fuse-none : (done : Bool) (s t : S) → (done ≡ false → can_next s)
-      → MatchBool done (◌≡◌ {A = Option (RangeInclusive T)} None None) (next_gives s None t) → unless done (may_give s) []
+  fuse-none : (done : Bool) (s t : S) → (done ≡ false → next.can_next s)
+      → MatchBool done (◌≡◌ {A = Option (RangeInclusive T)} None None) (next.next_gives s None t) → unless done (stream.may_give s) []
   fuse-none true s t can each = refl
   fuse-none false s t can each = answers s t None (drawn.ends s t (can refl) each)
 
-  pub fuse-drawn : IsDrawn
-      (fuse_can_draw can_draw draw_gives draws_left can_next next_gives remaining)
-      (IsCall rank (fuse_steps next_gives) (fuse_may_give may_give)) (fuse_remaining remaining)
-      (fuse_can_next can_next) (fuse_steps next_gives) (fuse_remaining remaining)
-  fuse-drawn = record {
-    drawable = λ s can. record {
-      source = λ undone. drawn.drawable (fuse_source s) (can undone);
-      closure = tt;
-      drawn = drawn;
-    };
-    callable = λ s ready undone. drawn.callable (fuse_source s) (ready.source undone);
-    gives = λ s t range each. record {
-      call = each;
-      answers = fuse-gives rank may_give next_gives gives s t range each;
-    };
-    ends = λ s t can each. record {
-      call = each;
-      answers = fuse-none (fuse_done s) (fuse_source s) (fuse_source t) can each.0;
-    };
-    counts = λ s. refl;
+  -- the `next` of a `Fuse`
+  abbrev fuses : Iteration (Fuse S) (RangeInclusive T)
+  fuses = record {
+    can_next = fuse_can_next next.can_next;
+    next_gives = fuse_steps next.next_gives;
+    remaining = fuse_remaining next.remaining;
   }
 
+  pub fuse-drawn : NextIsDraw (fuse_draws integer stream next fuses) fuses
+  fuse-drawn = adapted-drawn fuses _ _ _
+      (λ s can. ((λ undone. drawn.drawable (fuse_source s) (can undone)), tt))
+      (λ s source closure undone. drawn.callable (fuse_source s) (source undone))
+      (fuse-gives rank stream.may_give next.next_gives gives)
+      (λ s t can each. fuse-none (fuse_done s) (fuse_source s) (fuse_source t) can each.0)
+
   -- what it may give comes by starts, there is some of it, and it ends
-  pub fused-starts : (s : Fuse S)
-      → fuse_can_draw can_draw draw_gives draws_left can_next next_gives remaining s
-      → Keeps (HasSortedStarts n) (fuse_may_give may_give s) (fuse_remaining remaining s)
-  fused-starts s ready = fuse-keeps may_give can_draw remaining (HasSortedStarts n) tt
-      (λ each can. subst (Keeps (HasSortedStarts n) (may_give each)) (sym (drawn.counts each))
+  pub fuse-sorted : IsSorted integer (fuse_draws integer stream next fuses)
+  fuse-sorted s ready = fuse-keeps {N = N} (record {
+    can_draw = stream.can_draw;
+    draw_gives = stream.draw_gives;
+    draws_left = next.remaining;
+    may_give = stream.may_give;
+  }) (HasSortedStarts n) tt
+      (λ each can. subst (Keeps (HasSortedStarts n) (stream.may_give each)) (sym (drawn.counts each))
       (sorted each can)) s ready.source

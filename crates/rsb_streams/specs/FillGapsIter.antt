@@ -5,10 +5,12 @@ use Rattle.std.specs.Iterator.{Count, at_most}
 use Rattle.std.specs.declared.ops.RangeInclusive.{RangeInclusive}
 use Rattle.rsb_integer.specs.Rank.{interval_of}
 use Rattle.rsb_integer.specs.Runs.{Interval, members, AreRuns}
+use Rattle.rsb_integer.specs.declared.integer.Integer.{Ghosts as Elements}
 use Rattle.rsb_streams.specs.FillGaps.{told_runs, told_gaps, IsAscendingFrom, IsFilledList}
 use Rattle.rsb_streams.specs.NotIter.{NotReady}
-use Rattle.rsb_streams.specs.PutBack.{PutBackReady, put_back_may_give}
+use Rattle.rsb_streams.specs.PutBack.{put_back}
 use Rattle.rsb_streams.specs.Stream.{Outcomes, gaps_from, SomeOutcome}
+use Rattle.rsb_streams.specs.declared.draw.Draw.{Ghosts as Stream}
 use Rattle.rsb_streams.specs.declared.fill_gaps_iter.FillGapsIter.{FillGapsIter}
 
 -- the lists of runs and gaps that may still come
@@ -28,39 +30,34 @@ fills_after rank n None P pairs = pairs ≡ []
 fills_after rank n (Some start) P pairs =
     SomeOutcome P (λ given. FillsFrom n (rank start) given pairs)
 
--- the runs that are held and to come, and their gaps
-abbrev pub fill_may_give : {T I : Type 0} → (T → ℕ) → ℕ → (I → Outcomes) → FillGapsIter T I
-    → FilledOutcomes
-fill_may_give rank n may_give s =
-    fills_after rank n s.start (put_back_may_give rank may_give s.iter)
-
 -- how many values lie from the next start on
 abbrev pub values_from : {T : Type 0} → (T → ℕ) → ℕ → Option T → ℕ
 values_from rank n None = 0
 values_from rank n (Some start) = n - rank start
 
 -- no more runs and gaps than values
-abbrev pub fill_remaining : {T I : Type 0} → (T → ℕ) → ℕ → FillGapsIter T I → Count
-fill_remaining rank n s = at_most (values_from rank n s.start)
+abbrev pub fill_remaining : {T N I : Type 0} → Elements T N → FillGapsIter T I → Count
+fill_remaining integer s = at_most (values_from integer.rank integer.value_count s.start)
 
-module _ {T I : Type 0} (rank : T → ℕ) (n : ℕ) (can_next : I → Type 0)
-    (may_give : I → Outcomes) where
+module _ {T N I : Type 0} (integer : Elements T N) (stream : Stream I T N) where
+  -- the runs that are held and to come, and their gaps
+  abbrev pub fill_may_give : FillGapsIter T I → FilledOutcomes
+  fill_may_give s = fills_after integer.rank integer.value_count s.start
+      ((put_back integer stream).may_give s.iter)
+
   -- the greatest value was told, or the stream is ready for a gap from the next start on
   abbrev pub fill_can_next : FillGapsIter T I → Type 0
-  fill_can_next s = IfSome s.start (λ start.
-      NotReady rank n (PutBackReady rank n can_next may_give)
-      (put_back_may_give rank may_give) s.iter start)
+  fill_can_next s = IfSome s.start (NotReady integer (put_back integer stream) s.iter)
 
   -- what the call answered, and then what may come after it, might come before it, and after `None`
   -- nothing comes
   pub record FillSteps (s : FillGapsIter T I) (item : Option (RangeInclusive T × Bool))
       (t : FillGapsIter T I) : Type 0 where
-    pub answers : MatchOption item (fill_may_give rank n may_give s [])
-        (λ pair. (rest : List (Interval × Bool)) → fill_may_give rank n may_give t rest
-        → fill_may_give rank n may_give s ((interval_of rank pair.0, pair.1) ∷ rest))
+    pub answers : MatchOption item (fill_may_give s [])
+        (λ pair. (rest : List (Interval × Bool)) → fill_may_give t rest
+        → fill_may_give s ((interval_of integer.rank pair.0, pair.1) ∷ rest))
     pub rests : MatchOption item
-        (fill_can_next t × ((pairs : List (Interval × Bool)) → fill_may_give rank n may_give t pairs
-        → pairs ≡ []))
+        (fill_can_next t × ((pairs : List (Interval × Bool)) → fill_may_give t pairs → pairs ≡ []))
         (λ _. Unit {0})
 
 -- all that may be told is the filled list of what the stream may give

@@ -1,113 +1,24 @@
 -- The merge of two streams by their starts.
-use Rattle.std.proofs.Common.{ℕ, zero, suc, ◌+◌, ◌≤◌, List, [], ◌∷◌, length, refl, inl, inr, arith}
-use Rattle.std.proofs.lemmas.Bool.{cases_lt}
-use Rattle.std.specs.Iterator.{Count, IsFinite, count_add}
-use Rattle.rsb_integer.specs.Runs.{Interval}
-use Rattle.rsb_integer.proofs.ListLemmas.{true_or_false}
-use Rattle.rsb_streams.specs.Outcomes.{settled_sorted}
-use Rattle.rsb_streams.specs.PutBack.{PutBackReady, put_back_may_give, put_back_remaining, put_back-keeps}
-use Rattle.rsb_streams.specs.Stream.{Outcomes, merges, HasSortedStarts, HasSortedStartsFrom, IsMergeOf, Keeps}
+use Rattle.std.specs.Iterator.{count_add}
+use Rattle.rsb_integer.specs.declared.integer.Integer.{Ghosts as Elements}
+use Rattle.rsb_streams.specs.PutBack.{put_back}
+use Rattle.rsb_streams.specs.Rows.{answering}
+use Rattle.rsb_streams.specs.Stream.{merges}
+use Rattle.rsb_streams.specs.declared.draw.Draw.{Ghosts as Stream}
 use Rattle.rsb_streams.specs.declared.merge.Merge.{Merge}
 
--- as many as both have left, with those held
-abbrev pub merge_remaining : {T L R : Type 0} → (L → Count) → (R → Count) → Merge T L R → Count
-merge_remaining lefts rights s = count_add (put_back_remaining lefts s.left)
-    (put_back_remaining rights s.right)
-
-module _ {T L R : Type 0} (rank : T → ℕ) (n : ℕ)
-    (left_can : L → Type 0) (left_may : L → Outcomes) (right_can : R → Type 0)
-    (right_may : R → Outcomes) where
-  -- both streams may be called
+module _ {T N L R : Type 0} (integer : Elements T N) (lefts : Stream L T N)
+    (rights : Stream R T N) where
+  -- both streams may be drawn from
   pub record MergeReady (s : Merge T L R) : Type 0 where
-    pub left : PutBackReady rank n left_can left_may s.left
-    pub right : PutBackReady rank n right_can right_may s.right
+    pub left : (put_back integer lefts).can_draw s.left
+    pub right : (put_back integer rights).can_draw s.right
 
--- what is held and still to come of both, by starts
-abbrev pub merge_may_give : {T L R : Type 0} → (T → ℕ) → ℕ → (L → Outcomes) → (R → Outcomes)
-    → Merge T L R → Outcomes
-merge_may_give rank n left_may right_may s = merges n (put_back_may_give rank left_may s.left)
-    (put_back_may_give rank right_may s.right)
-
--- ---- lists by starts
-
--- the merge of two lists starts no earlier than both
-pub merge-starts : (n low : ℕ) (left right runs : List Interval) → HasSortedStartsFrom n low left
-    → HasSortedStartsFrom n low right → HasSortedStarts n runs → IsMergeOf left right runs
-    → HasSortedStartsFrom n low runs
-merge-starts n low left right [] first second sorted merged = tt
-merge-starts n low left right (run ∷ runs) first second sorted merged =
-    let starts : low ≤ run.first = elim merged [
-      | inl from_left ↦ let head = rw from_left.1 at first in head.0
-      | inr from_right ↦ let head = rw from_right.1 at second in head.0
-    ] in
-    (starts, sorted.1, sorted.2, sorted.3)
-
--- two lists by starts have a merge: `size` is at least their lengths together
-merge-from : (n size low : ℕ) (left right : List Interval) → length left + length right ≤ size
-    → HasSortedStartsFrom n low left → HasSortedStartsFrom n low right
-    → (runs : List Interval) × HasSortedStartsFrom n low runs × IsMergeOf left right runs
-merge-from n size low [] [] within first second = ([], tt, (refl, refl))
-merge-from n zero low (run ∷ left) right within first second = absurd (omega arith)
-merge-from n zero low [] (run ∷ right) within first second = absurd (omega arith)
-merge-from n (suc size) low (run ∷ left) [] within first second =
-    let rest = merge-from n size run.first left [] (omega arith) first.3 tt in
-    (run ∷ rest.0, (first.0, first.1, first.2, rest.1), inl (left, refl, rest.2))
-merge-from n (suc size) low [] (run ∷ right) within first second =
-    let rest = merge-from n size run.first [] right (omega arith) tt second.3 in
-    (run ∷ rest.0, (second.0, second.1, second.2, rest.1), inr (right, refl, rest.2))
-merge-from n (suc size) low (run ∷ left) (other ∷ right) within first second = elim
-    (cases_lt run.first other.first) [
-      | inl less ↦
-          let later : HasSortedStartsFrom n run.first (other ∷ right) =
-          (omega arith, second.1, second.2, second.3) in
-          let rest = merge-from n size run.first left (other ∷ right) (omega arith) first.3 later in
-          (run ∷ rest.0, (first.0, first.1, first.2, rest.1), inl (left, refl, rest.2))
-      | inr most ↦
-          let later : HasSortedStartsFrom n other.first (run ∷ left)
-          = (most, first.1, first.2, first.3) in
-          let rest = merge-from n size other.first (run ∷ left) right (omega arith) later second.3 in
-          (other ∷ rest.0, (second.0, second.1, second.2, rest.1), inr (right, refl, rest.2))
-    ]
-
--- two lists by starts have a merge
-pub merge-exists : (n : ℕ) (left right : List Interval) → HasSortedStarts n left
-    → HasSortedStarts n right
-    → (runs : List Interval) × HasSortedStarts n runs × IsMergeOf left right runs
-merge-exists n left right first second =
-    merge-from n (length left + length right) 0 left right (omega arith) first second
-
--- two counts that end have a sum that ends
-pub both-finite : (left right : Count) → IsFinite left → IsFinite right
-    → IsFinite (count_add left right)
-both-finite left right first second = elim (true_or_false left.bounded) [
-  | inl bounded ↦ rw bounded second
-  | inr endless ↦ absurd (rw endless at first)
-]
-
--- the merge of what two may give is by starts, there is some of it, and it ends
-pub merges-keeps : (n : ℕ) (P Q : Outcomes) (left right : Count) → Keeps (HasSortedStarts n) P left
-    → Keeps (HasSortedStarts n) Q right
-    → Keeps (HasSortedStarts n) (merges n P Q) (count_add left right)
-merges-keeps n P Q left right first second = record {
-  some = λ never. first.some (λ xs may. second.some (λ ys might.
-      let runs = merge-exists n xs ys (first.all xs may) (second.all ys might) in
-      never runs.0 (λ nothing. nothing xs ys may might (runs.1, runs.2))));
-  all = λ runs may. settled_sorted n 0 runs (λ fails. may (λ xs ys at also all. fails all.0));
-  ends = both-finite left right first.ends second.ends;
-}
-
-module _ {T L R : Type 0} (rank : T → ℕ) (n : ℕ)
-    (left_can : L → Type 0) (left_may : L → Outcomes) (left : L → Count)
-    (left_sorted : (s : L) → left_can s → Keeps (HasSortedStarts n) (left_may s) (left s))
-    (right_can : R → Type 0) (right_may : R → Outcomes) (right : R → Count)
-    (right_sorted : (s : R) → right_can s → Keeps (HasSortedStarts n) (right_may s) (right s)) where
-  -- the ranges come by their starts, there are some lists of them, and they end
-  pub merge-keeps : (s : Merge T L R) → MergeReady rank n left_can left_may right_can right_may s
-      → Keeps (HasSortedStarts n) (merge_may_give rank n left_may right_may s)
-      (merge_remaining left right s)
-  merge-keeps s ready =
-      merges-keeps n (put_back_may_give rank left_may s.left)
-      (put_back_may_give rank right_may s.right)
-      (put_back_remaining left s.left) (put_back_remaining right s.right)
-      (put_back-keeps rank n left_can left_may left left_sorted s.left ready.left)
-      (put_back-keeps rank n right_can right_may right right_sorted s.right ready.right)
+  -- the merge: what is held and still to come of both, by starts; as many are left as both have,
+  -- with those held
+  abbrev pub merge : Stream (Merge T L R) T N
+  merge = answering integer MergeReady
+      (λ s. count_add ((put_back integer lefts).draws_left s.left)
+      ((put_back integer rights).draws_left s.right))
+      (λ s. merges integer.value_count ((put_back integer lefts).may_give s.left)
+      ((put_back integer rights).may_give s.right))

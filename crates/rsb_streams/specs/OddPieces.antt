@@ -1,13 +1,13 @@
 -- The pieces of ranges that an odd number of them covers, where no rank lies in more than two.
-use Rattle.std.proofs.Common.{◌≡◌, ℕ, ◌+◌, ◌≤◌, Bool, true, false, max, min, List, [], ◌∷◌, ◌++◌, length, map, refl}
+use Rattle.std.proofs.Common.{◌≡◌, ℕ, ◌+◌, ◌≤◌, false, max, min, List, [], ◌∷◌, ◌++◌, length, map}
 use Rattle.std.specs.Prelude.{Option, Some, None}
-use Rattle.std.specs.Iterator.{Count, count_map, count_unless, size}
-use Rattle.std.specs.declared.ops.RangeInclusive.{RangeInclusive}
+use Rattle.std.specs.Iterator.{Count, count_map, count_unless}
 use Rattle.rsb_integer.specs.Runs.{Interval, cover, covers, members}
 use Rattle.rsb_integer.specs.Selection.{Selection, Agree, odd_of}
-use Rattle.rsb_integer.proofs.RunsLemmas.{runs-canonical, runs-members}
-use Rattle.rsb_streams.specs.Outcomes.{canonical-sorted, runs-exist, settled_sorted}
-use Rattle.rsb_streams.specs.Stream.{Outcomes, ◌⊆◌, AnswersAndRests, HasSortedStarts, Keeps, SomeOutcome, unless}
+use Rattle.rsb_integer.specs.declared.integer.Integer.{Ghosts as Elements}
+use Rattle.rsb_streams.specs.Rows.{answering}
+use Rattle.rsb_streams.specs.Stream.{Outcomes, HasSortedStarts, SomeOutcome, unless}
+use Rattle.rsb_streams.specs.declared.draw.Draw.{Ghosts as Stream}
 use Rattle.rsb_streams.specs.declared.odd_pieces.OddPieces.{OddPieces}
 
 -- ---- lists of intervals
@@ -76,75 +76,24 @@ abbrev pub holding : {T I : Type 0} → OddPieces T I → List (Option T) → Od
 holding s ends =
     record { iter = s.iter; done = s.done; start = s.start; end = first_end ends }
 
--- what lies in an odd number of the pending range and of those to come, and nothing at the end
-abbrev pub odd_may_give : {T I : Type 0} → (T → ℕ) → ℕ → (I → Outcomes) → OddPieces T I → Outcomes
-odd_may_give rank n may_give s =
-    unless s.done (pieces_of n (pending rank s) (may_give s.iter))
-
--- a piece for each range that is pending or still to come
-abbrev pub odd_remaining : {T I : Type 0} → (I → Count) → OddPieces T I → Count
-odd_remaining remaining s =
-    count_unless s.done (count_map (λ left. left + length (ends_of s.end)) (remaining s.iter))
-
-module _ {T I : Type 0} (rank : T → ℕ) (n : ℕ) (can_next : I → Type 0)
-    (may_give : I → Outcomes) where
-  -- the source may be called, and no rank lies in more than two of the ranges, pending and to come
+module _ {T N I : Type 0} (integer : Elements T N) (stream : Stream I T N) where
+  -- the source may be drawn from, and no rank lies in more than two of the ranges, pending and to
+  -- come
   pub record IsGoing (s : OddPieces T I) : Type 0 where
-    pub callable : can_next s.iter
-    pub twofold : (given : List Interval) → may_give s.iter given
-        → IsTwofold n (pending rank s ++ given)
+    pub callable : stream.can_draw s.iter
+    pub twofold : (given : List Interval) → stream.may_give s.iter given
+        → IsTwofold integer.value_count (pending integer.rank s ++ given)
 
-  -- so it is, or all was told
-  abbrev pub OddReady : OddPieces T I → Type 0
-  OddReady s = s.done ≡ false → IsGoing s
+  -- what lies in an odd number of the pending range and of those to come, and nothing at the end
+  abbrev pub odd_may_give : OddPieces T I → Outcomes
+  odd_may_give s = unless s.done
+      (pieces_of integer.value_count (pending integer.rank s) (stream.may_give s.iter))
 
-  -- a call answers what may come, and after `None` nothing comes
-  abbrev pub OddAnswers : OddPieces T I → Option (RangeInclusive T) → OddPieces T I → Type 0
-  OddAnswers = AnswersAndRests rank OddReady (odd_may_give rank n may_give)
+  -- a piece for each range that is pending or still to come
+  abbrev pub odd_remaining : OddPieces T I → Count
+  odd_remaining s = count_unless s.done
+      (count_map (λ left. left + length (ends_of s.end)) (stream.draws_left s.iter))
 
-  module _ (remaining : I → Count) where
-    -- what may come now might come at the entry
-    pub record OddSoFar (entry now : OddPieces T I) : Type 0 where
-      pub undone : now.done ≡ false
-      pub going : IsGoing now
-      pub same : odd_may_give rank n may_give now ⊆ odd_may_give rank n may_give entry
-      pub nearer : size (odd_remaining remaining now) ≤ size (odd_remaining remaining entry)
-
-    -- so it is where the pending end lies in a vector, which has one at most
-    pub record OddHeld (entry now : OddPieces T I) (ends : List (Option T)) : Type 0 where
-      pub one : HasOneEnd ends
-      pub so : OddSoFar entry (holding now ends)
-
-    -- the pieces come by their starts, there are some lists of them, and they end, by whether all
-    -- was told
-    keeps-by : ((s : I) → can_next s → Keeps (HasSortedStarts n) (may_give s) (remaining s))
-        → (done : Bool) (s : OddPieces T I) → (done ≡ false → IsGoing s)
-        → Keeps (HasSortedStarts n)
-        (unless done (pieces_of n (pending rank s) (may_give s.iter)))
-        (count_unless done (count_map (λ left. left + length (ends_of s.end)) (remaining s.iter)))
-    keeps-by sorted true s ready = record {
-      some = λ never. never [] refl;
-      all = λ pieces may. rw may tt;
-      ends = tt;
-    }
-    keeps-by sorted false s ready =
-        let kept = sorted s.iter (ready refl).callable in
-        record {
-          some = λ never. kept.some (λ given may.
-              let selected = oddly_covered (pending rank s ++ given) in
-              let runs = runs-exist n selected in
-              let canonical = runs-canonical n selected runs.0 runs.1 in
-              never runs.0 (λ nothing. nothing given may (record {
-                sorted = canonical-sorted n 0 runs.0 canonical.0 canonical.1;
-                same = runs-members n selected runs.0 runs.1;
-              })));
-          all = λ pieces may. settled_sorted n 0 pieces
-              (λ fails. may (λ given at all. fails all.sorted));
-          ends = kept.ends;
-        }
-
-    -- the pieces come by their starts, there are some lists of them, and they end
-    pub odd-keeps : ((s : I) → can_next s → Keeps (HasSortedStarts n) (may_give s) (remaining s))
-        → (s : OddPieces T I) → OddReady s
-        → Keeps (HasSortedStarts n) (odd_may_give rank n may_give s) (odd_remaining remaining s)
-    odd-keeps sorted s ready = keeps-by sorted s.done s ready
+  -- the pieces of a stream: it is going, or all was told
+  abbrev pub odd_pieces : Stream (OddPieces T I) T N
+  odd_pieces = answering integer (λ s. s.done ≡ false → IsGoing s) odd_remaining odd_may_give

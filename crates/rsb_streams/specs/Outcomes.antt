@@ -5,11 +5,14 @@ use Rattle.std.proofs.lemmas.List.Elements.{All-head, All-tail, All-cons, All-ni
 use Rattle.std.specs.Iterator.{Count}
 use Rattle.rsb_integer.specs.Runs.{Interval, members, AllEndBelow, AreRuns, IsCanonicalFrom, IsCanonicalIn}
 use Rattle.rsb_integer.specs.Selection.{Selection}
+use Rattle.rsb_integer.specs.declared.integer.Integer.{Ghosts as Elements}
 use Rattle.rsb_integer.proofs.ListLemmas.{true_or_false}
 use Rattle.rsb_integer.proofs.CanonicalLemmas.{canonical-lower}
 use Rattle.rsb_integer.proofs.MembersLemmas.{members-below, members-head, members-tail, covers-cases}
 use Rattle.rsb_integer.proofs.RunsLemmas.{runs-from_canonical}
+use Rattle.rsb_streams.specs.Rows.{IsDisjoint, IsSorted}
 use Rattle.rsb_streams.specs.Stream.{Outcomes, HasSortedStartsFrom, HasSortedStarts, Keeps}
+use Rattle.rsb_streams.specs.declared.draw.Draw.{Ghosts as Stream}
 
 -- ---- what is decided holds where it does not fail
 
@@ -100,6 +103,12 @@ canonical-starts n P remaining kept = record {
       canonical-sorted n 0 runs canonical.0 canonical.1;
   ends = kept.ends;
 }
+
+-- so does a stream that is canonical
+pub disjoint-sorted : {S T N : Type 0} (integer : Elements T N) (stream : Stream S T N)
+    → IsDisjoint integer stream → IsSorted integer stream
+disjoint-sorted integer stream disjoint s can =
+    canonical-starts integer.value_count _ _ (disjoint s can)
 
 -- every interval of a sorted list ends below n
 pub sorted-below : (n low : ℕ) (runs : List Interval) → HasSortedStartsFrom n low runs

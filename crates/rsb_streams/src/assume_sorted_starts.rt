@@ -1,15 +1,8 @@
 //! Streams of ranges whose starts are known not to fall.
 
-ghost use Rattle.rsb_streams.specs.Calls.{calls_give, GivesOnly};
-ghost use Rattle.rsb_streams.specs.AssumeSortedStarts.{
-  assume-answers,
-  assume-keeps,
-  assume_can_next,
-  assume_may_give,
-  assume_remaining,
-  assume_steps,
-};
-ghost use Rattle.rsb_streams.specs.CheckSortedDisjoint.{gives_as};
+ghost use Rattle.rsb_streams.specs.Calls.{gives_as, GivesOnly};
+ghost use Rattle.rsb_streams.specs.CallsLaws.{known-answered, known-sorted};
+ghost use Rattle.rsb_streams.specs.AssumeSortedStarts.{assume_sorted_starts};
 ghost use Rattle.rsb_streams.specs.Stream.{◌⊆◌, drawn-itself, HasSortedStarts};
 
 use crate::draw::Draw;
@@ -31,12 +24,11 @@ impl<T: Integer, I: Iterator> AssumeSortedStarts<T, I> {
     /// The items of what becomes an iterator that may be called and gives finitely many ranges, which
     /// are non-empty, and by their starts. It takes no memory. (`AssumeSortedStarts::new`.)
     pub fn new<J: IntoIterator<Item = RangeInclusive<T>, IntoIter = I>>(iter: J) -> Self
-        requires { GivesOnly J.into_iter_gives T.rank ⟦<I as Iterator>⟧
-            (HasSortedStarts T.value_count) iter }
+        requires { GivesOnly T.rank ⟦<I as Iterator>⟧ J.into_iter_gives (HasSortedStarts T.value_count)
+            iter }
         ensures ready { ⟦<AssumeSortedStarts<T, I> as Draw<T>>⟧.can_draw result }
         ensures gives { ⟦<AssumeSortedStarts<T, I> as Draw<T>>⟧.may_give result
-            ⊆ gives_as J.into_iter_gives
-            (calls_give T.rank I.can_next I.next_gives I.remaining) iter }
+            ⊆ gives_as T.rank ⟦<I as Iterator>⟧ J.into_iter_gives iter }
     {
         AssumeSortedStarts {
             iter: iter.into_iter().fuse(),
@@ -48,11 +40,11 @@ impl<T: Integer, I: Iterator> AssumeSortedStarts<T, I> {
 impl<T: Integer, I: Iterator<Item = RangeInclusive<T>>> Iterator for AssumeSortedStarts<T, I> {
     type Item = RangeInclusive<T>;
 
-    ghost can_next = { assume_can_next T.rank T.value_count I.can_next I.next_gives I.remaining };
+    ghost can_next = { (assume_sorted_starts T.Integer.own I.Iterator).can_draw };
 
-    ghost next_gives = { assume_steps T.rank T.value_count I.can_next I.next_gives I.remaining };
+    ghost next_gives = { (assume_sorted_starts T.Integer.own I.Iterator).draw_gives };
 
-    ghost remaining = { assume_remaining T.rank T.value_count I.can_next I.next_gives I.remaining };
+    ghost remaining = { (assume_sorted_starts T.Integer.own I.Iterator).draws_left };
 
     fn next(&mut self) -> Option<RangeInclusive<T>> {
         self.iter.next()
@@ -69,15 +61,16 @@ impl<T: Integer, I: Iterator<Item = RangeInclusive<T>>> Draw<T> for AssumeSorted
 
     ghost draws_left = { ⟦<AssumeSortedStarts<T, I> as Iterator>⟧.remaining };
 
-    ghost may_give = { assume_may_give T.rank T.value_count I.can_next I.next_gives I.remaining };
+    ghost may_give = { (assume_sorted_starts T.Integer.own I.Iterator).may_give };
 
     fn draw(&mut self) -> Option<RangeInclusive<T>> {
         self.next()
     }
 
-    ghost answers = { assume-answers T.rank T.value_count I.can_next I.next_gives I.remaining };
+    ghost answers = { λ s t. known-answered T.Integer.own ⟦<I as Iterator>⟧ (HasSortedStarts T.value_count)
+        s.iter t.iter };
 
-    ghost sorted = { assume-keeps T.rank T.value_count I.can_next I.next_gives I.remaining };
+    ghost sorted = { λ s. known-sorted T.Integer.own ⟦<I as Iterator>⟧ s.iter };
 }
 
 impl<T: Integer, I: Iterator<Item = RangeInclusive<T>>> SortedStarts<T>

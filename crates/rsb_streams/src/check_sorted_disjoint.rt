@@ -3,16 +3,9 @@
 ghost use Rattle.std.specs.Prelude.{◌≡◌, ◌↔◌, [], IfErr, IfOk, IsOk};
 ghost use Rattle.rsb_integer.specs.Rank.{intervals_of};
 ghost use Rattle.rsb_integer.specs.Runs.{IsCanonicalIn};
-ghost use Rattle.rsb_streams.specs.Calls.{calls_give, GivesOnly};
-ghost use Rattle.rsb_streams.specs.CheckSortedDisjoint.{
-  check-answers,
-  check-keeps,
-  check_can_next,
-  check_may_give,
-  check_remaining,
-  check_steps,
-  gives_as,
-};
+ghost use Rattle.rsb_streams.specs.Calls.{gives_as, GivesOnly};
+ghost use Rattle.rsb_streams.specs.CallsLaws.{known-answered, known-disjoint};
+ghost use Rattle.rsb_streams.specs.CheckSortedDisjoint.{check_sorted_disjoint};
 ghost use Rattle.rsb_streams.specs.NotSortedDisjoint.{IsFirstBad};
 ghost use Rattle.rsb_streams.specs.Outcomes.{canonical-starts};
 ghost use Rattle.rsb_streams.specs.Stream.{◌⊆◌, drawn-itself, just, IsReadyAnd};
@@ -40,12 +33,11 @@ impl<T: Integer, I: Iterator> CheckSortedDisjoint<T, I> {
     /// The items of what becomes an iterator that may be called and gives finitely many ranges,
     /// which are canonical. It takes no memory. (`CheckSortedDisjoint::new`.)
     pub fn new<J: IntoIterator<Item = RangeInclusive<T>, IntoIter = I>>(iter: J) -> Self
-        requires { GivesOnly J.into_iter_gives T.rank ⟦<I as Iterator>⟧
-            (IsCanonicalIn T.value_count) iter }
+        requires { GivesOnly T.rank ⟦<I as Iterator>⟧ J.into_iter_gives (IsCanonicalIn T.value_count)
+            iter }
         ensures ready { ⟦<CheckSortedDisjoint<T, I> as Draw<T>>⟧.can_draw result }
         ensures gives { ⟦<CheckSortedDisjoint<T, I> as Draw<T>>⟧.may_give result
-            ⊆ gives_as J.into_iter_gives
-            (calls_give T.rank I.can_next I.next_gives I.remaining) iter }
+            ⊆ gives_as T.rank ⟦<I as Iterator>⟧ J.into_iter_gives iter }
     {
         CheckSortedDisjoint {
             iter: iter.into_iter().fuse(),
@@ -92,11 +84,11 @@ impl<T: Integer> Default for CheckSortedDisjoint<T, RangeOnce<T>> {
 impl<T: Integer, I: Iterator<Item = RangeInclusive<T>>> Iterator for CheckSortedDisjoint<T, I> {
     type Item = RangeInclusive<T>;
 
-    ghost can_next = { check_can_next T.rank T.value_count I.can_next I.next_gives I.remaining };
+    ghost can_next = { (check_sorted_disjoint T.Integer.own I.Iterator).can_draw };
 
-    ghost next_gives = { check_steps T.rank T.value_count I.can_next I.next_gives I.remaining };
+    ghost next_gives = { (check_sorted_disjoint T.Integer.own I.Iterator).draw_gives };
 
-    ghost remaining = { check_remaining T.rank T.value_count I.can_next I.next_gives I.remaining };
+    ghost remaining = { (check_sorted_disjoint T.Integer.own I.Iterator).draws_left };
 
     fn next(&mut self) -> Option<RangeInclusive<T>> {
         self.iter.next()
@@ -113,16 +105,17 @@ impl<T: Integer, I: Iterator<Item = RangeInclusive<T>>> Draw<T> for CheckSortedD
 
     ghost draws_left = { ⟦<CheckSortedDisjoint<T, I> as Iterator>⟧.remaining };
 
-    ghost may_give = { check_may_give T.rank T.value_count I.can_next I.next_gives I.remaining };
+    ghost may_give = { (check_sorted_disjoint T.Integer.own I.Iterator).may_give };
 
     fn draw(&mut self) -> Option<RangeInclusive<T>> {
         self.next()
     }
 
-    ghost answers = { check-answers T.rank T.value_count I.can_next I.next_gives I.remaining };
+    ghost answers = { λ s t. known-answered T.Integer.own ⟦<I as Iterator>⟧ (IsCanonicalIn T.value_count)
+        s.iter t.iter };
 
     ghost sorted = { λ s can. canonical-starts T.value_count _ _
-        (check-keeps T.rank T.value_count I.can_next I.next_gives I.remaining s can) };
+        (known-disjoint T.Integer.own ⟦<I as Iterator>⟧ s.iter can) };
 }
 
 impl<T: Integer, I: Iterator<Item = RangeInclusive<T>>> SortedStarts<T>
@@ -133,7 +126,7 @@ impl<T: Integer, I: Iterator<Item = RangeInclusive<T>>> SortedStarts<T>
 impl<T: Integer, I: Iterator<Item = RangeInclusive<T>>> DrawDisjoint<T>
     for CheckSortedDisjoint<T, I> {
     ghost canonical = { λ s can.
-        (check-keeps T.rank T.value_count I.can_next I.next_gives I.remaining s can).all };
+        (known-disjoint T.Integer.own ⟦<I as Iterator>⟧ s.iter can).all };
 }
 
 impl<T: Integer, I: Iterator<Item = RangeInclusive<T>>> SortedDisjoint<T>

@@ -35,11 +35,11 @@ impl<T, I> FillGapsIter<T, I> {
 impl<T: Integer, I: Draw<T>> Iterator for FillGapsIter<T, I> {
     type Item = (RangeInclusive<T>, bool);
 
-    ghost can_next = { fill_can_next T.rank T.value_count I.can_draw I.may_give };
+    ghost can_next = { fill_can_next T.Integer.own I.Draw };
 
-    ghost next_gives = { FillSteps T.rank T.value_count I.can_draw I.may_give };
+    ghost next_gives = { FillSteps T.Integer.own I.Draw };
 
-    ghost remaining = { fill_remaining T.rank T.value_count };
+    ghost remaining = { fill_remaining T.Integer.own };
 
     fn next(&mut self) -> Option<(RangeInclusive<T>, bool)> {
         let start = self.start?;

@@ -1,13 +1,9 @@
 //! The merge of two streams.
 
-ghost use Rattle.rsb_streams.specs.Merge.{
-  merge-keeps,
-  merge_may_give,
-  merge_remaining,
-  MergeReady,
-};
+ghost use Rattle.rsb_streams.specs.Merge.{merge};
+ghost use Rattle.rsb_streams.specs.MergeLaws.{merge-sorted};
 ghost use Rattle.rsb_streams.specs.PutBack.{IsFresh};
-ghost use Rattle.rsb_streams.specs.Stream.{◌⊆◌, drawn-itself, merges, AnswersAndRests};
+ghost use Rattle.rsb_streams.specs.Stream.{◌⊆◌, drawn-itself, merges};
 
 use crate::draw::Draw;
 use crate::put_back::PutBack;
@@ -54,13 +50,11 @@ impl<T: Integer, L: Draw<T>, R: Draw<T>> Merge<T, L, R> {
 impl<T: Integer, L: Draw<T>, R: Draw<T>> Iterator for Merge<T, L, R> {
     type Item = RangeInclusive<T>;
 
-    ghost can_next = { MergeReady T.rank T.value_count L.can_draw L.may_give R.can_draw R.may_give };
+    ghost can_next = { (merge T.Integer.own L.Draw R.Draw).can_draw };
 
-    ghost next_gives = { AnswersAndRests T.rank
-        (MergeReady T.rank T.value_count L.can_draw L.may_give R.can_draw R.may_give)
-        (merge_may_give T.rank T.value_count L.may_give R.may_give) };
+    ghost next_gives = { (merge T.Integer.own L.Draw R.Draw).draw_gives };
 
-    ghost remaining = { merge_remaining L.draws_left R.draws_left };
+    ghost remaining = { (merge T.Integer.own L.Draw R.Draw).draws_left };
 
     fn next(&mut self) -> Option<RangeInclusive<T>> {
         let Some(first) = self.left.draw() else {
@@ -87,7 +81,7 @@ impl<T: Integer, L: Draw<T>, R: Draw<T>> Draw<T> for Merge<T, L, R> {
 
     ghost draws_left = { ⟦<Merge<T, L, R> as Iterator>⟧.remaining };
 
-    ghost may_give = { merge_may_give T.rank T.value_count L.may_give R.may_give };
+    ghost may_give = { (merge T.Integer.own L.Draw R.Draw).may_give };
 
     fn draw(&mut self) -> Option<RangeInclusive<T>> {
         self.next()
@@ -95,8 +89,7 @@ impl<T: Integer, L: Draw<T>, R: Draw<T>> Draw<T> for Merge<T, L, R> {
 
     ghost answers = { λ s t item gives. gives.answers };
 
-    ghost sorted = { merge-keeps T.rank T.value_count L.can_draw L.may_give L.draws_left L.sorted
-        R.can_draw R.may_give R.draws_left R.sorted };
+    ghost sorted = { merge-sorted T.Integer.own ⟦<L as Draw<T>>⟧ ⟦<R as Draw<T>>⟧ L.sorted R.sorted };
 }
 
 impl<T: Integer, L: Draw<T>, R: Draw<T>> SortedStarts<T> for Merge<T, L, R> {

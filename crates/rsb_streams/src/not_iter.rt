@@ -1,8 +1,10 @@
 //! The complement of a stream.
 
-ghost use Rattle.rsb_streams.specs.NotIter.{not-keeps, not_can_next, not_may_give, not_remaining};
+ghost use Rattle.rsb_streams.specs.NotIter.{not_iter};
+ghost use Rattle.rsb_streams.specs.NotIterLaws.{not_iter-disjoint};
 ghost use Rattle.rsb_streams.specs.Outcomes.{canonical-starts};
-ghost use Rattle.rsb_streams.specs.Stream.{drawn-itself, AnswersAndRests, GivesComplement, IsReadyAnd};
+ghost use Rattle.rsb_streams.specs.Results.{MakesComplement};
+ghost use Rattle.rsb_streams.specs.Stream.{drawn-itself};
 
 use crate::draw::Draw;
 use crate::sorted_disjoint::{DrawDisjoint, SortedDisjoint, SortedStarts};
@@ -22,20 +24,16 @@ impl<T: Integer, I: DrawDisjoint<T>> NotIter<T, I> {
     /// The complement of a stream that may be drawn from; nothing is drawn yet. (`NotIter::new`.)
     pub fn new(iter: I) -> Self
         requires { I.can_draw iter }
-        ensures ready { ⟦<NotIter<T, I> as Draw<T>>⟧.can_draw result }
-        ensures gives { GivesComplement T.value_count (I.may_give iter)
-            (⟦<NotIter<T, I> as Draw<T>>⟧.may_give result) }
+        ensures { MakesComplement T.Integer.own I.Draw ⟦<NotIter<T, I> as Draw<T>>⟧ iter result }
     {
         NotIter::from(iter)
     }
 }
 
 impl<T: Integer, I: DrawDisjoint<T>> From<I> for NotIter<T, I> {
-    // The complement of a stream that may be called, of which nothing is drawn yet.
+    // The complement of a stream that may be drawn from, of which nothing is drawn yet.
     ghost from_gives = { λ iter result. I.can_draw iter
-        → IsReadyAnd ⟦<NotIter<T, I> as Draw<T>>⟧.can_draw result
-        (GivesComplement T.value_count (I.may_give iter)
-        (⟦<NotIter<T, I> as Draw<T>>⟧.may_give result)) };
+        → MakesComplement T.Integer.own I.Draw ⟦<NotIter<T, I> as Draw<T>>⟧ iter result };
 
     fn from(iter: I) -> Self {
         NotIter {
@@ -48,13 +46,11 @@ impl<T: Integer, I: DrawDisjoint<T>> From<I> for NotIter<T, I> {
 impl<T: Integer, I: Draw<T>> Iterator for NotIter<T, I> {
     type Item = RangeInclusive<T>;
 
-    ghost can_next = { not_can_next T.rank T.value_count I.can_draw I.may_give };
+    ghost can_next = { (not_iter T.Integer.own I.Draw).can_draw };
 
-    ghost next_gives = { AnswersAndRests T.rank
-        (not_can_next T.rank T.value_count I.can_draw I.may_give)
-        (not_may_give T.rank T.value_count I.may_give) };
+    ghost next_gives = { (not_iter T.Integer.own I.Draw).draw_gives };
 
-    ghost remaining = { not_remaining I.draws_left };
+    ghost remaining = { (not_iter T.Integer.own I.Draw).draws_left };
 
     fn next(&mut self) -> Option<RangeInclusive<T>> {
         while let Some(start) = self.start {
@@ -81,7 +77,7 @@ impl<T: Integer, I: Draw<T>> Draw<T> for NotIter<T, I> {
 
     ghost draws_left = { ⟦<NotIter<T, I> as Iterator>⟧.remaining };
 
-    ghost may_give = { not_may_give T.rank T.value_count I.may_give };
+    ghost may_give = { (not_iter T.Integer.own I.Draw).may_give };
 
     fn draw(&mut self) -> Option<RangeInclusive<T>> {
         self.next()
@@ -90,7 +86,7 @@ impl<T: Integer, I: Draw<T>> Draw<T> for NotIter<T, I> {
     ghost answers = { λ s t item gives. gives.answers };
 
     ghost sorted = { λ s ready. canonical-starts T.value_count _ _
-        (not-keeps T.rank T.value_count I.can_draw I.may_give I.draws_left I.sorted s ready) };
+        (not_iter-disjoint T.Integer.own ⟦<I as Draw<T>>⟧ I.sorted s ready) };
 }
 
 impl<T: Integer, I: Draw<T>> SortedStarts<T> for NotIter<T, I> {
@@ -99,7 +95,7 @@ impl<T: Integer, I: Draw<T>> SortedStarts<T> for NotIter<T, I> {
 
 impl<T: Integer, I: Draw<T>> DrawDisjoint<T> for NotIter<T, I> {
     ghost canonical = { λ s ready.
-        (not-keeps T.rank T.value_count I.can_draw I.may_give I.draws_left I.sorted s ready).all };
+        (not_iter-disjoint T.Integer.own ⟦<I as Draw<T>>⟧ I.sorted s ready).all };
 }
 
 impl<T: Integer, I: Draw<T>> SortedDisjoint<T> for NotIter<T, I> {}

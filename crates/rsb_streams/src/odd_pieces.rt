@@ -19,14 +19,11 @@ ghost use Rattle.rsb_streams.specs.OddPieces.{
   ends_of,
   first_end,
   holding,
-  odd-keeps,
-  odd_may_give,
-  odd_remaining,
+  odd_pieces,
   past_both,
   HasOneEnd,
-  OddAnswers,
-  OddReady,
 };
+ghost use Rattle.rsb_streams.specs.OddPiecesLaws.{odd_pieces-sorted};
 ghost use Rattle.rsb_streams.specs.Stream.{run_if_any};
 
 use crate::draw::Draw;
@@ -115,15 +112,15 @@ impl<T: Integer, I: Draw<T>> OddPieces<T, I> {
     /// with its end two, so a third never comes.
     fn next_piece(&mut self, ends: &mut ArrayVec<Option<T>, 2>) -> Option<RangeInclusive<T>>
         requires undone { self.old.done ≡ false }
-        requires ready { OddReady T.rank T.value_count I.can_draw I.may_give
+        requires ready { (odd_pieces T.Integer.own I.Draw).can_draw
             (holding self.old ends.old.items) }
         requires one { HasOneEnd ends.old.items }
         ensures one { HasOneEnd ends.new.items }
         ensures ended { IfNone result (ends.new.items ≡ []) }
-        ensures steps { OddAnswers T.rank T.value_count I.can_draw I.may_give
+        ensures steps { (odd_pieces T.Integer.own I.Draw).draw_gives
             (holding self.old ends.old.items) result (holding self.new ends.new.items) }
-        ensures goes { MakesProgress (OddReady T.rank T.value_count I.can_draw I.may_give)
-            (odd_remaining I.draws_left)
+        ensures goes { MakesProgress (odd_pieces T.Integer.own I.Draw).can_draw
+            (odd_pieces T.Integer.own I.Draw).draws_left
             (holding self.old ends.old.items) result (holding self.new ends.new.items) }
     {
         while let Some(range) = self.iter.draw() {
@@ -152,13 +149,13 @@ impl<T: Integer, I: Draw<T>> OddPieces<T, I> {
 }
 
 impl<T: Integer, I: Draw<T>> Draw<T> for OddPieces<T, I> {
-    ghost can_draw = { OddReady T.rank T.value_count I.can_draw I.may_give };
+    ghost can_draw = { (odd_pieces T.Integer.own I.Draw).can_draw };
 
-    ghost draw_gives = { OddAnswers T.rank T.value_count I.can_draw I.may_give };
+    ghost draw_gives = { (odd_pieces T.Integer.own I.Draw).draw_gives };
 
-    ghost draws_left = { odd_remaining I.draws_left };
+    ghost draws_left = { (odd_pieces T.Integer.own I.Draw).draws_left };
 
-    ghost may_give = { odd_may_give T.rank T.value_count I.may_give };
+    ghost may_give = { (odd_pieces T.Integer.own I.Draw).may_give };
 
     fn draw(&mut self) -> Option<RangeInclusive<T>> {
         if self.done {
@@ -172,5 +169,5 @@ impl<T: Integer, I: Draw<T>> Draw<T> for OddPieces<T, I> {
 
     ghost answers = { λ s t item gives. gives.answers };
 
-    ghost sorted = { odd-keeps T.rank T.value_count I.can_draw I.may_give I.draws_left I.sorted };
+    ghost sorted = { odd_pieces-sorted T.Integer.own ⟦<I as Draw<T>>⟧ I.sorted };
 }

@@ -1,17 +1,8 @@
 //! A source of which one range may be put back.
 
 ghost use Rattle.std.specs.Prelude.{◌≡◌};
-ghost use Rattle.rsb_streams.specs.PutBack.{
-  put_back-answers,
-  put_back-keeps,
-  put_back_may_give,
-  put_back_remaining,
-  HasRoom,
-  IsFresh,
-  IsPutBack,
-  PutBackReady,
-  PutBackSteps,
-};
+ghost use Rattle.rsb_streams.specs.PutBack.{put_back, HasRoom, IsFresh, IsPutBack};
+ghost use Rattle.rsb_streams.specs.PutBackLaws.{put_back-answered, put_back-sorted};
 
 use crate::draw::Draw;
 use rsb_integer::Integer;
@@ -57,13 +48,13 @@ impl<T: Copy, I> PutBack<T, I> {
 }
 
 impl<T: Integer, I: Draw<T>> Draw<T> for PutBack<T, I> {
-    ghost can_draw = { PutBackReady T.rank T.value_count I.can_draw I.may_give };
+    ghost can_draw = { (put_back T.Integer.own I.Draw).can_draw };
 
-    ghost draw_gives = { PutBackSteps I.draw_gives };
+    ghost draw_gives = { (put_back T.Integer.own I.Draw).draw_gives };
 
-    ghost draws_left = { put_back_remaining I.draws_left };
+    ghost draws_left = { (put_back T.Integer.own I.Draw).draws_left };
 
-    ghost may_give = { put_back_may_give T.rank I.may_give };
+    ghost may_give = { (put_back T.Integer.own I.Draw).may_give };
 
     fn draw(&mut self) -> Option<RangeInclusive<T>> {
         if let Some(range) = self.held.take() {
@@ -77,9 +68,7 @@ impl<T: Integer, I: Draw<T>> Draw<T> for PutBack<T, I> {
         range
     }
 
-    ghost answers = { put_back-answers T.rank T.value_count I.can_draw I.may_give I.draw_gives
-        I.answers };
+    ghost answers = { put_back-answered T.Integer.own ⟦<I as Draw<T>>⟧ I.answers };
 
-    ghost sorted = { put_back-keeps T.rank T.value_count I.can_draw I.may_give I.draws_left
-        I.sorted };
+    ghost sorted = { put_back-sorted T.Integer.own ⟦<I as Draw<T>>⟧ I.sorted };
 }

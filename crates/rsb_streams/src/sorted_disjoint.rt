@@ -4,13 +4,15 @@ ghost use Rattle.std.specs.Prelude.{◌↔◌, IsTrue};
 ghost use Rattle.rsb_integer.specs.Runs.{members, IsCanonicalIn};
 ghost use Rattle.rsb_integer.specs.Selection.{Agree, AreDisjoint, IsEverything, IsNothing, IsSubset};
 ghost use Rattle.rsb_streams.specs.FillGapsIter.{fill_may_give, GivesFilled};
+ghost use Rattle.rsb_streams.specs.Results.{
+  MakesComplement,
+  MakesDifference,
+  MakesIntersection,
+  MakesSymmetricDifference,
+  MakesUnion,
+};
 ghost use Rattle.rsb_streams.specs.Stream.{
   ◌⊆◌,
-  GivesComplement,
-  GivesDifference,
-  GivesIntersection,
-  GivesSymmetricDifference,
-  GivesUnion,
   IsDrawn,
   SomeOutcome,
   SomeOutcomes,
@@ -48,9 +50,7 @@ pub trait DrawDisjoint<T: Integer>: Draw<T> {
     where
         Self: Sized,
         requires { Self.can_draw self }
-        ensures ready { ⟦<NotIter<T, Self> as Draw<T>>⟧.can_draw result }
-        ensures gives { GivesComplement T.value_count (Self.may_give self)
-            (⟦<NotIter<T, Self> as Draw<T>>⟧.may_give result) }
+        ensures { MakesComplement T.Integer.own Self.Draw ⟦<NotIter<T, Self> as Draw<T>>⟧ self result }
     {
         NotIter::new(self)
     }
@@ -62,9 +62,8 @@ pub trait DrawDisjoint<T: Integer>: Draw<T> {
         Self: Sized,
         requires left { Self.can_draw self }
         requires right { R.can_draw other }
-        ensures ready { ⟦<Union<T, Self, R> as Draw<T>>⟧.can_draw result }
-        ensures gives { GivesUnion T.value_count (Self.may_give self) (R.may_give other)
-            (⟦<Union<T, Self, R> as Draw<T>>⟧.may_give result) }
+        ensures { MakesUnion T.Integer.own Self.Draw R.Draw ⟦<Union<T, Self, R> as Draw<T>>⟧
+            self other result }
     {
         Union::from((self, other))
     }
@@ -76,9 +75,8 @@ pub trait DrawDisjoint<T: Integer>: Draw<T> {
         Self: Sized,
         requires left { Self.can_draw self }
         requires right { R.can_draw other }
-        ensures ready { ⟦<Intersection<T, Self, R> as Draw<T>>⟧.can_draw result }
-        ensures gives { GivesIntersection T.value_count (Self.may_give self) (R.may_give other)
-            (⟦<Intersection<T, Self, R> as Draw<T>>⟧.may_give result) }
+        ensures { MakesIntersection T.Integer.own Self.Draw R.Draw ⟦<Intersection<T, Self, R> as Draw<T>>⟧
+            self other result }
     {
         Intersection::from((self, other))
     }
@@ -90,9 +88,8 @@ pub trait DrawDisjoint<T: Integer>: Draw<T> {
         Self: Sized,
         requires left { Self.can_draw self }
         requires right { R.can_draw other }
-        ensures ready { ⟦<Difference<T, Self, R> as Draw<T>>⟧.can_draw result }
-        ensures gives { GivesDifference T.value_count (Self.may_give self) (R.may_give other)
-            (⟦<Difference<T, Self, R> as Draw<T>>⟧.may_give result) }
+        ensures { MakesDifference T.Integer.own Self.Draw R.Draw ⟦<Difference<T, Self, R> as Draw<T>>⟧
+            self other result }
     {
         Difference::from((self, other))
     }
@@ -107,9 +104,8 @@ pub trait DrawDisjoint<T: Integer>: Draw<T> {
         Self: Sized,
         requires left { Self.can_draw self }
         requires right { R.can_draw other }
-        ensures ready { ⟦<SymmetricDifference<T, Self, R> as Draw<T>>⟧.can_draw result }
-        ensures gives { GivesSymmetricDifference T.value_count (Self.may_give self)
-            (R.may_give other) (⟦<SymmetricDifference<T, Self, R> as Draw<T>>⟧.may_give result) }
+        ensures { MakesSymmetricDifference T.Integer.own Self.Draw R.Draw ⟦<SymmetricDifference<T, Self, R> as Draw<T>>⟧
+            self other result }
     {
         SymmetricDifference::from((self, other))
     }
@@ -122,7 +118,7 @@ pub trait DrawDisjoint<T: Integer>: Draw<T> {
         requires { Self.can_draw self }
         ensures ready { ⟦<FillGapsIter<T, Self> as Iterator>⟧.can_next result }
         ensures gives { GivesFilled T.value_count (Self.may_give self)
-            (fill_may_give T.rank T.value_count Self.may_give result) }
+            (fill_may_give T.Integer.own Self.Draw result) }
     {
         FillGapsIter::over(self, T::min_value())
     }

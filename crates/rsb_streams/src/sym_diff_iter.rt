@@ -3,15 +3,10 @@
 ghost use Rattle.std.specs.Iterator.{MakesProgress};
 ghost use Rattle.std.specs.Prelude.{◌≡◌, ◌≤◌, length};
 ghost use Rattle.rsb_streams.specs.Outcomes.{canonical-starts};
-ghost use Rattle.rsb_streams.specs.Stream.{drawn-itself, GivesSymmetricDifference, IsReadyAnd};
-ghost use Rattle.rsb_streams.specs.SymDiffIter.{
-  ends_held,
-  one-keeps,
-  one_can_next,
-  one_may_give,
-  one_remaining,
-  one_steps,
-};
+ghost use Rattle.rsb_streams.specs.ResultLaws.{sym_diff-disjoint};
+ghost use Rattle.rsb_streams.specs.Results.{MakesSymmetricDifference};
+ghost use Rattle.rsb_streams.specs.Stream.{drawn-itself};
+ghost use Rattle.rsb_streams.specs.SymDiffIter.{ends_held, sym_diff};
 
 use crate::draw::Draw;
 use crate::merge::Merge;
@@ -42,11 +37,10 @@ impl<T, L, R> SymDiffIter<T, L, R> {
 }
 
 impl<T: Integer, L: DrawDisjoint<T>, R: DrawDisjoint<T>> From<(L, R)> for SymDiffIter<T, L, R> {
-    // Of two streams that may be called, of which nothing is drawn yet.
+    // Of two streams that may be drawn from, of which nothing is drawn yet.
     ghost from_gives = { λ streams result. L.can_draw streams.0 → R.can_draw streams.1
-        → IsReadyAnd ⟦<SymDiffIter<T, L, R> as Draw<T>>⟧.can_draw result
-        (GivesSymmetricDifference T.value_count (L.may_give streams.0) (R.may_give streams.1)
-        (⟦<SymDiffIter<T, L, R> as Draw<T>>⟧.may_give result)) };
+        → MakesSymmetricDifference T.Integer.own L.Draw R.Draw ⟦<SymDiffIter<T, L, R> as Draw<T>>⟧
+        streams.0 streams.1 result };
 
     fn from(streams: (L, R)) -> Self {
         let (left, right) = streams;
@@ -60,23 +54,18 @@ impl<T: Integer, L: DrawDisjoint<T>, R: DrawDisjoint<T>> From<(L, R)> for SymDif
 impl<T: Integer, L: Draw<T>, R: Draw<T>> Iterator for SymDiffIter<T, L, R> {
     type Item = RangeInclusive<T>;
 
-    ghost can_next = { one_can_next T.rank T.value_count L.can_draw L.may_give
-        R.can_draw R.may_give };
+    ghost can_next = { (sym_diff T.Integer.own L.Draw R.Draw).can_draw };
 
-    ghost next_gives = { one_steps T.rank T.value_count L.can_draw L.may_give
-        R.can_draw R.may_give };
+    ghost next_gives = { (sym_diff T.Integer.own L.Draw R.Draw).draw_gives };
 
-    ghost remaining = { one_remaining L.draws_left R.draws_left };
+    ghost remaining = { (sym_diff T.Integer.own L.Draw R.Draw).draws_left };
 
     // One end at most is left pending. While the call runs, they lie in a vector of two.
     fn next(&mut self) -> Option<RangeInclusive<T>>
-        requires { one_can_next T.rank T.value_count L.can_draw L.may_give
-            R.can_draw R.may_give self.old }
-        ensures steps { one_steps T.rank T.value_count L.can_draw L.may_give
-            R.can_draw R.may_give self.old result self.new }
-        ensures goes { MakesProgress (one_can_next T.rank T.value_count L.can_draw L.may_give
-            R.can_draw R.may_give) (one_remaining L.draws_left R.draws_left)
-            self.old result self.new }
+        requires { (sym_diff T.Integer.own L.Draw R.Draw).can_draw self.old }
+        ensures steps { (sym_diff T.Integer.own L.Draw R.Draw).draw_gives self.old result self.new }
+        ensures goes { MakesProgress (sym_diff T.Integer.own L.Draw R.Draw).can_draw
+            (sym_diff T.Integer.own L.Draw R.Draw).draws_left self.old result self.new }
         ensures ends { length (ends_held self.new) ≤ 1 }
     {
         self.iter.next()
@@ -92,7 +81,7 @@ impl<T: Integer, L: Draw<T>, R: Draw<T>> Draw<T> for SymDiffIter<T, L, R> {
 
     ghost draws_left = { ⟦<SymDiffIter<T, L, R> as Iterator>⟧.remaining };
 
-    ghost may_give = { one_may_give T.rank T.value_count L.may_give R.may_give };
+    ghost may_give = { (sym_diff T.Integer.own L.Draw R.Draw).may_give };
 
     fn draw(&mut self) -> Option<RangeInclusive<T>> {
         self.next()
@@ -101,8 +90,8 @@ impl<T: Integer, L: Draw<T>, R: Draw<T>> Draw<T> for SymDiffIter<T, L, R> {
     ghost answers = { λ s t item gives. gives.answers };
 
     ghost sorted = { λ s ready. canonical-starts T.value_count _ _
-        (one-keeps T.rank T.value_count L.can_draw L.may_give R.can_draw R.may_give
-        L.draws_left L.sorted R.draws_left R.sorted s ready) };
+        (sym_diff-disjoint T.Integer.own ⟦<L as Draw<T>>⟧ ⟦<R as Draw<T>>⟧ L.sorted R.sorted
+        s ready) };
 }
 
 impl<T: Integer, L: Draw<T>, R: Draw<T>> SortedStarts<T> for SymDiffIter<T, L, R> {
@@ -111,8 +100,8 @@ impl<T: Integer, L: Draw<T>, R: Draw<T>> SortedStarts<T> for SymDiffIter<T, L, R
 
 impl<T: Integer, L: Draw<T>, R: Draw<T>> DrawDisjoint<T> for SymDiffIter<T, L, R> {
     ghost canonical = { λ s ready.
-        (one-keeps T.rank T.value_count L.can_draw L.may_give R.can_draw R.may_give
-        L.draws_left L.sorted R.draws_left R.sorted s ready).all };
+        (sym_diff-disjoint T.Integer.own ⟦<L as Draw<T>>⟧ ⟦<R as Draw<T>>⟧ L.sorted R.sorted
+        s ready).all };
 }
 
 impl<T: Integer, L: Draw<T>, R: Draw<T>> SortedDisjoint<T> for SymDiffIter<T, L, R> {}

@@ -3,20 +3,10 @@
 ghost use Rattle.std.specs.Prelude.{◌≡◌};
 ghost use Rattle.rsb_streams.specs.Outcomes.{canonical-starts};
 ghost use Rattle.rsb_streams.specs.PutBack.{IsFresh};
-ghost use Rattle.rsb_streams.specs.Stream.{
-  ◌⊆◌,
-  drawn-itself,
-  joined,
-  AnswersAndRests,
-  GivesUnion,
-  IsReadyAnd,
-};
-ghost use Rattle.rsb_streams.specs.UnionIter.{
-  union-keeps,
-  union_can_next,
-  union_may_give,
-  union_remaining,
-};
+ghost use Rattle.rsb_streams.specs.Results.{MakesUnion};
+ghost use Rattle.rsb_streams.specs.Stream.{◌⊆◌, drawn-itself, joined};
+ghost use Rattle.rsb_streams.specs.UnionIter.{union_iter};
+ghost use Rattle.rsb_streams.specs.UnionIterLaws.{union_iter-disjoint};
 
 use crate::draw::Draw;
 use crate::merge::Merge;
@@ -67,9 +57,8 @@ impl<T: Integer, SS: Draw<T>> UnionIter<T, SS> {
 impl<T: Integer, L: Draw<T>, R: Draw<T>> From<(L, R)> for UnionIter<T, Merge<T, L, R>> {
     // The union of two streams that may be called, of which nothing is drawn yet. (Own.)
     ghost from_gives = { λ streams result. L.can_draw streams.0 → R.can_draw streams.1
-        → IsReadyAnd ⟦<UnionIter<T, Merge<T, L, R>> as Draw<T>>⟧.can_draw result
-        (GivesUnion T.value_count (L.may_give streams.0) (R.may_give streams.1)
-        (⟦<UnionIter<T, Merge<T, L, R>> as Draw<T>>⟧.may_give result)) };
+        → MakesUnion T.Integer.own L.Draw R.Draw ⟦<UnionIter<T, Merge<T, L, R>> as Draw<T>>⟧
+        streams.0 streams.1 result };
 
     fn from(streams: (L, R)) -> Self {
         let (left, right) = streams;
@@ -81,13 +70,11 @@ impl<T: Integer, L: Draw<T>, R: Draw<T>> From<(L, R)> for UnionIter<T, Merge<T, 
 impl<T: Integer, SS: Draw<T>> Iterator for UnionIter<T, SS> {
     type Item = RangeInclusive<T>;
 
-    ghost can_next = { union_can_next T.rank T.value_count SS.can_draw SS.may_give };
+    ghost can_next = { (union_iter T.Integer.own SS.Draw).can_draw };
 
-    ghost next_gives = { AnswersAndRests T.rank
-        (union_can_next T.rank T.value_count SS.can_draw SS.may_give)
-        (union_may_give T.rank T.value_count SS.may_give) };
+    ghost next_gives = { (union_iter T.Integer.own SS.Draw).draw_gives };
 
-    ghost remaining = { union_remaining SS.draws_left };
+    ghost remaining = { (union_iter T.Integer.own SS.Draw).draws_left };
 
     fn next(&mut self) -> Option<RangeInclusive<T>> {
         let (start, mut end) = self.iter.draw()?.into_inner();
@@ -113,7 +100,7 @@ impl<T: Integer, SS: Draw<T>> Draw<T> for UnionIter<T, SS> {
 
     ghost draws_left = { ⟦<UnionIter<T, SS> as Iterator>⟧.remaining };
 
-    ghost may_give = { union_may_give T.rank T.value_count SS.may_give };
+    ghost may_give = { (union_iter T.Integer.own SS.Draw).may_give };
 
     fn draw(&mut self) -> Option<RangeInclusive<T>> {
         self.next()
@@ -122,7 +109,7 @@ impl<T: Integer, SS: Draw<T>> Draw<T> for UnionIter<T, SS> {
     ghost answers = { λ s t item gives. gives.answers };
 
     ghost sorted = { λ s ready. canonical-starts T.value_count _ _
-        (union-keeps T.rank T.value_count SS.can_draw SS.may_give SS.draws_left SS.sorted s ready) };
+        (union_iter-disjoint T.Integer.own ⟦<SS as Draw<T>>⟧ SS.sorted s ready) };
 }
 
 impl<T: Integer, SS: Draw<T>> SortedStarts<T> for UnionIter<T, SS> {
@@ -131,8 +118,7 @@ impl<T: Integer, SS: Draw<T>> SortedStarts<T> for UnionIter<T, SS> {
 
 impl<T: Integer, SS: Draw<T>> DrawDisjoint<T> for UnionIter<T, SS> {
     ghost canonical = { λ s ready.
-        (union-keeps T.rank T.value_count SS.can_draw SS.may_give SS.draws_left SS.sorted
-        s ready).all };
+        (union_iter-disjoint T.Integer.own ⟦<SS as Draw<T>>⟧ SS.sorted s ready).all };
 }
 
 impl<T: Integer, SS: Draw<T>> SortedDisjoint<T> for UnionIter<T, SS> {}

@@ -1,14 +1,10 @@
 //! What the one of two streams has and the other lacks.
 
-ghost use Rattle.rsb_streams.specs.Difference.{
-  lacking-keeps,
-  lacking_can_next,
-  lacking_may_give,
-  lacking_remaining,
-  lacking_steps,
-};
+ghost use Rattle.rsb_streams.specs.Difference.{difference};
 ghost use Rattle.rsb_streams.specs.Outcomes.{canonical-starts};
-ghost use Rattle.rsb_streams.specs.Stream.{drawn-itself, GivesDifference, IsReadyAnd};
+ghost use Rattle.rsb_streams.specs.ResultLaws.{difference-disjoint};
+ghost use Rattle.rsb_streams.specs.Results.{MakesDifference};
+ghost use Rattle.rsb_streams.specs.Stream.{drawn-itself};
 
 use crate::draw::Draw;
 use crate::merge::Merge;
@@ -27,11 +23,10 @@ pub struct Difference<T, L, R> {
 }
 
 impl<T: Integer, L: DrawDisjoint<T>, R: DrawDisjoint<T>> From<(L, R)> for Difference<T, L, R> {
-    // What the one of two streams that may be called has and the other lacks; nothing is drawn yet.
+    // What the one of two streams that may be drawn from has and the other lacks; nothing is drawn yet.
     ghost from_gives = { λ streams result. L.can_draw streams.0 → R.can_draw streams.1
-        → IsReadyAnd ⟦<Difference<T, L, R> as Draw<T>>⟧.can_draw result
-        (GivesDifference T.value_count (L.may_give streams.0) (R.may_give streams.1)
-        (⟦<Difference<T, L, R> as Draw<T>>⟧.may_give result)) };
+        → MakesDifference T.Integer.own L.Draw R.Draw ⟦<Difference<T, L, R> as Draw<T>>⟧
+        streams.0 streams.1 result };
 
     fn from(streams: (L, R)) -> Self {
         let (left, right) = streams;
@@ -46,13 +41,11 @@ impl<T: Integer, L: DrawDisjoint<T>, R: DrawDisjoint<T>> From<(L, R)> for Differ
 impl<T: Integer, L: Draw<T>, R: Draw<T>> Iterator for Difference<T, L, R> {
     type Item = RangeInclusive<T>;
 
-    ghost can_next = { lacking_can_next T.rank T.value_count L.can_draw L.may_give
-        R.can_draw R.may_give };
+    ghost can_next = { (difference T.Integer.own L.Draw R.Draw).can_draw };
 
-    ghost next_gives = { lacking_steps T.rank T.value_count L.can_draw L.may_give
-        R.can_draw R.may_give };
+    ghost next_gives = { (difference T.Integer.own L.Draw R.Draw).draw_gives };
 
-    ghost remaining = { lacking_remaining L.draws_left R.draws_left };
+    ghost remaining = { (difference T.Integer.own L.Draw R.Draw).draws_left };
 
     fn next(&mut self) -> Option<RangeInclusive<T>> {
         self.iter.next()
@@ -68,7 +61,7 @@ impl<T: Integer, L: Draw<T>, R: Draw<T>> Draw<T> for Difference<T, L, R> {
 
     ghost draws_left = { ⟦<Difference<T, L, R> as Iterator>⟧.remaining };
 
-    ghost may_give = { lacking_may_give T.rank T.value_count L.may_give R.may_give };
+    ghost may_give = { (difference T.Integer.own L.Draw R.Draw).may_give };
 
     fn draw(&mut self) -> Option<RangeInclusive<T>> {
         self.next()
@@ -77,8 +70,8 @@ impl<T: Integer, L: Draw<T>, R: Draw<T>> Draw<T> for Difference<T, L, R> {
     ghost answers = { λ s t item gives. gives.answers };
 
     ghost sorted = { λ s ready. canonical-starts T.value_count _ _
-        (lacking-keeps T.rank T.value_count L.can_draw L.may_give R.can_draw R.may_give
-        L.draws_left L.sorted R.draws_left R.sorted s ready) };
+        (difference-disjoint T.Integer.own ⟦<L as Draw<T>>⟧ ⟦<R as Draw<T>>⟧ L.sorted R.sorted
+        s ready) };
 }
 
 impl<T: Integer, L: Draw<T>, R: Draw<T>> SortedStarts<T> for Difference<T, L, R> {
@@ -87,8 +80,8 @@ impl<T: Integer, L: Draw<T>, R: Draw<T>> SortedStarts<T> for Difference<T, L, R>
 
 impl<T: Integer, L: Draw<T>, R: Draw<T>> DrawDisjoint<T> for Difference<T, L, R> {
     ghost canonical = { λ s ready.
-        (lacking-keeps T.rank T.value_count L.can_draw L.may_give R.can_draw R.may_give
-        L.draws_left L.sorted R.draws_left R.sorted s ready).all };
+        (difference-disjoint T.Integer.own ⟦<L as Draw<T>>⟧ ⟦<R as Draw<T>>⟧ L.sorted R.sorted
+        s ready).all };
 }
 
 impl<T: Integer, L: Draw<T>, R: Draw<T>> SortedDisjoint<T> for Difference<T, L, R> {}

@@ -1,14 +1,10 @@
 //! What two streams both have.
 
-ghost use Rattle.rsb_streams.specs.Intersection.{
-  common-keeps,
-  common_can_next,
-  common_may_give,
-  common_remaining,
-  common_steps,
-};
+ghost use Rattle.rsb_streams.specs.Intersection.{intersection};
 ghost use Rattle.rsb_streams.specs.Outcomes.{canonical-starts};
-ghost use Rattle.rsb_streams.specs.Stream.{drawn-itself, GivesIntersection, IsReadyAnd};
+ghost use Rattle.rsb_streams.specs.ResultLaws.{intersection-disjoint};
+ghost use Rattle.rsb_streams.specs.Results.{MakesIntersection};
+ghost use Rattle.rsb_streams.specs.Stream.{drawn-itself};
 
 use crate::draw::Draw;
 use crate::merge::Merge;
@@ -27,11 +23,10 @@ pub struct Intersection<T, L, R> {
 }
 
 impl<T: Integer, L: DrawDisjoint<T>, R: DrawDisjoint<T>> From<(L, R)> for Intersection<T, L, R> {
-    // What two streams that may be called both have; nothing is drawn yet.
+    // What two streams that may be drawn from both have; nothing is drawn yet.
     ghost from_gives = { λ streams result. L.can_draw streams.0 → R.can_draw streams.1
-        → IsReadyAnd ⟦<Intersection<T, L, R> as Draw<T>>⟧.can_draw result
-        (GivesIntersection T.value_count (L.may_give streams.0) (R.may_give streams.1)
-        (⟦<Intersection<T, L, R> as Draw<T>>⟧.may_give result)) };
+        → MakesIntersection T.Integer.own L.Draw R.Draw ⟦<Intersection<T, L, R> as Draw<T>>⟧
+        streams.0 streams.1 result };
 
     fn from(streams: (L, R)) -> Self {
         let (left, right) = streams;
@@ -47,13 +42,11 @@ impl<T: Integer, L: DrawDisjoint<T>, R: DrawDisjoint<T>> From<(L, R)> for Inters
 impl<T: Integer, L: Draw<T>, R: Draw<T>> Iterator for Intersection<T, L, R> {
     type Item = RangeInclusive<T>;
 
-    ghost can_next = { common_can_next T.rank T.value_count L.can_draw L.may_give
-        R.can_draw R.may_give };
+    ghost can_next = { (intersection T.Integer.own L.Draw R.Draw).can_draw };
 
-    ghost next_gives = { common_steps T.rank T.value_count L.can_draw L.may_give
-        R.can_draw R.may_give };
+    ghost next_gives = { (intersection T.Integer.own L.Draw R.Draw).draw_gives };
 
-    ghost remaining = { common_remaining L.draws_left R.draws_left };
+    ghost remaining = { (intersection T.Integer.own L.Draw R.Draw).draws_left };
 
     fn next(&mut self) -> Option<RangeInclusive<T>> {
         self.iter.next()
@@ -69,7 +62,7 @@ impl<T: Integer, L: Draw<T>, R: Draw<T>> Draw<T> for Intersection<T, L, R> {
 
     ghost draws_left = { ⟦<Intersection<T, L, R> as Iterator>⟧.remaining };
 
-    ghost may_give = { common_may_give T.rank T.value_count L.may_give R.may_give };
+    ghost may_give = { (intersection T.Integer.own L.Draw R.Draw).may_give };
 
     fn draw(&mut self) -> Option<RangeInclusive<T>> {
         self.next()
@@ -78,8 +71,8 @@ impl<T: Integer, L: Draw<T>, R: Draw<T>> Draw<T> for Intersection<T, L, R> {
     ghost answers = { λ s t item gives. gives.answers };
 
     ghost sorted = { λ s ready. canonical-starts T.value_count _ _
-        (common-keeps T.rank T.value_count L.can_draw L.may_give R.can_draw R.may_give
-        L.draws_left L.sorted R.draws_left R.sorted s ready) };
+        (intersection-disjoint T.Integer.own ⟦<L as Draw<T>>⟧ ⟦<R as Draw<T>>⟧ L.sorted R.sorted
+        s ready) };
 }
 
 impl<T: Integer, L: Draw<T>, R: Draw<T>> SortedStarts<T> for Intersection<T, L, R> {
@@ -88,8 +81,8 @@ impl<T: Integer, L: Draw<T>, R: Draw<T>> SortedStarts<T> for Intersection<T, L, 
 
 impl<T: Integer, L: Draw<T>, R: Draw<T>> DrawDisjoint<T> for Intersection<T, L, R> {
     ghost canonical = { λ s ready.
-        (common-keeps T.rank T.value_count L.can_draw L.may_give R.can_draw R.may_give
-        L.draws_left L.sorted R.draws_left R.sorted s ready).all };
+        (intersection-disjoint T.Integer.own ⟦<L as Draw<T>>⟧ ⟦<R as Draw<T>>⟧ L.sorted R.sorted
+        s ready).all };
 }
 
 impl<T: Integer, L: Draw<T>, R: Draw<T>> SortedDisjoint<T> for Intersection<T, L, R> {}

@@ -1,14 +1,10 @@
 //! What lies in either of two streams.
 
+ghost use Rattle.rsb_streams.specs.Results.{MakesUnion};
 ghost use Rattle.rsb_streams.specs.Outcomes.{canonical-starts};
-ghost use Rattle.rsb_streams.specs.Stream.{drawn-itself, GivesUnion, IsReadyAnd};
-ghost use Rattle.rsb_streams.specs.Union.{
-  either-keeps,
-  either_can_next,
-  either_may_give,
-  either_remaining,
-  either_steps,
-};
+ghost use Rattle.rsb_streams.specs.ResultLaws.{union-disjoint};
+ghost use Rattle.rsb_streams.specs.Stream.{drawn-itself};
+ghost use Rattle.rsb_streams.specs.Union.{union};
 
 use crate::draw::Draw;
 use crate::merge::Merge;
@@ -25,11 +21,10 @@ pub struct Union<T, L, R> {
 }
 
 impl<T: Integer, L: DrawDisjoint<T>, R: DrawDisjoint<T>> From<(L, R)> for Union<T, L, R> {
-    // The union of two streams that may be called, of which nothing is drawn yet.
+    // The union of two streams that may be drawn from, of which nothing is drawn yet.
     ghost from_gives = { λ streams result. L.can_draw streams.0 → R.can_draw streams.1
-        → IsReadyAnd ⟦<Union<T, L, R> as Draw<T>>⟧.can_draw result
-        (GivesUnion T.value_count (L.may_give streams.0) (R.may_give streams.1)
-        (⟦<Union<T, L, R> as Draw<T>>⟧.may_give result)) };
+        → MakesUnion T.Integer.own L.Draw R.Draw ⟦<Union<T, L, R> as Draw<T>>⟧
+        streams.0 streams.1 result };
 
     fn from(streams: (L, R)) -> Self {
         Union {
@@ -41,13 +36,11 @@ impl<T: Integer, L: DrawDisjoint<T>, R: DrawDisjoint<T>> From<(L, R)> for Union<
 impl<T: Integer, L: Draw<T>, R: Draw<T>> Iterator for Union<T, L, R> {
     type Item = RangeInclusive<T>;
 
-    ghost can_next = { either_can_next T.rank T.value_count L.can_draw L.may_give
-        R.can_draw R.may_give };
+    ghost can_next = { (union T.Integer.own L.Draw R.Draw).can_draw };
 
-    ghost next_gives = { either_steps T.rank T.value_count L.can_draw L.may_give
-        R.can_draw R.may_give };
+    ghost next_gives = { (union T.Integer.own L.Draw R.Draw).draw_gives };
 
-    ghost remaining = { either_remaining L.draws_left R.draws_left };
+    ghost remaining = { (union T.Integer.own L.Draw R.Draw).draws_left };
 
     fn next(&mut self) -> Option<RangeInclusive<T>> {
         self.iter.next()
@@ -63,7 +56,7 @@ impl<T: Integer, L: Draw<T>, R: Draw<T>> Draw<T> for Union<T, L, R> {
 
     ghost draws_left = { ⟦<Union<T, L, R> as Iterator>⟧.remaining };
 
-    ghost may_give = { either_may_give T.rank T.value_count L.may_give R.may_give };
+    ghost may_give = { (union T.Integer.own L.Draw R.Draw).may_give };
 
     fn draw(&mut self) -> Option<RangeInclusive<T>> {
         self.next()
@@ -72,8 +65,8 @@ impl<T: Integer, L: Draw<T>, R: Draw<T>> Draw<T> for Union<T, L, R> {
     ghost answers = { λ s t item gives. gives.answers };
 
     ghost sorted = { λ s ready. canonical-starts T.value_count _ _
-        (either-keeps T.rank T.value_count L.can_draw L.may_give R.can_draw R.may_give
-        L.draws_left L.sorted R.draws_left R.sorted s ready) };
+        (union-disjoint T.Integer.own ⟦<L as Draw<T>>⟧ ⟦<R as Draw<T>>⟧ L.sorted R.sorted
+        s ready) };
 }
 
 impl<T: Integer, L: Draw<T>, R: Draw<T>> SortedStarts<T> for Union<T, L, R> {
@@ -82,8 +75,8 @@ impl<T: Integer, L: Draw<T>, R: Draw<T>> SortedStarts<T> for Union<T, L, R> {
 
 impl<T: Integer, L: Draw<T>, R: Draw<T>> DrawDisjoint<T> for Union<T, L, R> {
     ghost canonical = { λ s ready.
-        (either-keeps T.rank T.value_count L.can_draw L.may_give R.can_draw R.may_give
-        L.draws_left L.sorted R.draws_left R.sorted s ready).all };
+        (union-disjoint T.Integer.own ⟦<L as Draw<T>>⟧ ⟦<R as Draw<T>>⟧ L.sorted R.sorted
+        s ready).all };
 }
 
 impl<T: Integer, L: Draw<T>, R: Draw<T>> SortedDisjoint<T> for Union<T, L, R> {}

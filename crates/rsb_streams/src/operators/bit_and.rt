@@ -1,6 +1,6 @@
 //! The operator `&` on streams: what two both have.
 
-ghost use Rattle.rsb_streams.specs.Stream.{GivesIntersection, IsReadyAnd};
+ghost use Rattle.rsb_streams.specs.Results.{CanDrawBoth, MakesIntersection};
 
 use crate::check_sorted_disjoint::CheckSortedDisjoint;
 use crate::draw::Draw;
@@ -16,14 +16,10 @@ use std::ops::{BitAnd, RangeInclusive};
 impl<T: Integer, I: Draw<T>, R: DrawDisjoint<T>> BitAnd<R> for NotIter<T, I> {
     type Output = Intersection<T, NotIter<T, I>, R>;
 
-    ghost can_bitand = { λ left right.
-        (⟦<NotIter<T, I> as Draw<T>>⟧.can_draw left) × (R.can_draw right) };
+    ghost can_bitand = { CanDrawBoth ⟦<NotIter<T, I> as Draw<T>>⟧ R.Draw };
 
-    ghost bitand_gives = { λ left right result.
-        IsReadyAnd ⟦<Intersection<T, NotIter<T, I>, R> as Draw<T>>⟧.can_draw result
-        (GivesIntersection T.value_count
-        (⟦<NotIter<T, I> as Draw<T>>⟧.may_give left) (R.may_give right)
-        (⟦<Intersection<T, NotIter<T, I>, R> as Draw<T>>⟧.may_give result)) };
+    ghost bitand_gives = { MakesIntersection T.Integer.own ⟦<NotIter<T, I> as Draw<T>>⟧ R.Draw
+        ⟦<Intersection<T, NotIter<T, I>, R> as Draw<T>>⟧ };
 
     fn bitand(self, other: R) -> Self::Output {
         Intersection::from((self, other))
@@ -33,14 +29,10 @@ impl<T: Integer, I: Draw<T>, R: DrawDisjoint<T>> BitAnd<R> for NotIter<T, I> {
 impl<T: Integer, I: Draw<T>, R: DrawDisjoint<T>> BitAnd<R> for UnionIter<T, I> {
     type Output = Intersection<T, UnionIter<T, I>, R>;
 
-    ghost can_bitand = { λ left right.
-        (⟦<UnionIter<T, I> as Draw<T>>⟧.can_draw left) × (R.can_draw right) };
+    ghost can_bitand = { CanDrawBoth ⟦<UnionIter<T, I> as Draw<T>>⟧ R.Draw };
 
-    ghost bitand_gives = { λ left right result.
-        IsReadyAnd ⟦<Intersection<T, UnionIter<T, I>, R> as Draw<T>>⟧.can_draw result
-        (GivesIntersection T.value_count
-        (⟦<UnionIter<T, I> as Draw<T>>⟧.may_give left) (R.may_give right)
-        (⟦<Intersection<T, UnionIter<T, I>, R> as Draw<T>>⟧.may_give result)) };
+    ghost bitand_gives = { MakesIntersection T.Integer.own ⟦<UnionIter<T, I> as Draw<T>>⟧ R.Draw
+        ⟦<Intersection<T, UnionIter<T, I>, R> as Draw<T>>⟧ };
 
     fn bitand(self, other: R) -> Self::Output {
         Intersection::from((self, other))
@@ -50,14 +42,10 @@ impl<T: Integer, I: Draw<T>, R: DrawDisjoint<T>> BitAnd<R> for UnionIter<T, I> {
 impl<T: Integer, A: Draw<T>, B: Draw<T>, R: DrawDisjoint<T>> BitAnd<R> for Union<T, A, B> {
     type Output = Intersection<T, Union<T, A, B>, R>;
 
-    ghost can_bitand = { λ left right.
-        (⟦<Union<T, A, B> as Draw<T>>⟧.can_draw left) × (R.can_draw right) };
+    ghost can_bitand = { CanDrawBoth ⟦<Union<T, A, B> as Draw<T>>⟧ R.Draw };
 
-    ghost bitand_gives = { λ left right result.
-        IsReadyAnd ⟦<Intersection<T, Union<T, A, B>, R> as Draw<T>>⟧.can_draw result
-        (GivesIntersection T.value_count
-        (⟦<Union<T, A, B> as Draw<T>>⟧.may_give left) (R.may_give right)
-        (⟦<Intersection<T, Union<T, A, B>, R> as Draw<T>>⟧.may_give result)) };
+    ghost bitand_gives = { MakesIntersection T.Integer.own ⟦<Union<T, A, B> as Draw<T>>⟧ R.Draw
+        ⟦<Intersection<T, Union<T, A, B>, R> as Draw<T>>⟧ };
 
     fn bitand(self, other: R) -> Self::Output {
         Intersection::from((self, other))
@@ -67,14 +55,10 @@ impl<T: Integer, A: Draw<T>, B: Draw<T>, R: DrawDisjoint<T>> BitAnd<R> for Union
 impl<T: Integer, A: Draw<T>, B: Draw<T>, R: DrawDisjoint<T>> BitAnd<R> for Intersection<T, A, B> {
     type Output = Intersection<T, Intersection<T, A, B>, R>;
 
-    ghost can_bitand = { λ left right.
-        (⟦<Intersection<T, A, B> as Draw<T>>⟧.can_draw left) × (R.can_draw right) };
+    ghost can_bitand = { CanDrawBoth ⟦<Intersection<T, A, B> as Draw<T>>⟧ R.Draw };
 
-    ghost bitand_gives = { λ left right result.
-        IsReadyAnd ⟦<Intersection<T, Intersection<T, A, B>, R> as Draw<T>>⟧.can_draw result
-        (GivesIntersection T.value_count
-        (⟦<Intersection<T, A, B> as Draw<T>>⟧.may_give left) (R.may_give right)
-        (⟦<Intersection<T, Intersection<T, A, B>, R> as Draw<T>>⟧.may_give result)) };
+    ghost bitand_gives = { MakesIntersection T.Integer.own ⟦<Intersection<T, A, B> as Draw<T>>⟧ R.Draw
+        ⟦<Intersection<T, Intersection<T, A, B>, R> as Draw<T>>⟧ };
 
     fn bitand(self, other: R) -> Self::Output {
         Intersection::from((self, other))
@@ -84,14 +68,10 @@ impl<T: Integer, A: Draw<T>, B: Draw<T>, R: DrawDisjoint<T>> BitAnd<R> for Inter
 impl<T: Integer, A: Draw<T>, B: Draw<T>, R: DrawDisjoint<T>> BitAnd<R> for Difference<T, A, B> {
     type Output = Intersection<T, Difference<T, A, B>, R>;
 
-    ghost can_bitand = { λ left right.
-        (⟦<Difference<T, A, B> as Draw<T>>⟧.can_draw left) × (R.can_draw right) };
+    ghost can_bitand = { CanDrawBoth ⟦<Difference<T, A, B> as Draw<T>>⟧ R.Draw };
 
-    ghost bitand_gives = { λ left right result.
-        IsReadyAnd ⟦<Intersection<T, Difference<T, A, B>, R> as Draw<T>>⟧.can_draw result
-        (GivesIntersection T.value_count
-        (⟦<Difference<T, A, B> as Draw<T>>⟧.may_give left) (R.may_give right)
-        (⟦<Intersection<T, Difference<T, A, B>, R> as Draw<T>>⟧.may_give result)) };
+    ghost bitand_gives = { MakesIntersection T.Integer.own ⟦<Difference<T, A, B> as Draw<T>>⟧ R.Draw
+        ⟦<Intersection<T, Difference<T, A, B>, R> as Draw<T>>⟧ };
 
     fn bitand(self, other: R) -> Self::Output {
         Intersection::from((self, other))
@@ -101,14 +81,10 @@ impl<T: Integer, A: Draw<T>, B: Draw<T>, R: DrawDisjoint<T>> BitAnd<R> for Diffe
 impl<T: Integer, A: Draw<T>, B: Draw<T>, R: DrawDisjoint<T>> BitAnd<R> for SymDiffIter<T, A, B> {
     type Output = Intersection<T, SymDiffIter<T, A, B>, R>;
 
-    ghost can_bitand = { λ left right.
-        (⟦<SymDiffIter<T, A, B> as Draw<T>>⟧.can_draw left) × (R.can_draw right) };
+    ghost can_bitand = { CanDrawBoth ⟦<SymDiffIter<T, A, B> as Draw<T>>⟧ R.Draw };
 
-    ghost bitand_gives = { λ left right result.
-        IsReadyAnd ⟦<Intersection<T, SymDiffIter<T, A, B>, R> as Draw<T>>⟧.can_draw result
-        (GivesIntersection T.value_count
-        (⟦<SymDiffIter<T, A, B> as Draw<T>>⟧.may_give left) (R.may_give right)
-        (⟦<Intersection<T, SymDiffIter<T, A, B>, R> as Draw<T>>⟧.may_give result)) };
+    ghost bitand_gives = { MakesIntersection T.Integer.own ⟦<SymDiffIter<T, A, B> as Draw<T>>⟧ R.Draw
+        ⟦<Intersection<T, SymDiffIter<T, A, B>, R> as Draw<T>>⟧ };
 
     fn bitand(self, other: R) -> Self::Output {
         Intersection::from((self, other))
@@ -119,14 +95,10 @@ impl<T: Integer, I: Iterator<Item = RangeInclusive<T>>, R: DrawDisjoint<T>> BitA
     for CheckSortedDisjoint<T, I> {
     type Output = Intersection<T, CheckSortedDisjoint<T, I>, R>;
 
-    ghost can_bitand = { λ left right.
-        (⟦<CheckSortedDisjoint<T, I> as Draw<T>>⟧.can_draw left) × (R.can_draw right) };
+    ghost can_bitand = { CanDrawBoth ⟦<CheckSortedDisjoint<T, I> as Draw<T>>⟧ R.Draw };
 
-    ghost bitand_gives = { λ left right result.
-        IsReadyAnd ⟦<Intersection<T, CheckSortedDisjoint<T, I>, R> as Draw<T>>⟧.can_draw result
-        (GivesIntersection T.value_count
-        (⟦<CheckSortedDisjoint<T, I> as Draw<T>>⟧.may_give left) (R.may_give right)
-        (⟦<Intersection<T, CheckSortedDisjoint<T, I>, R> as Draw<T>>⟧.may_give result)) };
+    ghost bitand_gives = { MakesIntersection T.Integer.own ⟦<CheckSortedDisjoint<T, I> as Draw<T>>⟧ R.Draw
+        ⟦<Intersection<T, CheckSortedDisjoint<T, I>, R> as Draw<T>>⟧ };
 
     fn bitand(self, other: R) -> Self::Output {
         Intersection::from((self, other))
@@ -136,14 +108,10 @@ impl<T: Integer, I: Iterator<Item = RangeInclusive<T>>, R: DrawDisjoint<T>> BitA
 impl<T: Integer, R: DrawDisjoint<T>> BitAnd<R> for RangeOnce<T> {
     type Output = Intersection<T, RangeOnce<T>, R>;
 
-    ghost can_bitand = { λ left right.
-        (⟦<RangeOnce<T> as Draw<T>>⟧.can_draw left) × (R.can_draw right) };
+    ghost can_bitand = { CanDrawBoth ⟦<RangeOnce<T> as Draw<T>>⟧ R.Draw };
 
-    ghost bitand_gives = { λ left right result.
-        IsReadyAnd ⟦<Intersection<T, RangeOnce<T>, R> as Draw<T>>⟧.can_draw result
-        (GivesIntersection T.value_count
-        (⟦<RangeOnce<T> as Draw<T>>⟧.may_give left) (R.may_give right)
-        (⟦<Intersection<T, RangeOnce<T>, R> as Draw<T>>⟧.may_give result)) };
+    ghost bitand_gives = { MakesIntersection T.Integer.own ⟦<RangeOnce<T> as Draw<T>>⟧ R.Draw
+        ⟦<Intersection<T, RangeOnce<T>, R> as Draw<T>>⟧ };
 
     fn bitand(self, other: R) -> Self::Output {
         Intersection::from((self, other))

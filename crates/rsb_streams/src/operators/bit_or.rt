@@ -1,6 +1,6 @@
 //! The operator `|` on streams: what lies in either of two.
 
-ghost use Rattle.rsb_streams.specs.Stream.{GivesUnion, IsReadyAnd};
+ghost use Rattle.rsb_streams.specs.Results.{CanDrawBoth, MakesUnion};
 
 use crate::check_sorted_disjoint::CheckSortedDisjoint;
 use crate::draw::Draw;
@@ -16,14 +16,10 @@ use std::ops::{BitOr, RangeInclusive};
 impl<T: Integer, I: Draw<T>, R: DrawDisjoint<T>> BitOr<R> for NotIter<T, I> {
     type Output = Union<T, NotIter<T, I>, R>;
 
-    ghost can_bitor = { λ left right.
-        (⟦<NotIter<T, I> as Draw<T>>⟧.can_draw left) × (R.can_draw right) };
+    ghost can_bitor = { CanDrawBoth ⟦<NotIter<T, I> as Draw<T>>⟧ R.Draw };
 
-    ghost bitor_gives = { λ left right result.
-        IsReadyAnd ⟦<Union<T, NotIter<T, I>, R> as Draw<T>>⟧.can_draw result
-        (GivesUnion T.value_count
-        (⟦<NotIter<T, I> as Draw<T>>⟧.may_give left) (R.may_give right)
-        (⟦<Union<T, NotIter<T, I>, R> as Draw<T>>⟧.may_give result)) };
+    ghost bitor_gives = { MakesUnion T.Integer.own ⟦<NotIter<T, I> as Draw<T>>⟧ R.Draw
+        ⟦<Union<T, NotIter<T, I>, R> as Draw<T>>⟧ };
 
     fn bitor(self, other: R) -> Self::Output {
         Union::from((self, other))
@@ -33,14 +29,10 @@ impl<T: Integer, I: Draw<T>, R: DrawDisjoint<T>> BitOr<R> for NotIter<T, I> {
 impl<T: Integer, I: Draw<T>, R: DrawDisjoint<T>> BitOr<R> for UnionIter<T, I> {
     type Output = Union<T, UnionIter<T, I>, R>;
 
-    ghost can_bitor = { λ left right.
-        (⟦<UnionIter<T, I> as Draw<T>>⟧.can_draw left) × (R.can_draw right) };
+    ghost can_bitor = { CanDrawBoth ⟦<UnionIter<T, I> as Draw<T>>⟧ R.Draw };
 
-    ghost bitor_gives = { λ left right result.
-        IsReadyAnd ⟦<Union<T, UnionIter<T, I>, R> as Draw<T>>⟧.can_draw result
-        (GivesUnion T.value_count
-        (⟦<UnionIter<T, I> as Draw<T>>⟧.may_give left) (R.may_give right)
-        (⟦<Union<T, UnionIter<T, I>, R> as Draw<T>>⟧.may_give result)) };
+    ghost bitor_gives = { MakesUnion T.Integer.own ⟦<UnionIter<T, I> as Draw<T>>⟧ R.Draw
+        ⟦<Union<T, UnionIter<T, I>, R> as Draw<T>>⟧ };
 
     fn bitor(self, other: R) -> Self::Output {
         Union::from((self, other))
@@ -50,14 +42,10 @@ impl<T: Integer, I: Draw<T>, R: DrawDisjoint<T>> BitOr<R> for UnionIter<T, I> {
 impl<T: Integer, A: Draw<T>, B: Draw<T>, R: DrawDisjoint<T>> BitOr<R> for Union<T, A, B> {
     type Output = Union<T, Union<T, A, B>, R>;
 
-    ghost can_bitor = { λ left right.
-        (⟦<Union<T, A, B> as Draw<T>>⟧.can_draw left) × (R.can_draw right) };
+    ghost can_bitor = { CanDrawBoth ⟦<Union<T, A, B> as Draw<T>>⟧ R.Draw };
 
-    ghost bitor_gives = { λ left right result.
-        IsReadyAnd ⟦<Union<T, Union<T, A, B>, R> as Draw<T>>⟧.can_draw result
-        (GivesUnion T.value_count
-        (⟦<Union<T, A, B> as Draw<T>>⟧.may_give left) (R.may_give right)
-        (⟦<Union<T, Union<T, A, B>, R> as Draw<T>>⟧.may_give result)) };
+    ghost bitor_gives = { MakesUnion T.Integer.own ⟦<Union<T, A, B> as Draw<T>>⟧ R.Draw
+        ⟦<Union<T, Union<T, A, B>, R> as Draw<T>>⟧ };
 
     fn bitor(self, other: R) -> Self::Output {
         Union::from((self, other))
@@ -67,14 +55,10 @@ impl<T: Integer, A: Draw<T>, B: Draw<T>, R: DrawDisjoint<T>> BitOr<R> for Union<
 impl<T: Integer, A: Draw<T>, B: Draw<T>, R: DrawDisjoint<T>> BitOr<R> for Intersection<T, A, B> {
     type Output = Union<T, Intersection<T, A, B>, R>;
 
-    ghost can_bitor = { λ left right.
-        (⟦<Intersection<T, A, B> as Draw<T>>⟧.can_draw left) × (R.can_draw right) };
+    ghost can_bitor = { CanDrawBoth ⟦<Intersection<T, A, B> as Draw<T>>⟧ R.Draw };
 
-    ghost bitor_gives = { λ left right result.
-        IsReadyAnd ⟦<Union<T, Intersection<T, A, B>, R> as Draw<T>>⟧.can_draw result
-        (GivesUnion T.value_count
-        (⟦<Intersection<T, A, B> as Draw<T>>⟧.may_give left) (R.may_give right)
-        (⟦<Union<T, Intersection<T, A, B>, R> as Draw<T>>⟧.may_give result)) };
+    ghost bitor_gives = { MakesUnion T.Integer.own ⟦<Intersection<T, A, B> as Draw<T>>⟧ R.Draw
+        ⟦<Union<T, Intersection<T, A, B>, R> as Draw<T>>⟧ };
 
     fn bitor(self, other: R) -> Self::Output {
         Union::from((self, other))
@@ -84,14 +68,10 @@ impl<T: Integer, A: Draw<T>, B: Draw<T>, R: DrawDisjoint<T>> BitOr<R> for Inters
 impl<T: Integer, A: Draw<T>, B: Draw<T>, R: DrawDisjoint<T>> BitOr<R> for Difference<T, A, B> {
     type Output = Union<T, Difference<T, A, B>, R>;
 
-    ghost can_bitor = { λ left right.
-        (⟦<Difference<T, A, B> as Draw<T>>⟧.can_draw left) × (R.can_draw right) };
+    ghost can_bitor = { CanDrawBoth ⟦<Difference<T, A, B> as Draw<T>>⟧ R.Draw };
 
-    ghost bitor_gives = { λ left right result.
-        IsReadyAnd ⟦<Union<T, Difference<T, A, B>, R> as Draw<T>>⟧.can_draw result
-        (GivesUnion T.value_count
-        (⟦<Difference<T, A, B> as Draw<T>>⟧.may_give left) (R.may_give right)
-        (⟦<Union<T, Difference<T, A, B>, R> as Draw<T>>⟧.may_give result)) };
+    ghost bitor_gives = { MakesUnion T.Integer.own ⟦<Difference<T, A, B> as Draw<T>>⟧ R.Draw
+        ⟦<Union<T, Difference<T, A, B>, R> as Draw<T>>⟧ };
 
     fn bitor(self, other: R) -> Self::Output {
         Union::from((self, other))
@@ -101,14 +81,10 @@ impl<T: Integer, A: Draw<T>, B: Draw<T>, R: DrawDisjoint<T>> BitOr<R> for Differ
 impl<T: Integer, A: Draw<T>, B: Draw<T>, R: DrawDisjoint<T>> BitOr<R> for SymDiffIter<T, A, B> {
     type Output = Union<T, SymDiffIter<T, A, B>, R>;
 
-    ghost can_bitor = { λ left right.
-        (⟦<SymDiffIter<T, A, B> as Draw<T>>⟧.can_draw left) × (R.can_draw right) };
+    ghost can_bitor = { CanDrawBoth ⟦<SymDiffIter<T, A, B> as Draw<T>>⟧ R.Draw };
 
-    ghost bitor_gives = { λ left right result.
-        IsReadyAnd ⟦<Union<T, SymDiffIter<T, A, B>, R> as Draw<T>>⟧.can_draw result
-        (GivesUnion T.value_count
-        (⟦<SymDiffIter<T, A, B> as Draw<T>>⟧.may_give left) (R.may_give right)
-        (⟦<Union<T, SymDiffIter<T, A, B>, R> as Draw<T>>⟧.may_give result)) };
+    ghost bitor_gives = { MakesUnion T.Integer.own ⟦<SymDiffIter<T, A, B> as Draw<T>>⟧ R.Draw
+        ⟦<Union<T, SymDiffIter<T, A, B>, R> as Draw<T>>⟧ };
 
     fn bitor(self, other: R) -> Self::Output {
         Union::from((self, other))
@@ -119,14 +95,10 @@ impl<T: Integer, I: Iterator<Item = RangeInclusive<T>>, R: DrawDisjoint<T>> BitO
     for CheckSortedDisjoint<T, I> {
     type Output = Union<T, CheckSortedDisjoint<T, I>, R>;
 
-    ghost can_bitor = { λ left right.
-        (⟦<CheckSortedDisjoint<T, I> as Draw<T>>⟧.can_draw left) × (R.can_draw right) };
+    ghost can_bitor = { CanDrawBoth ⟦<CheckSortedDisjoint<T, I> as Draw<T>>⟧ R.Draw };
 
-    ghost bitor_gives = { λ left right result.
-        IsReadyAnd ⟦<Union<T, CheckSortedDisjoint<T, I>, R> as Draw<T>>⟧.can_draw result
-        (GivesUnion T.value_count
-        (⟦<CheckSortedDisjoint<T, I> as Draw<T>>⟧.may_give left) (R.may_give right)
-        (⟦<Union<T, CheckSortedDisjoint<T, I>, R> as Draw<T>>⟧.may_give result)) };
+    ghost bitor_gives = { MakesUnion T.Integer.own ⟦<CheckSortedDisjoint<T, I> as Draw<T>>⟧ R.Draw
+        ⟦<Union<T, CheckSortedDisjoint<T, I>, R> as Draw<T>>⟧ };
 
     fn bitor(self, other: R) -> Self::Output {
         Union::from((self, other))
@@ -136,14 +108,10 @@ impl<T: Integer, I: Iterator<Item = RangeInclusive<T>>, R: DrawDisjoint<T>> BitO
 impl<T: Integer, R: DrawDisjoint<T>> BitOr<R> for RangeOnce<T> {
     type Output = Union<T, RangeOnce<T>, R>;
 
-    ghost can_bitor = { λ left right.
-        (⟦<RangeOnce<T> as Draw<T>>⟧.can_draw left) × (R.can_draw right) };
+    ghost can_bitor = { CanDrawBoth ⟦<RangeOnce<T> as Draw<T>>⟧ R.Draw };
 
-    ghost bitor_gives = { λ left right result.
-        IsReadyAnd ⟦<Union<T, RangeOnce<T>, R> as Draw<T>>⟧.can_draw result
-        (GivesUnion T.value_count
-        (⟦<RangeOnce<T> as Draw<T>>⟧.may_give left) (R.may_give right)
-        (⟦<Union<T, RangeOnce<T>, R> as Draw<T>>⟧.may_give result)) };
+    ghost bitor_gives = { MakesUnion T.Integer.own ⟦<RangeOnce<T> as Draw<T>>⟧ R.Draw
+        ⟦<Union<T, RangeOnce<T>, R> as Draw<T>>⟧ };
 
     fn bitor(self, other: R) -> Self::Output {
         Union::from((self, other))

@@ -1,6 +1,6 @@
 //! The operator `^` on streams: what one of two has alone.
 
-ghost use Rattle.rsb_streams.specs.Stream.{GivesSymmetricDifference, IsReadyAnd};
+ghost use Rattle.rsb_streams.specs.Results.{CanDrawBoth, MakesSymmetricDifference};
 
 use crate::check_sorted_disjoint::CheckSortedDisjoint;
 use crate::draw::Draw;
@@ -16,14 +16,10 @@ use std::ops::{BitXor, RangeInclusive};
 impl<T: Integer, I: Draw<T>, R: DrawDisjoint<T>> BitXor<R> for NotIter<T, I> {
     type Output = SymmetricDifference<T, NotIter<T, I>, R>;
 
-    ghost can_bitxor = { λ left right.
-        (⟦<NotIter<T, I> as Draw<T>>⟧.can_draw left) × (R.can_draw right) };
+    ghost can_bitxor = { CanDrawBoth ⟦<NotIter<T, I> as Draw<T>>⟧ R.Draw };
 
-    ghost bitxor_gives = { λ left right result.
-        IsReadyAnd ⟦<SymmetricDifference<T, NotIter<T, I>, R> as Draw<T>>⟧.can_draw result
-        (GivesSymmetricDifference T.value_count
-        (⟦<NotIter<T, I> as Draw<T>>⟧.may_give left) (R.may_give right)
-        (⟦<SymmetricDifference<T, NotIter<T, I>, R> as Draw<T>>⟧.may_give result)) };
+    ghost bitxor_gives = { MakesSymmetricDifference T.Integer.own ⟦<NotIter<T, I> as Draw<T>>⟧ R.Draw
+        ⟦<SymmetricDifference<T, NotIter<T, I>, R> as Draw<T>>⟧ };
 
     fn bitxor(self, other: R) -> Self::Output {
         SymmetricDifference::from((self, other))
@@ -33,14 +29,10 @@ impl<T: Integer, I: Draw<T>, R: DrawDisjoint<T>> BitXor<R> for NotIter<T, I> {
 impl<T: Integer, I: Draw<T>, R: DrawDisjoint<T>> BitXor<R> for UnionIter<T, I> {
     type Output = SymmetricDifference<T, UnionIter<T, I>, R>;
 
-    ghost can_bitxor = { λ left right.
-        (⟦<UnionIter<T, I> as Draw<T>>⟧.can_draw left) × (R.can_draw right) };
+    ghost can_bitxor = { CanDrawBoth ⟦<UnionIter<T, I> as Draw<T>>⟧ R.Draw };
 
-    ghost bitxor_gives = { λ left right result.
-        IsReadyAnd ⟦<SymmetricDifference<T, UnionIter<T, I>, R> as Draw<T>>⟧.can_draw result
-        (GivesSymmetricDifference T.value_count
-        (⟦<UnionIter<T, I> as Draw<T>>⟧.may_give left) (R.may_give right)
-        (⟦<SymmetricDifference<T, UnionIter<T, I>, R> as Draw<T>>⟧.may_give result)) };
+    ghost bitxor_gives = { MakesSymmetricDifference T.Integer.own ⟦<UnionIter<T, I> as Draw<T>>⟧ R.Draw
+        ⟦<SymmetricDifference<T, UnionIter<T, I>, R> as Draw<T>>⟧ };
 
     fn bitxor(self, other: R) -> Self::Output {
         SymmetricDifference::from((self, other))
@@ -50,14 +42,10 @@ impl<T: Integer, I: Draw<T>, R: DrawDisjoint<T>> BitXor<R> for UnionIter<T, I> {
 impl<T: Integer, A: Draw<T>, B: Draw<T>, R: DrawDisjoint<T>> BitXor<R> for Union<T, A, B> {
     type Output = SymmetricDifference<T, Union<T, A, B>, R>;
 
-    ghost can_bitxor = { λ left right.
-        (⟦<Union<T, A, B> as Draw<T>>⟧.can_draw left) × (R.can_draw right) };
+    ghost can_bitxor = { CanDrawBoth ⟦<Union<T, A, B> as Draw<T>>⟧ R.Draw };
 
-    ghost bitxor_gives = { λ left right result.
-        IsReadyAnd ⟦<SymmetricDifference<T, Union<T, A, B>, R> as Draw<T>>⟧.can_draw result
-        (GivesSymmetricDifference T.value_count
-        (⟦<Union<T, A, B> as Draw<T>>⟧.may_give left) (R.may_give right)
-        (⟦<SymmetricDifference<T, Union<T, A, B>, R> as Draw<T>>⟧.may_give result)) };
+    ghost bitxor_gives = { MakesSymmetricDifference T.Integer.own ⟦<Union<T, A, B> as Draw<T>>⟧ R.Draw
+        ⟦<SymmetricDifference<T, Union<T, A, B>, R> as Draw<T>>⟧ };
 
     fn bitxor(self, other: R) -> Self::Output {
         SymmetricDifference::from((self, other))
@@ -67,14 +55,10 @@ impl<T: Integer, A: Draw<T>, B: Draw<T>, R: DrawDisjoint<T>> BitXor<R> for Union
 impl<T: Integer, A: Draw<T>, B: Draw<T>, R: DrawDisjoint<T>> BitXor<R> for Intersection<T, A, B> {
     type Output = SymmetricDifference<T, Intersection<T, A, B>, R>;
 
-    ghost can_bitxor = { λ left right.
-        (⟦<Intersection<T, A, B> as Draw<T>>⟧.can_draw left) × (R.can_draw right) };
+    ghost can_bitxor = { CanDrawBoth ⟦<Intersection<T, A, B> as Draw<T>>⟧ R.Draw };
 
-    ghost bitxor_gives = { λ left right result.
-        IsReadyAnd ⟦<SymmetricDifference<T, Intersection<T, A, B>, R> as Draw<T>>⟧.can_draw result
-        (GivesSymmetricDifference T.value_count
-        (⟦<Intersection<T, A, B> as Draw<T>>⟧.may_give left) (R.may_give right)
-        (⟦<SymmetricDifference<T, Intersection<T, A, B>, R> as Draw<T>>⟧.may_give result)) };
+    ghost bitxor_gives = { MakesSymmetricDifference T.Integer.own ⟦<Intersection<T, A, B> as Draw<T>>⟧ R.Draw
+        ⟦<SymmetricDifference<T, Intersection<T, A, B>, R> as Draw<T>>⟧ };
 
     fn bitxor(self, other: R) -> Self::Output {
         SymmetricDifference::from((self, other))
@@ -84,14 +68,10 @@ impl<T: Integer, A: Draw<T>, B: Draw<T>, R: DrawDisjoint<T>> BitXor<R> for Inter
 impl<T: Integer, A: Draw<T>, B: Draw<T>, R: DrawDisjoint<T>> BitXor<R> for Difference<T, A, B> {
     type Output = SymmetricDifference<T, Difference<T, A, B>, R>;
 
-    ghost can_bitxor = { λ left right.
-        (⟦<Difference<T, A, B> as Draw<T>>⟧.can_draw left) × (R.can_draw right) };
+    ghost can_bitxor = { CanDrawBoth ⟦<Difference<T, A, B> as Draw<T>>⟧ R.Draw };
 
-    ghost bitxor_gives = { λ left right result.
-        IsReadyAnd ⟦<SymmetricDifference<T, Difference<T, A, B>, R> as Draw<T>>⟧.can_draw result
-        (GivesSymmetricDifference T.value_count
-        (⟦<Difference<T, A, B> as Draw<T>>⟧.may_give left) (R.may_give right)
-        (⟦<SymmetricDifference<T, Difference<T, A, B>, R> as Draw<T>>⟧.may_give result)) };
+    ghost bitxor_gives = { MakesSymmetricDifference T.Integer.own ⟦<Difference<T, A, B> as Draw<T>>⟧ R.Draw
+        ⟦<SymmetricDifference<T, Difference<T, A, B>, R> as Draw<T>>⟧ };
 
     fn bitxor(self, other: R) -> Self::Output {
         SymmetricDifference::from((self, other))
@@ -102,14 +82,10 @@ impl<T: Integer, I: Iterator<Item = RangeInclusive<T>>, R: DrawDisjoint<T>> BitX
     for CheckSortedDisjoint<T, I> {
     type Output = SymmetricDifference<T, CheckSortedDisjoint<T, I>, R>;
 
-    ghost can_bitxor = { λ left right.
-        (⟦<CheckSortedDisjoint<T, I> as Draw<T>>⟧.can_draw left) × (R.can_draw right) };
+    ghost can_bitxor = { CanDrawBoth ⟦<CheckSortedDisjoint<T, I> as Draw<T>>⟧ R.Draw };
 
-    ghost bitxor_gives = { λ left right result.
-        IsReadyAnd ⟦<SymmetricDifference<T, CheckSortedDisjoint<T, I>, R> as Draw<T>>⟧.can_draw result
-        (GivesSymmetricDifference T.value_count
-        (⟦<CheckSortedDisjoint<T, I> as Draw<T>>⟧.may_give left) (R.may_give right)
-        (⟦<SymmetricDifference<T, CheckSortedDisjoint<T, I>, R> as Draw<T>>⟧.may_give result)) };
+    ghost bitxor_gives = { MakesSymmetricDifference T.Integer.own ⟦<CheckSortedDisjoint<T, I> as Draw<T>>⟧ R.Draw
+        ⟦<SymmetricDifference<T, CheckSortedDisjoint<T, I>, R> as Draw<T>>⟧ };
 
     fn bitxor(self, other: R) -> Self::Output {
         SymmetricDifference::from((self, other))
@@ -119,14 +95,10 @@ impl<T: Integer, I: Iterator<Item = RangeInclusive<T>>, R: DrawDisjoint<T>> BitX
 impl<T: Integer, R: DrawDisjoint<T>> BitXor<R> for RangeOnce<T> {
     type Output = SymmetricDifference<T, RangeOnce<T>, R>;
 
-    ghost can_bitxor = { λ left right.
-        (⟦<RangeOnce<T> as Draw<T>>⟧.can_draw left) × (R.can_draw right) };
+    ghost can_bitxor = { CanDrawBoth ⟦<RangeOnce<T> as Draw<T>>⟧ R.Draw };
 
-    ghost bitxor_gives = { λ left right result.
-        IsReadyAnd ⟦<SymmetricDifference<T, RangeOnce<T>, R> as Draw<T>>⟧.can_draw result
-        (GivesSymmetricDifference T.value_count
-        (⟦<RangeOnce<T> as Draw<T>>⟧.may_give left) (R.may_give right)
-        (⟦<SymmetricDifference<T, RangeOnce<T>, R> as Draw<T>>⟧.may_give result)) };
+    ghost bitxor_gives = { MakesSymmetricDifference T.Integer.own ⟦<RangeOnce<T> as Draw<T>>⟧ R.Draw
+        ⟦<SymmetricDifference<T, RangeOnce<T>, R> as Draw<T>>⟧ };
 
     fn bitxor(self, other: R) -> Self::Output {
         SymmetricDifference::from((self, other))
@@ -136,14 +108,10 @@ impl<T: Integer, R: DrawDisjoint<T>> BitXor<R> for RangeOnce<T> {
 impl<T: Integer, A: Draw<T>, B: Draw<T>, R: DrawDisjoint<T>> BitXor<R> for SymDiffIter<T, A, B> {
     type Output = SymmetricDifference<T, SymDiffIter<T, A, B>, R>;
 
-    ghost can_bitxor = { λ left right.
-        (⟦<SymDiffIter<T, A, B> as Draw<T>>⟧.can_draw left) × (R.can_draw right) };
+    ghost can_bitxor = { CanDrawBoth ⟦<SymDiffIter<T, A, B> as Draw<T>>⟧ R.Draw };
 
-    ghost bitxor_gives = { λ left right result.
-        IsReadyAnd ⟦<SymmetricDifference<T, SymDiffIter<T, A, B>, R> as Draw<T>>⟧.can_draw result
-        (GivesSymmetricDifference T.value_count
-        (⟦<SymDiffIter<T, A, B> as Draw<T>>⟧.may_give left) (R.may_give right)
-        (⟦<SymmetricDifference<T, SymDiffIter<T, A, B>, R> as Draw<T>>⟧.may_give result)) };
+    ghost bitxor_gives = { MakesSymmetricDifference T.Integer.own ⟦<SymDiffIter<T, A, B> as Draw<T>>⟧ R.Draw
+        ⟦<SymmetricDifference<T, SymDiffIter<T, A, B>, R> as Draw<T>>⟧ };
 
     fn bitxor(self, other: R) -> Self::Output {
         SymmetricDifference::from((self, other))

@@ -1,6 +1,6 @@
 //! The operator `!` on streams: what a stream leaves out.
 
-ghost use Rattle.rsb_streams.specs.Stream.{GivesComplement, IsReadyAnd};
+ghost use Rattle.rsb_streams.specs.Results.{MakesComplement};
 
 use crate::check_sorted_disjoint::CheckSortedDisjoint;
 use crate::draw::Draw;
@@ -15,13 +15,10 @@ use std::ops::{Not, RangeInclusive};
 impl<T: Integer, I: Draw<T>> Not for NotIter<T, I> {
     type Output = NotIter<T, NotIter<T, I>>;
 
-    ghost can_not = { λ stream. ⟦<NotIter<T, I> as Draw<T>>⟧.can_draw stream };
+    ghost can_not = { ⟦<NotIter<T, I> as Draw<T>>⟧.can_draw };
 
-    ghost not_gives = { λ stream result.
-        IsReadyAnd ⟦<NotIter<T, NotIter<T, I>> as Draw<T>>⟧.can_draw result
-        (GivesComplement T.value_count
-        (⟦<NotIter<T, I> as Draw<T>>⟧.may_give stream)
-        (⟦<NotIter<T, NotIter<T, I>> as Draw<T>>⟧.may_give result)) };
+    ghost not_gives = { MakesComplement T.Integer.own ⟦<NotIter<T, I> as Draw<T>>⟧
+        ⟦<NotIter<T, NotIter<T, I>> as Draw<T>>⟧ };
 
     fn not(self) -> Self::Output {
         NotIter::from(self)
@@ -31,13 +28,10 @@ impl<T: Integer, I: Draw<T>> Not for NotIter<T, I> {
 impl<T: Integer, I: Draw<T>> Not for UnionIter<T, I> {
     type Output = NotIter<T, UnionIter<T, I>>;
 
-    ghost can_not = { λ stream. ⟦<UnionIter<T, I> as Draw<T>>⟧.can_draw stream };
+    ghost can_not = { ⟦<UnionIter<T, I> as Draw<T>>⟧.can_draw };
 
-    ghost not_gives = { λ stream result.
-        IsReadyAnd ⟦<NotIter<T, UnionIter<T, I>> as Draw<T>>⟧.can_draw result
-        (GivesComplement T.value_count
-        (⟦<UnionIter<T, I> as Draw<T>>⟧.may_give stream)
-        (⟦<NotIter<T, UnionIter<T, I>> as Draw<T>>⟧.may_give result)) };
+    ghost not_gives = { MakesComplement T.Integer.own ⟦<UnionIter<T, I> as Draw<T>>⟧
+        ⟦<NotIter<T, UnionIter<T, I>> as Draw<T>>⟧ };
 
     fn not(self) -> Self::Output {
         NotIter::from(self)
@@ -47,13 +41,10 @@ impl<T: Integer, I: Draw<T>> Not for UnionIter<T, I> {
 impl<T: Integer, A: Draw<T>, B: Draw<T>> Not for Union<T, A, B> {
     type Output = NotIter<T, Union<T, A, B>>;
 
-    ghost can_not = { λ stream. ⟦<Union<T, A, B> as Draw<T>>⟧.can_draw stream };
+    ghost can_not = { ⟦<Union<T, A, B> as Draw<T>>⟧.can_draw };
 
-    ghost not_gives = { λ stream result.
-        IsReadyAnd ⟦<NotIter<T, Union<T, A, B>> as Draw<T>>⟧.can_draw result
-        (GivesComplement T.value_count
-        (⟦<Union<T, A, B> as Draw<T>>⟧.may_give stream)
-        (⟦<NotIter<T, Union<T, A, B>> as Draw<T>>⟧.may_give result)) };
+    ghost not_gives = { MakesComplement T.Integer.own ⟦<Union<T, A, B> as Draw<T>>⟧
+        ⟦<NotIter<T, Union<T, A, B>> as Draw<T>>⟧ };
 
     fn not(self) -> Self::Output {
         NotIter::from(self)
@@ -63,13 +54,10 @@ impl<T: Integer, A: Draw<T>, B: Draw<T>> Not for Union<T, A, B> {
 impl<T: Integer, A: Draw<T>, B: Draw<T>> Not for Intersection<T, A, B> {
     type Output = NotIter<T, Intersection<T, A, B>>;
 
-    ghost can_not = { λ stream. ⟦<Intersection<T, A, B> as Draw<T>>⟧.can_draw stream };
+    ghost can_not = { ⟦<Intersection<T, A, B> as Draw<T>>⟧.can_draw };
 
-    ghost not_gives = { λ stream result.
-        IsReadyAnd ⟦<NotIter<T, Intersection<T, A, B>> as Draw<T>>⟧.can_draw result
-        (GivesComplement T.value_count
-        (⟦<Intersection<T, A, B> as Draw<T>>⟧.may_give stream)
-        (⟦<NotIter<T, Intersection<T, A, B>> as Draw<T>>⟧.may_give result)) };
+    ghost not_gives = { MakesComplement T.Integer.own ⟦<Intersection<T, A, B> as Draw<T>>⟧
+        ⟦<NotIter<T, Intersection<T, A, B>> as Draw<T>>⟧ };
 
     fn not(self) -> Self::Output {
         NotIter::from(self)
@@ -79,13 +67,10 @@ impl<T: Integer, A: Draw<T>, B: Draw<T>> Not for Intersection<T, A, B> {
 impl<T: Integer, A: Draw<T>, B: Draw<T>> Not for Difference<T, A, B> {
     type Output = NotIter<T, Difference<T, A, B>>;
 
-    ghost can_not = { λ stream. ⟦<Difference<T, A, B> as Draw<T>>⟧.can_draw stream };
+    ghost can_not = { ⟦<Difference<T, A, B> as Draw<T>>⟧.can_draw };
 
-    ghost not_gives = { λ stream result.
-        IsReadyAnd ⟦<NotIter<T, Difference<T, A, B>> as Draw<T>>⟧.can_draw result
-        (GivesComplement T.value_count
-        (⟦<Difference<T, A, B> as Draw<T>>⟧.may_give stream)
-        (⟦<NotIter<T, Difference<T, A, B>> as Draw<T>>⟧.may_give result)) };
+    ghost not_gives = { MakesComplement T.Integer.own ⟦<Difference<T, A, B> as Draw<T>>⟧
+        ⟦<NotIter<T, Difference<T, A, B>> as Draw<T>>⟧ };
 
     fn not(self) -> Self::Output {
         NotIter::from(self)
@@ -95,13 +80,10 @@ impl<T: Integer, A: Draw<T>, B: Draw<T>> Not for Difference<T, A, B> {
 impl<T: Integer, A: Draw<T>, B: Draw<T>> Not for SymDiffIter<T, A, B> {
     type Output = NotIter<T, SymDiffIter<T, A, B>>;
 
-    ghost can_not = { λ stream. ⟦<SymDiffIter<T, A, B> as Draw<T>>⟧.can_draw stream };
+    ghost can_not = { ⟦<SymDiffIter<T, A, B> as Draw<T>>⟧.can_draw };
 
-    ghost not_gives = { λ stream result.
-        IsReadyAnd ⟦<NotIter<T, SymDiffIter<T, A, B>> as Draw<T>>⟧.can_draw result
-        (GivesComplement T.value_count
-        (⟦<SymDiffIter<T, A, B> as Draw<T>>⟧.may_give stream)
-        (⟦<NotIter<T, SymDiffIter<T, A, B>> as Draw<T>>⟧.may_give result)) };
+    ghost not_gives = { MakesComplement T.Integer.own ⟦<SymDiffIter<T, A, B> as Draw<T>>⟧
+        ⟦<NotIter<T, SymDiffIter<T, A, B>> as Draw<T>>⟧ };
 
     fn not(self) -> Self::Output {
         NotIter::from(self)
@@ -111,13 +93,10 @@ impl<T: Integer, A: Draw<T>, B: Draw<T>> Not for SymDiffIter<T, A, B> {
 impl<T: Integer, I: Iterator<Item = RangeInclusive<T>>> Not for CheckSortedDisjoint<T, I> {
     type Output = NotIter<T, CheckSortedDisjoint<T, I>>;
 
-    ghost can_not = { λ stream. ⟦<CheckSortedDisjoint<T, I> as Draw<T>>⟧.can_draw stream };
+    ghost can_not = { ⟦<CheckSortedDisjoint<T, I> as Draw<T>>⟧.can_draw };
 
-    ghost not_gives = { λ stream result.
-        IsReadyAnd ⟦<NotIter<T, CheckSortedDisjoint<T, I>> as Draw<T>>⟧.can_draw result
-        (GivesComplement T.value_count
-        (⟦<CheckSortedDisjoint<T, I> as Draw<T>>⟧.may_give stream)
-        (⟦<NotIter<T, CheckSortedDisjoint<T, I>> as Draw<T>>⟧.may_give result)) };
+    ghost not_gives = { MakesComplement T.Integer.own ⟦<CheckSortedDisjoint<T, I> as Draw<T>>⟧
+        ⟦<NotIter<T, CheckSortedDisjoint<T, I>> as Draw<T>>⟧ };
 
     fn not(self) -> Self::Output {
         NotIter::from(self)
@@ -127,13 +106,10 @@ impl<T: Integer, I: Iterator<Item = RangeInclusive<T>>> Not for CheckSortedDisjo
 impl<T: Integer> Not for RangeOnce<T> {
     type Output = NotIter<T, RangeOnce<T>>;
 
-    ghost can_not = { λ stream. ⟦<RangeOnce<T> as Draw<T>>⟧.can_draw stream };
+    ghost can_not = { ⟦<RangeOnce<T> as Draw<T>>⟧.can_draw };
 
-    ghost not_gives = { λ stream result.
-        IsReadyAnd ⟦<NotIter<T, RangeOnce<T>> as Draw<T>>⟧.can_draw result
-        (GivesComplement T.value_count
-        (⟦<RangeOnce<T> as Draw<T>>⟧.may_give stream)
-        (⟦<NotIter<T, RangeOnce<T>> as Draw<T>>⟧.may_give result)) };
+    ghost not_gives = { MakesComplement T.Integer.own ⟦<RangeOnce<T> as Draw<T>>⟧
+        ⟦<NotIter<T, RangeOnce<T>> as Draw<T>>⟧ };
 
     fn not(self) -> Self::Output {
         NotIter::from(self)

@@ -1,6 +1,6 @@
 //! The operator `-` on streams: what the left one has and the right one lacks.
 
-ghost use Rattle.rsb_streams.specs.Stream.{GivesDifference, IsReadyAnd};
+ghost use Rattle.rsb_streams.specs.Results.{CanDrawBoth, MakesDifference};
 
 use crate::check_sorted_disjoint::CheckSortedDisjoint;
 use crate::draw::Draw;
@@ -16,14 +16,10 @@ use std::ops::{RangeInclusive, Sub};
 impl<T: Integer, I: Draw<T>, R: DrawDisjoint<T>> Sub<R> for NotIter<T, I> {
     type Output = Difference<T, NotIter<T, I>, R>;
 
-    ghost can_sub = { λ left right.
-        (⟦<NotIter<T, I> as Draw<T>>⟧.can_draw left) × (R.can_draw right) };
+    ghost can_sub = { CanDrawBoth ⟦<NotIter<T, I> as Draw<T>>⟧ R.Draw };
 
-    ghost sub_gives = { λ left right result.
-        IsReadyAnd ⟦<Difference<T, NotIter<T, I>, R> as Draw<T>>⟧.can_draw result
-        (GivesDifference T.value_count
-        (⟦<NotIter<T, I> as Draw<T>>⟧.may_give left) (R.may_give right)
-        (⟦<Difference<T, NotIter<T, I>, R> as Draw<T>>⟧.may_give result)) };
+    ghost sub_gives = { MakesDifference T.Integer.own ⟦<NotIter<T, I> as Draw<T>>⟧ R.Draw
+        ⟦<Difference<T, NotIter<T, I>, R> as Draw<T>>⟧ };
 
     fn sub(self, other: R) -> Self::Output {
         Difference::from((self, other))
@@ -33,14 +29,10 @@ impl<T: Integer, I: Draw<T>, R: DrawDisjoint<T>> Sub<R> for NotIter<T, I> {
 impl<T: Integer, I: Draw<T>, R: DrawDisjoint<T>> Sub<R> for UnionIter<T, I> {
     type Output = Difference<T, UnionIter<T, I>, R>;
 
-    ghost can_sub = { λ left right.
-        (⟦<UnionIter<T, I> as Draw<T>>⟧.can_draw left) × (R.can_draw right) };
+    ghost can_sub = { CanDrawBoth ⟦<UnionIter<T, I> as Draw<T>>⟧ R.Draw };
 
-    ghost sub_gives = { λ left right result.
-        IsReadyAnd ⟦<Difference<T, UnionIter<T, I>, R> as Draw<T>>⟧.can_draw result
-        (GivesDifference T.value_count
-        (⟦<UnionIter<T, I> as Draw<T>>⟧.may_give left) (R.may_give right)
-        (⟦<Difference<T, UnionIter<T, I>, R> as Draw<T>>⟧.may_give result)) };
+    ghost sub_gives = { MakesDifference T.Integer.own ⟦<UnionIter<T, I> as Draw<T>>⟧ R.Draw
+        ⟦<Difference<T, UnionIter<T, I>, R> as Draw<T>>⟧ };
 
     fn sub(self, other: R) -> Self::Output {
         Difference::from((self, other))
@@ -50,14 +42,10 @@ impl<T: Integer, I: Draw<T>, R: DrawDisjoint<T>> Sub<R> for UnionIter<T, I> {
 impl<T: Integer, A: Draw<T>, B: Draw<T>, R: DrawDisjoint<T>> Sub<R> for Union<T, A, B> {
     type Output = Difference<T, Union<T, A, B>, R>;
 
-    ghost can_sub = { λ left right.
-        (⟦<Union<T, A, B> as Draw<T>>⟧.can_draw left) × (R.can_draw right) };
+    ghost can_sub = { CanDrawBoth ⟦<Union<T, A, B> as Draw<T>>⟧ R.Draw };
 
-    ghost sub_gives = { λ left right result.
-        IsReadyAnd ⟦<Difference<T, Union<T, A, B>, R> as Draw<T>>⟧.can_draw result
-        (GivesDifference T.value_count
-        (⟦<Union<T, A, B> as Draw<T>>⟧.may_give left) (R.may_give right)
-        (⟦<Difference<T, Union<T, A, B>, R> as Draw<T>>⟧.may_give result)) };
+    ghost sub_gives = { MakesDifference T.Integer.own ⟦<Union<T, A, B> as Draw<T>>⟧ R.Draw
+        ⟦<Difference<T, Union<T, A, B>, R> as Draw<T>>⟧ };
 
     fn sub(self, other: R) -> Self::Output {
         Difference::from((self, other))
@@ -67,14 +55,10 @@ impl<T: Integer, A: Draw<T>, B: Draw<T>, R: DrawDisjoint<T>> Sub<R> for Union<T,
 impl<T: Integer, A: Draw<T>, B: Draw<T>, R: DrawDisjoint<T>> Sub<R> for Intersection<T, A, B> {
     type Output = Difference<T, Intersection<T, A, B>, R>;
 
-    ghost can_sub = { λ left right.
-        (⟦<Intersection<T, A, B> as Draw<T>>⟧.can_draw left) × (R.can_draw right) };
+    ghost can_sub = { CanDrawBoth ⟦<Intersection<T, A, B> as Draw<T>>⟧ R.Draw };
 
-    ghost sub_gives = { λ left right result.
-        IsReadyAnd ⟦<Difference<T, Intersection<T, A, B>, R> as Draw<T>>⟧.can_draw result
-        (GivesDifference T.value_count
-        (⟦<Intersection<T, A, B> as Draw<T>>⟧.may_give left) (R.may_give right)
-        (⟦<Difference<T, Intersection<T, A, B>, R> as Draw<T>>⟧.may_give result)) };
+    ghost sub_gives = { MakesDifference T.Integer.own ⟦<Intersection<T, A, B> as Draw<T>>⟧ R.Draw
+        ⟦<Difference<T, Intersection<T, A, B>, R> as Draw<T>>⟧ };
 
     fn sub(self, other: R) -> Self::Output {
         Difference::from((self, other))
@@ -84,14 +68,10 @@ impl<T: Integer, A: Draw<T>, B: Draw<T>, R: DrawDisjoint<T>> Sub<R> for Intersec
 impl<T: Integer, A: Draw<T>, B: Draw<T>, R: DrawDisjoint<T>> Sub<R> for Difference<T, A, B> {
     type Output = Difference<T, Difference<T, A, B>, R>;
 
-    ghost can_sub = { λ left right.
-        (⟦<Difference<T, A, B> as Draw<T>>⟧.can_draw left) × (R.can_draw right) };
+    ghost can_sub = { CanDrawBoth ⟦<Difference<T, A, B> as Draw<T>>⟧ R.Draw };
 
-    ghost sub_gives = { λ left right result.
-        IsReadyAnd ⟦<Difference<T, Difference<T, A, B>, R> as Draw<T>>⟧.can_draw result
-        (GivesDifference T.value_count
-        (⟦<Difference<T, A, B> as Draw<T>>⟧.may_give left) (R.may_give right)
-        (⟦<Difference<T, Difference<T, A, B>, R> as Draw<T>>⟧.may_give result)) };
+    ghost sub_gives = { MakesDifference T.Integer.own ⟦<Difference<T, A, B> as Draw<T>>⟧ R.Draw
+        ⟦<Difference<T, Difference<T, A, B>, R> as Draw<T>>⟧ };
 
     fn sub(self, other: R) -> Self::Output {
         Difference::from((self, other))
@@ -101,14 +81,10 @@ impl<T: Integer, A: Draw<T>, B: Draw<T>, R: DrawDisjoint<T>> Sub<R> for Differen
 impl<T: Integer, A: Draw<T>, B: Draw<T>, R: DrawDisjoint<T>> Sub<R> for SymDiffIter<T, A, B> {
     type Output = Difference<T, SymDiffIter<T, A, B>, R>;
 
-    ghost can_sub = { λ left right.
-        (⟦<SymDiffIter<T, A, B> as Draw<T>>⟧.can_draw left) × (R.can_draw right) };
+    ghost can_sub = { CanDrawBoth ⟦<SymDiffIter<T, A, B> as Draw<T>>⟧ R.Draw };
 
-    ghost sub_gives = { λ left right result.
-        IsReadyAnd ⟦<Difference<T, SymDiffIter<T, A, B>, R> as Draw<T>>⟧.can_draw result
-        (GivesDifference T.value_count
-        (⟦<SymDiffIter<T, A, B> as Draw<T>>⟧.may_give left) (R.may_give right)
-        (⟦<Difference<T, SymDiffIter<T, A, B>, R> as Draw<T>>⟧.may_give result)) };
+    ghost sub_gives = { MakesDifference T.Integer.own ⟦<SymDiffIter<T, A, B> as Draw<T>>⟧ R.Draw
+        ⟦<Difference<T, SymDiffIter<T, A, B>, R> as Draw<T>>⟧ };
 
     fn sub(self, other: R) -> Self::Output {
         Difference::from((self, other))
@@ -119,14 +95,10 @@ impl<T: Integer, I: Iterator<Item = RangeInclusive<T>>, R: DrawDisjoint<T>> Sub<
     for CheckSortedDisjoint<T, I> {
     type Output = Difference<T, CheckSortedDisjoint<T, I>, R>;
 
-    ghost can_sub = { λ left right.
-        (⟦<CheckSortedDisjoint<T, I> as Draw<T>>⟧.can_draw left) × (R.can_draw right) };
+    ghost can_sub = { CanDrawBoth ⟦<CheckSortedDisjoint<T, I> as Draw<T>>⟧ R.Draw };
 
-    ghost sub_gives = { λ left right result.
-        IsReadyAnd ⟦<Difference<T, CheckSortedDisjoint<T, I>, R> as Draw<T>>⟧.can_draw result
-        (GivesDifference T.value_count
-        (⟦<CheckSortedDisjoint<T, I> as Draw<T>>⟧.may_give left) (R.may_give right)
-        (⟦<Difference<T, CheckSortedDisjoint<T, I>, R> as Draw<T>>⟧.may_give result)) };
+    ghost sub_gives = { MakesDifference T.Integer.own ⟦<CheckSortedDisjoint<T, I> as Draw<T>>⟧ R.Draw
+        ⟦<Difference<T, CheckSortedDisjoint<T, I>, R> as Draw<T>>⟧ };
 
     fn sub(self, other: R) -> Self::Output {
         Difference::from((self, other))
@@ -136,14 +108,10 @@ impl<T: Integer, I: Iterator<Item = RangeInclusive<T>>, R: DrawDisjoint<T>> Sub<
 impl<T: Integer, R: DrawDisjoint<T>> Sub<R> for RangeOnce<T> {
     type Output = Difference<T, RangeOnce<T>, R>;
 
-    ghost can_sub = { λ left right.
-        (⟦<RangeOnce<T> as Draw<T>>⟧.can_draw left) × (R.can_draw right) };
+    ghost can_sub = { CanDrawBoth ⟦<RangeOnce<T> as Draw<T>>⟧ R.Draw };
 
-    ghost sub_gives = { λ left right result.
-        IsReadyAnd ⟦<Difference<T, RangeOnce<T>, R> as Draw<T>>⟧.can_draw result
-        (GivesDifference T.value_count
-        (⟦<RangeOnce<T> as Draw<T>>⟧.may_give left) (R.may_give right)
-        (⟦<Difference<T, RangeOnce<T>, R> as Draw<T>>⟧.may_give result)) };
+    ghost sub_gives = { MakesDifference T.Integer.own ⟦<RangeOnce<T> as Draw<T>>⟧ R.Draw
+        ⟦<Difference<T, RangeOnce<T>, R> as Draw<T>>⟧ };
 
     fn sub(self, other: R) -> Self::Output {
         Difference::from((self, other))

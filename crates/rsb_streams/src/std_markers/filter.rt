@@ -1,14 +1,9 @@
 //! The ranges of a stream that pass a test are a stream.
 
 ghost use Rattle.std.specs.Iterator.Adapters.{filter_source};
-ghost use Rattle.rsb_streams.specs.AdapterLaws.{filter-drawn, filter-keeps};
-ghost use Rattle.rsb_streams.specs.Adapters.{
-  filter_can_draw,
-  filter_may_give,
-  part-canonical,
-  sublist-is_part,
-  IsCall,
-};
+ghost use Rattle.rsb_streams.specs.AdapterLaws.{filter-drawn, filter-sorted};
+ghost use Rattle.rsb_streams.specs.Adapters.{filter_draws};
+ghost use Rattle.rsb_streams.specs.PartLaws.{part-canonical, sublist-is_part};
 
 use crate::draw::Draw;
 use crate::sorted_disjoint::{DrawDisjoint, SortedDisjoint, SortedStarts};
@@ -21,15 +16,17 @@ impl<
     I: Iterator<Item = RangeInclusive<T>> + Draw<T>,
     P: FnMut(&RangeInclusive<T>) -> bool,
 > Draw<T> for Filter<I, P> {
-    ghost can_draw = { filter_can_draw I.can_draw I.draw_gives I.draws_left I.can_next
-        I.next_gives I.remaining P.FnMut };
+    ghost can_draw = { (filter_draws T.Integer.own I.Draw I.Iterator P.FnMut
+        ⟦<Filter<I, P> as Iterator>⟧).can_draw };
 
-    ghost draw_gives = { IsCall T.rank ⟦<Filter<I, P> as Iterator>⟧.next_gives
-        (filter_may_give I.may_give) };
+    ghost draw_gives = { (filter_draws T.Integer.own I.Draw I.Iterator P.FnMut
+        ⟦<Filter<I, P> as Iterator>⟧).draw_gives };
 
-    ghost draws_left = { ⟦<Filter<I, P> as Iterator>⟧.remaining };
+    ghost draws_left = { (filter_draws T.Integer.own I.Draw I.Iterator P.FnMut
+        ⟦<Filter<I, P> as Iterator>⟧).draws_left };
 
-    ghost may_give = { filter_may_give I.may_give };
+    ghost may_give = { (filter_draws T.Integer.own I.Draw I.Iterator P.FnMut
+        ⟦<Filter<I, P> as Iterator>⟧).may_give };
 
     fn draw(&mut self) -> Option<RangeInclusive<T>> {
         self.next()
@@ -37,16 +34,16 @@ impl<
 
     ghost answers = { λ s t item gives. gives.answers };
 
-    ghost sorted = { λ s ready. filter-keeps T.rank T.value_count I.may_give I.answers I.sorted
-        ready.drawn P.FnMut s ready };
+    ghost sorted = { λ s ready. filter-sorted T.Integer.own ⟦<I as Draw<T>>⟧ ⟦<I as Iterator>⟧
+        I.answers I.sorted ready.drawn P.FnMut s ready };
 }
 
 impl<T: Integer, I: SortedStarts<T>, P: FnMut(&RangeInclusive<T>) -> bool> SortedStarts<T>
     for Filter<I, P> {
     fn mark_sorted(&self) {}
 
-    ghost drawn = { filter-drawn T.rank T.value_count I.may_give I.answers I.sorted I.drawn
-        P.FnMut };
+    ghost drawn = { filter-drawn T.Integer.own ⟦<I as Draw<T>>⟧ ⟦<I as Iterator>⟧ I.answers
+        I.sorted I.drawn P.FnMut };
 }
 
 impl<

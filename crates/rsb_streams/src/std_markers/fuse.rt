@@ -1,8 +1,8 @@
 //! A stream that is not asked again after its end is a stream.
 
-ghost use Rattle.rsb_streams.specs.AdapterLaws.{fuse-drawn, fused-starts};
-ghost use Rattle.rsb_streams.specs.Adapters.{fuse-canonical, fuse_can_draw, IsCall};
-ghost use Rattle.rsb_streams.specs.Fused.{fuse_may_give};
+ghost use Rattle.rsb_streams.specs.AdapterLaws.{fuse-drawn, fuse-sorted};
+ghost use Rattle.rsb_streams.specs.Adapters.{fuse_draws};
+ghost use Rattle.rsb_streams.specs.PartLaws.{fuse-canonical};
 
 use crate::draw::Draw;
 use crate::sorted_disjoint::{DrawDisjoint, SortedDisjoint, SortedStarts};
@@ -11,15 +11,17 @@ use std::iter::Fuse;
 use std::ops::RangeInclusive;
 
 impl<T: Integer, I: Iterator<Item = RangeInclusive<T>> + Draw<T>> Draw<T> for Fuse<I> {
-    ghost can_draw = { fuse_can_draw I.can_draw I.draw_gives I.draws_left I.can_next
-        I.next_gives I.remaining };
+    ghost can_draw = { (fuse_draws T.Integer.own I.Draw I.Iterator
+        ⟦<Fuse<I> as Iterator>⟧).can_draw };
 
-    ghost draw_gives = { IsCall T.rank ⟦<Fuse<I> as Iterator>⟧.next_gives
-        (fuse_may_give I.may_give) };
+    ghost draw_gives = { (fuse_draws T.Integer.own I.Draw I.Iterator
+        ⟦<Fuse<I> as Iterator>⟧).draw_gives };
 
-    ghost draws_left = { ⟦<Fuse<I> as Iterator>⟧.remaining };
+    ghost draws_left = { (fuse_draws T.Integer.own I.Draw I.Iterator
+        ⟦<Fuse<I> as Iterator>⟧).draws_left };
 
-    ghost may_give = { fuse_may_give I.may_give };
+    ghost may_give = { (fuse_draws T.Integer.own I.Draw I.Iterator
+        ⟦<Fuse<I> as Iterator>⟧).may_give };
 
     fn draw(&mut self) -> Option<RangeInclusive<T>> {
         self.next()
@@ -27,12 +29,13 @@ impl<T: Integer, I: Iterator<Item = RangeInclusive<T>> + Draw<T>> Draw<T> for Fu
 
     ghost answers = { λ s t item gives. gives.answers };
 
-    ghost sorted = { λ s ready. fused-starts T.rank T.value_count I.may_give I.answers I.sorted
-        ready.drawn s ready };
+    ghost sorted = { λ s ready. fuse-sorted T.Integer.own ⟦<I as Draw<T>>⟧ ⟦<I as Iterator>⟧
+        I.answers I.sorted ready.drawn s ready };
 }
 
 impl<T: Integer, I: SortedStarts<T>> SortedStarts<T> for Fuse<I> {
-    ghost drawn = { fuse-drawn T.rank T.value_count I.may_give I.answers I.sorted I.drawn };
+    ghost drawn = { fuse-drawn T.Integer.own ⟦<I as Draw<T>>⟧ ⟦<I as Iterator>⟧ I.answers
+        I.sorted I.drawn };
 }
 
 impl<T: Integer, I: Iterator<Item = RangeInclusive<T>> + DrawDisjoint<T>> DrawDisjoint<T>

@@ -1,14 +1,9 @@
 //! The ranges of a stream after so many are a stream.
 
 ghost use Rattle.std.specs.Iterator.Adapters.{skip_count, skip_source};
-ghost use Rattle.rsb_streams.specs.AdapterLaws.{skip-drawn, skip-keeps};
-ghost use Rattle.rsb_streams.specs.Adapters.{
-  part-canonical,
-  skip-is_part,
-  skip_can_draw,
-  skip_may_give,
-  IsCall,
-};
+ghost use Rattle.rsb_streams.specs.AdapterLaws.{skip-drawn, skip-sorted};
+ghost use Rattle.rsb_streams.specs.Adapters.{skip_draws};
+ghost use Rattle.rsb_streams.specs.PartLaws.{part-canonical, skip-is_part};
 
 use crate::draw::Draw;
 use crate::sorted_disjoint::{DrawDisjoint, SortedDisjoint, SortedStarts};
@@ -17,15 +12,17 @@ use std::iter::Skip;
 use std::ops::RangeInclusive;
 
 impl<T: Integer, I: Iterator<Item = RangeInclusive<T>> + Draw<T>> Draw<T> for Skip<I> {
-    ghost can_draw = { skip_can_draw I.can_draw I.draw_gives I.draws_left I.can_next
-        I.next_gives I.remaining };
+    ghost can_draw = { (skip_draws T.Integer.own I.Draw I.Iterator
+        ⟦<Skip<I> as Iterator>⟧).can_draw };
 
-    ghost draw_gives = { IsCall T.rank ⟦<Skip<I> as Iterator>⟧.next_gives
-        (skip_may_give I.next_gives I.may_give) };
+    ghost draw_gives = { (skip_draws T.Integer.own I.Draw I.Iterator
+        ⟦<Skip<I> as Iterator>⟧).draw_gives };
 
-    ghost draws_left = { ⟦<Skip<I> as Iterator>⟧.remaining };
+    ghost draws_left = { (skip_draws T.Integer.own I.Draw I.Iterator
+        ⟦<Skip<I> as Iterator>⟧).draws_left };
 
-    ghost may_give = { skip_may_give I.next_gives I.may_give };
+    ghost may_give = { (skip_draws T.Integer.own I.Draw I.Iterator
+        ⟦<Skip<I> as Iterator>⟧).may_give };
 
     fn draw(&mut self) -> Option<RangeInclusive<T>> {
         self.next()
@@ -33,12 +30,13 @@ impl<T: Integer, I: Iterator<Item = RangeInclusive<T>> + Draw<T>> Draw<T> for Sk
 
     ghost answers = { λ s t item gives. gives.answers };
 
-    ghost sorted = { λ s ready. skip-keeps T.rank T.value_count I.may_give I.answers I.sorted
-        ready.drawn s ready };
+    ghost sorted = { λ s ready. skip-sorted T.Integer.own ⟦<I as Draw<T>>⟧ ⟦<I as Iterator>⟧
+        I.answers I.sorted ready.drawn s ready };
 }
 
 impl<T: Integer, I: SortedStarts<T>> SortedStarts<T> for Skip<I> {
-    ghost drawn = { skip-drawn T.rank T.value_count I.may_give I.answers I.sorted I.drawn };
+    ghost drawn = { skip-drawn T.Integer.own ⟦<I as Draw<T>>⟧ ⟦<I as Iterator>⟧ I.answers
+        I.sorted I.drawn };
 }
 
 impl<T: Integer, I: Iterator<Item = RangeInclusive<T>> + DrawDisjoint<T>> DrawDisjoint<T>

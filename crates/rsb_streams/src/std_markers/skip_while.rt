@@ -1,14 +1,9 @@
 //! The ranges of a stream from the first on that fails a test are a stream.
 
 ghost use Rattle.std.specs.Iterator.Adapters.{skip_while_done_skipping, skip_while_source};
-ghost use Rattle.rsb_streams.specs.AdapterLaws.{skip_while-drawn, skip_while-keeps};
-ghost use Rattle.rsb_streams.specs.Adapters.{
-  part-canonical,
-  rest-is_part,
-  skip_while_can_draw,
-  skip_while_may_give,
-  IsCall,
-};
+ghost use Rattle.rsb_streams.specs.AdapterLaws.{skip_while-drawn, skip_while-sorted};
+ghost use Rattle.rsb_streams.specs.Adapters.{skip_while_draws};
+ghost use Rattle.rsb_streams.specs.PartLaws.{part-canonical, rest-is_part};
 
 use crate::draw::Draw;
 use crate::sorted_disjoint::{DrawDisjoint, SortedDisjoint, SortedStarts};
@@ -21,15 +16,17 @@ impl<
     I: Iterator<Item = RangeInclusive<T>> + Draw<T>,
     P: FnMut(&RangeInclusive<T>) -> bool,
 > Draw<T> for SkipWhile<I, P> {
-    ghost can_draw = { skip_while_can_draw I.can_draw I.draw_gives I.draws_left I.can_next
-        I.next_gives I.remaining P.FnMut };
+    ghost can_draw = { (skip_while_draws T.Integer.own I.Draw I.Iterator P.FnMut
+        ⟦<SkipWhile<I, P> as Iterator>⟧).can_draw };
 
-    ghost draw_gives = { IsCall T.rank ⟦<SkipWhile<I, P> as Iterator>⟧.next_gives
-        (skip_while_may_give I.may_give) };
+    ghost draw_gives = { (skip_while_draws T.Integer.own I.Draw I.Iterator P.FnMut
+        ⟦<SkipWhile<I, P> as Iterator>⟧).draw_gives };
 
-    ghost draws_left = { ⟦<SkipWhile<I, P> as Iterator>⟧.remaining };
+    ghost draws_left = { (skip_while_draws T.Integer.own I.Draw I.Iterator P.FnMut
+        ⟦<SkipWhile<I, P> as Iterator>⟧).draws_left };
 
-    ghost may_give = { skip_while_may_give I.may_give };
+    ghost may_give = { (skip_while_draws T.Integer.own I.Draw I.Iterator P.FnMut
+        ⟦<SkipWhile<I, P> as Iterator>⟧).may_give };
 
     fn draw(&mut self) -> Option<RangeInclusive<T>> {
         self.next()
@@ -37,16 +34,16 @@ impl<
 
     ghost answers = { λ s t item gives. gives.answers };
 
-    ghost sorted = { λ s ready. skip_while-keeps T.rank T.value_count I.may_give I.answers I.sorted
-        ready.drawn P.FnMut s ready };
+    ghost sorted = { λ s ready. skip_while-sorted T.Integer.own ⟦<I as Draw<T>>⟧ ⟦<I as Iterator>⟧
+        I.answers I.sorted ready.drawn P.FnMut s ready };
 }
 
 impl<T: Integer, I: SortedStarts<T>, P: FnMut(&RangeInclusive<T>) -> bool> SortedStarts<T>
     for SkipWhile<I, P> {
     fn mark_sorted(&self) {}
 
-    ghost drawn = { skip_while-drawn T.rank T.value_count I.may_give I.answers I.sorted I.drawn
-        P.FnMut };
+    ghost drawn = { skip_while-drawn T.Integer.own ⟦<I as Draw<T>>⟧ ⟦<I as Iterator>⟧ I.answers
+        I.sorted I.drawn P.FnMut };
 }
 
 impl<

@@ -1,14 +1,9 @@
 //! So many first ranges of a stream are a stream.
 
 ghost use Rattle.std.specs.Iterator.Adapters.{take_count, take_source};
-ghost use Rattle.rsb_streams.specs.AdapterLaws.{take-drawn, take-keeps};
-ghost use Rattle.rsb_streams.specs.Adapters.{
-  part-canonical,
-  take-is_part,
-  take_can_draw,
-  take_may_give,
-  IsCall,
-};
+ghost use Rattle.rsb_streams.specs.AdapterLaws.{take-drawn, take-sorted};
+ghost use Rattle.rsb_streams.specs.Adapters.{take_draws};
+ghost use Rattle.rsb_streams.specs.PartLaws.{part-canonical, take-is_part};
 
 use crate::draw::Draw;
 use crate::sorted_disjoint::{DrawDisjoint, SortedDisjoint, SortedStarts};
@@ -17,15 +12,17 @@ use std::iter::Take;
 use std::ops::RangeInclusive;
 
 impl<T: Integer, I: Iterator<Item = RangeInclusive<T>> + Draw<T>> Draw<T> for Take<I> {
-    ghost can_draw = { take_can_draw I.can_draw I.draw_gives I.draws_left I.can_next
-        I.next_gives I.remaining };
+    ghost can_draw = { (take_draws T.Integer.own I.Draw I.Iterator
+        ⟦<Take<I> as Iterator>⟧).can_draw };
 
-    ghost draw_gives = { IsCall T.rank ⟦<Take<I> as Iterator>⟧.next_gives
-        (take_may_give I.may_give) };
+    ghost draw_gives = { (take_draws T.Integer.own I.Draw I.Iterator
+        ⟦<Take<I> as Iterator>⟧).draw_gives };
 
-    ghost draws_left = { ⟦<Take<I> as Iterator>⟧.remaining };
+    ghost draws_left = { (take_draws T.Integer.own I.Draw I.Iterator
+        ⟦<Take<I> as Iterator>⟧).draws_left };
 
-    ghost may_give = { take_may_give I.may_give };
+    ghost may_give = { (take_draws T.Integer.own I.Draw I.Iterator
+        ⟦<Take<I> as Iterator>⟧).may_give };
 
     fn draw(&mut self) -> Option<RangeInclusive<T>> {
         self.next()
@@ -33,12 +30,13 @@ impl<T: Integer, I: Iterator<Item = RangeInclusive<T>> + Draw<T>> Draw<T> for Ta
 
     ghost answers = { λ s t item gives. gives.answers };
 
-    ghost sorted = { λ s ready. take-keeps T.rank T.value_count I.may_give I.answers I.sorted
-        ready.drawn s ready };
+    ghost sorted = { λ s ready. take-sorted T.Integer.own ⟦<I as Draw<T>>⟧ ⟦<I as Iterator>⟧
+        I.answers I.sorted ready.drawn s ready };
 }
 
 impl<T: Integer, I: SortedStarts<T>> SortedStarts<T> for Take<I> {
-    ghost drawn = { take-drawn T.rank T.value_count I.may_give I.answers I.sorted I.drawn };
+    ghost drawn = { take-drawn T.Integer.own ⟦<I as Draw<T>>⟧ ⟦<I as Iterator>⟧ I.answers
+        I.sorted I.drawn };
 }
 
 impl<T: Integer, I: Iterator<Item = RangeInclusive<T>> + DrawDisjoint<T>> DrawDisjoint<T>

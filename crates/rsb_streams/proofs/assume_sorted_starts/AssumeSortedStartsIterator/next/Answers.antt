@@ -1,15 +1,13 @@
+use Rattle.rsb_streams.specs.CallsLaws.{known-sorted}
 use Rattle.rsb_streams.specs.Stream.{HasSortedStarts}
-use Rattle.rsb_streams.specs.AssumeSortedStarts.{assume-keeps}
 use Rattle.rsb_streams.proofs.SourceLemmas.{sorted-tail, source-goes}
 use Rattle.rsb_streams.proofs.assume_sorted_starts.AssumeSortedStartsIterator.next.Goals as goal
 
 pub returns-clause-goes : goal.returns-clause-goes
 returns-clause-goes g c =
-    let rank = g.T.Integer.rank in
     let n = g.T.Integer.value_count in
-    let goes = source-goes rank g.I.Iterator.can_next g.I.Iterator.next_gives g.I.Iterator.remaining
-    (HasSortedStarts n) (sorted-tail n) c.args.self.now.iter c.next.new.self c.next.result
-    c.requires
-    (assume-keeps rank n g.I.Iterator.can_next g.I.Iterator.next_gives g.I.Iterator.remaining
-    c.args.self.now c.requires).ends c.next.ensures.steps c.next.ensures.goes in
+    let goes = source-goes g.T.Integer.rank g.I.Iterator (HasSortedStarts n) (sorted-tail n)
+    c.args.self.now.iter c.next.new.self c.next.result c.requires
+    (known-sorted g.T.Integer g.I.Iterator c.args.self.now.iter c.requires).ends
+    c.next.ensures.steps c.next.ensures.goes in
     record { on = goes.on; keeps = goes.keeps; rests = goes.rests }

@@ -1,19 +1,11 @@
 use Rattle.std.proofs.Common.{◌<◌, ◌≤◌, subst, sym}
 use Rattle.rsb_streams.proofs.Compare.{IsRanked, less-rank, not_less-rank}
 use Rattle.rsb_streams.proofs.FillTurns.{gap-answers, gap-goes, last-gap, run-answers, run-goes, values}
-use Rattle.rsb_streams.proofs.Sources.{Source, IsLawful}
+use Rattle.rsb_streams.proofs.Sources.{IsLawful}
 use Rattle.rsb_streams.proofs.fill_gaps_iter.FillGapsIterIterator.next.Given.{Over}
 use Rattle.rsb_streams.proofs.fill_gaps_iter.FillGapsIterIterator.next.Goals as goal
 
-abbrev source : (g : Over) → Source g.row.I.Denot g.row.T.Denot
-source g = record {
-  can_next = g.I.Draw.can_draw;
-  steps = g.I.Draw.draw_gives;
-  remaining = g.I.Draw.draws_left;
-  may_give = g.I.Draw.may_give;
-}
-
-laws : (g : Over) → IsLawful g.T.Integer.rank g.T.Integer.value_count (source g)
+laws : (g : Over) → IsLawful g.T.Integer g.I.Draw
 laws g = record {
   answers = g.met.I.Draw.answers;
   sorted = g.met.I.Draw.sorted;
@@ -29,7 +21,7 @@ ranked g = record {
 -- the gap to the greatest value
 pub returns-in_default-clause-steps : goal.returns-in_default-clause-steps
 returns-in_default-clause-steps g c =
-    last-gap g.T.Integer.rank g.T.Integer.value_count (source g) (laws g) c.args.self.now.iter
+    last-gap g.T.Integer g.I.Draw (laws g) c.args.self.now.iter
     c.draw.new.self c.args.self.now.start c.in_ok-start.start c.requires c.in_ok-start.was
     c.max_value.result c.new.result c.in_default.ensures.steps c.max_value.ensures
     c.new.ensures.exhausted c.new.ensures.start c.new.ensures.end
@@ -40,14 +32,13 @@ returns-then-lt-clause-steps g c =
     let rank = g.T.Integer.rank in
     let start = c.in_ok-start.start in
     let next = c.start.result.now in
-    let value = values rank g.T.Integer.value_count (source g) (laws g) c.args.self.now.iter
+    let value = values g.T.Integer g.I.Draw (laws g) c.args.self.now.iter
     c.draw.new.self c.args.self.now.start start c.requires c.in_ok-start.was
     c.in-Some.range c.in-Some.ensures.steps c.in-Some.ensures.goes in
-    let less = less-rank rank g.T.Integer.value_count g.T.PartialOrd.partial_cmp g.T.Ord.cmp
-    (ranked g) start next value.0
+    let less = less-rank (ranked g) start next value.0
     (subst (λ each. rank each < g.T.Integer.value_count) (sym c.start.ensures) value.1)
     c.if-lt.ensures in
-    gap-answers rank g.T.Integer.value_count (source g) (laws g) c.args.self.now.iter
+    gap-answers g.T.Integer g.I.Draw (laws g) c.args.self.now.iter
     c.draw.new.self c.args.self.now.start start c.requires c.in_ok-start.was
     c.in-Some.range c.in-Some.ensures.steps c.in-Some.ensures.goes c.put_back.new.self
     c.put_back.ensures next c.start.ensures less c.sub_one.result c.new-then-lt.result
@@ -59,14 +50,13 @@ returns-then-lt-clause-goes g c =
     let rank = g.T.Integer.rank in
     let start = c.in_ok-start.start in
     let next = c.start.result.now in
-    let value = values rank g.T.Integer.value_count (source g) (laws g) c.args.self.now.iter
+    let value = values g.T.Integer g.I.Draw (laws g) c.args.self.now.iter
     c.draw.new.self c.args.self.now.start start c.requires c.in_ok-start.was
     c.in-Some.range c.in-Some.ensures.steps c.in-Some.ensures.goes in
-    let less = less-rank rank g.T.Integer.value_count g.T.PartialOrd.partial_cmp g.T.Ord.cmp
-    (ranked g) start next value.0
+    let less = less-rank (ranked g) start next value.0
     (subst (λ each. rank each < g.T.Integer.value_count) (sym c.start.ensures) value.1)
     c.if-lt.ensures in
-    gap-goes rank g.T.Integer.value_count (source g) (laws g) c.args.self.now.iter
+    gap-goes g.T.Integer g.I.Draw (laws g) c.args.self.now.iter
     c.draw.new.self c.args.self.now.start start c.requires c.in_ok-start.was
     c.in-Some.range c.in-Some.ensures.steps c.in-Some.ensures.goes c.put_back.new.self
     c.put_back.ensures next c.start.ensures less c.new-then-lt.result
@@ -76,14 +66,13 @@ pub returns-clause-steps : goal.returns-clause-steps
 returns-clause-steps g c =
     let rank = g.T.Integer.rank in
     let start = c.in_ok-start.start in
-    let value = values rank g.T.Integer.value_count (source g) (laws g) c.args.self.now.iter
+    let value = values g.T.Integer g.I.Draw (laws g) c.args.self.now.iter
     c.draw.new.self c.args.self.now.start start c.requires c.in_ok-start.was
     c.in-Some.range c.in-Some.ensures.steps c.in-Some.ensures.goes in
-    let most = not_less-rank rank g.T.Integer.value_count g.T.PartialOrd.partial_cmp g.T.Ord.cmp
-    (ranked g) start c.start.result.now value.0
+    let most = not_less-rank (ranked g) start c.start.result.now value.0
     (subst (λ each. rank each < g.T.Integer.value_count) (sym c.start.ensures) value.1)
     c.if-lt.ensures in
-    run-answers rank g.T.Integer.value_count (source g) (laws g) c.args.self.now.iter
+    run-answers g.T.Integer g.I.Draw (laws g) c.args.self.now.iter
     c.draw.new.self c.args.self.now.start start c.requires c.in_ok-start.was
     c.in-Some.range c.in-Some.ensures.steps c.in-Some.ensures.goes c.checked_add_one-self.result
     c.end.result.now c.end.ensures (subst (λ each. rank each ≤ rank start) c.start.ensures most)
@@ -93,14 +82,13 @@ pub returns-clause-goes : goal.returns-clause-goes
 returns-clause-goes g c =
     let rank = g.T.Integer.rank in
     let start = c.in_ok-start.start in
-    let value = values rank g.T.Integer.value_count (source g) (laws g) c.args.self.now.iter
+    let value = values g.T.Integer g.I.Draw (laws g) c.args.self.now.iter
     c.draw.new.self c.args.self.now.start start c.requires c.in_ok-start.was
     c.in-Some.range c.in-Some.ensures.steps c.in-Some.ensures.goes in
-    let most = not_less-rank rank g.T.Integer.value_count g.T.PartialOrd.partial_cmp g.T.Ord.cmp
-    (ranked g) start c.start.result.now value.0
+    let most = not_less-rank (ranked g) start c.start.result.now value.0
     (subst (λ each. rank each < g.T.Integer.value_count) (sym c.start.ensures) value.1)
     c.if-lt.ensures in
-    run-goes rank g.T.Integer.value_count (source g) (laws g) c.args.self.now.iter
+    run-goes g.T.Integer g.I.Draw (laws g) c.args.self.now.iter
     c.draw.new.self c.args.self.now.start start c.requires c.in_ok-start.was
     c.in-Some.range c.in-Some.ensures.steps c.in-Some.ensures.goes c.checked_add_one-self.result
     c.end.result.now c.end.ensures (subst (λ each. rank each ≤ rank start) c.start.ensures most)

@@ -2,33 +2,17 @@ use Rattle.std.proofs.Common.{ap, ◌<◌, ◌≤◌, arith}
 use Rattle.std.specs.Range.{range_inclusive_start}
 use Rattle.rsb_streams.proofs.Compare.{IsRanked, less-rank, not_less-rank}
 use Rattle.rsb_streams.proofs.MergeTurns.{only-left, only-right, start-values, left-answers, left-goes, right-answers, right-goes}
-use Rattle.rsb_streams.proofs.Sources.{Source, IsLawful}
+use Rattle.rsb_streams.proofs.Sources.{IsLawful}
 use Rattle.rsb_streams.proofs.merge.MergeIterator.next.Given.{Over}
 use Rattle.rsb_streams.proofs.merge.MergeIterator.next.Goals as goal
 
-abbrev left : (g : Over) → Source g.row.L.Denot g.row.T.Denot
-left g = record {
-  can_next = g.L.Draw.can_draw;
-  steps = g.L.Draw.draw_gives;
-  remaining = g.L.Draw.draws_left;
-  may_give = g.L.Draw.may_give;
-}
-
-abbrev right : (g : Over) → Source g.row.R.Denot g.row.T.Denot
-right g = record {
-  can_next = g.R.Draw.can_draw;
-  steps = g.R.Draw.draw_gives;
-  remaining = g.R.Draw.draws_left;
-  may_give = g.R.Draw.may_give;
-}
-
-left_laws : (g : Over) → IsLawful g.T.Integer.rank g.T.Integer.value_count (left g)
+left_laws : (g : Over) → IsLawful g.T.Integer g.L.Draw
 left_laws g = record {
   answers = g.met.L.Draw.answers;
   sorted = g.met.L.Draw.sorted;
 }
 
-right_laws : (g : Over) → IsLawful g.T.Integer.rank g.T.Integer.value_count (right g)
+right_laws : (g : Over) → IsLawful g.T.Integer g.R.Draw
 right_laws g = record {
   answers = g.met.R.Draw.answers;
   sorted = g.met.R.Draw.sorted;
@@ -43,14 +27,14 @@ ranked g = record {
 
 pub returns-in_default-clause-steps : goal.returns-in_default-clause-steps
 returns-in_default-clause-steps g c =
-    only-right g.T.Integer.rank g.T.Integer.value_count (left g) (right g) (left_laws g)
+    only-right g.T.Integer g.L.Draw g.R.Draw (left_laws g)
     (right_laws g)
     c.args.self.now _ c.draw-in_default.result c.requires c.in_default.ensures.steps
     c.draw-in_default.ensures.steps
 
 pub returns-in_default-draw-clause-steps : goal.returns-in_default-draw-clause-steps
 returns-in_default-draw-clause-steps g c =
-    only-left g.T.Integer.rank g.T.Integer.value_count (left g) (right g) (left_laws g)
+    only-left g.T.Integer g.L.Draw g.R.Draw (left_laws g)
     (right_laws g)
     c.args.self.now _ c.in-Some.first c.requires c.in-Some.ensures.steps
     c.in_default-draw.ensures.steps
@@ -62,19 +46,19 @@ less : (g : Over) (c : goal.After-put_back g)
 less g c =
     let rank = g.T.Integer.rank in
     let n = g.T.Integer.value_count in
-    let values = start-values rank n (left g) (right g) (left_laws g) (right_laws g) c.args.self.now
+    let values = start-values g.T.Integer g.L.Draw g.R.Draw (left_laws g) (right_laws g) c.args.self.now
     c.draw.new.self c.draw-2.new.self c.in-Some.first c.in-Some-draw.second c.requires
     c.in-Some.ensures.steps c.in-Some-draw.ensures.steps c.in-Some.ensures.goes
     c.in-Some-draw.ensures.goes in
     let low : rank c.start.result.now < n = omega (arith, values.1, ap rank c.start.ensures) in
     let high : rank c.start-2.result.now < n = omega (arith, values.0, ap rank c.start-2.ensures) in
-    let less = less-rank rank n g.T.PartialOrd.partial_cmp g.T.Ord.cmp (ranked g) c.start.result.now
+    let less = less-rank (ranked g) c.start.result.now
     c.start-2.result.now low high c.if-lt.ensures in
     omega (arith, less, ap rank c.start.ensures, ap rank c.start-2.ensures)
 
 pub returns-then-lt-clause-steps : goal.returns-then-lt-clause-steps
 returns-then-lt-clause-steps g c =
-    right-answers g.T.Integer.rank g.T.Integer.value_count (left g) (right g) (left_laws g)
+    right-answers g.T.Integer g.L.Draw g.R.Draw (left_laws g)
     (right_laws g)
     c.args.self.now c.draw.new.self c.draw-2.new.self c.in-Some.first c.in-Some-draw.second
     c.requires
@@ -83,7 +67,7 @@ returns-then-lt-clause-steps g c =
 
 pub returns-then-lt-clause-goes : goal.returns-then-lt-clause-goes
 returns-then-lt-clause-goes g c =
-    right-goes g.T.Integer.rank g.T.Integer.value_count (left g) (right g) (left_laws g)
+    right-goes g.T.Integer g.L.Draw g.R.Draw (left_laws g)
     (right_laws g)
     c.args.self.now c.draw.new.self c.draw-2.new.self c.in-Some.first c.in-Some-draw.second
     c.requires
@@ -97,20 +81,20 @@ most : (g : Over) (c : goal.After-put_back-2 g)
 most g c =
     let rank = g.T.Integer.rank in
     let n = g.T.Integer.value_count in
-    let values = start-values rank n (left g) (right g) (left_laws g) (right_laws g) c.args.self.now
+    let values = start-values g.T.Integer g.L.Draw g.R.Draw (left_laws g) (right_laws g) c.args.self.now
     c.draw.new.self c.draw-2.new.self c.in-Some.first c.in-Some-draw.second c.requires
     c.in-Some.ensures.steps c.in-Some-draw.ensures.steps c.in-Some.ensures.goes
     c.in-Some-draw.ensures.goes in
     let low : rank c.start.result.now < n = omega (arith, values.1, ap rank c.start.ensures) in
     let high : rank c.start-2.result.now < n = omega (arith, values.0, ap rank c.start-2.ensures) in
-    let most = not_less-rank rank n g.T.PartialOrd.partial_cmp g.T.Ord.cmp (ranked g)
+    let most = not_less-rank (ranked g)
     c.start.result.now
     c.start-2.result.now low high c.if-lt.ensures in
     omega (arith, most, ap rank c.start.ensures, ap rank c.start-2.ensures)
 
 pub returns-clause-steps : goal.returns-clause-steps
 returns-clause-steps g c =
-    left-answers g.T.Integer.rank g.T.Integer.value_count (left g) (right g) (left_laws g)
+    left-answers g.T.Integer g.L.Draw g.R.Draw (left_laws g)
     (right_laws g)
     c.args.self.now c.draw.new.self c.draw-2.new.self c.in-Some.first c.in-Some-draw.second
     c.requires
@@ -119,7 +103,7 @@ returns-clause-steps g c =
 
 pub returns-clause-goes : goal.returns-clause-goes
 returns-clause-goes g c =
-    left-goes g.T.Integer.rank g.T.Integer.value_count (left g) (right g) (left_laws g)
+    left-goes g.T.Integer g.L.Draw g.R.Draw (left_laws g)
     (right_laws g)
     c.args.self.now c.draw.new.self c.draw-2.new.self c.in-Some.first c.in-Some-draw.second
     c.requires

@@ -3,9 +3,7 @@ use Rattle.rsb_streams.proofs.not_iter.NotIterFrom.from.Goals as goal
 
 pub returns : goal.returns
 returns g c = λ ready. record {
-  ready = fresh-ready g.T.Integer.rank g.T.Integer.value_count g.I.Draw.can_draw
-      g.I.Draw.may_give c.args.iter c.min_value.result c.min_value.ensures ready
+  ready = fresh-ready g.T.Integer g.I.Draw c.args.iter c.min_value.result c.min_value.ensures ready
       g.met.T.Integer.some_values (g.met.I.DrawDisjoint.canonical c.args.iter ready);
-  gives = fresh-gaps g.T.Integer.rank g.T.Integer.value_count g.I.Draw.can_draw
-      g.I.Draw.may_give c.args.iter c.min_value.result c.min_value.ensures;
+  gives = fresh-gaps g.T.Integer g.I.Draw c.args.iter c.min_value.result c.min_value.ensures;
 }

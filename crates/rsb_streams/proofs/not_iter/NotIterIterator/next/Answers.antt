@@ -2,10 +2,9 @@ use Rattle.rsb_streams.proofs.Compare.{IsRanked}
 use Rattle.rsb_streams.proofs.NotTurns.{last-gap, gap-answers, gap-goes, gap-less, gap-none, so-next}
 use Rattle.rsb_streams.proofs.Sources.{IsLawful}
 use Rattle.rsb_streams.proofs.not_iter.NotIterIterator.next.Given.{Over}
-use Rattle.rsb_streams.proofs.not_iter.NotIterIterator.next.Invariants.{source}
 use Rattle.rsb_streams.proofs.not_iter.NotIterIterator.next.Goals as goal
 
-laws : (g : Over) → IsLawful g.T.Integer.rank g.T.Integer.value_count (source g)
+laws : (g : Over) → IsLawful g.T.Integer g.I.Draw
 laws g = record {
   answers = g.met.I.Draw.answers;
   sorted = g.met.I.Draw.sorted;
@@ -21,7 +20,7 @@ ranked g = record {
 -- the gap to the greatest value
 pub returns-in_default-draw-clause-steps : goal.returns-in_default-draw-clause-steps
 returns-in_default-draw-clause-steps g c =
-    last-gap g.T.Integer.rank g.T.Integer.value_count (source g) (laws g)
+    last-gap g.T.Integer g.I.Draw (laws g)
     c.args.self.now c.loop-self.self.iter c.draw.new.self c.loop-self.self.start c.in-Some.start
     c.max_value.result c.new.result c.loop-self.invariant c.in-Some.is
     c.in_default-draw.ensures.steps
@@ -30,7 +29,7 @@ returns-in_default-draw-clause-steps g c =
 -- the gap before a range
 pub returns-then-lt-clause-steps : goal.returns-then-lt-clause-steps
 returns-then-lt-clause-steps g c =
-    gap-answers g.T.Integer.rank g.T.Integer.value_count (source g) (laws g)
+    gap-answers g.T.Integer g.I.Draw (laws g)
     c.args.self.now c.loop-self.self.iter c.draw.new.self c.loop-self.self.start c.in-Some.start
     c.into_inner-past_gap.result.0 c.into_inner-past_gap.result.1 c.checked_add_one-self.result
     c.in-Some-draw.range c.loop-self.invariant c.in-Some.is c.in-Some-draw.ensures.steps
@@ -38,20 +37,20 @@ returns-then-lt-clause-steps g c =
     c.into_inner-past_gap.ensures.end
     c.checked_add_one-self.ensures.none c.checked_add_one-self.ensures.next
     c.sub_one.result c.new-then-lt.result
-    (gap-less g.T.Integer.rank g.T.Integer.value_count (source g) (laws g)
+    (gap-less g.T.Integer g.I.Draw (laws g)
     c.args.self.now c.loop-self.self.iter c.draw.new.self c.loop-self.self.start c.in-Some.start
     c.into_inner-past_gap.result.0 c.into_inner-past_gap.result.1 c.checked_add_one-self.result
     c.in-Some-draw.range c.loop-self.invariant c.in-Some.is c.in-Some-draw.ensures.steps
     c.in-Some-draw.ensures.goes c.into_inner-past_gap.ensures.start
     c.into_inner-past_gap.ensures.end
     c.checked_add_one-self.ensures.none c.checked_add_one-self.ensures.next
-    g.T.PartialOrd.partial_cmp g.T.Ord.cmp (ranked g) c.if-lt.ensures)
+    (ranked g) c.if-lt.ensures)
     c.sub_one.ensures c.new-then-lt.ensures.exhausted c.new-then-lt.ensures.start
     c.new-then-lt.ensures.end
 
 pub returns-then-lt-clause-goes : goal.returns-then-lt-clause-goes
 returns-then-lt-clause-goes g c =
-    gap-goes g.T.Integer.rank g.T.Integer.value_count (source g) (laws g)
+    gap-goes g.T.Integer g.I.Draw (laws g)
     c.args.self.now c.loop-self.self.iter c.draw.new.self c.loop-self.self.start c.in-Some.start
     c.into_inner-past_gap.result.0 c.into_inner-past_gap.result.1 c.checked_add_one-self.result
     c.in-Some-draw.range c.loop-self.invariant c.in-Some.is c.in-Some-draw.ensures.steps
@@ -63,18 +62,18 @@ returns-then-lt-clause-goes g c =
 -- no gap before the range
 pub loop-self-preserved : goal.loop-self-preserved
 loop-self-preserved g c =
-    so-next g.T.Integer.rank g.T.Integer.value_count (source g) (laws g)
+    so-next g.T.Integer g.I.Draw (laws g)
     c.args.self.now c.loop-self.self.iter c.draw.new.self c.loop-self.self.start c.in-Some.start
     c.into_inner-past_gap.result.0 c.into_inner-past_gap.result.1 c.checked_add_one-self.result
     c.in-Some-draw.range c.loop-self.invariant c.in-Some.is c.in-Some-draw.ensures.steps
     c.in-Some-draw.ensures.goes c.into_inner-past_gap.ensures.start
     c.into_inner-past_gap.ensures.end
     c.checked_add_one-self.ensures.none c.checked_add_one-self.ensures.next
-    (gap-none g.T.Integer.rank g.T.Integer.value_count (source g) (laws g)
+    (gap-none g.T.Integer g.I.Draw (laws g)
     c.args.self.now c.loop-self.self.iter c.draw.new.self c.loop-self.self.start c.in-Some.start
     c.into_inner-past_gap.result.0 c.into_inner-past_gap.result.1 c.checked_add_one-self.result
     c.in-Some-draw.range c.loop-self.invariant c.in-Some.is c.in-Some-draw.ensures.steps
     c.in-Some-draw.ensures.goes c.into_inner-past_gap.ensures.start
     c.into_inner-past_gap.ensures.end
     c.checked_add_one-self.ensures.none c.checked_add_one-self.ensures.next
-    g.T.PartialOrd.partial_cmp g.T.Ord.cmp (ranked g) c.if-lt.ensures)
+    (ranked g) c.if-lt.ensures)

@@ -8,10 +8,9 @@ use Rattle.rsb_streams.proofs.OddStates.{passed-by, popped-end, pushed-none, pus
 use Rattle.rsb_streams.proofs.OddTurns.{apart-answers, apart-goes, both-values, gap-answers, gap-goes, next-above, so-begins, so-passed}
 use Rattle.rsb_streams.proofs.Sources.{IsLawful}
 use Rattle.rsb_streams.proofs.odd_pieces.OddPieces.next_piece.Given.{Over}
-use Rattle.rsb_streams.proofs.odd_pieces.OddPieces.next_piece.Invariants.{source}
 use Rattle.rsb_streams.proofs.odd_pieces.OddPieces.next_piece.Goals as goal
 
-laws : (g : Over) → IsLawful g.T.Integer.rank g.T.Integer.value_count (source g)
+laws : (g : Over) → IsLawful g.T.Integer g.I.Draw
 laws g = record {
   answers = g.met.I.Draw.answers;
   sorted = g.met.I.Draw.sorted;
@@ -31,8 +30,8 @@ loop-range-preserved-in_default-pending g c =
     c.into_inner-next.result.1 c.in_default-pending.ensures c.push.ensures.items in
     record {
       one = rw ends refl;
-      so = rw ends (so-begins g.T.Integer.rank g.T.Integer.value_count (source g) (laws g)
-          g.T.PartialOrd.partial_cmp g.T.Ord.cmp (ranked g) (holding c.args.self.now c.args.ends.now.items)
+      so = rw ends (so-begins g.T.Integer g.I.Draw (laws g)
+          (ranked g) (holding c.args.self.now c.args.ends.now.items)
           (holding c.loop-range.self c.loop-range.ends.items)
           c.draw.new.self c.into_inner-next.result.0 c.into_inner-next.result.1 c.in-Some.range
           c.loop-range.invariant.so c.in-Some.ensures.steps c.in-Some.ensures.goes
@@ -46,8 +45,8 @@ returns-then-lt-clause-steps g c =
     c.push.new.self.items c.remove.new.self.items c.in-Some-pending.end
     c.into_inner-next.result.1 c.in-Some-pending.ensures c.push.ensures.items
     c.remove.ensures.items in
-    rw left (apart-answers g.T.Integer.rank g.T.Integer.value_count (source g) (laws g)
-    g.T.PartialOrd.partial_cmp g.T.Ord.cmp (ranked g) (holding c.args.self.now c.args.ends.now.items)
+    rw left (apart-answers g.T.Integer g.I.Draw (laws g)
+    (ranked g) (holding c.args.self.now c.args.ends.now.items)
     (holding c.loop-range.self c.loop-range.ends.items)
     c.draw.new.self c.into_inner-next.result.0 c.into_inner-next.result.1 c.in-Some.range
     c.loop-range.invariant.so c.in-Some.ensures.steps c.in-Some.ensures.goes
@@ -61,8 +60,8 @@ returns-then-lt-clause-goes g c =
     c.push.new.self.items c.remove.new.self.items c.in-Some-pending.end
     c.into_inner-next.result.1 c.in-Some-pending.ensures c.push.ensures.items
     c.remove.ensures.items in
-    rw left (apart-goes g.T.Integer.rank g.T.Integer.value_count (source g) (laws g)
-    g.T.PartialOrd.partial_cmp g.T.Ord.cmp (ranked g) (holding c.args.self.now c.args.ends.now.items)
+    rw left (apart-goes g.T.Integer g.I.Draw (laws g)
+    (ranked g) (holding c.args.self.now c.args.ends.now.items)
     (holding c.loop-range.self c.loop-range.ends.items)
     c.draw.new.self c.into_inner-next.result.0 c.into_inner-next.result.1 c.in-Some.range
     c.loop-range.invariant.so c.in-Some.ensures.steps c.in-Some.ensures.goes
@@ -72,8 +71,8 @@ returns-then-lt-clause-goes g c =
 -- both have begun, and their ends are values
 pub pass_lesser-requires : goal.pass_lesser-requires
 pass_lesser-requires g c =
-    let values = both-values g.T.Integer.rank g.T.Integer.value_count (source g) (laws g)
-    g.T.PartialOrd.partial_cmp g.T.Ord.cmp (ranked g) (holding c.args.self.now c.args.ends.now.items)
+    let values = both-values g.T.Integer g.I.Draw (laws g)
+    (ranked g) (holding c.args.self.now c.args.ends.now.items)
     (holding c.loop-range.self c.loop-range.ends.items)
     c.draw.new.self c.into_inner-next.result.0 c.into_inner-next.result.1 c.in-Some.range
     c.loop-range.invariant.so c.in-Some.ensures.steps c.in-Some.ensures.goes
@@ -94,8 +93,8 @@ pass_lesser-requires g c =
 -- what lies before the second is told
 pub sub_one-requires : goal.sub_one-requires
 sub_one-requires g c =
-    next-above g.T.Integer.rank g.T.Integer.value_count (source g) (laws g)
-    g.T.PartialOrd.partial_cmp g.T.Ord.cmp (ranked g) (holding c.args.self.now c.args.ends.now.items)
+    next-above g.T.Integer g.I.Draw (laws g)
+    (ranked g) (holding c.args.self.now c.args.ends.now.items)
     (holding c.loop-range.self c.loop-range.ends.items)
     c.draw.new.self c.into_inner-next.result.0 c.into_inner-next.result.1 c.in-Some.range
     c.loop-range.invariant.so c.in-Some.ensures.steps c.in-Some.ensures.goes
@@ -108,8 +107,8 @@ returns-then-lt-2-clause-steps g c =
     c.into_inner-next.result.1 c.pass_lesser.new.start c.loop-range.self.done
     (first_end c.pass_lesser.new.ends.items) c.loop-range.invariant.so.undone
     c.pass_lesser.ensures.passed in
-    gap-answers g.T.Integer.rank g.T.Integer.value_count (source g) (laws g)
-    g.T.PartialOrd.partial_cmp g.T.Ord.cmp (ranked g) (holding c.args.self.now c.args.ends.now.items)
+    gap-answers g.T.Integer g.I.Draw (laws g)
+    (ranked g) (holding c.args.self.now c.args.ends.now.items)
     (holding c.loop-range.self c.loop-range.ends.items)
     c.draw.new.self c.into_inner-next.result.0 c.into_inner-next.result.1 c.in-Some.range
     c.loop-range.invariant.so c.in-Some.ensures.steps c.in-Some.ensures.goes
@@ -125,8 +124,8 @@ returns-then-lt-2-clause-goes g c =
     c.into_inner-next.result.1 c.pass_lesser.new.start c.loop-range.self.done
     (first_end c.pass_lesser.new.ends.items) c.loop-range.invariant.so.undone
     c.pass_lesser.ensures.passed in
-    gap-goes g.T.Integer.rank g.T.Integer.value_count (source g) (laws g)
-    g.T.PartialOrd.partial_cmp g.T.Ord.cmp (ranked g) (holding c.args.self.now c.args.ends.now.items)
+    gap-goes g.T.Integer g.I.Draw (laws g)
+    (ranked g) (holding c.args.self.now c.args.ends.now.items)
     (holding c.loop-range.self c.loop-range.ends.items)
     c.draw.new.self c.into_inner-next.result.0 c.into_inner-next.result.1 c.in-Some.range
     c.loop-range.invariant.so c.in-Some.ensures.steps c.in-Some.ensures.goes
@@ -142,8 +141,8 @@ loop-range-preserved g c =
     c.pass_lesser.ensures.passed in
     record {
       one = c.pass_lesser.ensures.one;
-      so = so-passed g.T.Integer.rank g.T.Integer.value_count (source g) (laws g)
-          g.T.PartialOrd.partial_cmp g.T.Ord.cmp (ranked g) (holding c.args.self.now c.args.ends.now.items)
+      so = so-passed g.T.Integer g.I.Draw (laws g)
+          (ranked g) (holding c.args.self.now c.args.ends.now.items)
           (holding c.loop-range.self c.loop-range.ends.items)
           c.draw.new.self c.into_inner-next.result.0 c.into_inner-next.result.1 c.in-Some.range
           c.loop-range.invariant.so c.in-Some.ensures.steps c.in-Some.ensures.goes
@@ -156,7 +155,7 @@ pub returns-in_err-end-clause-steps : goal.returns-in_err-end-clause-steps
 returns-in_err-end-clause-steps g c =
     let none = popped-end c.loop-range.ends.items c.loop-range.invariant.one c.pop.result None
     c.pop.ensures.value c.in_err-end.ensures in
-    rw c.from_residual.ensures (rests g.T.Integer.rank g.T.Integer.value_count (source g) (laws g)
+    rw c.from_residual.ensures (rests g.T.Integer g.I.Draw (laws g)
     (holding c.args.self.now c.args.ends.now.items)
     (holding c.loop-range.self c.loop-range.ends.items)
     c.draw.new.self c.loop-range.invariant.so c.in_default.ensures.steps none
@@ -167,7 +166,7 @@ pub returns-clause-steps : goal.returns-clause-steps
 returns-clause-steps g c =
     let last = popped-end c.loop-range.ends.items c.loop-range.invariant.one c.pop.result
     (Some c.in_ok-end.end) c.pop.ensures.value c.in_ok-end.ensures in
-    last-answers g.T.Integer.rank g.T.Integer.value_count (source g) (laws g)
+    last-answers g.T.Integer g.I.Draw (laws g)
     (holding c.args.self.now c.args.ends.now.items)
     (holding c.loop-range.self c.loop-range.ends.items)
     c.draw.new.self c.loop-range.invariant.so c.in_default.ensures.steps

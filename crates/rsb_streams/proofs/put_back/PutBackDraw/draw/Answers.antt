@@ -8,7 +8,6 @@ pub returns-clause-goes : goal.returns-clause-goes
 returns-clause-goes g c =
     let none : c.args.self.now.held ≡ None = cc (c.take.ensures.value, c.in_default.is) in
     let end : c.is_none-self.result ≡ is_none c.draw-range.result = search rules in
-    drawn-goes g.T.Integer.rank g.T.Integer.value_count g.I.Draw.can_draw g.I.Draw.may_give
-    g.I.Draw.draws_left g.met.I.Draw.sorted c.args.self.now c.take.new.self c.is_none-self.result
+    drawn-goes g.T.Integer g.I.Draw g.met.I.Draw.sorted c.args.self.now c.take.new.self c.is_none-self.result
     c.draw-range.new.self c.draw-range.result none c.take.ensures.after c.if-self.false end
     c.draw-range.ensures.goes

@@ -6,19 +6,11 @@ use Rattle.rsb_integer.specs.Runs.{members}
 use Rattle.rsb_integer.specs.Selection.{IsEverything}
 use Rattle.rsb_streams.proofs.Compare.{IsRanked, at_most-by, less-rank, not_less-rank}
 use Rattle.rsb_streams.proofs.FirstItems.{first-range, first-tells, first-whole, late-lacks, same-test}
-use Rattle.rsb_streams.proofs.Sources.{Source, IsLawful, range-start, range-end}
+use Rattle.rsb_streams.proofs.Sources.{IsLawful, range-start, range-end}
 use Rattle.rsb_streams.proofs.sorted_disjoint.DrawDisjoint.is_universal.Given.{Over}
 use Rattle.rsb_streams.proofs.sorted_disjoint.DrawDisjoint.is_universal.Goals as goal
 
-abbrev source : (g : Over) → Source g.row.Self.Denot g.row.T.Denot
-source g = record {
-  can_next = g.Self.Draw.can_draw;
-  steps = g.Self.Draw.draw_gives;
-  remaining = g.Self.Draw.draws_left;
-  may_give = g.Self.Draw.may_give;
-}
-
-laws : (g : Over) → IsLawful g.T.Integer.rank g.T.Integer.value_count (source g)
+laws : (g : Over) → IsLawful g.T.Integer g.Self.Draw
 laws g = record {
   answers = g.met.Self.Draw.answers;
   sorted = g.met.Self.Draw.sorted;
@@ -37,16 +29,16 @@ returns-then-lt g c =
     let rank = g.T.Integer.rank in
     let n = g.T.Integer.value_count in
     let run = interval_of rank c.in-Some.range in
-    let facts = first-range rank n (source g) (laws g) c.args.self c.draw.new.self c.requires
+    let facts = first-range g.T.Integer g.Self.Draw (laws g) c.args.self c.draw.new.self c.requires
     c.in-Some.range c.in-Some.ensures.steps c.in-Some.ensures.goes in
     let start = range-start rank c.in-Some.range facts.0
     ∙ sym (ap rank c.into_inner-start.ensures.start) in
     let least : rank c.min_value.result < n = omega
     (arith, facts.0, facts.1, c.min_value.ensures) in
     let low : rank c.into_inner-start.result.0 < n = omega (arith, facts.0, facts.1, start) in
-    let less = less-rank rank n g.T.PartialOrd.partial_cmp g.T.Ord.cmp (ranked g) c.min_value.result
+    let less = less-rank (ranked g) c.min_value.result
     c.into_inner-start.result.0 least low c.if-lt.ensures in
-    first-tells rank n (source g) (laws g) c.args.self c.draw.new.self c.requires c.in-Some.range
+    first-tells g.T.Integer g.Self.Draw (laws g) c.args.self c.draw.new.self c.requires c.in-Some.range
     (λ runs. IsTrue false ↔ IsEverything n (members runs)) c.in-Some.ensures.steps
     c.in-Some.ensures.goes
     (g.met.Self.DrawDisjoint.canonical c.args.self c.requires)
@@ -59,7 +51,7 @@ returns g c =
     let rank = g.T.Integer.rank in
     let n = g.T.Integer.value_count in
     let run = interval_of rank c.in-Some.range in
-    let facts = first-range rank n (source g) (laws g) c.args.self c.draw.new.self c.requires
+    let facts = first-range g.T.Integer g.Self.Draw (laws g) c.args.self c.draw.new.self c.requires
     c.in-Some.range c.in-Some.ensures.steps c.in-Some.ensures.goes in
     let start = range-start rank c.in-Some.range facts.0
     ∙ sym (ap rank c.into_inner-start.ensures.start) in
@@ -70,10 +62,10 @@ returns g c =
     let low : rank c.into_inner-start.result.0 < n = omega (arith, facts.0, facts.1, start) in
     let high : rank c.into_inner-start.result.1 < n = omega (arith, facts.1, end) in
     let greatest : rank c.max_value.result < n = omega (arith, c.max_value.ensures) in
-    let most = not_less-rank rank n g.T.PartialOrd.partial_cmp g.T.Ord.cmp (ranked g)
+    let most = not_less-rank (ranked g)
     c.min_value.result
     c.into_inner-start.result.0 least low c.if-lt.ensures in
-    let test = at_most-by rank n g.T.PartialOrd.partial_cmp g.T.Ord.cmp (ranked g)
+    let test = at_most-by (ranked g)
     c.max_value.result
     c.into_inner-start.result.1 greatest high in
     let whole : nat_le n (run.last + 1) ≡ c.le.result =
@@ -81,7 +73,7 @@ returns g c =
     c.max_value.ensures (ap (λ each. each + 1) end)) ∙ sym test
     ∙ sym {b = partial_le g.T.PartialOrd.partial_cmp c.max_value.result c.into_inner-start.result.1}
     c.le.ensures in
-    first-tells rank n (source g) (laws g) c.args.self c.draw.new.self c.requires c.in-Some.range
+    first-tells g.T.Integer g.Self.Draw (laws g) c.args.self c.draw.new.self c.requires c.in-Some.range
     (λ runs. IsTrue c.le.result ↔ IsEverything n (members runs)) c.in-Some.ensures.steps
     c.in-Some.ensures.goes (g.met.Self.DrawDisjoint.canonical c.args.self c.requires)
     (λ rest canonical. first-whole n run rest c.le.result canonical

@@ -5,11 +5,10 @@ use Rattle.rsb_streams.proofs.Compare.{IsRanked, less-rank, not_less-rank, max-r
 use Rattle.rsb_streams.proofs.Sources.{IsLawful}
 use Rattle.rsb_streams.proofs.UnionTurns.{rests, begun, next-values, more, answer-last, answer-ahead, ahead-goes}
 use Rattle.rsb_streams.proofs.union_iter.UnionIterIterator.next.Given.{Over}
-use Rattle.rsb_streams.proofs.union_iter.UnionIterIterator.next.Invariants.{source}
 use Rattle.rsb_streams.proofs.union_iter.UnionIterIterator.next.Goals as goal
 use Rattle.rsb_streams.proofs.union_iter.UnionIterIterator.next.Goals.{in-Some-checked_add_one+else-lt, in_default-checked_add_one}
 
-laws : (g : Over) → IsLawful g.T.Integer.rank g.T.Integer.value_count (source g)
+laws : (g : Over) → IsLawful g.T.Integer g.SS.Draw
 laws g = record {
   answers = g.met.SS.Draw.answers;
   sorted = g.met.SS.Draw.sorted;
@@ -28,7 +27,7 @@ apart : (g : Over) (c : goal.After-new g)
     (range_inclusive_start c.in-Some.range)
 apart g c =
     let rank = g.T.Integer.rank in
-    let values = next-values g.T.Integer.rank g.T.Integer.value_count (source g) (laws g)
+    let values = next-values g.T.Integer g.SS.Draw (laws g)
     c.args.self.now.iter c.loop-range.self.iter
     c.draw-in-loop-range.new.self c.into_inner-start.result.0 c.loop-range.end c.in-Some.range
     c.loop-range.invariant c.in-Some.ensures.steps c.in-Some.ensures.goes in
@@ -38,26 +37,25 @@ apart g c =
     step.ensures.next in
     let start : rank c.start.result.now < g.T.Integer.value_count =
     omega (arith, values.0, ap rank c.start.ensures) in
-    let less = less-rank rank g.T.Integer.value_count g.T.PartialOrd.partial_cmp g.T.Ord.cmp
-    (ranked g)
+    let less = less-rank (ranked g)
     step.after c.start.result.now next start c.if-lt.ensures in
     omega (arith, less, step.ensures.next, ap rank c.start.ensures)
 
 pub returns-in_err-draw-clause-steps : goal.returns-in_err-draw-clause-steps
 returns-in_err-draw-clause-steps g c =
-    rests g.T.Integer.rank g.T.Integer.value_count (source g) (laws g) c.args.self.now _
+    rests g.T.Integer g.SS.Draw (laws g) c.args.self.now _
     c.from_residual.result c.from_residual.ensures c.in_err-draw.ensures.steps
 
 pub loop-range-init : goal.loop-range-init
 loop-range-init g c =
-    begun g.T.Integer.rank g.T.Integer.value_count (source g) (laws g) c.args.self.now.iter
+    begun g.T.Integer g.SS.Draw (laws g) c.args.self.now.iter
     c.draw.new.self c.in_ok-draw.field-0 _ _ c.requires
     c.in_ok-draw.ensures.steps c.in_ok-draw.ensures.goes c.into_inner-start.ensures.start
     c.into_inner-start.ensures.end
 
 pub returns-then-lt-clause-steps : goal.returns-then-lt-clause-steps
 returns-then-lt-clause-steps g c =
-    answer-ahead g.T.Integer.rank g.T.Integer.value_count (source g) (laws g) c.args.self.now.iter
+    answer-ahead g.T.Integer g.SS.Draw (laws g) c.args.self.now.iter
     c.loop-range.self.iter
     c.draw-in-loop-range.new.self (record { iter = c.put_back.new.self })
     c.into_inner-start.result.0
@@ -67,7 +65,7 @@ returns-then-lt-clause-steps g c =
 
 pub returns-then-lt-clause-goes : goal.returns-then-lt-clause-goes
 returns-then-lt-clause-goes g c =
-    ahead-goes g.T.Integer.rank g.T.Integer.value_count (source g) (laws g) c.args.self.now.iter
+    ahead-goes g.T.Integer g.SS.Draw (laws g) c.args.self.now.iter
     c.loop-range.self.iter
     c.draw-in-loop-range.new.self (record { iter = c.put_back.new.self })
     c.into_inner-start.result.0
@@ -78,11 +76,11 @@ returns-then-lt-clause-goes g c =
 pub loop-range-preserved : goal.loop-range-preserved
 loop-range-preserved g c =
     let rank = g.T.Integer.rank in
-    let values = next-values g.T.Integer.rank g.T.Integer.value_count (source g) (laws g)
+    let values = next-values g.T.Integer g.SS.Draw (laws g)
     c.args.self.now.iter c.loop-range.self.iter
     c.draw-in-loop-range.new.self c.into_inner-start.result.0 c.loop-range.end c.in-Some.range
     c.loop-range.invariant c.in-Some.ensures.steps c.in-Some.ensures.goes in
-    more g.T.Integer.rank g.T.Integer.value_count (source g) (laws g) c.args.self.now.iter
+    more g.T.Integer g.SS.Draw (laws g) c.args.self.now.iter
     c.loop-range.self.iter c.draw-in-loop-range.new.self
     c.into_inner-start.result.0 c.loop-range.end c.max-end.result c.in-Some.range
     c.loop-range.invariant
@@ -95,16 +93,14 @@ loop-range-preserved g c =
           step.ensures.next in
           let start : rank w.start.result.now < g.T.Integer.value_count =
           omega (arith, values.0, ap rank w.start.ensures) in
-          let most = not_less-rank rank g.T.Integer.value_count g.T.PartialOrd.partial_cmp
-          g.T.Ord.cmp
-          (ranked g) step.after w.start.result.now next start w.if-lt.ensures in
+          let most = not_less-rank (ranked g) step.after w.start.result.now next start w.if-lt.ensures in
           omega (arith, most, step.ensures.next, ap rank w.start.ensures)
       | in_default-checked_add_one w ↦
           let last = w.in_default-checked_add_one.ensures.none.0 refl in
           omega (arith, last, values.0)
     ])
     (ap rank {y = ord_max g.T.Ord.cmp c.loop-range.end c.end.result.now} c.max-end.ensures
-    ∙ max-rank rank g.T.Integer.value_count g.T.PartialOrd.partial_cmp g.T.Ord.cmp (ranked g)
+    ∙ max-rank (ranked g)
     c.loop-range.end c.end.result.now c.checked_add_one.ensures.value
     (omega (arith, values.1, ap rank c.end.ensures))
     ∙ ap (λ value. max (rank c.loop-range.end) (rank value))
@@ -112,7 +108,7 @@ loop-range-preserved g c =
 
 pub returns-clause-steps : goal.returns-clause-steps
 returns-clause-steps g c =
-    answer-last g.T.Integer.rank g.T.Integer.value_count (source g) (laws g) c.args.self.now.iter
+    answer-last g.T.Integer g.SS.Draw (laws g) c.args.self.now.iter
     c.loop-range.self.iter _
     c.into_inner-start.result.0 c.loop-range.end _ c.loop-range.invariant c.in_default.ensures.steps
     c.new-2.ensures.exhausted c.new-2.ensures.start c.new-2.ensures.end

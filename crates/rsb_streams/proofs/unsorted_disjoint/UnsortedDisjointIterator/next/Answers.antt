@@ -29,7 +29,7 @@ loop-range-preserved-then-is_empty g c =
     so_far-skip rank n g.I.Iterator.can_next g.I.Iterator.next_gives g.I.Iterator.remaining
     c.args.self.now c.loop-range.self c.next.new.self c.in-Some.range c.loop-range.invariant
     c.in-Some.ensures.steps c.in-Some.ensures.goes
-    (empty-told rank n g.T.PartialOrd.partial_cmp g.T.Ord.cmp (ranked g) c.in-Some.range
+    (empty-told (ranked g) c.in-Some.range
     (subst (λ value. rank value < n) c.start.ensures c.checked_add_one.ensures.value)
     (subst (λ value. rank value < n) c.end.ensures c.checked_add_one-after.ensures.value)
     c.is_empty.result c.is_empty.ensures (sym c.if-is_empty.true))
@@ -42,7 +42,7 @@ loop-range-preserved-in_default-take g c =
     so_far-first rank n g.I.Iterator.can_next g.I.Iterator.next_gives g.I.Iterator.remaining
     c.args.self.now c.loop-range.self c.next.new.self c.in-Some.range c.loop-range.invariant
     c.in-Some.ensures.steps c.in-Some.ensures.goes
-    (proper-told rank n g.T.PartialOrd.partial_cmp g.T.Ord.cmp (ranked g) c.in-Some.range
+    (proper-told (ranked g) c.in-Some.range
     (subst (λ value. rank value < n) c.start.ensures c.checked_add_one.ensures.value)
     (subst (λ value. rank value < n) c.end.ensures c.checked_add_one-after.ensures.value)
     c.is_empty.result c.is_empty.ensures (sym c.if-is_empty.false))
@@ -53,33 +53,32 @@ pub returns-then-past-clause-steps : goal.returns-then-past-clause-steps
 returns-then-past-clause-steps g c =
     let rank = g.T.Integer.rank in
     let n = g.T.Integer.value_count in
-    let partial_cmp = g.T.PartialOrd.partial_cmp in
     let cmp = g.T.Ord.cmp in
     let is = sym c.in-Some-take.ensures.value in
-    let proper = proper-told rank n partial_cmp cmp (ranked g) c.in-Some.range
+    let proper = proper-told (ranked g) c.in-Some.range
     (subst (λ value. rank value < n) c.start.ensures c.checked_add_one.ensures.value)
     (subst (λ value. rank value < n) c.end.ensures c.checked_add_one-after.ensures.value)
     c.is_empty.result c.is_empty.ensures (sym c.if-is_empty.false) in
     answer-span rank n g.I.Iterator.can_next g.I.Iterator.next_gives g.I.Iterator.remaining
     c.args.self.now c.loop-range.self c.next.new.self c.in-Some.range c.loop-range.invariant
     c.in-Some.ensures.steps c.in-Some.ensures.goes proper c.in-Some-take.gathered is
-    (apart-told rank n partial_cmp cmp (ranked g) c.in-Some-take.gathered c.in-Some.range
+    (apart-told (ranked g) c.in-Some-take.gathered c.in-Some.range
     (subst (λ each. IfSome each (IsProper rank n)) is c.loop-range.invariant.ready.proper) proper
     c.checked_add_one-in-Some.result c.checked_add_one-after.result
-    (is_after rank n partial_cmp cmp (ranked g) c.in-Some-take.gathered c.end-in-Some.result.now
+    (is_after (ranked g) c.in-Some-take.gathered c.end-in-Some.result.now
     c.checked_add_one-in-Some.result c.end-in-Some.ensures c.checked_add_one-in-Some.ensures.none
     c.checked_add_one-in-Some.ensures.next)
-    (is_after rank n partial_cmp cmp (ranked g) c.in-Some.range c.end.result.now
+    (is_after (ranked g) c.in-Some.range c.end.result.now
     c.checked_add_one-after.result c.end.ensures c.checked_add_one-after.ensures.none
     c.checked_add_one-after.ensures.next)
     (elim c.then-past.branch [
       | then-past-via-then-past w ↦
-          inl (told-past rank n partial_cmp cmp (ranked g) c.is_past-past.result true
+          inl (told-past (ranked g) c.is_past-past.result true
           c.checked_add_one-in-Some.result c.start-in-Some.result.now
           (range_inclusive_start c.in-Some.range) w.if-past.true c.is_past-past.ensures
           c.start-in-Some.ensures)
       | then-past-via-else-past+then-before w ↦
-          inr (told-past rank n partial_cmp cmp (ranked g) c.is_past-before.result true
+          inr (told-past (ranked g) c.is_past-before.result true
           c.checked_add_one-after.result c.start-in-Some-2.result.now
           (range_inclusive_start c.in-Some-take.gathered) w.if-before.true c.is_past-before.ensures
           c.start-in-Some-2.ensures)
@@ -92,7 +91,7 @@ returns-then-past-clause-goes g c =
     span-goes rank n g.I.Iterator.can_next g.I.Iterator.next_gives g.I.Iterator.remaining
     c.args.self.now c.loop-range.self c.next.new.self c.in-Some.range c.loop-range.invariant
     c.in-Some.ensures.steps c.in-Some.ensures.goes
-    (proper-told rank n g.T.PartialOrd.partial_cmp g.T.Ord.cmp (ranked g) c.in-Some.range
+    (proper-told (ranked g) c.in-Some.range
     (subst (λ value. rank value < n) c.start.ensures c.checked_add_one.ensures.value)
     (subst (λ value. rank value < n) c.end.ensures c.checked_add_one-after.ensures.value)
     c.is_empty.result c.is_empty.ensures (sym c.if-is_empty.false))
@@ -103,38 +102,37 @@ pub loop-range-preserved : goal.loop-range-preserved
 loop-range-preserved g c =
     let rank = g.T.Integer.rank in
     let n = g.T.Integer.value_count in
-    let partial_cmp = g.T.PartialOrd.partial_cmp in
     let cmp = g.T.Ord.cmp in
     let is = sym c.in-Some-take.ensures.value in
     let held = subst (λ each. IfSome each (IsProper rank n)) is c.loop-range.invariant.ready.proper in
-    let proper = proper-told rank n partial_cmp cmp (ranked g) c.in-Some.range
+    let proper = proper-told (ranked g) c.in-Some.range
     (subst (λ value. rank value < n) c.start.ensures c.checked_add_one.ensures.value)
     (subst (λ value. rank value < n) c.end.ensures c.checked_add_one-after.ensures.value)
     c.is_empty.result c.is_empty.ensures (sym c.if-is_empty.false) in
     so_far-joined rank n g.I.Iterator.can_next g.I.Iterator.next_gives g.I.Iterator.remaining
     c.args.self.now c.loop-range.self c.next.new.self c.in-Some.range c.loop-range.invariant
     c.in-Some.ensures.steps c.in-Some.ensures.goes proper c.in-Some-take.gathered c.joined.result is
-    (joined-proper rank n partial_cmp cmp (ranked g) c.in-Some-take.gathered c.in-Some.range held
+    (joined-proper (ranked g) c.in-Some-take.gathered c.in-Some.range held
     proper c.joined.result c.joined.ensures.start c.joined.ensures.end c.joined.ensures.exhausted)
-    (meet-told rank n partial_cmp cmp (ranked g) c.in-Some-take.gathered c.in-Some.range held proper
+    (meet-told (ranked g) c.in-Some-take.gathered c.in-Some.range held proper
     c.checked_add_one-in-Some.result c.checked_add_one-after.result
-    (is_after rank n partial_cmp cmp (ranked g) c.in-Some-take.gathered c.end-in-Some.result.now
+    (is_after (ranked g) c.in-Some-take.gathered c.end-in-Some.result.now
     c.checked_add_one-in-Some.result c.end-in-Some.ensures c.checked_add_one-in-Some.ensures.none
     c.checked_add_one-in-Some.ensures.next)
-    (is_after rank n partial_cmp cmp (ranked g) c.in-Some.range c.end.result.now
+    (is_after (ranked g) c.in-Some.range c.end.result.now
     c.checked_add_one-after.result c.end.ensures c.checked_add_one-after.ensures.none
     c.checked_add_one-after.ensures.next)
-    (told-past rank n partial_cmp cmp (ranked g) c.is_past-past.result false
+    (told-past (ranked g) c.is_past-past.result false
     c.checked_add_one-in-Some.result c.start-in-Some.result.now
     (range_inclusive_start c.in-Some.range) c.if-past.false c.is_past-past.ensures
     c.start-in-Some.ensures)
-    (told-past rank n partial_cmp cmp (ranked g) c.is_past-before.result false
+    (told-past (ranked g) c.is_past-before.result false
     c.checked_add_one-after.result c.start-in-Some-2.result.now
     (range_inclusive_start c.in-Some-take.gathered) c.if-before.false c.is_past-before.ensures
     c.start-in-Some-2.ensures))
-    (joined-first rank n partial_cmp cmp (ranked g) c.in-Some-take.gathered c.in-Some.range held
+    (joined-first (ranked g) c.in-Some-take.gathered c.in-Some.range held
     proper c.joined.result c.joined.ensures.start c.joined.ensures.end c.joined.ensures.exhausted)
-    (joined-last rank n partial_cmp cmp (ranked g) c.in-Some-take.gathered c.in-Some.range held
+    (joined-last (ranked g) c.in-Some-take.gathered c.in-Some.range held
     proper c.joined.result c.joined.ensures.start c.joined.ensures.end c.joined.ensures.exhausted)
 
 -- at the end what is gathered is answered

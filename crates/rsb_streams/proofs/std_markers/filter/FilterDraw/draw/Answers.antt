@@ -5,6 +5,5 @@ use Rattle.rsb_streams.proofs.std_markers.filter.FilterDraw.draw.Goals as goal
 -- a call of its `next` is a draw
 pub returns-clause-steps : goal.returns-clause-steps
 returns-clause-steps g c =
-    drawn-call (filter-drawn g.T.Integer.rank g.T.Integer.value_count g.I.Draw.may_give
-    g.met.I.Draw.answers g.met.I.Draw.sorted c.requires.drawn g.P.FnMut) _ _ _ c.requires
-    c.next.ensures.steps
+    drawn-call (filter-drawn g.T.Integer g.I.Draw g.I.Iterator g.met.I.Draw.answers
+    g.met.I.Draw.sorted c.requires.drawn g.P.FnMut) _ _ _ c.requires c.next.ensures.steps

@@ -1,0 +1,45 @@
+-- The law of pieces: they come by starts.
+use Rattle.std.proofs.Common.{◌≡◌, ◌+◌, Bool, true, false, [], ◌++◌, length, refl}
+use Rattle.std.specs.Iterator.{count_map, count_unless}
+use Rattle.rsb_integer.specs.declared.integer.Integer.{Ghosts as Elements}
+use Rattle.rsb_integer.proofs.RunsLemmas.{runs-canonical, runs-members}
+use Rattle.rsb_streams.specs.OddPieces.{ends_of, IsGoing, odd_pieces, oddly_covered, pending, pieces_of}
+use Rattle.rsb_streams.specs.Outcomes.{canonical-sorted, runs-exist, settled_sorted}
+use Rattle.rsb_streams.specs.Rows.{IsSorted}
+use Rattle.rsb_streams.specs.Stream.{HasSortedStarts, Keeps, unless}
+use Rattle.rsb_streams.specs.declared.draw.Draw.{Ghosts as Stream}
+use Rattle.rsb_streams.specs.declared.odd_pieces.OddPieces.{OddPieces}
+
+module _ {T N I : Type 0} (integer : Elements T N) (stream : Stream I T N)
+    (sorted : IsSorted integer stream) where
+  open integer use {rank, value_count as n}
+
+  -- the pieces come by their starts, there are some lists of them, and they end, by whether all
+  -- was told
+  keeps-by : (done : Bool) (s : OddPieces T I) → (done ≡ false → IsGoing integer stream s)
+      → Keeps (HasSortedStarts n) (unless done (pieces_of n (pending rank s) (stream.may_give s.iter)))
+      (count_unless done (count_map (λ left. left + length (ends_of s.end)) (stream.draws_left s.iter)))
+  keeps-by true s ready = record {
+    some = λ never. never [] refl;
+    all = λ pieces may. rw may tt;
+    ends = tt;
+  }
+  keeps-by false s ready =
+      let kept = sorted s.iter (ready refl).callable in
+      record {
+        some = λ never. kept.some (λ given may.
+            let selected = oddly_covered (pending rank s ++ given) in
+            let runs = runs-exist n selected in
+            let canonical = runs-canonical n selected runs.0 runs.1 in
+            never runs.0 (λ nothing. nothing given may (record {
+              sorted = canonical-sorted n 0 runs.0 canonical.0 canonical.1;
+              same = runs-members n selected runs.0 runs.1;
+            })));
+        all = λ pieces may. settled_sorted n 0 pieces
+            (λ fails. may (λ given at all. fails all.sorted));
+        ends = kept.ends;
+      }
+
+  -- the pieces come by their starts, there are some lists of them, and they end
+  pub odd_pieces-sorted : IsSorted integer (odd_pieces integer stream)
+  odd_pieces-sorted s ready = keeps-by s.done s ready

@@ -1,0 +1,101 @@
+-- Parts of what a stream may give keep its laws.
+use Rattle.std.proofs.Common.{◌≡◌, ℕ, ◌<◌, Bool, true, false, List, [], take, drop, refl, inl, inr}
+use Rattle.std.proofs.lemmas.List.Elements.{All-nil}
+use Rattle.std.specs.Prelude.{Option, MatchBool}
+use Rattle.std.specs.Iterator.{Count, IsFinite}
+use Rattle.std.specs.Iterator.Adapters.{fuse_done, fuse_source}
+use Rattle.std.specs.declared.iter.Fuse.{Fuse}
+use Rattle.rsb_integer.specs.Front.{IsFrontOf}
+use Rattle.rsb_integer.specs.Runs.{Interval, IsCanonicalIn}
+use Rattle.rsb_streams.specs.Adapters.{IsRestOf, IsSkipped, part_of}
+use Rattle.rsb_streams.specs.Fused.{fuse_can_next, fuse_may_give}
+use Rattle.rsb_streams.specs.Outcomes.{settled_canonical_in, settled_sorted}
+use Rattle.rsb_streams.specs.Stream.{Outcomes, ◌⊆◌, HasSortedStarts, Keeps, unless}
+use Rattle.rsb_streams.specs.Sublists.{IsSublist}
+use Rattle.rsb_streams.specs.SublistsLaws.{sublist-after, sublist-all, sublist-canonical, sublist-drop, sublist-front, sublist-none, sublist-sorted, sublist-take}
+
+-- a part of each list that may be given is a sublist of it, and there is one
+pub record IsPart (Part : List Interval → List Interval → Type 0) : Type 0 where
+  pub within : (runs given : List Interval) → Part runs given → IsSublist runs given
+  pub some : (given : List Interval) → (runs : List Interval) × Part runs given
+
+-- some of what was given is
+pub sublist-is_part : IsPart IsSublist
+sublist-is_part = record {
+  within = λ runs given part. part;
+  some = λ given. (given, sublist-all given);
+}
+
+-- a front is, or nothing
+pub front-is_part : (done : Bool)
+    → IsPart (λ runs given. MatchBool done (runs ≡ []) (IsFrontOf runs given))
+front-is_part true = record {
+  within = λ runs given part. rw part (sublist-none given);
+  some = λ given. ([], refl);
+}
+front-is_part false = record {
+  within = λ runs given part. rw part.parts (sublist-front runs part.rest);
+  some = λ given. ([], record { rest = given; parts = refl });
+}
+
+-- what is left is, or all
+pub rest-is_part : (started : Bool)
+    → IsPart (λ runs given. MatchBool started (runs ≡ given) (IsRestOf runs given))
+rest-is_part true = record {
+  within = λ runs given part. rw part (sublist-all given);
+  some = λ given. (given, refl);
+}
+rest-is_part false = record {
+  within = λ runs given part.
+      rw part.parts (sublist-after part.passed runs runs (sublist-all runs));
+  some = λ given. (given, record { passed = []; parts = refl });
+}
+
+-- so many first ones are
+pub take-is_part : (count : ℕ) → IsPart (λ runs given. runs ≡ take count given)
+take-is_part count = record {
+  within = λ runs given part. rw part (sublist-take count given);
+  some = λ given. (take count given, refl);
+}
+
+-- and what is left after so many
+pub skip-is_part : {S A : Type 0} (steps : S → Option A → S → Type 0) (s : S) (count : ℕ)
+    → IsPart (IsSkipped steps s count)
+skip-is_part steps s count = record {
+  within = λ runs given part. elim part [
+    | inl left ↦ rw left (sublist-drop count given)
+    | inr ended ↦ rw ended.1 (sublist-none given)
+  ];
+  some = λ given. (drop count given, inl refl);
+}
+
+module _ (n : ℕ) {Part : List Interval → List Interval → Type 0} (part : IsPart Part)
+    (P : Outcomes) where
+  -- parts of canonical lists are canonical
+  pub part-canonical : P ⊆ IsCanonicalIn n → part_of P Part ⊆ IsCanonicalIn n
+  part-canonical canonical runs may = settled_canonical_in n runs (λ fails. may (λ given at is.
+      fails (sublist-canonical n runs given (canonical given at) (part.within runs given is))))
+
+  -- parts of lists by starts are such lists, there is one, and the calls end
+  pub part-keeps : (left more : Count) → IsFinite more → Keeps (HasSortedStarts n) P left
+      → Keeps (HasSortedStarts n) (part_of P Part) more
+  part-keeps left more ends kept = record {
+    some = λ never. kept.some (λ given at.
+        let each = part.some given in never each.0 (λ nothing. nothing given at each.1));
+    all = λ runs may. settled_sorted n 0 runs (λ fails. may (λ given at is.
+        fails (sublist-sorted n runs given (kept.all given at) (part.within runs given is))));
+    ends = ends;
+  }
+
+-- so is nothing once a `Fuse` has ended
+fuse-canonical_by : (n : ℕ) (done : Bool) (P : Outcomes) → (done ≡ false → P ⊆ IsCanonicalIn n)
+    → unless done P ⊆ IsCanonicalIn n
+fuse-canonical_by n true P canonical runs may =
+    rw may (tt, All-nil (λ (run : Interval). run.last < n))
+fuse-canonical_by n false P canonical runs may = canonical refl runs may
+
+pub fuse-canonical : {S : Type 0} (n : ℕ) (may_give : S → Outcomes) (can : S → Type 0)
+    → ((s : S) → can s → may_give s ⊆ IsCanonicalIn n)
+    → (s : Fuse S) → fuse_can_next can s → fuse_may_give may_give s ⊆ IsCanonicalIn n
+fuse-canonical n may_give can canonical s ready = fuse-canonical_by n (fuse_done s)
+    (may_give (fuse_source s)) (λ undone. canonical (fuse_source s) (ready undone))

@@ -1,0 +1,55 @@
+-- The laws of what operations on streams make: each is canonical.
+use Rattle.rsb_integer.specs.declared.integer.Integer.{Ghosts as Elements}
+use Rattle.rsb_streams.specs.Difference.{difference}
+use Rattle.rsb_streams.specs.Intersection.{intersection}
+use Rattle.rsb_streams.specs.Merge.{merge}
+use Rattle.rsb_streams.specs.MergeLaws.{merge-sorted}
+use Rattle.rsb_streams.specs.NotIter.{not_iter}
+use Rattle.rsb_streams.specs.NotIterLaws.{not_iter-disjoint}
+use Rattle.rsb_streams.specs.OddPieces.{odd_pieces}
+use Rattle.rsb_streams.specs.OddPiecesLaws.{odd_pieces-sorted}
+use Rattle.rsb_streams.specs.Outcomes.{disjoint-sorted}
+use Rattle.rsb_streams.specs.Rows.{IsDisjoint, IsSorted}
+use Rattle.rsb_streams.specs.SymDiffIter.{sym_diff}
+use Rattle.rsb_streams.specs.Union.{union}
+use Rattle.rsb_streams.specs.UnionIter.{union_iter}
+use Rattle.rsb_streams.specs.UnionIterLaws.{union_iter-disjoint}
+use Rattle.rsb_streams.specs.declared.draw.Draw.{Ghosts as Stream}
+
+-- what a complement may give comes by starts
+not_iter-sorted : {T N S : Type 0} (integer : Elements T N) (stream : Stream S T N)
+    → IsSorted integer stream → IsSorted integer (not_iter integer stream)
+not_iter-sorted integer stream sorted = disjoint-sorted integer (not_iter integer stream)
+    (not_iter-disjoint integer stream sorted)
+
+module _ {T N L R : Type 0} (integer : Elements T N) (left : Stream L T N) (right : Stream R T N)
+    (left_sorted : IsSorted integer left) (right_sorted : IsSorted integer right) where
+  -- a merge of two, joined
+  joined-disjoint : IsDisjoint integer (union_iter integer (merge integer left right))
+  joined-disjoint = union_iter-disjoint integer (merge integer left right)
+      (merge-sorted integer left right left_sorted right_sorted)
+
+  -- and its gaps
+  gaps-disjoint : IsDisjoint integer (not_iter integer (union_iter integer (merge integer left right)))
+  gaps-disjoint =
+      let both = union_iter integer (merge integer left right) in
+      not_iter-disjoint integer both (disjoint-sorted integer both joined-disjoint)
+
+  pub union-disjoint : IsDisjoint integer (union integer left right)
+  union-disjoint s = joined-disjoint s.iter
+
+  pub sym_diff-disjoint : IsDisjoint integer (sym_diff integer left right)
+  sym_diff-disjoint s =
+      let both = merge integer left right in
+      union_iter-disjoint integer (odd_pieces integer both) (odd_pieces-sorted integer both
+      (merge-sorted integer left right left_sorted right_sorted)) s.iter
+
+module _ {T N L R : Type 0} (integer : Elements T N) (left : Stream L T N) (right : Stream R T N)
+    (left_sorted : IsSorted integer left) (right_sorted : IsSorted integer right) where
+  pub difference-disjoint : IsDisjoint integer (difference integer left right)
+  difference-disjoint s = gaps-disjoint integer (not_iter integer left) right
+      (not_iter-sorted integer left left_sorted) right_sorted s.iter
+
+  pub intersection-disjoint : IsDisjoint integer (intersection integer left right)
+  intersection-disjoint s = gaps-disjoint integer (not_iter integer left) (not_iter integer right)
+      (not_iter-sorted integer left left_sorted) (not_iter-sorted integer right right_sorted) s.iter

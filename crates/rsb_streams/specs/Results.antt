@@ -1,0 +1,38 @@
+-- What operations on streams make: the result may be drawn from, and gives nothing but runs of what
+-- the operation selects.
+use Rattle.rsb_integer.specs.declared.integer.Integer.{Ghosts as Elements}
+use Rattle.rsb_streams.specs.Stream.{GivesComplement, GivesDifference, GivesIntersection, GivesSymmetricDifference, GivesUnion, IsReadyAnd}
+use Rattle.rsb_streams.specs.declared.draw.Draw.{Ghosts as Stream}
+
+-- of what a stream leaves out
+abbrev pub MakesComplement : {T N I O : Type 0} → Elements T N → Stream I T N → Stream O T N
+    → I → O → Type 0
+MakesComplement integer stream made of result = IsReadyAnd made.can_draw result
+    (GivesComplement integer.value_count (stream.may_give of) (made.may_give result))
+
+-- both of two streams may be drawn from
+abbrev pub CanDrawBoth : {T N L R : Type 0} → Stream L T N → Stream R T N → L → R → Type 0
+CanDrawBoth left right one other = left.can_draw one × right.can_draw other
+
+module _ {T N L R O : Type 0} (integer : Elements T N) (left : Stream L T N) (right : Stream R T N)
+    (made : Stream O T N) (one : L) (other : R) (result : O) where
+  -- of what either of two streams has
+  abbrev pub MakesUnion : Type 0
+  MakesUnion = IsReadyAnd made.can_draw result (GivesUnion integer.value_count
+      (left.may_give one) (right.may_give other) (made.may_give result))
+
+  -- of what both have
+  abbrev pub MakesIntersection : Type 0
+  MakesIntersection = IsReadyAnd made.can_draw result (GivesIntersection integer.value_count
+      (left.may_give one) (right.may_give other) (made.may_give result))
+
+  -- of what the left has and the right lacks
+  abbrev pub MakesDifference : Type 0
+  MakesDifference = IsReadyAnd made.can_draw result (GivesDifference integer.value_count
+      (left.may_give one) (right.may_give other) (made.may_give result))
+
+  -- of what one of them has alone
+  abbrev pub MakesSymmetricDifference : Type 0
+  MakesSymmetricDifference = IsReadyAnd made.can_draw result
+      (GivesSymmetricDifference integer.value_count
+      (left.may_give one) (right.may_give other) (made.may_give result))

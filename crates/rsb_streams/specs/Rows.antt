@@ -1,0 +1,48 @@
+-- Streams by the members of `Draw`: a row says when a stream may be drawn from, what a draw answers
+-- and leaves, how many ranges are left, and what may still come.
+use Rattle.std.proofs.Common.{ℕ}
+use Rattle.std.specs.Iterator.{Count}
+use Rattle.std.specs.Prelude.{List, Option}
+use Rattle.std.specs.declared.ops.RangeInclusive.{RangeInclusive}
+use Rattle.rsb_integer.specs.declared.integer.Integer.{Ghosts as Elements}
+use Rattle.rsb_integer.specs.Runs.{Interval, IsCanonicalIn}
+use Rattle.rsb_streams.specs.Stream.{Outcomes, Answers, AnswersAndRests, HasSortedStarts, Keeps}
+use Rattle.rsb_streams.specs.declared.draw.Draw.{Ghosts as Stream}
+
+-- a draw answers what may come, and leaves what may come after that
+abbrev pub IsAnswered : {S T N : Type 0} → Elements T N → Stream S T N → Type 0
+IsAnswered {S} {T} integer stream = (s t : S) (item : Option (RangeInclusive T))
+    → stream.draw_gives s item t → Answers integer.rank stream.may_give s item t
+
+-- what may come of a stream that may be drawn from keeps the law, there is some of it, and it ends
+abbrev pub KeepsLaw : {S T N : Type 0} → (List Interval → Type 0) → Stream S T N → Type 0
+KeepsLaw {S = S} law stream = (s : S) → stream.can_draw s
+    → Keeps law (stream.may_give s) (stream.draws_left s)
+
+-- it comes by starts
+abbrev pub IsSorted : {S T N : Type 0} → Elements T N → Stream S T N → Type 0
+IsSorted integer stream = KeepsLaw (HasSortedStarts integer.value_count) stream
+
+-- it is canonical
+abbrev pub IsDisjoint : {S T N : Type 0} → Elements T N → Stream S T N → Type 0
+IsDisjoint integer stream = KeepsLaw (IsCanonicalIn integer.value_count) stream
+
+-- a stream whose draws answer what may come, and after `None` it may be drawn from, and nothing
+-- comes
+abbrev pub answering : {S T N : Type 0} → Elements T N → (S → Type 0) → (S → Count)
+    → (S → Outcomes) → Stream S T N
+answering integer can_draw draws_left may_give = record {
+  can_draw = can_draw;
+  draw_gives = AnswersAndRests integer.rank can_draw may_give;
+  draws_left = draws_left;
+  may_give = may_give;
+}
+
+-- a stream that is held as a part
+abbrev pub through : {S P T N : Type 0} → (S → P) → Stream P T N → Stream S T N
+through part stream = record {
+  can_draw = λ s. stream.can_draw (part s);
+  draw_gives = λ s item t. stream.draw_gives (part s) item (part t);
+  draws_left = λ s. stream.draws_left (part s);
+  may_give = λ s. stream.may_give (part s);
+}
