@@ -79,8 +79,11 @@ module _ {S T N : Type 0} (integer : Elements T N) (stream : Stream S T N)
     pub filter-drawn : NextIsDraw (filter_draws integer stream next call filters) filters
     filter-drawn = adapted-drawn filters _ _ _
         (λ s can. (drawn.drawable (filter_source s) can.0, can.2))
-        (λ s source closure. (drawn.callable (filter_source s) source,
-        finite (filter_source s) source, closure))
+        (λ s source closure. (
+          drawn.callable (filter_source s) source,
+          finite (filter_source s) source,
+          closure,
+        ))
         (filter-gives rank stream.may_give next.next_gives gives call)
         (λ s t can each nothing. some (filter_source s) can.0 (λ given at.
         nothing given at (sublist-none given)))
@@ -160,8 +163,11 @@ module _ {S T N : Type 0} (integer : Elements T N) (stream : Stream S T N)
         skips_while
     skip_while-drawn = adapted-drawn skips_while _ _ _
         (λ s can. (drawn.drawable (skip_while_source s) can.0, can.2))
-        (λ s source closure. (drawn.callable (skip_while_source s) source,
-        finite (skip_while_source s) source, closure))
+        (λ s source closure. (
+          drawn.callable (skip_while_source s) source,
+          finite (skip_while_source s) source,
+          closure,
+        ))
         (skip_while-gives rank stream.may_give next.next_gives gives call)
         (λ s t can each. skip_while-none (skip_while_done_skipping s) (skip_while_source s)
         (skip_while_source t) can.0 (skip_while-end s t (skip_while_done_skipping s) each))

@@ -6,17 +6,11 @@ use Rattle.rsb_streams.proofs.fill_gaps_iter.FillGapsIterIterator.next.Given.{Ov
 use Rattle.rsb_streams.proofs.fill_gaps_iter.FillGapsIterIterator.next.Goals as goal
 
 laws : (g : Over) → IsLawful g.T.Integer g.I.Draw
-laws g = record {
-  answers = g.met.I.Draw.answers;
-  sorted = g.met.I.Draw.sorted;
-}
+laws g = record { answers = g.met.I.Draw.answers; sorted = g.met.I.Draw.sorted }
 
 ranked : (g : Over) → IsRanked g.T.Integer.rank g.T.Integer.value_count g.T.PartialOrd.partial_cmp
     g.T.Ord.cmp
-ranked g = record {
-  matches = g.met.T.Ord.matches_partial_cmp;
-  in_order = g.met.T.Integer.in_order;
-}
+ranked g = record { matches = g.met.T.Ord.matches_partial_cmp; in_order = g.met.T.Integer.in_order }
 
 -- the gap to the greatest value
 pub returns-in_default-clause-steps : goal.returns-in_default-clause-steps

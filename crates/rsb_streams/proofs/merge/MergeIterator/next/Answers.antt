@@ -20,10 +20,7 @@ right_laws g = record {
 
 ranked : (g : Over) → IsRanked g.T.Integer.rank g.T.Integer.value_count g.T.PartialOrd.partial_cmp
     g.T.Ord.cmp
-ranked g = record {
-  matches = g.met.T.Ord.matches_partial_cmp;
-  in_order = g.met.T.Integer.in_order;
-}
+ranked g = record { matches = g.met.T.Ord.matches_partial_cmp; in_order = g.met.T.Integer.in_order }
 
 pub returns-in_default-clause-steps : goal.returns-in_default-clause-steps
 returns-in_default-clause-steps g c =

@@ -11,17 +11,11 @@ use Rattle.rsb_streams.proofs.odd_pieces.OddPieces.next_piece.Given.{Over}
 use Rattle.rsb_streams.proofs.odd_pieces.OddPieces.next_piece.Goals as goal
 
 laws : (g : Over) → IsLawful g.T.Integer g.I.Draw
-laws g = record {
-  answers = g.met.I.Draw.answers;
-  sorted = g.met.I.Draw.sorted;
-}
+laws g = record { answers = g.met.I.Draw.answers; sorted = g.met.I.Draw.sorted }
 
 ranked : (g : Over) → IsRanked g.T.Integer.rank g.T.Integer.value_count g.T.PartialOrd.partial_cmp
     g.T.Ord.cmp
-ranked g = record {
-  matches = g.met.T.Ord.matches_partial_cmp;
-  in_order = g.met.T.Integer.in_order;
-}
+ranked g = record { matches = g.met.T.Ord.matches_partial_cmp; in_order = g.met.T.Integer.in_order }
 
 -- a range begins where none is pending
 pub loop-range-preserved-in_default-pending : goal.loop-range-preserved-in_default-pending

@@ -4,10 +4,7 @@ use Rattle.rsb_streams.proofs.sorted_disjoint.DrawDisjoint.is_empty.Given.{Over}
 use Rattle.rsb_streams.proofs.sorted_disjoint.DrawDisjoint.is_empty.Goals as goal
 
 laws : (g : Over) → IsLawful g.T.Integer g.Self.Draw
-laws g = record {
-  answers = g.met.Self.Draw.answers;
-  sorted = g.met.Self.Draw.sorted;
-}
+laws g = record { answers = g.met.Self.Draw.answers; sorted = g.met.Self.Draw.sorted }
 
 pub returns : goal.returns
 returns g c =

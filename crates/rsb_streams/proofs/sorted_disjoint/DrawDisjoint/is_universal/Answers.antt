@@ -11,10 +11,7 @@ use Rattle.rsb_streams.proofs.sorted_disjoint.DrawDisjoint.is_universal.Given.{O
 use Rattle.rsb_streams.proofs.sorted_disjoint.DrawDisjoint.is_universal.Goals as goal
 
 laws : (g : Over) → IsLawful g.T.Integer g.Self.Draw
-laws g = record {
-  answers = g.met.Self.Draw.answers;
-  sorted = g.met.Self.Draw.sorted;
-}
+laws g = record { answers = g.met.Self.Draw.answers; sorted = g.met.Self.Draw.sorted }
 
 ranked : (g : Over) → IsRanked g.T.Integer.rank g.T.Integer.value_count g.T.PartialOrd.partial_cmp
     g.T.Ord.cmp

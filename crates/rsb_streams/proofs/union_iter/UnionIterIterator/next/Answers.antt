@@ -9,17 +9,11 @@ use Rattle.rsb_streams.proofs.union_iter.UnionIterIterator.next.Goals as goal
 use Rattle.rsb_streams.proofs.union_iter.UnionIterIterator.next.Goals.{in-Some-checked_add_one+else-lt, in_default-checked_add_one}
 
 laws : (g : Over) → IsLawful g.T.Integer g.SS.Draw
-laws g = record {
-  answers = g.met.SS.Draw.answers;
-  sorted = g.met.SS.Draw.sorted;
-}
+laws g = record { answers = g.met.SS.Draw.answers; sorted = g.met.SS.Draw.sorted }
 
 ranked : (g : Over) → IsRanked g.T.Integer.rank g.T.Integer.value_count g.T.PartialOrd.partial_cmp
     g.T.Ord.cmp
-ranked g = record {
-  matches = g.met.T.Ord.matches_partial_cmp;
-  in_order = g.met.T.Integer.in_order;
-}
+ranked g = record { matches = g.met.T.Ord.matches_partial_cmp; in_order = g.met.T.Integer.in_order }
 
 -- the next range starts past the run, with a gap between
 apart : (g : Over) (c : goal.After-new g)

@@ -11,10 +11,7 @@ use Rattle.rsb_streams.proofs.unsorted_disjoint.UnsortedDisjointIterator.next.Go
 
 ranked : (g : Over) → IsRanked g.T.Integer.rank g.T.Integer.value_count g.T.PartialOrd.partial_cmp
     g.T.Ord.cmp
-ranked g = record {
-  matches = g.met.T.Ord.matches_partial_cmp;
-  in_order = g.met.T.Integer.in_order;
-}
+ranked g = record { matches = g.met.T.Ord.matches_partial_cmp; in_order = g.met.T.Integer.in_order }
 
 pub loop-range-init : goal.loop-range-init
 loop-range-init g c =
