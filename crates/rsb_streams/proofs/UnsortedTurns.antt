@@ -3,32 +3,40 @@ use Rattle.std.proofs.Common.{◌≡◌, ℕ, ◌+◌, ◌≤◌, true, min, max
 use Rattle.std.proofs.iter.Next.{Yields-more}
 use Rattle.std.proofs.lemmas.List.{append-nil, map-append}
 use Rattle.std.specs.Prelude.{Option, Some, None, IfSome}
-use Rattle.std.specs.Iterator.{Count, IsFinite, MakesProgress, Yields, count_unless, size}
+use Rattle.std.specs.Iterator.{IsFinite, MakesProgress, Yields, count_unless, size}
 use Rattle.std.specs.Iterator.Adapters.{fuse_done, fuse_source, fuse_steps}
 use Rattle.std.specs.declared.iter.Fuse.{Fuse}
+use Rattle.std.specs.declared.iter.Iterator.{Ghosts as Iteration}
 use Rattle.std.specs.declared.ops.RangeInclusive.{RangeInclusive}
 use Rattle.rsb_integer.specs.Rank.{interval_of, intervals_of}
 use Rattle.rsb_integer.specs.Runs.{Interval, IsEmpty}
+use Rattle.rsb_integer.specs.declared.integer.Integer.{Ghosts as Elements}
 use Rattle.rsb_streams.specs.Fused.{fuse_can_next, fuse_remaining}
-use Rattle.rsb_streams.specs.UnsortedDisjoint.{non_empty, unsorted_remaining, IsGathered, IsProper, Meet, UnsortedReady, UnsortedSteps}
+use Rattle.rsb_streams.specs.UnsortedDisjoint.{non_empty, unsorted_disjoint, IsGathered, IsProper, Meet}
 use Rattle.rsb_streams.specs.declared.unsorted_disjoint.UnsortedDisjoint.{UnsortedDisjoint}
 use Rattle.rsb_streams.proofs.PieceLemmas.{piece-more, piece-one}
 use Rattle.rsb_streams.proofs.SpanLemmas.{non_empty-keep, non_empty-skip}
 use Rattle.rsb_streams.proofs.UnsortedCalls.{non_empty-append}
 
-module _ {T I : Type 0} (rank : T → ℕ) (n : ℕ) (can_next : I → Type 0)
-    (steps : I → Option (RangeInclusive T) → I → Type 0) (remaining : I → Count) where
+module _ {T N I : Type 0} (integer : Elements T N) (iterator : Iteration I (RangeInclusive T)) where
+  open integer use {rank, value_count as n}
+  open iterator use {can_next, next_gives as steps, remaining}
+
+  -- what joins the ranges of the iterator
+  abbrev joins : Iteration (UnsortedDisjoint T I) (RangeInclusive T)
+  joins = unsorted_disjoint integer iterator
+
   -- the stream
   abbrev Joining : Type 0
   Joining = UnsortedDisjoint T I
 
   -- how many ranges are left, with one that is held
   abbrev left : Joining → ℕ
-  left s = size (unsorted_remaining remaining s)
+  left s = size (joins.remaining s)
 
   -- since the entry some items were drawn, and what is held is the span of the piece that they go on
   pub record SoFar (entry now : Joining) : Type 0 where
-    pub ready : UnsortedReady rank n can_next remaining now
+    pub ready : joins.can_next now
     pub drawn : List (RangeInclusive T)
     pub draws : Yields (fuse_steps steps) entry.iter drawn now.iter
     pub gathers : (items : List Interval) → IsGathered rank n items entry.gathered
@@ -36,7 +44,7 @@ module _ {T I : Type 0} (rank : T → ℕ) (n : ℕ) (can_next : I → Type 0)
     pub nearer : left now ≤ left entry
 
   -- nothing yet
-  pub so_far-none : (entry : Joining) → UnsortedReady rank n can_next remaining entry
+  pub so_far-none : (entry : Joining) → joins.can_next entry
       → SoFar entry entry
   so_far-none entry ready = record {
     ready = ready;
@@ -127,7 +135,7 @@ module _ {T I : Type 0} (rank : T → ℕ) (n : ℕ) (can_next : I → Type 0)
           → SoFar entry (record { iter = source; gathered = Some whole })
       so_far-joined span whole is whole_proper meets first last =
           let on = goes.on so.ready.finite in
-          let held = subst (λ each. size (unsorted_remaining remaining
+          let held = subst (λ each. size (joins.remaining
           (record { iter = now.iter; gathered = each })) ≤ left entry) is so.nearer in
           record {
             ready = record { callable = on.0; finite = on.1; proper = whole_proper };
@@ -147,7 +155,7 @@ module _ {T I : Type 0} (rank : T → ℕ) (n : ℕ) (can_next : I → Type 0)
       module _ (span : RangeInclusive T) (is : now.gathered ≡ Some span) where
         -- what is known of the call
         pub answer-span : ¬ (Meet (interval_of rank span) (interval_of rank range))
-            → UnsortedSteps rank n steps entry (Some span)
+            → joins.next_gives entry (Some span)
             (record { iter = source; gathered = Some range })
         answer-span apart = record {
           drawn = so.drawn;
@@ -162,14 +170,14 @@ module _ {T I : Type 0} (rank : T → ℕ) (n : ℕ) (can_next : I → Type 0)
         }
 
         -- and it makes progress
-        pub span-goes : MakesProgress (UnsortedReady rank n can_next remaining)
-            (unsorted_remaining remaining) entry (Some span)
+        pub span-goes : MakesProgress joins.can_next
+            joins.remaining entry (Some span)
             (record { iter = source; gathered = Some range })
         span-goes =
             let on = goes.on so.ready.finite in
-            let held = subst (λ each. size (unsorted_remaining remaining
+            let held = subst (λ each. size (joins.remaining
             (record { iter = now.iter; gathered = each })) ≤ left entry) is so.nearer in
-            let ready : UnsortedReady rank n can_next remaining
+            let ready : joins.can_next
             (record { iter = source; gathered = Some range }) =
             record { callable = on.0; finite = on.1; proper = proper } in
             record {
@@ -196,7 +204,7 @@ module _ {T I : Type 0} (rank : T → ℕ) (n : ℕ) (can_next : I → Type 0)
     ended-left = ap (λ test. size (count_unless test (remaining (fuse_source source))) + 0) done
 
     -- it may be called
-    ended-ready : UnsortedReady rank n can_next remaining ended
+    ended-ready : joins.can_next ended
     ended-ready = record {
       callable = λ undone. absurd (cc);
       finite = ended-finite;
@@ -206,7 +214,7 @@ module _ {T I : Type 0} (rank : T → ℕ) (n : ℕ) (can_next : I → Type 0)
   module _ (entry now : Joining) (source : Fuse I) (so : SoFar entry now)
       (call : fuse_steps steps now.iter None source) where
     -- what is held is answered
-    pub answer-last : UnsortedSteps rank n steps entry now.gathered
+    pub answer-last : joins.next_gives entry now.gathered
         (record { iter = source; gathered = None })
     answer-last = record {
       drawn = so.drawn;
@@ -220,7 +228,7 @@ module _ {T I : Type 0} (rank : T → ℕ) (n : ℕ) (can_next : I → Type 0)
 
     -- and the call makes progress, by what is held
     last-by : (held : Option (RangeInclusive T)) → now.gathered ≡ held
-        → MakesProgress (UnsortedReady rank n can_next remaining) (unsorted_remaining remaining)
+        → MakesProgress joins.can_next joins.remaining
         entry held (record { iter = source; gathered = None })
     last-by None is = record {
       on = λ finite. tt;
@@ -230,7 +238,7 @@ module _ {T I : Type 0} (rank : T → ℕ) (n : ℕ) (can_next : I → Type 0)
     last-by (Some span) is =
         let ready = ended-ready source call.1 in
         let none = ended-left source call.1 in
-        let held = subst (λ each. size (unsorted_remaining remaining
+        let held = subst (λ each. size (joins.remaining
         (record { iter = now.iter; gathered = each })) ≤ left entry) is so.nearer in
         record {
           on = λ finite. (ready, ended-finite source call.1, omega (arith, none, held));
@@ -239,7 +247,7 @@ module _ {T I : Type 0} (rank : T → ℕ) (n : ℕ) (can_next : I → Type 0)
         }
 
     -- the call makes progress
-    pub last-goes : MakesProgress (UnsortedReady rank n can_next remaining)
-        (unsorted_remaining remaining) entry now.gathered
+    pub last-goes : MakesProgress joins.can_next
+        joins.remaining entry now.gathered
         (record { iter = source; gathered = None })
     last-goes = last-by now.gathered refl

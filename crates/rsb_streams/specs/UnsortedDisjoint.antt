@@ -7,9 +7,11 @@ use Rattle.std.specs.declared.cmp.Ordering.{Ordering}
 use Rattle.std.specs.Iterator.{Count, Drains, IsFinite, Yields, count_map}
 use Rattle.std.specs.Iterator.Adapters.{fuse_steps}
 use Rattle.std.specs.declared.iter.Fuse.{Fuse}
+use Rattle.std.specs.declared.iter.Iterator.{Ghosts as Iteration}
 use Rattle.std.specs.declared.ops.RangeInclusive.{RangeInclusive}
 use Rattle.rsb_integer.specs.Rank.{interval_of, intervals_of}
 use Rattle.rsb_integer.specs.Runs.{Interval}
+use Rattle.rsb_integer.specs.declared.integer.Integer.{Ghosts as Elements}
 use Rattle.rsb_streams.specs.Fused.{fuse_can_next, fuse_remaining}
 use Rattle.rsb_streams.specs.declared.unsorted_disjoint.UnsortedDisjoint.{UnsortedDisjoint}
 
@@ -116,3 +118,12 @@ module _ {T : Type 0} (rank : T → ℕ) (n : ℕ) where
     pub proper : IfSome answer IsProper
     pub stops : fuse_steps steps between t.gathered t.iter
     pub begins : IfSome t.gathered (BeginsAfter answer)
+
+-- the iterator that joins the ranges of another
+abbrev pub unsorted_disjoint : {T N I : Type 0} → Elements T N → Iteration I (RangeInclusive T)
+    → Iteration (UnsortedDisjoint T I) (RangeInclusive T)
+unsorted_disjoint integer iterator = record {
+  can_next = UnsortedReady integer.rank integer.value_count iterator.can_next iterator.remaining;
+  next_gives = UnsortedSteps integer.rank integer.value_count iterator.next_gives;
+  remaining = unsorted_remaining iterator.remaining;
+}

@@ -10,10 +10,8 @@ ghost use Rattle.std.specs.Range.{
 };
 ghost use Rattle.rsb_streams.specs.UnsortedDisjoint.{
   starts_past,
-  unsorted_remaining,
+  unsorted_disjoint,
   GivesSpans,
-  UnsortedReady,
-  UnsortedSteps,
 };
 
 use rsb_integer::Integer;
@@ -51,11 +49,11 @@ impl<T: Integer, I: Iterator<Item = RangeInclusive<T>>> UnsortedDisjoint<T, I> {
 impl<T: Integer, I: Iterator<Item = RangeInclusive<T>>> Iterator for UnsortedDisjoint<T, I> {
     type Item = RangeInclusive<T>;
 
-    ghost can_next = { UnsortedReady T.rank T.value_count I.can_next I.remaining };
+    ghost can_next = { (unsorted_disjoint T.Integer.own I.Iterator).can_next };
 
-    ghost next_gives = { UnsortedSteps T.rank T.value_count I.next_gives };
+    ghost next_gives = { (unsorted_disjoint T.Integer.own I.Iterator).next_gives };
 
-    ghost remaining = { unsorted_remaining I.remaining };
+    ghost remaining = { (unsorted_disjoint T.Integer.own I.Iterator).remaining };
 
     fn next(&mut self) -> Option<RangeInclusive<T>> {
         while let Some(range) = self.iter.next() {

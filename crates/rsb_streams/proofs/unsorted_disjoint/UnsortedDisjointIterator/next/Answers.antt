@@ -1,7 +1,7 @@
 use Rattle.std.proofs.Common.{◌<◌, true, false, sym, subst, inl, inr}
 use Rattle.std.specs.Prelude.{IfSome}
 use Rattle.std.specs.Range.{range_inclusive_start}
-use Rattle.rsb_streams.specs.UnsortedDisjoint.{IsProper, UnsortedSteps}
+use Rattle.rsb_streams.specs.UnsortedDisjoint.{unsorted_disjoint, IsProper}
 use Rattle.rsb_streams.proofs.ApartLemmas.{apart-told, empty-told, is_after, joined-first, joined-last, joined-proper, meet-told, proper-told, told-past}
 use Rattle.rsb_streams.proofs.Compare.{IsRanked}
 use Rattle.rsb_streams.proofs.UnsortedTurns.{answer-last, answer-span, so_far-first, so_far-joined, so_far-none, so_far-skip, span-goes}
@@ -15,15 +15,14 @@ ranked g = record { matches = g.met.T.Ord.matches_partial_cmp; in_order = g.met.
 
 pub loop-range-init : goal.loop-range-init
 loop-range-init g c =
-    so_far-none g.T.Integer.rank g.T.Integer.value_count g.I.Iterator.can_next
-    g.I.Iterator.next_gives g.I.Iterator.remaining c.args.self.now c.requires
+    so_far-none g.T.Integer g.I.Iterator c.args.self.now c.requires
 
 -- an empty range is passed over
 pub loop-range-preserved-then-is_empty : goal.loop-range-preserved-then-is_empty
 loop-range-preserved-then-is_empty g c =
     let rank = g.T.Integer.rank in
     let n = g.T.Integer.value_count in
-    so_far-skip rank n g.I.Iterator.can_next g.I.Iterator.next_gives g.I.Iterator.remaining
+    so_far-skip g.T.Integer g.I.Iterator
     c.args.self.now c.loop-range.self c.next.new.self c.in-Some.range c.loop-range.invariant
     c.in-Some.ensures.steps c.in-Some.ensures.goes
     (empty-told (ranked g) c.in-Some.range
@@ -36,7 +35,7 @@ pub loop-range-preserved-in_default-take : goal.loop-range-preserved-in_default-
 loop-range-preserved-in_default-take g c =
     let rank = g.T.Integer.rank in
     let n = g.T.Integer.value_count in
-    so_far-first rank n g.I.Iterator.can_next g.I.Iterator.next_gives g.I.Iterator.remaining
+    so_far-first g.T.Integer g.I.Iterator
     c.args.self.now c.loop-range.self c.next.new.self c.in-Some.range c.loop-range.invariant
     c.in-Some.ensures.steps c.in-Some.ensures.goes
     (proper-told (ranked g) c.in-Some.range
@@ -50,13 +49,12 @@ pub returns-then-past-clause-steps : goal.returns-then-past-clause-steps
 returns-then-past-clause-steps g c =
     let rank = g.T.Integer.rank in
     let n = g.T.Integer.value_count in
-    let cmp = g.T.Ord.cmp in
     let is = sym c.in-Some-take.ensures.value in
     let proper = proper-told (ranked g) c.in-Some.range
     (subst (λ value. rank value < n) c.start.ensures c.checked_add_one.ensures.value)
     (subst (λ value. rank value < n) c.end.ensures c.checked_add_one-after.ensures.value)
     c.is_empty.result c.is_empty.ensures (sym c.if-is_empty.false) in
-    answer-span rank n g.I.Iterator.can_next g.I.Iterator.next_gives g.I.Iterator.remaining
+    answer-span g.T.Integer g.I.Iterator
     c.args.self.now c.loop-range.self c.next.new.self c.in-Some.range c.loop-range.invariant
     c.in-Some.ensures.steps c.in-Some.ensures.goes proper c.in-Some-take.gathered is
     (apart-told (ranked g) c.in-Some-take.gathered c.in-Some.range
@@ -85,7 +83,7 @@ pub returns-then-past-clause-goes : goal.returns-then-past-clause-goes
 returns-then-past-clause-goes g c =
     let rank = g.T.Integer.rank in
     let n = g.T.Integer.value_count in
-    span-goes rank n g.I.Iterator.can_next g.I.Iterator.next_gives g.I.Iterator.remaining
+    span-goes g.T.Integer g.I.Iterator
     c.args.self.now c.loop-range.self c.next.new.self c.in-Some.range c.loop-range.invariant
     c.in-Some.ensures.steps c.in-Some.ensures.goes
     (proper-told (ranked g) c.in-Some.range
@@ -99,14 +97,13 @@ pub loop-range-preserved : goal.loop-range-preserved
 loop-range-preserved g c =
     let rank = g.T.Integer.rank in
     let n = g.T.Integer.value_count in
-    let cmp = g.T.Ord.cmp in
     let is = sym c.in-Some-take.ensures.value in
     let held = subst (λ each. IfSome each (IsProper rank n)) is c.loop-range.invariant.ready.proper in
     let proper = proper-told (ranked g) c.in-Some.range
     (subst (λ value. rank value < n) c.start.ensures c.checked_add_one.ensures.value)
     (subst (λ value. rank value < n) c.end.ensures c.checked_add_one-after.ensures.value)
     c.is_empty.result c.is_empty.ensures (sym c.if-is_empty.false) in
-    so_far-joined rank n g.I.Iterator.can_next g.I.Iterator.next_gives g.I.Iterator.remaining
+    so_far-joined g.T.Integer g.I.Iterator
     c.args.self.now c.loop-range.self c.next.new.self c.in-Some.range c.loop-range.invariant
     c.in-Some.ensures.steps c.in-Some.ensures.goes proper c.in-Some-take.gathered c.joined.result is
     (joined-proper (ranked g) c.in-Some-take.gathered c.in-Some.range held
@@ -135,13 +132,11 @@ loop-range-preserved g c =
 -- at the end what is gathered is answered
 pub returns-clause-steps : goal.returns-clause-steps
 returns-clause-steps g c =
-    let rank = g.T.Integer.rank in
-    let n = g.T.Integer.value_count in
-    subst (λ answer. UnsortedSteps rank n g.I.Iterator.next_gives c.args.self.now answer
+    subst (λ answer. (unsorted_disjoint g.T.Integer g.I.Iterator).next_gives c.args.self.now answer
     (record { iter = c.next.new.self; gathered = c.take-2.new.self })) (sym c.take-2.ensures.value)
-    (subst (λ held. UnsortedSteps rank n g.I.Iterator.next_gives c.args.self.now
+    (subst (λ held. (unsorted_disjoint g.T.Integer g.I.Iterator).next_gives c.args.self.now
     c.loop-range.self.gathered (record { iter = c.next.new.self; gathered = held }))
     (sym c.take-2.ensures.after)
-    (answer-last rank n g.I.Iterator.can_next g.I.Iterator.next_gives g.I.Iterator.remaining
+    (answer-last g.T.Integer g.I.Iterator
     c.args.self.now c.loop-range.self c.next.new.self c.loop-range.invariant
     c.in_default.ensures.steps))

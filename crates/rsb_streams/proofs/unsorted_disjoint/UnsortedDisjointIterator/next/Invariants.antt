@@ -4,9 +4,7 @@ use Rattle.rsb_streams.proofs.UnsortedTurns.{SoFar}
 use Rattle.rsb_streams.proofs.unsorted_disjoint.UnsortedDisjointIterator.next.Given as goal
 
 abbrev pub invariant-loop-range : goal.invariant-loop-range
-invariant-loop-range g l =
-    SoFar g.T.Integer.rank g.T.Integer.value_count g.I.Iterator.can_next g.I.Iterator.next_gives
-    g.I.Iterator.remaining l.fn.self l.self
+invariant-loop-range g l = SoFar g.T.Integer g.I.Iterator l.fn.self l.self
 
 abbrev pub decreases-loop-range : goal.decreases-loop-range
 decreases-loop-range g l = size (fuse_remaining g.I.Iterator.remaining l.self.iter)
