@@ -10,7 +10,8 @@ use Rattle.std.proofs.lemmas.List.Elements.{filter-append}
 use Rattle.std.specs.declared.ops.RangeInclusive.{RangeInclusive}
 use Rattle.rsb_integer.specs.Rank.{interval_of, intervals_of}
 use Rattle.rsb_integer.specs.Runs.{Interval, length_of, IsCanonicalIn}
-use Rattle.rsb_streams.specs.Sublists.{sublist-canonical, IsSublist}
+use Rattle.rsb_streams.specs.Sublists.{IsSublist}
+use Rattle.rsb_streams.specs.SublistsLaws.{sublist-canonical}
 use Rattle.range_set_blaze.specs.Kept.{entry_of, entry_run, run_of, runs_of, IsKept}
 use Rattle.range_set_blaze.specs.Retain.{IsAsked}
 use Rattle.range_set_blaze.specs.declared.set.run.Run.{Run}

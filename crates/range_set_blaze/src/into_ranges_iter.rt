@@ -3,7 +3,8 @@
 ghost use Rattle.std.specs.Iterator.{YieldsFirst, YieldsLast, item_count};
 ghost use Rattle.rsb_integer.specs.Rank.{intervals_of};
 ghost use Rattle.rsb_integer.specs.Runs.{IsCanonicalIn};
-ghost use Rattle.rsb_streams.specs.Listed.{listed-answers, listed-keeps, listed_may_give};
+ghost use Rattle.rsb_streams.specs.Listed.{listed_may_give};
+ghost use Rattle.rsb_streams.specs.ListedLaws.{listed-answers, listed-keeps};
 ghost use Rattle.rsb_streams.specs.Outcomes.{canonical-starts};
 ghost use Rattle.rsb_streams.specs.Stream.{drawn-itself};
 

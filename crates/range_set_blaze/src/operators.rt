@@ -1,12 +1,12 @@
 //! The operators on the runs of a set.
 
-ghost use Rattle.rsb_streams.specs.Stream.{
-  GivesComplement,
-  GivesDifference,
-  GivesIntersection,
-  GivesSymmetricDifference,
-  GivesUnion,
-  IsReadyAnd,
+ghost use Rattle.rsb_streams.specs.Results.{
+  CanDrawBoth,
+  MakesComplement,
+  MakesDifference,
+  MakesIntersection,
+  MakesSymmetricDifference,
+  MakesUnion,
 };
 
 use crate::into_ranges_iter::IntoRangesIter;
@@ -21,14 +21,10 @@ use std::ops::{BitAnd, BitOr, BitXor, Not, Sub};
 impl<'a, T: Integer, R: DrawDisjoint<T>> BitOr<R> for RangesIter<'a, T> {
     type Output = Union<T, RangesIter<'a, T>, R>;
 
-    ghost can_bitor = { λ left right.
-        (⟦<RangesIter<'a, T> as Draw<T>>⟧.can_draw left) × (R.can_draw right) };
+    ghost can_bitor = { CanDrawBoth ⟦<RangesIter<'a, T> as Draw<T>>⟧ R.Draw };
 
-    ghost bitor_gives = { λ left right result.
-        IsReadyAnd ⟦<Union<T, RangesIter<'a, T>, R> as Draw<T>>⟧.can_draw result
-        (GivesUnion T.value_count
-        (⟦<RangesIter<'a, T> as Draw<T>>⟧.may_give left) (R.may_give right)
-        (⟦<Union<T, RangesIter<'a, T>, R> as Draw<T>>⟧.may_give result)) };
+    ghost bitor_gives = { MakesUnion T.Integer.own ⟦<RangesIter<'a, T> as Draw<T>>⟧ R.Draw
+        ⟦<Union<T, RangesIter<'a, T>, R> as Draw<T>>⟧ };
 
     fn bitor(self, other: R) -> Self::Output {
         Union::from((self, other))
@@ -38,14 +34,10 @@ impl<'a, T: Integer, R: DrawDisjoint<T>> BitOr<R> for RangesIter<'a, T> {
 impl<'a, T: Integer, R: DrawDisjoint<T>> BitAnd<R> for RangesIter<'a, T> {
     type Output = Intersection<T, RangesIter<'a, T>, R>;
 
-    ghost can_bitand = { λ left right.
-        (⟦<RangesIter<'a, T> as Draw<T>>⟧.can_draw left) × (R.can_draw right) };
+    ghost can_bitand = { CanDrawBoth ⟦<RangesIter<'a, T> as Draw<T>>⟧ R.Draw };
 
-    ghost bitand_gives = { λ left right result.
-        IsReadyAnd ⟦<Intersection<T, RangesIter<'a, T>, R> as Draw<T>>⟧.can_draw result
-        (GivesIntersection T.value_count
-        (⟦<RangesIter<'a, T> as Draw<T>>⟧.may_give left) (R.may_give right)
-        (⟦<Intersection<T, RangesIter<'a, T>, R> as Draw<T>>⟧.may_give result)) };
+    ghost bitand_gives = { MakesIntersection T.Integer.own ⟦<RangesIter<'a, T> as Draw<T>>⟧ R.Draw
+        ⟦<Intersection<T, RangesIter<'a, T>, R> as Draw<T>>⟧ };
 
     fn bitand(self, other: R) -> Self::Output {
         Intersection::from((self, other))
@@ -55,14 +47,10 @@ impl<'a, T: Integer, R: DrawDisjoint<T>> BitAnd<R> for RangesIter<'a, T> {
 impl<'a, T: Integer, R: DrawDisjoint<T>> Sub<R> for RangesIter<'a, T> {
     type Output = Difference<T, RangesIter<'a, T>, R>;
 
-    ghost can_sub = { λ left right.
-        (⟦<RangesIter<'a, T> as Draw<T>>⟧.can_draw left) × (R.can_draw right) };
+    ghost can_sub = { CanDrawBoth ⟦<RangesIter<'a, T> as Draw<T>>⟧ R.Draw };
 
-    ghost sub_gives = { λ left right result.
-        IsReadyAnd ⟦<Difference<T, RangesIter<'a, T>, R> as Draw<T>>⟧.can_draw result
-        (GivesDifference T.value_count
-        (⟦<RangesIter<'a, T> as Draw<T>>⟧.may_give left) (R.may_give right)
-        (⟦<Difference<T, RangesIter<'a, T>, R> as Draw<T>>⟧.may_give result)) };
+    ghost sub_gives = { MakesDifference T.Integer.own ⟦<RangesIter<'a, T> as Draw<T>>⟧ R.Draw
+        ⟦<Difference<T, RangesIter<'a, T>, R> as Draw<T>>⟧ };
 
     fn sub(self, other: R) -> Self::Output {
         Difference::from((self, other))
@@ -72,14 +60,10 @@ impl<'a, T: Integer, R: DrawDisjoint<T>> Sub<R> for RangesIter<'a, T> {
 impl<'a, T: Integer, R: DrawDisjoint<T>> BitXor<R> for RangesIter<'a, T> {
     type Output = SymmetricDifference<T, RangesIter<'a, T>, R>;
 
-    ghost can_bitxor = { λ left right.
-        (⟦<RangesIter<'a, T> as Draw<T>>⟧.can_draw left) × (R.can_draw right) };
+    ghost can_bitxor = { CanDrawBoth ⟦<RangesIter<'a, T> as Draw<T>>⟧ R.Draw };
 
-    ghost bitxor_gives = { λ left right result.
-        IsReadyAnd ⟦<SymmetricDifference<T, RangesIter<'a, T>, R> as Draw<T>>⟧.can_draw result
-        (GivesSymmetricDifference T.value_count
-        (⟦<RangesIter<'a, T> as Draw<T>>⟧.may_give left) (R.may_give right)
-        (⟦<SymmetricDifference<T, RangesIter<'a, T>, R> as Draw<T>>⟧.may_give result)) };
+    ghost bitxor_gives = { MakesSymmetricDifference T.Integer.own ⟦<RangesIter<'a, T> as Draw<T>>⟧ R.Draw
+        ⟦<SymmetricDifference<T, RangesIter<'a, T>, R> as Draw<T>>⟧ };
 
     fn bitxor(self, other: R) -> Self::Output {
         SymmetricDifference::from((self, other))
@@ -89,13 +73,10 @@ impl<'a, T: Integer, R: DrawDisjoint<T>> BitXor<R> for RangesIter<'a, T> {
 impl<'a, T: Integer> Not for RangesIter<'a, T> {
     type Output = NotIter<T, RangesIter<'a, T>>;
 
-    ghost can_not = { λ stream. ⟦<RangesIter<'a, T> as Draw<T>>⟧.can_draw stream };
+    ghost can_not = { ⟦<RangesIter<'a, T> as Draw<T>>⟧.can_draw };
 
-    ghost not_gives = { λ stream result.
-        IsReadyAnd ⟦<NotIter<T, RangesIter<'a, T>> as Draw<T>>⟧.can_draw result
-        (GivesComplement T.value_count
-        (⟦<RangesIter<'a, T> as Draw<T>>⟧.may_give stream)
-        (⟦<NotIter<T, RangesIter<'a, T>> as Draw<T>>⟧.may_give result)) };
+    ghost not_gives = { MakesComplement T.Integer.own ⟦<RangesIter<'a, T> as Draw<T>>⟧
+        ⟦<NotIter<T, RangesIter<'a, T>> as Draw<T>>⟧ };
 
     fn not(self) -> Self::Output {
         NotIter::from(self)
@@ -105,14 +86,10 @@ impl<'a, T: Integer> Not for RangesIter<'a, T> {
 impl<T: Integer, A: Allocator, R: DrawDisjoint<T>> BitOr<R> for IntoRangesIter<T, A> {
     type Output = Union<T, IntoRangesIter<T, A>, R>;
 
-    ghost can_bitor = { λ left right.
-        (⟦<IntoRangesIter<T, A> as Draw<T>>⟧.can_draw left) × (R.can_draw right) };
+    ghost can_bitor = { CanDrawBoth ⟦<IntoRangesIter<T, A> as Draw<T>>⟧ R.Draw };
 
-    ghost bitor_gives = { λ left right result.
-        IsReadyAnd ⟦<Union<T, IntoRangesIter<T, A>, R> as Draw<T>>⟧.can_draw result
-        (GivesUnion T.value_count
-        (⟦<IntoRangesIter<T, A> as Draw<T>>⟧.may_give left) (R.may_give right)
-        (⟦<Union<T, IntoRangesIter<T, A>, R> as Draw<T>>⟧.may_give result)) };
+    ghost bitor_gives = { MakesUnion T.Integer.own ⟦<IntoRangesIter<T, A> as Draw<T>>⟧ R.Draw
+        ⟦<Union<T, IntoRangesIter<T, A>, R> as Draw<T>>⟧ };
 
     fn bitor(self, other: R) -> Self::Output {
         Union::from((self, other))
@@ -122,14 +99,10 @@ impl<T: Integer, A: Allocator, R: DrawDisjoint<T>> BitOr<R> for IntoRangesIter<T
 impl<T: Integer, A: Allocator, R: DrawDisjoint<T>> BitAnd<R> for IntoRangesIter<T, A> {
     type Output = Intersection<T, IntoRangesIter<T, A>, R>;
 
-    ghost can_bitand = { λ left right.
-        (⟦<IntoRangesIter<T, A> as Draw<T>>⟧.can_draw left) × (R.can_draw right) };
+    ghost can_bitand = { CanDrawBoth ⟦<IntoRangesIter<T, A> as Draw<T>>⟧ R.Draw };
 
-    ghost bitand_gives = { λ left right result.
-        IsReadyAnd ⟦<Intersection<T, IntoRangesIter<T, A>, R> as Draw<T>>⟧.can_draw result
-        (GivesIntersection T.value_count
-        (⟦<IntoRangesIter<T, A> as Draw<T>>⟧.may_give left) (R.may_give right)
-        (⟦<Intersection<T, IntoRangesIter<T, A>, R> as Draw<T>>⟧.may_give result)) };
+    ghost bitand_gives = { MakesIntersection T.Integer.own ⟦<IntoRangesIter<T, A> as Draw<T>>⟧ R.Draw
+        ⟦<Intersection<T, IntoRangesIter<T, A>, R> as Draw<T>>⟧ };
 
     fn bitand(self, other: R) -> Self::Output {
         Intersection::from((self, other))
@@ -139,14 +112,10 @@ impl<T: Integer, A: Allocator, R: DrawDisjoint<T>> BitAnd<R> for IntoRangesIter<
 impl<T: Integer, A: Allocator, R: DrawDisjoint<T>> Sub<R> for IntoRangesIter<T, A> {
     type Output = Difference<T, IntoRangesIter<T, A>, R>;
 
-    ghost can_sub = { λ left right.
-        (⟦<IntoRangesIter<T, A> as Draw<T>>⟧.can_draw left) × (R.can_draw right) };
+    ghost can_sub = { CanDrawBoth ⟦<IntoRangesIter<T, A> as Draw<T>>⟧ R.Draw };
 
-    ghost sub_gives = { λ left right result.
-        IsReadyAnd ⟦<Difference<T, IntoRangesIter<T, A>, R> as Draw<T>>⟧.can_draw result
-        (GivesDifference T.value_count
-        (⟦<IntoRangesIter<T, A> as Draw<T>>⟧.may_give left) (R.may_give right)
-        (⟦<Difference<T, IntoRangesIter<T, A>, R> as Draw<T>>⟧.may_give result)) };
+    ghost sub_gives = { MakesDifference T.Integer.own ⟦<IntoRangesIter<T, A> as Draw<T>>⟧ R.Draw
+        ⟦<Difference<T, IntoRangesIter<T, A>, R> as Draw<T>>⟧ };
 
     fn sub(self, other: R) -> Self::Output {
         Difference::from((self, other))
@@ -156,14 +125,10 @@ impl<T: Integer, A: Allocator, R: DrawDisjoint<T>> Sub<R> for IntoRangesIter<T, 
 impl<T: Integer, A: Allocator, R: DrawDisjoint<T>> BitXor<R> for IntoRangesIter<T, A> {
     type Output = SymmetricDifference<T, IntoRangesIter<T, A>, R>;
 
-    ghost can_bitxor = { λ left right.
-        (⟦<IntoRangesIter<T, A> as Draw<T>>⟧.can_draw left) × (R.can_draw right) };
+    ghost can_bitxor = { CanDrawBoth ⟦<IntoRangesIter<T, A> as Draw<T>>⟧ R.Draw };
 
-    ghost bitxor_gives = { λ left right result.
-        IsReadyAnd ⟦<SymmetricDifference<T, IntoRangesIter<T, A>, R> as Draw<T>>⟧.can_draw result
-        (GivesSymmetricDifference T.value_count
-        (⟦<IntoRangesIter<T, A> as Draw<T>>⟧.may_give left) (R.may_give right)
-        (⟦<SymmetricDifference<T, IntoRangesIter<T, A>, R> as Draw<T>>⟧.may_give result)) };
+    ghost bitxor_gives = { MakesSymmetricDifference T.Integer.own ⟦<IntoRangesIter<T, A> as Draw<T>>⟧ R.Draw
+        ⟦<SymmetricDifference<T, IntoRangesIter<T, A>, R> as Draw<T>>⟧ };
 
     fn bitxor(self, other: R) -> Self::Output {
         SymmetricDifference::from((self, other))
@@ -173,13 +138,10 @@ impl<T: Integer, A: Allocator, R: DrawDisjoint<T>> BitXor<R> for IntoRangesIter<
 impl<T: Integer, A: Allocator> Not for IntoRangesIter<T, A> {
     type Output = NotIter<T, IntoRangesIter<T, A>>;
 
-    ghost can_not = { λ stream. ⟦<IntoRangesIter<T, A> as Draw<T>>⟧.can_draw stream };
+    ghost can_not = { ⟦<IntoRangesIter<T, A> as Draw<T>>⟧.can_draw };
 
-    ghost not_gives = { λ stream result.
-        IsReadyAnd ⟦<NotIter<T, IntoRangesIter<T, A>> as Draw<T>>⟧.can_draw result
-        (GivesComplement T.value_count
-        (⟦<IntoRangesIter<T, A> as Draw<T>>⟧.may_give stream)
-        (⟦<NotIter<T, IntoRangesIter<T, A>> as Draw<T>>⟧.may_give result)) };
+    ghost not_gives = { MakesComplement T.Integer.own ⟦<IntoRangesIter<T, A> as Draw<T>>⟧
+        ⟦<NotIter<T, IntoRangesIter<T, A>> as Draw<T>>⟧ };
 
     fn not(self) -> Self::Output {
         NotIter::from(self)

@@ -11,7 +11,7 @@ use Rattle.rsb_integer.proofs.MembersLemmas.{members-below, members-head, member
 use Rattle.rsb_integer.proofs.RunsLemmas.{runs-along, runs-canonical, runs-from_canonical, runs-members}
 use Rattle.rsb_integer.specs.declared.integer.Integer.{Ghosts as Elements}
 use Rattle.rsb_streams.specs.NotIter.{NotReady}
-use Rattle.rsb_streams.specs.Stream.{Outcomes, ◌⊆◌, gaps_from, runs_by}
+use Rattle.rsb_streams.specs.Stream.{◌⊆◌, gaps_from, runs_by}
 use Rattle.rsb_streams.proofs.UnionLemmas.{runs-start}
 use Rattle.rsb_streams.specs.declared.draw.Draw.{Ghosts as Stream}
 

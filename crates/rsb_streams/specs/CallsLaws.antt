@@ -1,5 +1,5 @@
 -- The laws of streams of which nothing is known but what their calls give.
-use Rattle.std.proofs.Common.{◌≡◌, ℕ, zero, suc, ◌<◌, ◌≤◌, List, [], ◌∷◌, refl, sym, ap, subst, inl, inr, arith}
+use Rattle.std.proofs.Common.{ℕ, zero, suc, ◌<◌, ◌≤◌, List, [], ◌∷◌, refl, sym, ap, subst, inl, inr, arith}
 use Rattle.std.specs.Prelude.{Option, Some, None}
 use Rattle.std.specs.Iterator.{IsFinite, IsNearerEnd, Yields, size}
 use Rattle.std.specs.declared.iter.Iterator.{Ghosts as Iteration}

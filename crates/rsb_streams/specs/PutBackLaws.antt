@@ -7,11 +7,10 @@ use Rattle.rsb_integer.specs.Runs.{Interval}
 use Rattle.rsb_integer.specs.declared.integer.Integer.{Ghosts as Elements}
 use Rattle.rsb_streams.specs.Fused.{fused, Fused}
 use Rattle.rsb_streams.specs.FusedLaws.{fused-answered, fused-keeps}
-use Rattle.rsb_streams.specs.PutBack.{fused_of, put_back, put_back_may_give}
+use Rattle.rsb_streams.specs.PutBack.{fused_of, put_back}
 use Rattle.rsb_streams.specs.Rows.{IsAnswered, IsSorted}
-use Rattle.rsb_streams.specs.Stream.{after, Answers, HasOutcome, HasSortedStarts}
+use Rattle.rsb_streams.specs.Stream.{after, HasOutcome, HasSortedStarts}
 use Rattle.rsb_streams.specs.declared.draw.Draw.{Ghosts as Stream}
-use Rattle.rsb_streams.specs.declared.put_back.PutBack.{PutBack}
 
 module _ {T N I : Type 0} (integer : Elements T N) (stream : Stream I T N) where
   open integer use {rank, value_count as n}

@@ -1,6 +1,5 @@
 -- Streams by the members of `Draw`: a row says when a stream may be drawn from, what a draw answers
 -- and leaves, how many ranges are left, and what may still come.
-use Rattle.std.proofs.Common.{ℕ}
 use Rattle.std.specs.Iterator.{Count}
 use Rattle.std.specs.Prelude.{List, Option}
 use Rattle.std.specs.declared.ops.RangeInclusive.{RangeInclusive}

@@ -7,7 +7,6 @@ use Rattle.rsb_streams.specs.Stream.{◌⊆◌, merges}
 use Rattle.rsb_streams.proofs.OddEnds.{fresh-going, fresh-pieces}
 use Rattle.rsb_streams.proofs.Sources.{fresh-may, fresh-ready}
 use Rattle.rsb_streams.proofs.SymDiffLemmas.{merges-twofold, symmetric-of_merge}
-use Rattle.rsb_streams.proofs.sym_diff_iter.SymDiffIterFromTuple2.from.Given.{Over}
 use Rattle.rsb_streams.proofs.sym_diff_iter.SymDiffIterFromTuple2.from.Goals as goal
 
 -- the union of the pieces of the merge of the two

@@ -2,7 +2,6 @@ use Rattle.rsb_streams.specs.Merge.{merge}
 use Rattle.rsb_streams.specs.MergeLaws.{merge-sorted}
 use Rattle.rsb_streams.proofs.OperationLemmas.{union-of_merge}
 use Rattle.rsb_streams.proofs.Sources.{fresh-may, fresh-ready}
-use Rattle.rsb_streams.proofs.union_iter.UnionIterMergeFromTuple2.from.Given.{Over}
 use Rattle.rsb_streams.proofs.union_iter.UnionIterMergeFromTuple2.from.Goals as goal
 
 -- a union of the merge of the two
