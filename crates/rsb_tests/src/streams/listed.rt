@@ -4,8 +4,9 @@ ghost use Rattle.std.specs.Prelude.{◌+◌, ◌≤◌, ◌<◌, MatchOption, le
 ghost use Rattle.std.specs.Iterator.{at_most};
 ghost use Rattle.std.proofs.Common.{arith, rules};
 ghost use Rattle.rsb_integer.specs.Rank.{interval_of};
-ghost use Rattle.rsb_streams.specs.Ascending.{ascending-keeps};
-ghost use Rattle.rsb_streams.specs.Calls.{gives_by, gives_by-answers};
+ghost use Rattle.rsb_streams.specs.AscendingLaws.{ascending-keeps};
+ghost use Rattle.rsb_streams.specs.Calls.{gives_by};
+ghost use Rattle.rsb_streams.specs.CallsLaws.{gives_by-answers};
 ghost use Rattle.rsb_streams.specs.Outcomes.{canonical-starts};
 ghost use Rattle.rsb_streams.specs.Stream.{drawn-itself};
 
