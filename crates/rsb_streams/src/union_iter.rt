@@ -55,7 +55,7 @@ impl<T: Integer, SS: Draw<T>> UnionIter<T, SS> {
 }
 
 impl<T: Integer, L: Draw<T>, R: Draw<T>> From<(L, R)> for UnionIter<T, Merge<T, L, R>> {
-    // The union of two streams that may be called, of which nothing is drawn yet. (Own.)
+    // The union of two streams that may be drawn from, of which nothing is drawn yet. (Own.)
     ghost from_gives = { λ streams result. L.can_draw streams.0 → R.can_draw streams.1
         → MakesUnion T.Integer.own L.Draw R.Draw ⟦<UnionIter<T, Merge<T, L, R>> as Draw<T>>⟧
         streams.0 streams.1 result };
