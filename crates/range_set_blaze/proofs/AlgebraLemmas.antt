@@ -8,7 +8,7 @@ use Rattle.rsb_integer.specs.Runs.{Interval, members, IsCanonicalIn}
 use Rattle.rsb_integer.specs.Selection.{Selection, complement, difference, intersection, symmetric_difference, union}
 use Rattle.rsb_integer.proofs.MembersLemmas.{members-end}
 use Rattle.rsb_integer.proofs.RunsLemmas.{runs-canonical}
-use Rattle.rsb_streams.specs.Outcomes.{settled_canonical_in}
+use Rattle.rsb_streams.specs.StreamLaws.{settled_canonical_in}
 use Rattle.rsb_streams.specs.Stream.{Outcomes, ◌⊆◌, just, runs_by, runs_by_two}
 use Rattle.rsb_streams.proofs.CallerLemmas.{members-runs_by, members-runs_by_two}
 use Rattle.range_set_blaze.specs.Algebra.{IsComplementOf}

@@ -9,7 +9,7 @@ use Rattle.rsb_integer.specs.Runs.{Interval, covers, members, IsCanonicalIn}
 use Rattle.rsb_integer.specs.Selection.{intersection}
 use Rattle.rsb_integer.proofs.MembersLemmas.{members-end}
 use Rattle.rsb_integer.proofs.RunsLemmas.{runs-canonical}
-use Rattle.rsb_streams.specs.Outcomes.{settled_canonical_in}
+use Rattle.rsb_streams.specs.StreamLaws.{settled_canonical_in}
 use Rattle.rsb_streams.specs.Stream.{just, run_if_any, runs_by_two}
 use Rattle.rsb_streams.proofs.CallerLemmas.{members-runs_by_two}
 use Rattle.range_set_blaze.proofs.BulkLemmas.{members-run_if_any}

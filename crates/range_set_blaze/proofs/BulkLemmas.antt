@@ -12,7 +12,7 @@ use Rattle.rsb_integer.specs.Runs.{Interval, covers, length_of, members, IsCanon
 use Rattle.rsb_integer.proofs.RangeLemmas.{interval_of-some}
 use Rattle.rsb_integer.proofs.CanonicalLemmas.{canonical-front, canonical-parts}
 use Rattle.rsb_integer.proofs.MembersLemmas.{members-cons}
-use Rattle.rsb_streams.specs.Outcomes.{settled_canonical_in}
+use Rattle.rsb_streams.specs.StreamLaws.{settled_canonical_in}
 use Rattle.rsb_streams.specs.Stream.{Outcomes, ◌⊆◌, run_if_any, HasOutcome}
 use Rattle.range_set_blaze.specs.Kept.{entry_run, runs_of}
 use Rattle.range_set_blaze.proofs.KeptLemmas.{sum_by-within}

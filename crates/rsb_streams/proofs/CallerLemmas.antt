@@ -12,7 +12,7 @@ use Rattle.std.proofs.Math.Bool.{not-not}
 use Rattle.rsb_integer.specs.Runs.{Interval, members}
 use Rattle.rsb_integer.specs.Selection.{Selection, Agree, complement, difference, intersection, union}
 use Rattle.rsb_integer.proofs.RunsLemmas.{runs-along, runs-members}
-use Rattle.rsb_streams.specs.Outcomes.{runs-exist}
+use Rattle.rsb_streams.specs.StreamLaws.{runs-exist}
 use Rattle.rsb_streams.specs.Stream.{Outcomes, ◌⊆◌, joined, just, runs_by, runs_by_two}
 use Rattle.rsb_streams.specs.declared.draw.Draw.{Ghosts as Stream}
 

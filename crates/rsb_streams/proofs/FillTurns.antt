@@ -12,7 +12,7 @@ use Rattle.rsb_integer.specs.Runs.{Interval, IsCanonicalFrom, IsCanonicalIn}
 use Rattle.rsb_integer.proofs.CanonicalLemmas.{canonical-lower}
 use Rattle.rsb_streams.specs.FillGapsIter.{FilledOutcomes, FillsFrom, values_from, FillSteps, GivesFilled, fill_can_next, fill_may_give, fill_remaining, fills_after}
 use Rattle.rsb_streams.specs.NotIter.{NotReady}
-use Rattle.rsb_streams.specs.Outcomes.{canonical-sorted, sorted-below}
+use Rattle.rsb_streams.specs.StreamLaws.{canonical-sorted, sorted-below}
 use Rattle.rsb_streams.specs.PutBack.{put_back, IsFresh, IsPutBack}
 use Rattle.rsb_streams.specs.Stream.{◌⊆◌, SomeOutcome}
 use Rattle.rsb_streams.specs.declared.fill_gaps_iter.FillGapsIter.{FillGapsIter}

@@ -11,7 +11,7 @@ use Rattle.rsb_integer.specs.Runs.{Interval, members, IsCanonicalIn}
 use Rattle.rsb_integer.specs.Selection.{IsEverything, IsNothing}
 use Rattle.rsb_integer.proofs.ListLemmas.{not_both}
 use Rattle.rsb_integer.proofs.MembersLemmas.{members-below, members-head, members-tail}
-use Rattle.rsb_streams.specs.Outcomes.{canonical-sorted}
+use Rattle.rsb_streams.specs.StreamLaws.{canonical-sorted}
 use Rattle.rsb_streams.specs.Stream.{◌⊆◌, SomeOutcome}
 use Rattle.rsb_streams.proofs.Sources.{IsLawful}
 use Rattle.rsb_streams.proofs.UnionLemmas.{head-sorted}

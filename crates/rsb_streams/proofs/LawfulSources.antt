@@ -12,7 +12,7 @@ use Rattle.rsb_integer.proofs.CanonicalLemmas.{canonical-front}
 use Rattle.rsb_streams.specs.Adapters.{NextIsDraw}
 use Rattle.rsb_streams.specs.Calls.{Call, IsSource}
 use Rattle.rsb_streams.specs.CallsLaws.{calls-steps}
-use Rattle.rsb_streams.specs.Outcomes.{settled_canonical_in, settled_sorted}
+use Rattle.rsb_streams.specs.StreamLaws.{settled_canonical_in, settled_sorted}
 use Rattle.rsb_streams.specs.Stream.{◌⊆◌, HasSortedStarts, HasSortedStartsFrom}
 use Rattle.rsb_streams.proofs.Sources.{IsLawful}
 

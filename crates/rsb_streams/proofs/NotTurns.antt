@@ -11,7 +11,7 @@ use Rattle.rsb_integer.specs.Runs.{Interval, members, IsCanonicalIn, AreRuns}
 use Rattle.rsb_integer.proofs.CanonicalLemmas.{canonical-lower}
 use Rattle.rsb_integer.proofs.RunsLemmas.{runs-along}
 use Rattle.rsb_streams.specs.NotIter.{gaps_after, not_iter, NotReady}
-use Rattle.rsb_streams.specs.Outcomes.{canonical-sorted, sorted-below}
+use Rattle.rsb_streams.specs.StreamLaws.{canonical-sorted, sorted-below}
 use Rattle.rsb_streams.specs.Stream.{Outcomes, ◌⊆◌, just, gaps_from, runs_by, AnswersAndRests, HasSortedStartsFrom, SomeOutcome}
 use Rattle.rsb_streams.specs.declared.not_iter.NotIter.{NotIter}
 use Rattle.std.specs.Ordering.{partial_lt}

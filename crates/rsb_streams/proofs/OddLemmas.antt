@@ -7,7 +7,7 @@ use Rattle.rsb_integer.specs.Selection.{Selection, Agree, exclusive_or}
 use Rattle.rsb_integer.proofs.ListLemmas.{true_or_false, not_both}
 use Rattle.rsb_integer.proofs.MembersLemmas.{covers-cases, covers-inside, covers-outside, members-head, members-tail}
 use Rattle.rsb_streams.specs.OddPieces.{oddly_covered, ArePieces, IsTwoDeep, IsTwofold}
-use Rattle.rsb_streams.specs.Outcomes.{sorted-lower}
+use Rattle.rsb_streams.specs.StreamLaws.{sorted-lower}
 use Rattle.rsb_streams.specs.Stream.{HasSortedStarts, HasSortedStartsFrom, run_if_any}
 
 -- ---- an odd number of intervals

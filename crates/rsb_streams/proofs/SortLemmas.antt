@@ -12,7 +12,7 @@ use Rattle.std.specs.declared.ops.RangeInclusive.{RangeInclusive}
 use Rattle.rsb_integer.specs.Rank.{interval_of, intervals_of}
 use Rattle.rsb_integer.specs.Runs.{Interval, covers, cover, members, AreRuns}
 use Rattle.rsb_integer.proofs.RunsLemmas.{runs-canonical, runs-from_canonical}
-use Rattle.rsb_streams.specs.Outcomes.{settled_canonical_in}
+use Rattle.rsb_streams.specs.StreamLaws.{settled_canonical_in}
 use Rattle.rsb_streams.specs.Stream.{joined, just, HasSortedStarts, HasSortedStartsFrom}
 use Rattle.rsb_streams.specs.UnsortedDisjoint.{IsProper}
 use Rattle.rsb_streams.proofs.CallerLemmas.{members-runs_by}

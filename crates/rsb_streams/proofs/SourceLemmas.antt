@@ -9,7 +9,7 @@ use Rattle.std.specs.Iterator.Adapters.{fuse_done, fuse_source, fuse_steps}
 use Rattle.rsb_integer.specs.Runs.{Interval}
 use Rattle.rsb_streams.specs.Calls.{IsSource}
 use Rattle.rsb_streams.specs.CallsLaws.{source-after}
-use Rattle.rsb_streams.specs.Outcomes.{sorted-lower}
+use Rattle.rsb_streams.specs.StreamLaws.{sorted-lower}
 use Rattle.rsb_streams.specs.Stream.{HasSortedStarts}
 use Rattle.rsb_streams.specs.Fused.{fuse_can_next, fuse_remaining}
 

@@ -1,7 +1,7 @@
 -- A stream that a proof knows by its laws alone.
 use Rattle.std.proofs.Common.{◌≡◌, ℕ, ◌+◌, ◌≤◌, Bool, true, false, List, [], ◌∷◌, sym, ap, subst, arith}
 use Rattle.std.specs.Prelude.{Option, Some, None, MatchOption}
-use Rattle.std.specs.Iterator.{size}
+use Rattle.std.specs.Iterator.{Count, size}
 use Rattle.std.specs.Range.{range_inclusive_start, range_inclusive_end}
 use Rattle.std.specs.declared.ops.RangeInclusive.{RangeInclusive}
 use Rattle.rsb_integer.specs.Rank.{interval_of}
@@ -12,7 +12,7 @@ use Rattle.rsb_streams.specs.Fused.{fused, Fused, fused_may_give}
 use Rattle.rsb_streams.specs.PutBack.{fused_of, put_back, HasRoom, IsFresh, IsPutBack}
 use Rattle.rsb_streams.specs.PutBackLaws.{put_back-answered, put_back-sorted}
 use Rattle.rsb_streams.specs.Rows.{IsAnswered, IsSorted}
-use Rattle.rsb_streams.specs.Stream.{◌⊆◌, after, just, unless, HasSortedStarts}
+use Rattle.rsb_streams.specs.Stream.{◌⊆◌, after, just, unless, HasSortedStarts, IsDrawn}
 use Rattle.rsb_streams.specs.declared.draw.Draw.{Ghosts as Stream}
 use Rattle.rsb_streams.specs.declared.put_back.PutBack.{PutBack}
 
@@ -149,3 +149,16 @@ module _ {S T N : Type 0} (integer : Elements T N) (source : Stream S T N) where
         },
         nothing,
       )
+
+-- ---- `next` and `draw`
+
+module _ {S T : Type 0} {can_draw : S → Type 0}
+    {draw_gives : S → Option (RangeInclusive T) → S → Type 0} {draws_left : S → Count}
+    {can_next : S → Type 0} {next_gives : S → Option (RangeInclusive T) → S → Type 0}
+    {remaining : S → Count}
+    (drawn : IsDrawn can_draw draw_gives draws_left can_next next_gives remaining) where
+  -- a call of `next` is a draw
+  pub drawn-call : (s t : S) (item : Option (RangeInclusive T)) → can_draw s
+      → next_gives s item t → draw_gives s item t
+  drawn-call s t None can call = drawn.ends s t (drawn.callable s can) call
+  drawn-call s t (Some range) can call = drawn.gives s t range call

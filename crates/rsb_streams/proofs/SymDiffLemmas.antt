@@ -5,7 +5,7 @@ use Rattle.rsb_integer.specs.Selection.{exclusive_or, symmetric_difference}
 use Rattle.rsb_integer.proofs.MembersLemmas.{covers-cases, covers-outside, members-below, members-head, members-tail}
 use Rattle.rsb_integer.proofs.RunsLemmas.{runs-along}
 use Rattle.rsb_streams.specs.OddPieces.{oddly_covered, ArePieces, IsTwofold, IsTwoDeep}
-use Rattle.rsb_streams.specs.Outcomes.{settled_le}
+use Rattle.rsb_streams.specs.StreamLaws.{settled_le}
 use Rattle.rsb_streams.specs.Stream.{Outcomes, ◌⊆◌, HasSortedStarts, IsMergeOf, SomeOutcomes, joined, merges, runs_by_two}
 
 -- ---- a canonical list

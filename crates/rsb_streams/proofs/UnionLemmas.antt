@@ -8,7 +8,7 @@ use Rattle.rsb_integer.specs.Selection.{Selection}
 use Rattle.rsb_integer.proofs.ListLemmas.{not_both}
 use Rattle.rsb_integer.proofs.MembersLemmas.{covers-inside, members-cons}
 use Rattle.rsb_integer.proofs.RunsLemmas.{runs-canonical, runs-from_canonical, runs-members}
-use Rattle.rsb_streams.specs.Outcomes.{settled_le, settled_lt, sorted-lower, sorted-members}
+use Rattle.rsb_streams.specs.StreamLaws.{settled_le, settled_lt, sorted-lower, sorted-members}
 use Rattle.rsb_streams.specs.Stream.{Outcomes, ◌⊆◌, just, joined, HasOutcome, SomeOutcome, HasSortedStartsFrom, HasSortedStarts}
 
 -- the runs of a set that selects nothing below a rank start there or past it

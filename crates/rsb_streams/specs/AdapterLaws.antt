@@ -17,7 +17,7 @@ use Rattle.std.specs.declared.ops.RangeInclusive.{RangeInclusive}
 use Rattle.rsb_integer.specs.Front.{IsFrontOf}
 use Rattle.rsb_integer.specs.Runs.{Interval}
 use Rattle.rsb_integer.specs.declared.integer.Integer.{Ghosts as Elements}
-use Rattle.rsb_streams.specs.AdapterCalls.{filter-gives, fuse-gives, skip-gives, skip_while-gives, take-gives, take_while-gives}
+use Rattle.rsb_streams.specs.AdapterCallLaws.{filter-gives, fuse-gives, skip-gives, skip_while-gives, take-gives, take_while-gives}
 use Rattle.rsb_streams.specs.Adapters.{adapted, filter_draws, fuse_draws, IsRestOf, IsSkipped, NextIsDraw, part_of, skip_draws, skip_while_draws, take_draws, take_while_draws}
 use Rattle.rsb_streams.specs.Fused.{fuse_can_next, fuse_remaining}
 use Rattle.rsb_streams.specs.FusedLaws.{fuse-keeps}

@@ -1,4 +1,4 @@
-pub mod AdapterCalls
+pub mod AdapterCallLaws
 pub mod AdapterLaws
 pub mod Adapters
 pub mod Ascending
@@ -23,7 +23,6 @@ pub mod NotIterLaws
 pub mod NotSortedDisjoint
 pub mod OddPieces
 pub mod OddPiecesLaws
-pub mod Outcomes
 pub mod PartLaws
 pub mod PutBack
 pub mod PutBackLaws
@@ -32,6 +31,7 @@ pub mod Results
 pub mod Rows
 pub mod SortedStartsInVec
 pub mod Stream
+pub mod StreamLaws
 pub mod Sublists
 pub mod SublistsLaws
 pub mod SymDiffIter

@@ -6,7 +6,7 @@ use Rattle.rsb_integer.specs.Runs.{Interval}
 use Rattle.rsb_integer.specs.declared.integer.Integer.{Ghosts as Elements}
 use Rattle.rsb_integer.proofs.ListLemmas.{true_or_false}
 use Rattle.rsb_streams.specs.Merge.{merge}
-use Rattle.rsb_streams.specs.Outcomes.{settled_sorted}
+use Rattle.rsb_streams.specs.StreamLaws.{settled_sorted}
 use Rattle.rsb_streams.specs.PutBack.{put_back}
 use Rattle.rsb_streams.specs.PutBackLaws.{put_back-sorted}
 use Rattle.rsb_streams.specs.Rows.{IsSorted}

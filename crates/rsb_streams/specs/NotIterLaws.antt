@@ -7,7 +7,7 @@ use Rattle.rsb_integer.specs.Runs.{Interval, members, IsCanonicalIn}
 use Rattle.rsb_integer.specs.declared.integer.Integer.{Ghosts as Elements}
 use Rattle.rsb_integer.proofs.RunsLemmas.{runs-canonical}
 use Rattle.rsb_streams.specs.NotIter.{gaps_after, not_iter, NotReady}
-use Rattle.rsb_streams.specs.Outcomes.{runs-exist, settled_canonical_in}
+use Rattle.rsb_streams.specs.StreamLaws.{runs-exist, settled_canonical_in}
 use Rattle.rsb_streams.specs.Rows.{IsDisjoint, IsSorted}
 use Rattle.rsb_streams.specs.Stream.{gaps_from, Keeps}
 use Rattle.rsb_streams.specs.declared.draw.Draw.{Ghosts as Stream}

@@ -4,7 +4,7 @@ use Rattle.std.specs.Iterator.{count_map, count_unless}
 use Rattle.rsb_integer.specs.declared.integer.Integer.{Ghosts as Elements}
 use Rattle.rsb_integer.proofs.RunsLemmas.{runs-canonical, runs-members}
 use Rattle.rsb_streams.specs.OddPieces.{ends_of, IsGoing, odd_pieces, oddly_covered, pending, pieces_of}
-use Rattle.rsb_streams.specs.Outcomes.{canonical-sorted, runs-exist, settled_sorted}
+use Rattle.rsb_streams.specs.StreamLaws.{canonical-sorted, runs-exist, settled_sorted}
 use Rattle.rsb_streams.specs.Rows.{IsSorted}
 use Rattle.rsb_streams.specs.Stream.{HasSortedStarts, Keeps, unless}
 use Rattle.rsb_streams.specs.declared.draw.Draw.{Ghosts as Stream}

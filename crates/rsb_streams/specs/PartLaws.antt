@@ -9,7 +9,7 @@ use Rattle.rsb_integer.specs.Front.{IsFrontOf}
 use Rattle.rsb_integer.specs.Runs.{Interval, IsCanonicalIn}
 use Rattle.rsb_streams.specs.Adapters.{IsRestOf, IsSkipped, part_of}
 use Rattle.rsb_streams.specs.Fused.{fuse_can_next, fuse_may_give}
-use Rattle.rsb_streams.specs.Outcomes.{settled_canonical_in, settled_sorted}
+use Rattle.rsb_streams.specs.StreamLaws.{settled_canonical_in, settled_sorted}
 use Rattle.rsb_streams.specs.Stream.{Outcomes, ◌⊆◌, HasSortedStarts, Keeps, unless}
 use Rattle.rsb_streams.specs.Sublists.{IsSublist}
 use Rattle.rsb_streams.specs.SublistsLaws.{sublist-after, sublist-all, sublist-canonical, sublist-drop, sublist-front, sublist-none, sublist-sorted, sublist-take}

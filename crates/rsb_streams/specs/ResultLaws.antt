@@ -8,7 +8,7 @@ use Rattle.rsb_streams.specs.NotIter.{not_iter}
 use Rattle.rsb_streams.specs.NotIterLaws.{not_iter-disjoint}
 use Rattle.rsb_streams.specs.OddPieces.{odd_pieces}
 use Rattle.rsb_streams.specs.OddPiecesLaws.{odd_pieces-sorted}
-use Rattle.rsb_streams.specs.Outcomes.{disjoint-sorted}
+use Rattle.rsb_streams.specs.StreamLaws.{disjoint-sorted}
 use Rattle.rsb_streams.specs.Rows.{IsDisjoint, IsSorted}
 use Rattle.rsb_streams.specs.SymDiffIter.{sym_diff}
 use Rattle.rsb_streams.specs.Union.{union}

@@ -1,5 +1,4 @@
 -- What a stream of ranges may still give, as lists of intervals of ranks.
-use Rattle.std.proofs.Common.{refl}
 use Rattle.std.specs.Prelude.{◌≡◌, ◌⊎◌, ℕ, Bool, not, ◌&&◌, cond, ◌<◌, ◌≤◌, nat_le, List, [], ◌∷◌, Option, Some, None, MatchOption, MatchBool}
 use Rattle.std.specs.declared.ops.RangeInclusive.{RangeInclusive}
 use Rattle.std.specs.Iterator.{Count, IsFinite}
@@ -165,26 +164,3 @@ pub record IsDrawn {S T : Type 0} (can_draw : S → Type 0)
       → draw_gives s (Some range) t
   pub ends : (s t : S) → can_next s → next_gives s None t → draw_gives s None t
   pub counts : (s : S) → remaining s ≡ draws_left s
-
--- so it is where both are given alike
-pub drawn-itself : {S T : Type 0} {can_next : S → Type 0}
-    {next_gives : S → Option (RangeInclusive T) → S → Type 0} {remaining : S → Count}
-    → IsDrawn can_next next_gives remaining can_next next_gives remaining
-drawn-itself = record {
-  drawable = λ s can. can;
-  callable = λ s can. can;
-  gives = λ s t range call. call;
-  ends = λ s t can call. call;
-  counts = λ s. refl;
-}
-
-module _ {S T : Type 0} {can_draw : S → Type 0}
-    {draw_gives : S → Option (RangeInclusive T) → S → Type 0} {draws_left : S → Count}
-    {can_next : S → Type 0} {next_gives : S → Option (RangeInclusive T) → S → Type 0}
-    {remaining : S → Count}
-    (drawn : IsDrawn can_draw draw_gives draws_left can_next next_gives remaining) where
-  -- a call of `next` is a draw
-  pub drawn-call : (s t : S) (item : Option (RangeInclusive T)) → can_draw s
-      → next_gives s item t → draw_gives s item t
-  drawn-call s t None can call = drawn.ends s t (drawn.callable s can) call
-  drawn-call s t (Some range) can call = drawn.gives s t range call

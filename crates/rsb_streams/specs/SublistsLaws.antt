@@ -3,7 +3,7 @@ use Rattle.std.proofs.Common.{ℕ, zero, suc, ◌+◌, ◌<◌, List, [], ◌∷
 use Rattle.std.proofs.lemmas.List.Elements.{All-cons, All-head, All-nil, All-tail}
 use Rattle.rsb_integer.specs.Runs.{Interval, AllEndBelow, IsCanonicalFrom, IsCanonicalIn}
 use Rattle.rsb_integer.proofs.CanonicalLemmas.{canonical-lower}
-use Rattle.rsb_streams.specs.Outcomes.{sorted-lower}
+use Rattle.rsb_streams.specs.StreamLaws.{sorted-lower}
 use Rattle.rsb_streams.specs.Stream.{HasSortedStarts, HasSortedStartsFrom}
 use Rattle.rsb_streams.specs.Sublists.{IsSublist}
 

@@ -4,7 +4,7 @@ use Rattle.std.specs.Iterator.{Count}
 use Rattle.rsb_integer.specs.Runs.{Interval, members, IsCanonicalIn}
 use Rattle.rsb_integer.specs.declared.integer.Integer.{Ghosts as Elements}
 use Rattle.rsb_integer.proofs.RunsLemmas.{runs-canonical}
-use Rattle.rsb_streams.specs.Outcomes.{runs-exist, settled_canonical_in}
+use Rattle.rsb_streams.specs.StreamLaws.{runs-exist, settled_canonical_in}
 use Rattle.rsb_streams.specs.PutBack.{put_back}
 use Rattle.rsb_streams.specs.PutBackLaws.{put_back-sorted}
 use Rattle.rsb_streams.specs.Rows.{IsDisjoint, IsSorted}

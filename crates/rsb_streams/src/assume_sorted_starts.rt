@@ -3,7 +3,8 @@
 ghost use Rattle.rsb_streams.specs.Calls.{gives_as, GivesOnly};
 ghost use Rattle.rsb_streams.specs.CallsLaws.{known-answered, known-sorted};
 ghost use Rattle.rsb_streams.specs.AssumeSortedStarts.{assume_sorted_starts};
-ghost use Rattle.rsb_streams.specs.Stream.{◌⊆◌, drawn-itself, HasSortedStarts};
+ghost use Rattle.rsb_streams.specs.Stream.{◌⊆◌, HasSortedStarts};
+ghost use Rattle.rsb_streams.specs.StreamLaws.{drawn-itself};
 
 use crate::draw::Draw;
 use crate::sorted_disjoint::SortedStarts;

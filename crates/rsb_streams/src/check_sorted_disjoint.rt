@@ -7,8 +7,8 @@ ghost use Rattle.rsb_streams.specs.Calls.{gives_as, GivesOnly};
 ghost use Rattle.rsb_streams.specs.CallsLaws.{known-answered, known-disjoint};
 ghost use Rattle.rsb_streams.specs.CheckSortedDisjoint.{check_sorted_disjoint};
 ghost use Rattle.rsb_streams.specs.NotSortedDisjoint.{IsFirstBad};
-ghost use Rattle.rsb_streams.specs.Outcomes.{canonical-starts};
-ghost use Rattle.rsb_streams.specs.Stream.{◌⊆◌, drawn-itself, just, IsReadyAnd};
+ghost use Rattle.rsb_streams.specs.Stream.{◌⊆◌, just, IsReadyAnd};
+ghost use Rattle.rsb_streams.specs.StreamLaws.{canonical-starts, drawn-itself};
 
 use crate::draw::Draw;
 use crate::not_sorted_disjoint::{NotSortedDisjoint, first_bad};

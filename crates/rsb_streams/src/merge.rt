@@ -3,7 +3,8 @@
 ghost use Rattle.rsb_streams.specs.Merge.{merge};
 ghost use Rattle.rsb_streams.specs.MergeLaws.{merge-sorted};
 ghost use Rattle.rsb_streams.specs.PutBack.{IsFresh};
-ghost use Rattle.rsb_streams.specs.Stream.{◌⊆◌, drawn-itself, merges};
+ghost use Rattle.rsb_streams.specs.Stream.{◌⊆◌, merges};
+ghost use Rattle.rsb_streams.specs.StreamLaws.{drawn-itself};
 
 use crate::draw::Draw;
 use crate::put_back::PutBack;

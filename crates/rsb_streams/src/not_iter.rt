@@ -2,9 +2,8 @@
 
 ghost use Rattle.rsb_streams.specs.NotIter.{not_iter};
 ghost use Rattle.rsb_streams.specs.NotIterLaws.{not_iter-disjoint};
-ghost use Rattle.rsb_streams.specs.Outcomes.{canonical-starts};
 ghost use Rattle.rsb_streams.specs.Results.{MakesComplement};
-ghost use Rattle.rsb_streams.specs.Stream.{drawn-itself};
+ghost use Rattle.rsb_streams.specs.StreamLaws.{canonical-starts, drawn-itself};
 
 use crate::draw::Draw;
 use crate::sorted_disjoint::{DrawDisjoint, SortedDisjoint, SortedStarts};

@@ -5,8 +5,8 @@ ghost use Rattle.rsb_integer.specs.Rank.{interval_of, intervals_of};
 ghost use Rattle.rsb_integer.specs.Runs.{IsCanonicalIn};
 ghost use Rattle.rsb_streams.specs.Listed.{listed_may_give};
 ghost use Rattle.rsb_streams.specs.ListedLaws.{listed-answers, listed-keeps};
-ghost use Rattle.rsb_streams.specs.Outcomes.{canonical-starts};
-ghost use Rattle.rsb_streams.specs.Stream.{◌⊆◌, drawn-itself, just, run_if_any, IsReadyAnd};
+ghost use Rattle.rsb_streams.specs.Stream.{◌⊆◌, just, run_if_any, IsReadyAnd};
+ghost use Rattle.rsb_streams.specs.StreamLaws.{canonical-starts, drawn-itself};
 
 use crate::draw::Draw;
 use crate::sorted_disjoint::{DrawDisjoint, SortedDisjoint, SortedStarts};

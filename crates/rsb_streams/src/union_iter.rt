@@ -1,10 +1,10 @@
 //! The union of ranges that come by their starts.
 
 ghost use Rattle.std.specs.Prelude.{◌≡◌};
-ghost use Rattle.rsb_streams.specs.Outcomes.{canonical-starts};
 ghost use Rattle.rsb_streams.specs.PutBack.{IsFresh};
 ghost use Rattle.rsb_streams.specs.Results.{MakesUnion};
-ghost use Rattle.rsb_streams.specs.Stream.{◌⊆◌, drawn-itself, joined};
+ghost use Rattle.rsb_streams.specs.Stream.{◌⊆◌, joined};
+ghost use Rattle.rsb_streams.specs.StreamLaws.{canonical-starts, drawn-itself};
 ghost use Rattle.rsb_streams.specs.UnionIter.{union_iter};
 ghost use Rattle.rsb_streams.specs.UnionIterLaws.{union_iter-disjoint};
 

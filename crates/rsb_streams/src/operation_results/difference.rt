@@ -1,10 +1,9 @@
 //! What the one of two streams has and the other lacks.
 
 ghost use Rattle.rsb_streams.specs.Difference.{difference};
-ghost use Rattle.rsb_streams.specs.Outcomes.{canonical-starts};
 ghost use Rattle.rsb_streams.specs.ResultLaws.{difference-disjoint};
 ghost use Rattle.rsb_streams.specs.Results.{MakesDifference};
-ghost use Rattle.rsb_streams.specs.Stream.{drawn-itself};
+ghost use Rattle.rsb_streams.specs.StreamLaws.{canonical-starts, drawn-itself};
 
 use crate::draw::Draw;
 use crate::merge::Merge;

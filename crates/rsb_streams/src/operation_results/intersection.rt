@@ -1,10 +1,9 @@
 //! What two streams both have.
 
 ghost use Rattle.rsb_streams.specs.Intersection.{intersection};
-ghost use Rattle.rsb_streams.specs.Outcomes.{canonical-starts};
 ghost use Rattle.rsb_streams.specs.ResultLaws.{intersection-disjoint};
 ghost use Rattle.rsb_streams.specs.Results.{MakesIntersection};
-ghost use Rattle.rsb_streams.specs.Stream.{drawn-itself};
+ghost use Rattle.rsb_streams.specs.StreamLaws.{canonical-starts, drawn-itself};
 
 use crate::draw::Draw;
 use crate::merge::Merge;

@@ -1,9 +1,8 @@
 //! What lies in either of two streams.
 
 ghost use Rattle.rsb_streams.specs.Results.{MakesUnion};
-ghost use Rattle.rsb_streams.specs.Outcomes.{canonical-starts};
 ghost use Rattle.rsb_streams.specs.ResultLaws.{union-disjoint};
-ghost use Rattle.rsb_streams.specs.Stream.{drawn-itself};
+ghost use Rattle.rsb_streams.specs.StreamLaws.{canonical-starts, drawn-itself};
 ghost use Rattle.rsb_streams.specs.Union.{union};
 
 use crate::draw::Draw;

@@ -7,8 +7,7 @@ ghost use Rattle.rsb_integer.specs.Rank.{interval_of};
 ghost use Rattle.rsb_streams.specs.AscendingLaws.{ascending-keeps};
 ghost use Rattle.rsb_streams.specs.Calls.{gives_by};
 ghost use Rattle.rsb_streams.specs.CallsLaws.{gives_by-answers};
-ghost use Rattle.rsb_streams.specs.Outcomes.{canonical-starts};
-ghost use Rattle.rsb_streams.specs.Stream.{drawn-itself};
+ghost use Rattle.rsb_streams.specs.StreamLaws.{canonical-starts, drawn-itself};
 
 use rsb_integer::Integer;
 use rsb_streams::{Draw, DrawDisjoint, SortedDisjoint, SortedStarts};

@@ -1,5 +1,5 @@
 use Rattle.rsb_streams.specs.AdapterLaws.{skip-drawn}
-use Rattle.rsb_streams.specs.Stream.{drawn-call}
+use Rattle.rsb_streams.proofs.Sources.{drawn-call}
 use Rattle.rsb_streams.proofs.std_markers.skip.SkipDraw.draw.Goals as goal
 
 -- a call of its `next` is a draw

@@ -1,8 +1,10 @@
--- Lemmas on lists of intervals and on what may be given of them.
-use Rattle.std.proofs.Common.{◌≡◌, ℕ, zero, suc, ◌+◌, ◌<◌, ◌≤◌, true, false, List, [], ◌∷◌, sym, ap, ◌∙◌, inl, inr, arith}
+-- The laws of streams: of lists of intervals, and of what may be given of them.
+use Rattle.std.proofs.Common.{◌≡◌, ℕ, zero, suc, ◌+◌, ◌<◌, ◌≤◌, true, false, List, [], ◌∷◌, refl, sym, ap, ◌∙◌, inl, inr, arith}
 use Rattle.std.proofs.lemmas.Bool.{cases_lt}
 use Rattle.std.proofs.lemmas.List.Elements.{All-head, All-tail, All-cons, All-nil}
 use Rattle.std.specs.Iterator.{Count}
+use Rattle.std.specs.Prelude.{Option}
+use Rattle.std.specs.declared.ops.RangeInclusive.{RangeInclusive}
 use Rattle.rsb_integer.specs.Runs.{Interval, members, AllEndBelow, AreRuns, IsCanonicalFrom, IsCanonicalIn}
 use Rattle.rsb_integer.specs.Selection.{Selection}
 use Rattle.rsb_integer.specs.declared.integer.Integer.{Ghosts as Elements}
@@ -11,7 +13,7 @@ use Rattle.rsb_integer.proofs.CanonicalLemmas.{canonical-lower}
 use Rattle.rsb_integer.proofs.MembersLemmas.{members-below, members-head, members-tail, covers-cases}
 use Rattle.rsb_integer.proofs.RunsLemmas.{runs-from_canonical}
 use Rattle.rsb_streams.specs.Rows.{IsDisjoint, IsSorted}
-use Rattle.rsb_streams.specs.Stream.{Outcomes, HasSortedStartsFrom, HasSortedStarts, Keeps}
+use Rattle.rsb_streams.specs.Stream.{Outcomes, HasSortedStartsFrom, HasSortedStarts, IsDrawn, Keeps}
 use Rattle.rsb_streams.specs.declared.draw.Draw.{Ghosts as Stream}
 
 -- ---- what is decided holds where it does not fail
@@ -246,3 +248,17 @@ runs-exist n selected =
       runs-from_canonical n selected found.0 found.1.canonical found.1.below
           (λ rank below. found.1.same rank (omega arith) below),
     )
+
+-- ---- `next` and `draw`
+
+-- `next` is `draw` where both are given alike
+pub drawn-itself : {S T : Type 0} {can_next : S → Type 0}
+    {next_gives : S → Option (RangeInclusive T) → S → Type 0} {remaining : S → Count}
+    → IsDrawn can_next next_gives remaining can_next next_gives remaining
+drawn-itself = record {
+  drawable = λ s can. can;
+  callable = λ s can. can;
+  gives = λ s t range call. call;
+  ends = λ s t can call. call;
+  counts = λ s. refl;
+}

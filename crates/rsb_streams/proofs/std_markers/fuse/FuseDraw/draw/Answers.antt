@@ -1,9 +1,0 @@
-use Rattle.rsb_streams.specs.AdapterLaws.{fuse-drawn}
-use Rattle.rsb_streams.specs.Stream.{drawn-call}
-use Rattle.rsb_streams.proofs.std_markers.fuse.FuseDraw.draw.Goals as goal
-
--- a call of its `next` is a draw
-pub returns-clause-steps : goal.returns-clause-steps
-returns-clause-steps g c =
-    drawn-call (fuse-drawn g.T.Integer g.I.Draw g.I.Iterator g.met.I.Draw.answers
-    g.met.I.Draw.sorted c.requires.drawn) _ _ _ c.requires c.next.ensures.steps
