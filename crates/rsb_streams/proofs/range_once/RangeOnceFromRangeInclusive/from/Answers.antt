@@ -3,7 +3,7 @@ use Rattle.std.proofs.lemmas.List.Elements.{All-nil}
 use Rattle.rsb_integer.specs.Rank.{interval_of}
 use Rattle.rsb_integer.specs.Runs.{Interval}
 use Rattle.rsb_streams.proofs.CheckLemmas.{none-if_empty, one-canonical, one-if_some}
-use Rattle.rsb_streams.proofs.Compare.{IsRanked, empty-ranks, some-ranks}
+use Rattle.rsb_streams.proofs.Compare.{IsRanked, empty-ranks, ends-below, some-ranks}
 use Rattle.rsb_streams.proofs.range_once.RangeOnceFromRangeInclusive.from.Given.{Over}
 use Rattle.rsb_streams.proofs.range_once.RangeOnceFromRangeInclusive.from.Goals as goal
 
@@ -37,7 +37,9 @@ returns g c =
     let right = subst (λ each. rank each < n) c.end.ensures c.checked_add_one-2.ensures.value in
     let some = some-ranks rank n g.T.PartialOrd.partial_cmp g.T.Ord.cmp (ranked g) c.args.range
     left right c.if-is_empty.ensures in
+    let below = ends-below rank n g.T.PartialOrd.partial_cmp g.T.Ord.cmp (ranked g) c.args.range
+    left right in
     record {
-      ready = one-canonical n (interval_of rank c.args.range) some.0 some.1;
-      gives = λ runs at. at ∙ sym (one-if_some (interval_of rank c.args.range) some.0);
+      ready = one-canonical n (interval_of rank c.args.range) some below;
+      gives = λ runs at. at ∙ sym (one-if_some (interval_of rank c.args.range) some);
     }
