@@ -1,11 +1,12 @@
 -- Where the pieces that an odd number of ranges covers begin and end.
-use Rattle.std.proofs.Common.{◌≡◌, ℕ, true, false, List, [], ◌∷◌, ◌++◌, sym, subst}
+use Rattle.std.proofs.Common.{◌≡◌, ℕ, ◌<◌, ◌≤◌, arith, true, false, List, [], ◌∷◌, ◌++◌, sym, subst}
 use Rattle.std.specs.Prelude.{Option, Some, None}
+use Rattle.std.specs.Iterator.{MakesProgress}
 use Rattle.std.specs.Range.{range_inclusive_start, range_inclusive_end, range_inclusive_exhausted}
 use Rattle.std.specs.declared.ops.RangeInclusive.{RangeInclusive}
 use Rattle.rsb_integer.specs.Rank.{interval_of}
 use Rattle.rsb_integer.specs.Runs.{Interval}
-use Rattle.rsb_streams.specs.OddPieces.{odd_may_give, oddly_covered, begun_from, pieces_of, pending, ArePieces, IsTwofold, OddAnswers, OddReady, OddSoFar}
+use Rattle.rsb_streams.specs.OddPieces.{odd_may_give, odd_remaining, oddly_covered, begun_from, pieces_of, pending, ArePieces, IsTwofold, OddAnswers, OddReady, OddSoFar}
 use Rattle.rsb_streams.specs.Stream.{Outcomes, ◌⊆◌, unless}
 use Rattle.rsb_streams.specs.declared.odd_pieces.OddPieces.{OddPieces}
 use Rattle.rsb_streams.proofs.NotTurns.{answered}
@@ -58,6 +59,21 @@ module _ {I T : Type 0} (rank : T → ℕ) (n : ℕ) (source : Source I T) where
         nothing given (subst (λ each. source.may_give each given) same_source might)
         (subst (λ held. ArePieces n (oddly_covered (begun_from rank s.start held ++ given)) pieces)
         none all))
+
+  -- the pieces have ended with what was pending, so none is left
+  pub last-goes : (entry was : OddPieces T I) (j : I) → SoFar entry was → (end : T)
+      (answer : RangeInclusive T) → was.end ≡ Some end → (left : Option T)
+      → MakesProgress (OddReady rank n source.can_next source.may_give)
+      (odd_remaining source.remaining) entry (Some answer)
+      (record { iter = j; done = true; start = was.start; end = left })
+  last-goes entry was j so_now end answer is left =
+      let so = so-by entry was (Some end) so_now is in
+      let nearer = so.nearer in
+      record {
+        on = λ finite. ((λ no. absurd (cc)), tt, omega (arith, nearer));
+        keeps = λ no. absurd (cc);
+        rests = λ finite. tt;
+      }
 
   module _ (laws : IsLawful rank n source) where
     -- ---- the source has ended

@@ -35,6 +35,17 @@ popped-by : {T : Type 0} (held : Option T)
 popped-by None = refl
 popped-by (Some end) = refl
 
+-- it has one end at most
+few-ends : {T : Type 0} (held : Option T) → length (ends_in held) ≤ 1
+few-ends None = omega arith
+few-ends (Some end) = omega arith
+
+-- and none is left
+taken-last : {T : Type 0} (held : Option T)
+    → take (length (ends_in held) - 1) (ends_in held) ≡ []
+taken-last None = refl
+taken-last (Some end) = refl
+
 -- ---- the ends in a vector, of which there is one at most before a range is drawn
 
 -- the first is the pending one
@@ -47,6 +58,10 @@ pub one-end : {T : Type 0} (held : Option T) → HasOneEnd (ends_in held)
 one-end held = ap ends_in (sym (first_end-ends_in held))
 
 module _ {T : Type 0} (ends : List (Option T)) (one : HasOneEnd ends) where
+  -- there is room for one more
+  pub room : length ends < 2
+  room = let few = few-ends (first_end ends) in omega (arith, ap length one)
+
   -- a range begins where none is pending
   pub pushed-none : (pushed : List (Option T)) (other : T) → None ≡ first_end ends
       → pushed ≡ ends ++ Some other ∷ [] → pushed ≡ ends_in (Some other)
@@ -64,6 +79,11 @@ module _ {T : Type 0} (ends : List (Option T)) (one : HasOneEnd ends) where
       → pushed ≡ ends ++ Some other ∷ [] → left ≡ remove pushed 0 → left ≡ ends_in (Some other)
   removed-first pushed left end other is push taken =
       taken ∙ ap (λ each. remove each 0) (pushed-some pushed end other is push)
+
+  -- where the last is taken out, none is left
+  pub popped-left : (left : List (Option T)) → left ≡ take (length ends - 1) ends → left ≡ []
+  popped-left left taken =
+      taken ∙ ap (λ each. take (length each - 1) each) one ∙ taken-last (first_end ends)
 
   -- the last one is the first one
   pub popped-end : (popped : Option (Option T)) (held : Option T)
