@@ -35,6 +35,14 @@ module _ {S T : Type 0} (rank : T → ℕ) (n : ℕ) (source : Source S T) (laws
             (members-head run rest run.first (omega arith) sorted.1) (none run.first))),
       ))
 
+  -- where nothing comes, not every rank does
+  pub none-lacks : source.steps s None t → 0 < n
+      → SomeOutcome (source.may_give s) (λ runs. IsTrue false ↔ IsEverything n (members runs))
+  none-lacks call some = λ nothing. nothing [] (laws.answers s t None call) (
+    (λ no. absurd (cc)),
+    (λ all. let every : false ≡ true = all 0 some in absurd (cc)),
+  )
+
   -- what holds of each canonical list that begins with the first range holds of what comes
   pub first-tells : (range : RangeInclusive T) (Fact : List Interval → Type 0)
       → source.steps s (Some range) t

@@ -1,3 +1,4 @@
+use Rattle.std.proofs.Common.{◌<◌, arith}
 use Rattle.rsb_streams.proofs.Compare.{IsRanked}
 use Rattle.rsb_streams.proofs.NotTurns.{last-gap, gap-answers, gap-goes, gap-less, gap-none, so-next}
 use Rattle.rsb_streams.proofs.Sources.{IsLawful}
@@ -27,7 +28,19 @@ returns-in_default-draw-clause-steps g c =
     c.in_default-draw.ensures.steps
     c.max_value.ensures c.new.ensures.exhausted c.new.ensures.start c.new.ensures.end
 
--- the gap before a range
+-- a gap lies before a range
+pub sub_one-requires : goal.sub_one-requires
+sub_one-requires g c =
+    let less = gap-less g.T.Integer.rank g.T.Integer.value_count (source g) (laws g)
+    c.args.self.now c.loop-self.self.iter c.draw.new.self c.loop-self.self.start c.in-Some.start
+    c.into_inner-past_gap.result.0 c.into_inner-past_gap.result.1 c.checked_add_one-self.result
+    c.in-Some-draw.range c.loop-self.invariant c.in-Some.is c.in-Some-draw.ensures.steps
+    c.in-Some-draw.ensures.goes c.into_inner-past_gap.ensures.start
+    c.into_inner-past_gap.ensures.end
+    c.checked_add_one-self.ensures.none c.checked_add_one-self.ensures.next
+    g.T.PartialOrd.partial_cmp g.T.Ord.cmp (ranked g) c.if-lt.ensures in
+    omega (arith, less)
+
 pub returns-then-lt-clause-steps : goal.returns-then-lt-clause-steps
 returns-then-lt-clause-steps g c =
     gap-answers g.T.Integer.rank g.T.Integer.value_count (source g) (laws g)
