@@ -69,6 +69,19 @@ module _ {I T : Type 0} (rank : T → ℕ) (n : ℕ) (source : Source I T) where
         rests = (so.ready, nothing);
       }
 
+  -- and none is left
+  pub last-goes : (entry now : NotIter T I) (j : I) (start : T) (answer : RangeInclusive T)
+      → SoFar entry now → now.start ≡ Some start
+      → MakesProgress can left entry (Some answer) (record { iter = j; start = None })
+  last-goes entry now j start answer so is =
+      let nearer = so.nearer in
+      let some : size (left now) ≡ size (source.remaining now.iter) + 1 = rw is refl in
+      record {
+        on = λ finite. (tt, tt, omega (arith, nearer, some));
+        keeps = tt;
+        rests = λ finite. tt;
+      }
+
   module _ (laws : IsLawful rank n source) where
     -- the gap to the greatest value
     pub last-gap : (entry : NotIter T I) (i j : I) (now : Option T) (start greatest : T)
