@@ -1,4 +1,4 @@
-use Rattle.std.proofs.Common.{◌≡◌, ◌+◌, ◌<◌, nat_lt, sym, ◌∙◌, arith}
+use Rattle.std.proofs.Common.{◌≡◌, nat_lt, sym, ◌∙◌, arith}
 use Rattle.std.specs.Ordering.{partial_lt}
 use Rattle.rsb_streams.proofs.Compare.{IsRanked, less-by, next-value}
 use Rattle.rsb_streams.proofs.not_sorted_disjoint.is_apart.Given.{Over}

@@ -1,4 +1,4 @@
-use Rattle.std.proofs.Common.{◌<◌, ◌≤◌, arith}
+use Rattle.std.proofs.Common.{arith}
 use Rattle.rsb_integer.specs.Room.{fits_memory}
 use Rattle.rsb_streams.proofs.Compare.{IsRanked, less-rank, not_less-rank}
 use Rattle.rsb_streams.proofs.OddStates.{left-first, left-other, past-first, past-neither, past-other}

@@ -1,4 +1,4 @@
-use Rattle.std.proofs.Common.{◌<◌, arith}
+use Rattle.std.proofs.Common.{arith}
 use Rattle.rsb_streams.proofs.Compare.{IsRanked}
 use Rattle.rsb_streams.proofs.NotTurns.{gap-answers, gap-goes, gap-less, gap-none, last-gap, last-goes, rests, so-next}
 use Rattle.rsb_streams.proofs.Sources.{IsLawful}

@@ -1,4 +1,4 @@
-use Rattle.std.proofs.Common.{◌<◌, ◌≤◌, refl, arith}
+use Rattle.std.proofs.Common.{◌<◌, refl, arith}
 use Rattle.std.specs.Iterator.{size}
 use Rattle.std.specs.Prelude.{Some, None}
 use Rattle.rsb_integer.specs.Room.{fits_memory}
