@@ -1,6 +1,12 @@
 use Rattle.rsb_streams.specs.AdapterLaws.{filter-drawn}
 use Rattle.rsb_streams.specs.Stream.{drawn-call}
+use Rattle.rsb_streams.proofs.Sources.{goes-drawn}
 use Rattle.rsb_streams.proofs.std_markers.filter.FilterDraw.draw.Goals as goal
+
+-- it may be called
+pub next-requires : goal.next-requires
+next-requires g c = (filter-drawn g.T.Integer.rank g.T.Integer.value_count g.I.Draw.may_give
+    g.met.I.Draw.answers g.met.I.Draw.sorted c.requires.drawn g.P.FnMut).callable c.args.self.now c.requires
 
 -- a call of its `next` is a draw
 pub returns-clause-steps : goal.returns-clause-steps
@@ -8,3 +14,8 @@ returns-clause-steps g c =
     drawn-call (filter-drawn g.T.Integer.rank g.T.Integer.value_count g.I.Draw.may_give
     g.met.I.Draw.answers g.met.I.Draw.sorted c.requires.drawn g.P.FnMut) _ _ _ c.requires
     c.next.ensures.steps
+
+pub returns-clause-goes : goal.returns-clause-goes
+returns-clause-goes g c =
+    goes-drawn _ _ _ (filter-drawn g.T.Integer.rank g.T.Integer.value_count g.I.Draw.may_give
+    g.met.I.Draw.answers g.met.I.Draw.sorted c.requires.drawn g.P.FnMut).drawable _ _ _ c.next.ensures.goes
