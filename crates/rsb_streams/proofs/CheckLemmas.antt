@@ -1,9 +1,10 @@
 -- Checked streams that were just made.
-use Rattle.std.proofs.Common.{◌≡◌, false, cond, nat_le, [], ◌∷◌, sym, ap, subst, arith}
+use Rattle.std.proofs.Common.{◌≡◌, ℕ, ◌<◌, ◌≤◌, true, false, cond, nat_le, [], ◌∷◌, sym, ap, subst, arith}
 use Rattle.std.proofs.lemmas.Bool.Decides.{nat_tests}
+use Rattle.std.proofs.lemmas.List.Elements.{All-cons, All-nil}
 use Rattle.std.specs.declared.iter.Fuse.{Fuse}
 use Rattle.std.specs.Iterator.Adapters.{fuse_done, fuse_source}
-use Rattle.rsb_integer.specs.Runs.{Interval, IsEmpty}
+use Rattle.rsb_integer.specs.Runs.{Interval, IsCanonicalIn, IsEmpty}
 use Rattle.rsb_streams.specs.Fused.{fuse_can_next, fuse_may_give}
 use Rattle.rsb_streams.specs.Stream.{Outcomes, ◌⊆◌, run_if_any, unless}
 
@@ -12,6 +13,21 @@ pub none-if_empty : (run : Interval) → IsEmpty run → run_if_any run ≡ []
 none-if_empty run empty =
     let test : nat_le run.first run.last ≡ false = grind (arith, nat_tests) in
     ap (λ each. cond each (run ∷ []) []) test
+
+-- an interval that has a rank is one
+pub one-if_some : (run : Interval) → run.first ≤ run.last → run_if_any run ≡ run ∷ []
+one-if_some run ordered =
+    let test : nat_le run.first run.last ≡ true = grind (arith, nat_tests) in
+    ap (λ each. cond each (run ∷ []) []) test
+
+-- and canonical alone
+pub one-canonical : (n : ℕ) (run : Interval) → run.first ≤ run.last → run.last < n
+    → IsCanonicalIn n (run ∷ [])
+one-canonical n run ordered below = (
+  (omega arith, ordered, tt),
+  All-cons (λ (each : Interval). each.last < n) run [] below
+      (All-nil (λ (each : Interval). each.last < n)),
+)
 
 -- a stream that was just put into a `Fuse`
 module _ {S : Type 0} (source : S) (s : Fuse S) (is : fuse_source s ≡ source)

@@ -39,6 +39,14 @@ module _ {S T N : Type 0} (integer : Elements T N) (source : Stream S T N) (laws
             (members-head run rest run.first (omega arith) sorted.1) (none run.first))),
       ))
 
+  -- where nothing comes, not every rank does
+  pub none-lacks : source.draw_gives s None t → 0 < n
+      → SomeOutcome (source.may_give s) (λ runs. IsTrue false ↔ IsEverything n (members runs))
+  none-lacks call some = λ nothing. nothing [] (laws.answers s t None call) (
+    (λ no. absurd (cc)),
+    (λ all. let every : false ≡ true = all 0 some in absurd (cc)),
+  )
+
   -- what holds of each canonical list that begins with the first range holds of what comes
   pub first-tells : (range : RangeInclusive T) (Fact : List Interval → Type 0)
       → source.draw_gives s (Some range) t

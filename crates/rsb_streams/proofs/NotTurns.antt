@@ -73,6 +73,19 @@ module _ {I T N : Type 0} (integer : Elements T N) (source : Stream I T N) where
         rests = (so.ready, nothing);
       }
 
+  -- and none is left
+  pub last-goes : (entry now : NotIter T I) (j : I) (start : T) (answer : RangeInclusive T)
+      → SoFar entry now → now.start ≡ Some start
+      → MakesProgress can left entry (Some answer) (record { iter = j; start = None })
+  last-goes entry now j start answer so is =
+      let nearer = so.nearer in
+      let some : size (left now) ≡ size (source.draws_left now.iter) + 1 = rw is refl in
+      record {
+        on = λ finite. (tt, tt, omega (arith, nearer, some));
+        keeps = tt;
+        rests = λ finite. tt;
+      }
+
   module _ (laws : IsLawful integer source) where
     -- the gap to the greatest value
     pub last-gap : (entry : NotIter T I) (i j : I) (now : Option T) (start greatest : T)

@@ -1,13 +1,14 @@
 -- Where the pieces that an odd number of ranges covers begin and end.
 use Rattle.rsb_integer.specs.declared.integer.Integer.{Ghosts as Elements}
 use Rattle.rsb_streams.specs.declared.draw.Draw.{Ghosts as Stream}
-use Rattle.std.proofs.Common.{◌≡◌, true, false, List, [], ◌∷◌, ◌++◌, sym, subst}
+use Rattle.std.proofs.Common.{◌≡◌, arith, true, false, List, [], ◌∷◌, ◌++◌, sym, subst}
 use Rattle.std.specs.Prelude.{Option, Some, None}
+use Rattle.std.specs.Iterator.{MakesProgress}
 use Rattle.std.specs.Range.{range_inclusive_start, range_inclusive_end, range_inclusive_exhausted}
 use Rattle.std.specs.declared.ops.RangeInclusive.{RangeInclusive}
 use Rattle.rsb_integer.specs.Rank.{interval_of}
 use Rattle.rsb_integer.specs.Runs.{Interval}
-use Rattle.rsb_streams.specs.OddPieces.{odd_may_give, oddly_covered, begun_from, pieces_of, pending, ArePieces, IsTwofold, odd_pieces}
+use Rattle.rsb_streams.specs.OddPieces.{odd_may_give, odd_pieces, odd_remaining, oddly_covered, begun_from, pieces_of, pending, ArePieces, IsTwofold}
 use Rattle.rsb_streams.specs.Stream.{Outcomes, ◌⊆◌, unless}
 use Rattle.rsb_streams.specs.declared.odd_pieces.OddPieces.{OddPieces}
 use Rattle.rsb_streams.proofs.NotTurns.{answered}
@@ -62,6 +63,21 @@ module _ {I T N : Type 0} (integer : Elements T N) (source : Stream I T N) where
         nothing given (subst (λ each. source.may_give each given) same_source might)
         (subst (λ held. ArePieces n (oddly_covered (begun_from rank s.start held ++ given)) pieces)
         none all))
+
+  -- the pieces have ended with what was pending, so none is left
+  pub last-goes : (entry was : OddPieces T I) (j : I) → SoFar entry was → (end : T)
+      (answer : RangeInclusive T) → was.end ≡ Some end → (left : Option T)
+      → MakesProgress (odd_pieces integer source).can_draw
+      (odd_pieces integer source).draws_left entry (Some answer)
+      (record { iter = j; done = true; start = was.start; end = left })
+  last-goes entry was j so_now end answer is left =
+      let so = so-by entry was (Some end) so_now is in
+      let nearer = so.nearer in
+      record {
+        on = λ finite. ((λ no. absurd (cc)), tt, omega (arith, nearer));
+        keeps = λ no. absurd (cc);
+        rests = λ finite. tt;
+      }
 
   module _ (laws : IsLawful integer source) where
     -- ---- the source has ended

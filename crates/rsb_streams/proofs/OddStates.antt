@@ -1,14 +1,16 @@
 -- The states of the pieces that an odd number of ranges covers.
-use Rattle.std.proofs.Common.{◌≡◌, ℕ, ◌-◌, ◌≤◌, Bool, false, List, [], ◌∷◌, ◌++◌, length, refl, sym, ap, ◌∙◌, arith}
+use Rattle.std.proofs.Common.{◌≡◌, ℕ, ◌+◌, ◌-◌, ◌<◌, ◌≤◌, Bool, false, max, min, List, [], ◌∷◌, ◌++◌, length, refl, sym, ap, ◌∙◌, arith}
 use Rattle.std.specs.Iterator.{size}
 use Rattle.std.specs.Option.{option_flatten}
-use Rattle.std.specs.Prelude.{Option, Some, None, remove, slice_get}
+use Rattle.std.specs.Prelude.{Option, Some, None, remove, slice_get, take}
 use Rattle.rsb_integer.specs.Runs.{Interval}
 use Rattle.rsb_integer.specs.declared.integer.Integer.{Ghosts as Elements}
+use Rattle.rsb_integer.proofs.MembersLemmas.{same_interval}
 use Rattle.rsb_streams.specs.OddPieces.{begun_from, ends_in, ends_of, first_end, holding, odd_may_give, odd_remaining, past_both, pending, HasOneEnd, IsGoing}
 use Rattle.rsb_streams.specs.Stream.{◌⊆◌, run_if_any}
 use Rattle.rsb_streams.specs.declared.draw.Draw.{Ghosts as Stream}
 use Rattle.rsb_streams.specs.declared.odd_pieces.OddPieces.{OddPieces}
+use Rattle.rsb_streams.proofs.CheckLemmas.{none-if_empty, one-if_some}
 
 -- a state of the pieces that is not at its end
 abbrev pub state : {T I : Type 0} → I → T → Option T → OddPieces T I
@@ -36,6 +38,17 @@ popped-by : {T : Type 0} (held : Option T)
 popped-by None = refl
 popped-by (Some end) = refl
 
+-- it has one end at most
+few-ends : {T : Type 0} (held : Option T) → length (ends_in held) ≤ 1
+few-ends None = omega arith
+few-ends (Some end) = omega arith
+
+-- and none is left
+taken-last : {T : Type 0} (held : Option T)
+    → take (length (ends_in held) - 1) (ends_in held) ≡ []
+taken-last None = refl
+taken-last (Some end) = refl
+
 -- ---- the ends in a vector, of which there is one at most before a range is drawn
 
 -- the first is the pending one
@@ -48,6 +61,10 @@ pub one-end : {T : Type 0} (held : Option T) → HasOneEnd (ends_in held)
 one-end held = ap ends_in (sym (first_end-ends_in held))
 
 module _ {T : Type 0} (ends : List (Option T)) (one : HasOneEnd ends) where
+  -- there is room for one more
+  pub room : length ends < 2
+  room = let few = few-ends (first_end ends) in omega (arith, ap length one)
+
   -- a range begins where none is pending
   pub pushed-none : (pushed : List (Option T)) (other : T) → None ≡ first_end ends
       → pushed ≡ ends ++ Some other ∷ [] → pushed ≡ ends_in (Some other)
@@ -66,6 +83,11 @@ module _ {T : Type 0} (ends : List (Option T)) (one : HasOneEnd ends) where
   removed-first pushed left end other is push taken =
       taken ∙ ap (λ each. remove each 0) (pushed-some pushed end other is push)
 
+  -- where the last is taken out, none is left
+  pub popped-left : (left : List (Option T)) → left ≡ take (length ends - 1) ends → left ≡ []
+  popped-left left taken =
+      taken ∙ ap (λ each. take (length each - 1) each) one ∙ taken-last (first_end ends)
+
   -- the last one is the first one
   pub popped-end : (popped : Option (Option T)) (held : Option T)
       → popped ≡ slice_get ends (length ends - 1) → held ≡ option_flatten popped
@@ -74,6 +96,50 @@ module _ {T : Type 0} (ends : List (Option T)) (one : HasOneEnd ends) where
       sym (popped-by (first_end ends))
       ∙ ap (λ each. option_flatten (slice_get each (length each - 1))) (sym one)
       ∙ ap option_flatten (sym is) ∙ sym flat
+
+-- ---- the lesser of two ends is passed
+module _ {T : Type 0} (both left : List (Option T)) (end other : T)
+    (are : both ≡ Some end ∷ Some other ∷ []) where
+  -- the other is left where the first is taken out
+  pub left-other : left ≡ remove both 0 → left ≡ ends_in (Some other)
+  left-other taken = taken ∙ ap (λ each. remove each 0) are
+
+  -- and the first where the last is
+  pub left-first : left ≡ take (length both - 1) both → left ≡ ends_in (Some end)
+  left-first taken = taken ∙ ap (λ each. take (length each - 1) each) are
+
+module _ {T : Type 0} (rank : T → ℕ) (end other start : T) (left : List (Option T)) where
+  -- what is pending is what lies past it, to the greater
+  past-by : (greater : T) → left ≡ ends_in (Some greater)
+      → rank start ≡ min (rank end) (rank other) + 1 → max (rank end) (rank other) ≡ rank greater
+      → rank start ≤ rank greater
+      → begun_from rank start (first_end left) ≡ run_if_any (past_both rank end other)
+  past-by greater is from to some =
+      ap (λ each. begun_from rank start (first_end each)) is
+      ∙ ap (λ (run : Interval). run ∷ [])
+      (same_interval (between rank start greater) (past_both rank end other) from (sym to))
+      ∙ sym (one-if_some (past_both rank end other) (omega (arith, from, to, some)))
+
+  -- the first is the lesser
+  pub past-first : rank end < rank other → left ≡ ends_in (Some other)
+      → rank start ≡ rank end + 1
+      → begun_from rank start (first_end left) ≡ run_if_any (past_both rank end other)
+  past-first less is from =
+      past-by other is (omega (arith, less, from)) (omega (arith, less)) (omega (arith, less, from))
+
+  -- the other is the lesser
+  pub past-other : rank other < rank end → left ≡ ends_in (Some end)
+      → rank start ≡ rank other + 1
+      → begun_from rank start (first_end left) ≡ run_if_any (past_both rank end other)
+  past-other less is from =
+      past-by end is (omega (arith, less, from)) (omega (arith, less)) (omega (arith, less, from))
+
+  -- they are one, so nothing is pending
+  pub past-neither : rank other ≤ rank end → rank end ≤ rank other → left ≡ []
+      → begun_from rank start (first_end left) ≡ run_if_any (past_both rank end other)
+  past-neither most least none =
+      ap (λ each. begun_from rank start (first_end each)) none
+      ∙ sym (none-if_empty (past_both rank end other) (omega (arith, most, least)))
 
 -- what lies past the lesser of two ends is pending, by the parts of the state
 pub passed-by : {T I : Type 0} (rank : T → ℕ) (j : I) (end other start : T) (done : Bool)

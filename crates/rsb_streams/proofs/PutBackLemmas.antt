@@ -1,14 +1,22 @@
 -- How a source goes on of which a range may be put back.
-use Rattle.std.proofs.Common.{◌≡◌, ◌+◌, ◌<◌, Bool, true, false, arith}
+use Rattle.std.proofs.Common.{◌≡◌, ◌+◌, ◌<◌, Bool, true, false, ◌∷◌, refl, sym, ap, subst, arith}
 use Rattle.std.specs.Iterator.{Count, IsFinite, MakesProgress, count_map, count_unless, size}
 use Rattle.std.specs.Option.{option_len}
-use Rattle.std.specs.Prelude.{Option, Some, None, IfNone, OnSome, is_none}
+use Rattle.std.specs.Prelude.{Option, Some, None, IfNone, MatchOption, OnSome, is_none}
 use Rattle.std.specs.declared.ops.RangeInclusive.{RangeInclusive}
 use Rattle.rsb_integer.specs.declared.integer.Integer.{Ghosts as Elements}
+use Rattle.rsb_integer.specs.Rank.{interval_of}
 use Rattle.rsb_streams.specs.PutBack.{put_back}
 use Rattle.rsb_streams.specs.Rows.{IsSorted}
+use Rattle.rsb_streams.specs.StreamLaws.{sorted-lower}
 use Rattle.rsb_streams.specs.declared.draw.Draw.{Ghosts as Stream}
 use Rattle.rsb_streams.specs.declared.put_back.PutBack.{PutBack}
+
+-- the source has ended where a draw gave nothing
+pub told : {A : Type 0} (item : Option A) (ended : Bool) → ended ≡ is_none item
+    → MatchOption item (ended ≡ true) (λ _. ended ≡ false)
+told None ended is = is
+told (Some x) ended is = is
 
 module _ {T N I : Type 0} (integer : Elements T N) (source : Stream I T N)
     (sorted : IsSorted integer source) where
@@ -55,3 +63,30 @@ module _ {T N I : Type 0} (integer : Elements T N) (source : Stream I T N)
   drawn-goes s after ended j item none over undone end goes =
       let parts = goes-by s.held after s.done ended s.iter j item none over undone end goes in
       record { on = parts.0; keeps = parts.1; rests = parts.2 }
+
+  -- where a range is held, it comes, and nothing is held then
+  held-ready : (i : I) (done : Bool) (range : RangeInclusive T)
+      → Ready (record { held = Some range; iter = i; done = done })
+      → Ready (record { held = None; iter = i; done = done })
+  held-ready i done range ready = record {
+    callable = ready.callable;
+    sorted = λ runs may.
+        let all = ready.sorted (interval_of integer.rank range ∷ runs) (runs, may, refl) in
+        sorted-lower integer.value_count (interval_of integer.rank range).first 0 runs (omega arith) all.3;
+  }
+
+  -- so it goes on with one fewer
+  pub held-goes : (s : PutBack T I) (after : Option (RangeInclusive T)) (range : RangeInclusive T)
+      → s.held ≡ Some range → after ≡ None → Ready s
+      → MakesProgress Ready (put_back integer source).draws_left s (Some range)
+      (record { held = after; iter = s.iter; done = s.done })
+  held-goes s after range is none ready =
+      let now = held-ready s.iter s.done range
+      (subst (λ held. Ready (record { held = held; iter = s.iter; done = s.done })) is ready) in
+      subst (λ each. MakesProgress Ready (put_back integer source).draws_left s (Some range)
+      (record { held = each; iter = s.iter; done = s.done })) (sym none)
+      (record {
+        on = λ finite. (now, finite, let more = ap option_len is in omega (arith, more));
+        keeps = now;
+        rests = λ finite. tt;
+      })

@@ -1,7 +1,7 @@
 -- A stream that a proof knows by its laws alone.
 use Rattle.std.proofs.Common.{◌≡◌, ℕ, ◌+◌, ◌≤◌, Bool, true, false, List, [], ◌∷◌, sym, ap, subst, arith}
 use Rattle.std.specs.Prelude.{Option, Some, None, MatchOption}
-use Rattle.std.specs.Iterator.{Count, size}
+use Rattle.std.specs.Iterator.{Count, MakesProgress, size}
 use Rattle.std.specs.Range.{range_inclusive_start, range_inclusive_end}
 use Rattle.std.specs.declared.ops.RangeInclusive.{RangeInclusive}
 use Rattle.rsb_integer.specs.Rank.{interval_of}
@@ -162,3 +162,15 @@ module _ {S T : Type 0} {can_draw : S → Type 0}
       → next_gives s item t → draw_gives s item t
   drawn-call s t None can call = drawn.ends s t (drawn.callable s can) call
   drawn-call s t (Some range) can call = drawn.gives s t range call
+
+-- a call that goes on for `next` goes on for `draw`, where what may be called may be drawn from
+pub goes-drawn : {S A : Type 0} (can_next can_draw : S → Type 0) (left : S → Count)
+    → ((s : S) → can_next s → can_draw s) → (s t : S) (item : Option A)
+    → MakesProgress can_next left s item t → MakesProgress can_draw left s item t
+goes-drawn can_next can_draw left drawable s t None goes =
+    record { on = λ finite. tt; keeps = tt; rests = goes.rests }
+goes-drawn can_next can_draw left drawable s t (Some x) goes = record {
+  on = λ finite. let each = goes.on finite in (drawable t each.0, each.1, each.2);
+  keeps = drawable t goes.keeps;
+  rests = λ finite. tt;
+}

@@ -76,6 +76,7 @@ module _ {S T N : Type 0} (integer : Elements T N) (stream : Stream S T N)
       remaining = λ s. next.remaining (filter_source s);
     }
 
+    -- it is its `draw`
     pub filter-drawn : NextIsDraw (filter_draws integer stream next call filters) filters
     filter-drawn = adapted-drawn filters _ _ _
         (λ s can. (drawn.drawable (filter_source s) can.0, can.2))
@@ -110,6 +111,7 @@ module _ {S T N : Type 0} (integer : Elements T N) (stream : Stream S T N)
       remaining = λ s. next.remaining (take_while_source s);
     }
 
+    -- it is its `draw`
     pub take_while-drawn : NextIsDraw (take_while_draws integer stream next call takes_while)
         takes_while
     take_while-drawn = adapted-drawn takes_while _ _ _
@@ -159,6 +161,7 @@ module _ {S T N : Type 0} (integer : Elements T N) (stream : Stream S T N)
       remaining = λ s. next.remaining (skip_while_source s);
     }
 
+    -- it is its `draw`
     pub skip_while-drawn : NextIsDraw (skip_while_draws integer stream next call skips_while)
         skips_while
     skip_while-drawn = adapted-drawn skips_while _ _ _
@@ -195,6 +198,7 @@ module _ {S T N : Type 0} (integer : Elements T N) (stream : Stream S T N)
     remaining = λ s. count_min (at_most (take_count s)) (next.remaining (take_source s));
   }
 
+  -- it is its `draw`
   pub take-drawn : NextIsDraw (take_draws integer stream next takes) takes
   take-drawn = adapted-drawn takes _ _ _
       (λ s can. (drawn.drawable (take_source s) can, tt))
@@ -228,6 +232,7 @@ module _ {S T N : Type 0} (integer : Elements T N) (stream : Stream S T N)
     remaining = λ s. count_map (λ left. left - skip_count s) (next.remaining (skip_source s));
   }
 
+  -- it is its `draw`
   pub skip-drawn : NextIsDraw (skip_draws integer stream next skips) skips
   skip-drawn = adapted-drawn skips _ _ _
       (λ s can. (drawn.drawable (skip_source s) can, tt))
@@ -258,6 +263,7 @@ module _ {S T N : Type 0} (integer : Elements T N) (stream : Stream S T N)
     remaining = fuse_remaining next.remaining;
   }
 
+  -- it is its `draw`
   pub fuse-drawn : NextIsDraw (fuse_draws integer stream next fuses) fuses
   fuse-drawn = adapted-drawn fuses _ _ _
       (λ s can. ((λ undone. drawn.drawable (fuse_source s) (can undone)), tt))

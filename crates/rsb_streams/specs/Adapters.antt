@@ -102,30 +102,36 @@ module _ {S T N : Type 0} (integer : Elements T N) (stream : Stream S T N)
     may_give = may_give;
   }
 
+  -- a `Take`: the first ranges of its stream
   abbrev pub take_draws : Iteration (Take S) (RangeInclusive T) → Stream (Take S) T N
   take_draws own = adapted own (λ s. stream.can_draw (take_source s)) (λ s. Unit {0})
       (take_may_give stream.may_give)
 
+  -- a `Skip`: what is left after some
   abbrev pub skip_draws : Iteration (Skip S) (RangeInclusive T) → Stream (Skip S) T N
   skip_draws own = adapted own (λ s. stream.can_draw (skip_source s)) (λ s. Unit {0})
       (skip_may_give next.next_gives stream.may_give)
 
+  -- a `Fuse`: all of it, and nothing after its end
   abbrev pub fuse_draws : Iteration (Fuse S) (RangeInclusive T) → Stream (Fuse S) T N
   fuse_draws own = adapted own (fuse_can_next stream.can_draw) (λ s. Unit {0})
       (fuse_may_give stream.may_give)
 
   module _ {F : Type 0} (call : Mut F (Bor (RangeInclusive T) × Unit {0}) Bool) where
+    -- a `Filter`: those that its closure lets pass
     abbrev pub filter_draws : Iteration (Filter S F) (RangeInclusive T) → Stream (Filter S F) T N
     filter_draws own = adapted own (λ s. stream.can_draw (filter_source s))
         (λ s. CallableOnAllAt next.next_gives call (filter_source s) (filter_callee s))
         (filter_may_give stream.may_give)
 
+    -- a `TakeWhile`: those before the first that fails
     abbrev pub take_while_draws : Iteration (TakeWhile S F) (RangeInclusive T)
         → Stream (TakeWhile S F) T N
     take_while_draws own = adapted own (λ s. stream.can_draw (take_while_source s))
         (λ s. CallableWhileAt next.next_gives call true (take_while_source s) (take_while_callee s))
         (take_while_may_give stream.may_give)
 
+    -- a `SkipWhile`: those from the first on that fails
     abbrev pub skip_while_draws : Iteration (SkipWhile S F) (RangeInclusive T)
         → Stream (SkipWhile S F) T N
     skip_while_draws own = adapted own (λ s. stream.can_draw (skip_while_source s))

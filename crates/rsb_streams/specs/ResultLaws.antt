@@ -35,9 +35,11 @@ module _ {T N L R : Type 0} (integer : Elements T N) (left : Stream L T N) (righ
       let both = union_iter integer (merge integer left right) in
       not_iter-disjoint integer both (disjoint-sorted integer both joined-disjoint)
 
+  -- the union of two
   pub union-disjoint : IsDisjoint integer (union integer left right)
   union-disjoint s = joined-disjoint s.iter
 
+  -- what lies in one of them alone
   pub sym_diff-disjoint : IsDisjoint integer (sym_diff integer left right)
   sym_diff-disjoint s =
       let both = merge integer left right in
@@ -46,10 +48,12 @@ module _ {T N L R : Type 0} (integer : Elements T N) (left : Stream L T N) (righ
 
 module _ {T N L R : Type 0} (integer : Elements T N) (left : Stream L T N) (right : Stream R T N)
     (left_sorted : IsSorted integer left) (right_sorted : IsSorted integer right) where
+  -- what the left has and the right lacks
   pub difference-disjoint : IsDisjoint integer (difference integer left right)
   difference-disjoint s = gaps-disjoint integer (not_iter integer left) right
       (not_iter-sorted integer left left_sorted) right_sorted s.iter
 
+  -- what both have
   pub intersection-disjoint : IsDisjoint integer (intersection integer left right)
   intersection-disjoint s = gaps-disjoint integer (not_iter integer left) (not_iter integer right)
       (not_iter-sorted integer left left_sorted) (not_iter-sorted integer right right_sorted) s.iter

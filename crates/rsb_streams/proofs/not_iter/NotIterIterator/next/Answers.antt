@@ -1,5 +1,6 @@
+use Rattle.std.proofs.Common.{arith}
 use Rattle.rsb_streams.proofs.Compare.{IsRanked}
-use Rattle.rsb_streams.proofs.NotTurns.{last-gap, gap-answers, gap-goes, gap-less, gap-none, so-next}
+use Rattle.rsb_streams.proofs.NotTurns.{gap-answers, gap-goes, gap-less, gap-none, last-gap, last-goes, rests, so-next}
 use Rattle.rsb_streams.proofs.Sources.{IsLawful}
 use Rattle.rsb_streams.proofs.not_iter.NotIterIterator.next.Given.{Over}
 use Rattle.rsb_streams.proofs.not_iter.NotIterIterator.next.Goals as goal
@@ -20,7 +21,24 @@ returns-in_default-draw-clause-steps g c =
     c.in_default-draw.ensures.steps
     c.max_value.ensures c.new.ensures.exhausted c.new.ensures.start c.new.ensures.end
 
--- the gap before a range
+pub returns-in_default-draw-clause-goes : goal.returns-in_default-draw-clause-goes
+returns-in_default-draw-clause-goes g c =
+    last-goes g.T.Integer g.I.Draw c.args.self.now
+    c.loop-self.self c.draw.new.self c.in-Some.start c.new.result c.loop-self.invariant c.in-Some.is
+
+-- a gap lies before a range
+pub sub_one-requires : goal.sub_one-requires
+sub_one-requires g c =
+    let less = gap-less g.T.Integer g.I.Draw (laws g)
+    c.args.self.now c.loop-self.self.iter c.draw.new.self c.loop-self.self.start c.in-Some.start
+    c.into_inner-past_gap.result.0 c.into_inner-past_gap.result.1 c.checked_add_one-self.result
+    c.in-Some-draw.range c.loop-self.invariant c.in-Some.is c.in-Some-draw.ensures.steps
+    c.in-Some-draw.ensures.goes c.into_inner-past_gap.ensures.start
+    c.into_inner-past_gap.ensures.end
+    c.checked_add_one-self.ensures.none c.checked_add_one-self.ensures.next
+    (ranked g) c.if-lt.ensures in
+    omega (arith, less)
+
 pub returns-then-lt-clause-steps : goal.returns-then-lt-clause-steps
 returns-then-lt-clause-steps g c =
     gap-answers g.T.Integer g.I.Draw (laws g)
@@ -71,3 +89,16 @@ loop-self-preserved g c =
     c.into_inner-past_gap.ensures.end
     c.checked_add_one-self.ensures.none c.checked_add_one-self.ensures.next
     (ranked g) c.if-lt.ensures)
+
+-- no gap is left
+pub returns-clause-steps : goal.returns-clause-steps
+returns-clause-steps g c =
+    rests g.T.Integer g.I.Draw c.args.self.now c.loop-self.self
+    c.loop-self.invariant c.in_default.is
+
+pub returns-clause-goes : goal.returns-clause-goes
+returns-clause-goes g c = record {
+  on = λ finite. tt;
+  keeps = tt;
+  rests = λ finite. rw c.in_default.is tt;
+}

@@ -1,14 +1,16 @@
-use Rattle.std.proofs.Common.{refl}
+use Rattle.std.proofs.Common.{◌<◌, refl, arith}
+use Rattle.std.specs.Iterator.{size}
 use Rattle.std.specs.Prelude.{Some, None}
 use Rattle.rsb_integer.specs.Room.{fits_memory}
 use Rattle.rsb_streams.specs.OddPieces.{first_end, holding}
 use Rattle.rsb_streams.proofs.Compare.{IsRanked}
-use Rattle.rsb_streams.proofs.OddEnds.{last-answers, rests}
-use Rattle.rsb_streams.proofs.OddStates.{passed-by, popped-end, pushed-none, pushed-some, removed-first}
+use Rattle.rsb_streams.proofs.OddEnds.{last-answers, last-goes, rests}
+use Rattle.rsb_streams.proofs.OddStates.{passed-by, popped-end, popped-left, pushed-none, pushed-some, removed-first, room}
 use Rattle.rsb_streams.proofs.OddTurns.{apart-answers, apart-goes, both-values, gap-answers, gap-goes, next-above, so-begins, so-passed}
 use Rattle.rsb_streams.proofs.Sources.{IsLawful}
 use Rattle.rsb_streams.proofs.odd_pieces.OddPieces.next_piece.Given.{Over}
 use Rattle.rsb_streams.proofs.odd_pieces.OddPieces.next_piece.Goals as goal
+use Rattle.rsb_streams.proofs.odd_pieces.OddPieces.next_piece.Goals.{In-Some}
 
 laws : (g : Over) → IsLawful g.T.Integer g.I.Draw
 laws g = record { answers = g.met.I.Draw.answers; sorted = g.met.I.Draw.sorted }
@@ -16,6 +18,42 @@ laws g = record { answers = g.met.I.Draw.answers; sorted = g.met.I.Draw.sorted }
 ranked : (g : Over) → IsRanked g.T.Integer.rank g.T.Integer.value_count g.T.PartialOrd.partial_cmp
     g.T.Ord.cmp
 ranked g = record { matches = g.met.T.Ord.matches_partial_cmp; in_order = g.met.T.Integer.in_order }
+
+-- at the entry
+pub loop-range-init : goal.loop-range-init
+loop-range-init g c = record {
+  one = c.requires.one;
+  so = record {
+    undone = c.requires.undone;
+    going = c.requires.ready c.requires.undone;
+    same = λ pieces at. at;
+    nearer = omega arith;
+  };
+}
+
+-- a range may be drawn
+pub draw-requires : goal.draw-requires
+draw-requires g c = c.loop-range.invariant.so.going.callable
+
+-- there is room for its end
+pub push-requires : goal.push-requires
+push-requires g c = (
+  fits_memory _ (g.met.T.Integer.two_ends_fit c.into_inner-next.result.0),
+  room c.loop-range.ends.items c.loop-range.invariant.one,
+)
+
+-- fewer are left to draw
+nearer : (g : Over) (c : In-Some g) → size (g.I.Draw.draws_left c.draw.new.self)
+    < size (g.I.Draw.draws_left c.loop-range.self.iter)
+nearer g c =
+    let ends = ((laws g).sorted c.loop-range.self.iter c.loop-range.invariant.so.going.callable).ends in
+    (c.in-Some.ensures.goes.on ends).2
+
+pub loop-range-smaller-in_default-pending : goal.loop-range-smaller-in_default-pending
+loop-range-smaller-in_default-pending g c = nearer g (goal.at.loop-range-smaller-in_default-pending g c).In-Some
+
+pub loop-range-smaller : goal.loop-range-smaller
+loop-range-smaller g c = nearer g (goal.at.loop-range-smaller g c).In-Some
 
 -- a range begins where none is pending
 pub loop-range-preserved-in_default-pending : goal.loop-range-preserved-in_default-pending
@@ -33,6 +71,15 @@ loop-range-preserved-in_default-pending g c =
     }
 
 -- a range is pending, and the next one starts past it
+pub remove-requires : goal.remove-requires
+remove-requires g c =
+    let pushed = pushed-some c.loop-range.ends.items c.loop-range.invariant.one
+    c.push.new.self.items c.in-Some-pending.end c.into_inner-next.result.1
+    c.in-Some-pending.ensures c.push.ensures.items in (
+      fits_memory _ (g.met.T.Integer.two_ends_fit c.into_inner-next.result.0),
+      rw pushed (omega arith),
+    )
+
 pub returns-then-lt-clause-steps : goal.returns-then-lt-clause-steps
 returns-then-lt-clause-steps g c =
     let left = removed-first c.loop-range.ends.items c.loop-range.invariant.one
@@ -47,6 +94,14 @@ returns-then-lt-clause-steps g c =
     c.into_inner-next.ensures.start c.into_inner-next.ensures.end c.in-Some-pending.end
     c.in-Some-pending.ensures c.if-lt.ensures c.new.result
     c.new.ensures.exhausted c.new.ensures.start c.new.ensures.end)
+
+pub returns-then-lt-clause-one : goal.returns-then-lt-clause-one
+returns-then-lt-clause-one g c =
+    let left = removed-first c.loop-range.ends.items c.loop-range.invariant.one
+    c.push.new.self.items c.remove.new.self.items c.in-Some-pending.end
+    c.into_inner-next.result.1 c.in-Some-pending.ensures c.push.ensures.items
+    c.remove.ensures.items in
+    rw left refl
 
 pub returns-then-lt-clause-goes : goal.returns-then-lt-clause-goes
 returns-then-lt-clause-goes g c =
@@ -112,6 +167,9 @@ returns-then-lt-2-clause-steps g c =
     c.sub_one.ensures c.new-then-lt-2.ensures.exhausted c.new-then-lt-2.ensures.start
     c.new-then-lt-2.ensures.end
 
+pub returns-then-lt-2-clause-one : goal.returns-then-lt-2-clause-one
+returns-then-lt-2-clause-one g c = c.pass_lesser.ensures.one
+
 pub returns-then-lt-2-clause-goes : goal.returns-then-lt-2-clause-goes
 returns-then-lt-2-clause-goes g c =
     let passed = passed-by g.T.Integer.rank c.draw.new.self c.in-Some-pending.end
@@ -145,6 +203,9 @@ loop-range-preserved g c =
     }
 
 -- none is pending at the end, and nothing comes
+pub pop-requires : goal.pop-requires
+pop-requires g c = fits_memory _ (g.met.T.Integer.two_ends_fit c.loop-range.self.start)
+
 pub returns-in_err-end-clause-steps : goal.returns-in_err-end-clause-steps
 returns-in_err-end-clause-steps g c =
     let none = popped-end c.loop-range.ends.items c.loop-range.invariant.one c.pop.result None
@@ -155,7 +216,26 @@ returns-in_err-end-clause-steps g c =
     c.draw.new.self c.loop-range.invariant.so c.in_default.ensures.steps none
     (first_end c.pop.new.self.items))
 
+pub returns-in_err-end-clause-one : goal.returns-in_err-end-clause-one
+returns-in_err-end-clause-one g c =
+    rw (popped-left c.loop-range.ends.items c.loop-range.invariant.one c.pop.new.self.items
+    c.pop.ensures.rest) refl
+
+pub returns-in_err-end-clause-ended : goal.returns-in_err-end-clause-ended
+returns-in_err-end-clause-ended g c =
+    rw c.from_residual.ensures (popped-left c.loop-range.ends.items c.loop-range.invariant.one
+    c.pop.new.self.items c.pop.ensures.rest)
+
+pub returns-in_err-end-clause-goes : goal.returns-in_err-end-clause-goes
+returns-in_err-end-clause-goes g c =
+    rw c.from_residual.ensures (record { on = λ finite. tt; keeps = tt; rests = λ finite. tt })
+
 -- what is pending comes last
+pub returns-clause-one : goal.returns-clause-one
+returns-clause-one g c =
+    rw (popped-left c.loop-range.ends.items c.loop-range.invariant.one c.pop.new.self.items
+    c.pop.ensures.rest) refl
+
 pub returns-clause-steps : goal.returns-clause-steps
 returns-clause-steps g c =
     let last = popped-end c.loop-range.ends.items c.loop-range.invariant.one c.pop.result
@@ -166,4 +246,14 @@ returns-clause-steps g c =
     c.draw.new.self c.loop-range.invariant.so c.in_default.ensures.steps
     c.in_ok-end.end c.new-2.result last
     c.new-2.ensures.exhausted c.new-2.ensures.start c.new-2.ensures.end
+    (first_end c.pop.new.self.items)
+
+pub returns-clause-goes : goal.returns-clause-goes
+returns-clause-goes g c =
+    let last = popped-end c.loop-range.ends.items c.loop-range.invariant.one c.pop.result
+    (Some c.in_ok-end.end) c.pop.ensures.value c.in_ok-end.ensures in
+    last-goes g.T.Integer g.I.Draw
+    (holding c.args.self.now c.args.ends.now.items)
+    (holding c.loop-range.self c.loop-range.ends.items)
+    c.draw.new.self c.loop-range.invariant.so c.in_ok-end.end c.new-2.result last
     (first_end c.pop.new.self.items)

@@ -1,8 +1,19 @@
-use Rattle.std.proofs.Common.{ap, sym, subst, ◌∙◌}
+use Rattle.std.proofs.Common.{ap, refl, sym, subst, ◌∙◌}
 use Rattle.rsb_integer.specs.Room.{fits_memory}
 use Rattle.rsb_streams.specs.OddPieces.{ends_in, first_end, HasOneEnd}
 use Rattle.rsb_streams.proofs.OddStates.{first_end-ends_in, one-end}
 use Rattle.rsb_streams.proofs.odd_pieces.OddPiecesDraw.draw.Goals as goal
+
+-- all was told
+pub returns-then-self-clause-steps : goal.returns-then-self-clause-steps
+returns-then-self-clause-steps g c = record {
+  answers = rw c.if-self.true refl;
+  rests = (c.requires, λ pieces at. rw c.if-self.true at at);
+}
+
+pub returns-then-self-clause-goes : goal.returns-then-self-clause-goes
+returns-then-self-clause-goes g c =
+    record { on = λ finite. tt; keeps = tt; rests = λ finite. finite }
 
 -- a vector of two ends fits in memory
 pub ends_with-ends-requires : goal.ends_with-ends-requires
@@ -31,3 +42,9 @@ returns-clause-steps g c =
     let ends = c.ends_with-ends.ensures ∙ ap ends_in c.take.ensures.value in
     let held = ap first_end ends ∙ first_end-ends_in c.args.self.now.end in
     rw (c.first_end-self.ensures, sym held) c.next_piece-piece.ensures.steps
+
+pub returns-clause-goes : goal.returns-clause-goes
+returns-clause-goes g c =
+    let ends = c.ends_with-ends.ensures ∙ ap ends_in c.take.ensures.value in
+    let held = ap first_end ends ∙ first_end-ends_in c.args.self.now.end in
+    rw (c.first_end-self.ensures, sym held) c.next_piece-piece.ensures.goes

@@ -5,7 +5,7 @@ use Rattle.rsb_integer.specs.Rank.{interval_of}
 use Rattle.rsb_integer.specs.Runs.{members}
 use Rattle.rsb_integer.specs.Selection.{IsEverything}
 use Rattle.rsb_streams.proofs.Compare.{IsRanked, at_most-by, less-rank, not_less-rank}
-use Rattle.rsb_streams.proofs.FirstItems.{first-range, first-tells, first-whole, late-lacks, same-test}
+use Rattle.rsb_streams.proofs.FirstItems.{first-range, first-tells, first-whole, late-lacks, none-lacks, same-test}
 use Rattle.rsb_streams.proofs.Sources.{IsLawful, range-start, range-end}
 use Rattle.rsb_streams.proofs.sorted_disjoint.DrawDisjoint.is_universal.Given.{Over}
 use Rattle.rsb_streams.proofs.sorted_disjoint.DrawDisjoint.is_universal.Goals as goal
@@ -19,6 +19,12 @@ ranked g =
     let order = g.met.T.Ord in
     let integer = g.met.T.Integer in
     record { matches = order.matches_partial_cmp; in_order = integer.in_order }
+
+-- nothing comes
+pub returns-in_default : goal.returns-in_default
+returns-in_default g c =
+    none-lacks g.T.Integer g.Self.Draw (laws g) c.args.self
+    c.draw.new.self c.requires c.in_default.ensures.steps (omega (arith, g.met.T.Integer.some_values))
 
 -- the first range starts past the least value
 pub returns-then-lt : goal.returns-then-lt

@@ -1,9 +1,19 @@
 use Rattle.rsb_streams.specs.AdapterLaws.{skip_while-drawn}
-use Rattle.rsb_streams.proofs.Sources.{drawn-call}
+use Rattle.rsb_streams.proofs.Sources.{drawn-call, goes-drawn}
 use Rattle.rsb_streams.proofs.std_markers.skip_while.SkipWhileDraw.draw.Goals as goal
+
+-- it may be called
+pub next-requires : goal.next-requires
+next-requires g c = (skip_while-drawn g.T.Integer g.I.Draw g.I.Iterator g.met.I.Draw.answers
+    g.met.I.Draw.sorted c.requires.drawn g.P.FnMut).callable c.args.self.now c.requires
 
 -- a call of its `next` is a draw
 pub returns-clause-steps : goal.returns-clause-steps
 returns-clause-steps g c =
     drawn-call (skip_while-drawn g.T.Integer g.I.Draw g.I.Iterator g.met.I.Draw.answers
     g.met.I.Draw.sorted c.requires.drawn g.P.FnMut) _ _ _ c.requires c.next.ensures.steps
+
+pub returns-clause-goes : goal.returns-clause-goes
+returns-clause-goes g c =
+    goes-drawn _ _ _ (skip_while-drawn g.T.Integer g.I.Draw g.I.Iterator g.met.I.Draw.answers
+    g.met.I.Draw.sorted c.requires.drawn g.P.FnMut).drawable _ _ _ c.next.ensures.goes
