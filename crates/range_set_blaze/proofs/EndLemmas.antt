@@ -20,6 +20,16 @@ module _ {T : Type 0} (rank : T → ℕ) (n : ℕ) where
     length = none ∙ sym (count-none n (members []) (λ point below. refl));
   }
 
+  -- no run is kept where there is no entry
+  pub no-runs : (entries : List (T × T)) → (0 < length entries → ⊥) → runs_of rank entries ≡ []
+  no-runs [] none = refl
+  no-runs (entry ∷ entries) none = absurd (none (omega arith))
+
+  -- and some are where there is one
+  pub some-runs : (entries : List (T × T)) → 0 < length entries → ¬ (runs_of rank entries ≡ [])
+  some-runs [] some is = absurd (omega (arith, some))
+  some-runs (entry ∷ entries) some is = absurd (cc)
+
   -- the first run starts with the least member
   pub first-least : (runs : List (T × T)) (run : T × T) → IsCanonicalIn n (runs_of rank runs)
       → slice_get runs 0 ≡ Some run → IsLeast n (members (runs_of rank runs)) (rank run.0)

@@ -38,11 +38,6 @@ popped-by : {T : Type 0} (held : Option T)
 popped-by None = refl
 popped-by (Some end) = refl
 
--- it has one end at most
-few-ends : {T : Type 0} (held : Option T) → length (ends_in held) ≤ 1
-few-ends None = omega arith
-few-ends (Some end) = omega arith
-
 -- and none is left
 taken-last : {T : Type 0} (held : Option T)
     → take (length (ends_in held) - 1) (ends_in held) ≡ []
@@ -61,10 +56,6 @@ pub one-end : {T : Type 0} (held : Option T) → HasOneEnd (ends_in held)
 one-end held = ap ends_in (sym (first_end-ends_in held))
 
 module _ {T : Type 0} (ends : List (Option T)) (one : HasOneEnd ends) where
-  -- there is room for one more
-  pub room : length ends < 2
-  room = let few = few-ends (first_end ends) in omega (arith, ap length one)
-
   -- a range begins where none is pending
   pub pushed-none : (pushed : List (Option T)) (other : T) → None ≡ first_end ends
       → pushed ≡ ends ++ Some other ∷ [] → pushed ≡ ends_in (Some other)

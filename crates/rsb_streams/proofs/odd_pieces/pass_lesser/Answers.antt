@@ -1,5 +1,4 @@
 use Rattle.std.proofs.Common.{arith}
-use Rattle.rsb_integer.specs.Room.{fits_memory}
 use Rattle.rsb_streams.proofs.Compare.{IsRanked, less-rank, not_less-rank}
 use Rattle.rsb_streams.proofs.OddStates.{left-first, left-other, past-first, past-neither, past-other}
 use Rattle.rsb_streams.proofs.odd_pieces.pass_lesser.Given.{Over}
@@ -10,12 +9,6 @@ ranked : (g : Over) → IsRanked g.T.Integer.rank g.T.Integer.value_count g.T.Pa
 ranked g = record { matches = g.met.T.Ord.matches_partial_cmp; in_order = g.met.T.Integer.in_order }
 
 -- the first end is the lesser
-pub remove-requires : goal.remove-requires
-remove-requires g c = (
-  fits_memory _ (g.met.T.Integer.two_ends_fit c.args.end),
-  rw c.requires.both (omega arith),
-)
-
 pub add_one-requires : goal.add_one-requires
 add_one-requires g c =
     let less = less-rank (ranked g) c.args.end c.args.next_end c.requires.end c.requires.next_end
@@ -32,9 +25,6 @@ returns-then-lt-clause-passed g c =
     less left c.add_one.ensures
 
 -- the second is the lesser
-pub pop-requires : goal.pop-requires
-pop-requires g c = fits_memory _ (g.met.T.Integer.two_ends_fit c.args.end)
-
 pub add_one-requires-then-lt-2 : goal.add_one-requires-then-lt-2
 add_one-requires-then-lt-2 g c =
     let less = less-rank (ranked g) c.args.next_end c.args.end c.requires.next_end c.requires.end
@@ -51,9 +41,6 @@ returns-then-lt-2-clause-passed g c =
     c.pop.new.self.items less left c.add_one-then-lt-2.ensures
 
 -- they are one
-pub clear-requires : goal.clear-requires
-clear-requires g c = fits_memory _ (g.met.T.Integer.two_ends_fit c.args.end)
-
 pub returns-else-lt-2-clause-passed : goal.returns-else-lt-2-clause-passed
 returns-else-lt-2-clause-passed g c =
     let most = not_less-rank (ranked g) c.args.end c.args.next_end c.requires.end c.requires.next_end

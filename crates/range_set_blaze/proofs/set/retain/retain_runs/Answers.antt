@@ -111,12 +111,12 @@ loop-next-preserved g c =
     let starts : rank (range_inclusive_start c.new.result) < n =
     rw c.new.ensures.start (omega (arith, order.0, order.1)) in
     let ends : rank (range_inclusive_end c.new.result) < n = rw c.new.ensures.end order.1 in
-    elim c.if-not-f.branch [
-      | then-not-f w ↦ rw (w.map-is, w.length-is) (record {
-        callable = λ always. mut_next g.F.FnMut _ _ _ _ _ c.f.ensures refl (c.loop-next.invariant.callable always);
-        asked = c.loop-next.invariant.asked ++ c.new.result ∷ [];
-        calls = asks-more g.F.FnMut _ _ _ _ _ _ c.loop-next.invariant.calls c.f.ensures;
-        runs = (
+    record {
+      callable = λ always. mut_next g.F.FnMut _ _ _ _ _ c.f.ensures refl (c.loop-next.invariant.callable always);
+      asked = c.loop-next.invariant.asked ++ c.new.result ∷ [];
+      calls = asks-more g.F.FnMut _ _ _ _ _ _ c.loop-next.invariant.calls c.f.ensures;
+      runs = elim c.if-not-f.branch [
+        | then-not-f w ↦ rw (w.map-is, w.length-is) (
           retaining-drop rank n _ _ _ _ run c.requires.kept.canonical held.0
               g.T.Ord.cmp laws.in_order w.remove.new.self.entries w.remove.ensures.entries
               c.run_after-next.result (rw w.map-is at c.run_after-next.ensures) _
@@ -130,13 +130,8 @@ loop-next-preserved g c =
                     (ap keeps (sym ranks) ∙ sym answer ∙ w.if-not-f.true),
               )),
           asked-more rank n _ _ _ _ run held.0 c.loop-next.invariant.asked c.new.result held.2 ranks,
-        );
-      })
-      | else-not-f w ↦ rw (w.map-is, w.length-is) (record {
-        callable = λ always. mut_next g.F.FnMut _ _ _ _ _ c.f.ensures refl (c.loop-next.invariant.callable always);
-        asked = c.loop-next.invariant.asked ++ c.new.result ∷ [];
-        calls = asks-more g.F.FnMut _ _ _ _ _ _ c.loop-next.invariant.calls c.f.ensures;
-        runs = (
+        )
+        | else-not-f w ↦ rw (w.map-is, w.length-is) (
           retaining-keep rank n _ _ _ _ run c.requires.kept.canonical held.0
               c.run_after-next.result (rw w.map-is at c.run_after-next.ensures),
           (λ keeps answers.
@@ -148,9 +143,9 @@ loop-next-preserved g c =
                     (ap keeps (sym ranks) ∙ sym answer ∙ w.if-not-f.false),
               )),
           asked-more rank n _ _ _ _ run held.0 c.loop-next.invariant.asked c.new.result held.2 ranks,
-        );
-      })
-    ]
+        )
+      ];
+    }
 
 pub returns-clause-exact : goal.returns-clause-exact
 returns-clause-exact g c keeps answers =

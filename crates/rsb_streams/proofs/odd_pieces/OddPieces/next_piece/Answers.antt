@@ -1,11 +1,11 @@
-use Rattle.std.proofs.Common.{◌<◌, refl, arith}
+use Rattle.std.proofs.Common.{◌<◌, refl}
 use Rattle.std.specs.Iterator.{size}
 use Rattle.std.specs.Prelude.{Some, None}
 use Rattle.rsb_integer.specs.Room.{fits_memory}
 use Rattle.rsb_streams.specs.OddPieces.{first_end, holding}
 use Rattle.rsb_streams.proofs.Compare.{IsRanked}
 use Rattle.rsb_streams.proofs.OddEnds.{last-answers, last-goes, rests}
-use Rattle.rsb_streams.proofs.OddStates.{passed-by, popped-end, popped-left, pushed-none, pushed-some, removed-first, room}
+use Rattle.rsb_streams.proofs.OddStates.{passed-by, popped-end, popped-left, pushed-none, pushed-some, removed-first}
 use Rattle.rsb_streams.proofs.OddTurns.{apart-answers, apart-goes, both-values, gap-answers, gap-goes, next-above, so-begins, so-passed}
 use Rattle.rsb_streams.proofs.Sources.{IsLawful}
 use Rattle.rsb_streams.proofs.odd_pieces.OddPieces.next_piece.Given.{Over}
@@ -18,29 +18,6 @@ laws g = record { answers = g.met.I.Draw.answers; sorted = g.met.I.Draw.sorted }
 ranked : (g : Over) → IsRanked g.T.Integer.rank g.T.Integer.value_count g.T.PartialOrd.partial_cmp
     g.T.Ord.cmp
 ranked g = record { matches = g.met.T.Ord.matches_partial_cmp; in_order = g.met.T.Integer.in_order }
-
--- at the entry
-pub loop-range-init : goal.loop-range-init
-loop-range-init g c = record {
-  one = c.requires.one;
-  so = record {
-    undone = c.requires.undone;
-    going = c.requires.ready c.requires.undone;
-    same = λ pieces at. at;
-    nearer = omega arith;
-  };
-}
-
--- a range may be drawn
-pub draw-requires : goal.draw-requires
-draw-requires g c = c.loop-range.invariant.so.going.callable
-
--- there is room for its end
-pub push-requires : goal.push-requires
-push-requires g c = (
-  fits_memory _ (g.met.T.Integer.two_ends_fit c.into_inner-next.result.0),
-  room c.loop-range.ends.items c.loop-range.invariant.one,
-)
 
 -- fewer are left to draw
 nearer : (g : Over) (c : In-Some g) → size (g.I.Draw.draws_left c.draw.new.self)
@@ -71,15 +48,6 @@ loop-range-preserved-in_default-pending g c =
     }
 
 -- a range is pending, and the next one starts past it
-pub remove-requires : goal.remove-requires
-remove-requires g c =
-    let pushed = pushed-some c.loop-range.ends.items c.loop-range.invariant.one
-    c.push.new.self.items c.in-Some-pending.end c.into_inner-next.result.1
-    c.in-Some-pending.ensures c.push.ensures.items in (
-      fits_memory _ (g.met.T.Integer.two_ends_fit c.into_inner-next.result.0),
-      rw pushed (omega arith),
-    )
-
 pub returns-then-lt-clause-steps : goal.returns-then-lt-clause-steps
 returns-then-lt-clause-steps g c =
     let left = removed-first c.loop-range.ends.items c.loop-range.invariant.one
@@ -94,14 +62,6 @@ returns-then-lt-clause-steps g c =
     c.into_inner-next.ensures.start c.into_inner-next.ensures.end c.in-Some-pending.end
     c.in-Some-pending.ensures c.if-lt.ensures c.new.result
     c.new.ensures.exhausted c.new.ensures.start c.new.ensures.end)
-
-pub returns-then-lt-clause-one : goal.returns-then-lt-clause-one
-returns-then-lt-clause-one g c =
-    let left = removed-first c.loop-range.ends.items c.loop-range.invariant.one
-    c.push.new.self.items c.remove.new.self.items c.in-Some-pending.end
-    c.into_inner-next.result.1 c.in-Some-pending.ensures c.push.ensures.items
-    c.remove.ensures.items in
-    rw left refl
 
 pub returns-then-lt-clause-goes : goal.returns-then-lt-clause-goes
 returns-then-lt-clause-goes g c =
@@ -167,9 +127,6 @@ returns-then-lt-2-clause-steps g c =
     c.sub_one.ensures c.new-then-lt-2.ensures.exhausted c.new-then-lt-2.ensures.start
     c.new-then-lt-2.ensures.end
 
-pub returns-then-lt-2-clause-one : goal.returns-then-lt-2-clause-one
-returns-then-lt-2-clause-one g c = c.pass_lesser.ensures.one
-
 pub returns-then-lt-2-clause-goes : goal.returns-then-lt-2-clause-goes
 returns-then-lt-2-clause-goes g c =
     let passed = passed-by g.T.Integer.rank c.draw.new.self c.in-Some-pending.end
@@ -203,9 +160,6 @@ loop-range-preserved g c =
     }
 
 -- none is pending at the end, and nothing comes
-pub pop-requires : goal.pop-requires
-pop-requires g c = fits_memory _ (g.met.T.Integer.two_ends_fit c.loop-range.self.start)
-
 pub returns-in_err-end-clause-steps : goal.returns-in_err-end-clause-steps
 returns-in_err-end-clause-steps g c =
     let none = popped-end c.loop-range.ends.items c.loop-range.invariant.one c.pop.result None
