@@ -5,4 +5,5 @@ pub mod ListLemmas
 pub mod MaximalLemmas
 pub mod MembersLemmas
 pub mod RangeLemmas
+pub mod RunCountLemmas
 pub mod RunsLemmas

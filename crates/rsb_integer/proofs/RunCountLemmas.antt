@@ -1,0 +1,398 @@
+-- How many runs a set has, by where it changes along the ranks.
+use Rattle.std.proofs.Common.{◌≡◌, ◌⊎◌, ℕ, zero, suc, Bool, true, false, not, ◌&&◌, ◌||◌, cond, ◌+◌, ◌*◌, ◌<◌, ◌≤◌, List, [], ◌∷◌, length, map, refl, sym, ap, ◌∙◌, inl, inr, arith}
+use Rattle.std.proofs.Math.Bool.{and-false}
+use Rattle.std.proofs.lemmas.Bool.{cases_lt}
+use Rattle.std.proofs.lemmas.List.Elements.{All-cons, All-head, All-nil, All-tail}
+use Rattle.std.proofs.lemmas.List.Sums.{sum_by-cons}
+use Rattle.std.specs.List.{sum_by}
+use Rattle.rsb_integer.specs.Runs.{Interval, length_of, members, AllEndBelow, AreRuns, IsCanonicalFrom}
+use Rattle.rsb_integer.specs.Selection.{Selection, Agree, complement, count, difference, exclusive_or, intersection, symmetric_difference, union}
+use Rattle.rsb_integer.proofs.CountLemmas.{count-agree, count-members}
+use Rattle.rsb_integer.proofs.MembersLemmas.{members-below, members-head, members-tail}
+use Rattle.rsb_integer.proofs.RunsLemmas.{runs-canonical, runs-from_canonical, runs-members}
+
+-- ---- where a set begins and ends
+
+-- a run of the set begins at the rank
+abbrev begins : Selection → Selection
+begins selected zero = selected zero
+begins selected (suc rank) = selected (suc rank) && not (selected rank)
+
+-- a run of the set ended right before the rank
+abbrev ended : Selection → Selection
+ended selected zero = false
+ended selected (suc rank) = not (selected (suc rank)) && selected rank
+
+-- what one rank adds to a count
+abbrev once : Bool → ℕ
+once test = cond test 1 0
+
+-- whether the last of n ranks is selected, as a number
+abbrev at_last : ℕ → Selection → ℕ
+at_last zero selected = 0
+at_last (suc n) selected = once (selected n)
+
+-- one rank changes the last one by what begins there and what ended before it
+once-begins : (here before : Bool)
+    → once (here && not before) + once before ≡ once (not here && before) + once here
+once-begins true true = refl
+once-begins true false = refl
+once-begins false true = refl
+once-begins false false = refl
+
+-- as many runs have begun as have ended, and one more where the last rank is selected
+count-begins : (n : ℕ) (selected : Selection)
+    → count n (begins selected) ≡ count n (ended selected) + at_last n selected
+unfolding count
+count-begins zero selected = refl
+count-begins (suc zero) selected = refl
+count-begins (suc (suc n)) selected =
+    let before = count-begins (suc n) selected in
+    let here = once-begins (selected (suc n)) (selected n) in
+    omega arith
+
+-- ---- runs by where they begin
+
+-- the first rank of an interval, alone
+abbrev first_of : Interval → Interval
+first_of run = record { first = run.first; last = run.first }
+
+-- those of canonical intervals are canonical
+firsts-canonical : (low : ℕ) (runs : List Interval) → IsCanonicalFrom low runs
+    → IsCanonicalFrom low (map first_of runs)
+firsts-canonical low [] canonical = tt
+firsts-canonical low (run ∷ []) canonical = (canonical.0, omega arith, tt)
+firsts-canonical low (run ∷ other ∷ runs) canonical =
+    let rest = firsts-canonical (run.last + 2) (other ∷ runs) canonical.2 in
+    let order = canonical.1 in
+    let apart = rest.0 in
+    (canonical.0, omega arith, (omega (arith, order, apart), rest.1, rest.2))
+
+-- and end where those do
+firsts-below : (n low : ℕ) (runs : List Interval) → IsCanonicalFrom low runs → AllEndBelow n runs
+    → AllEndBelow n (map first_of runs)
+firsts-below n low [] canonical below = All-nil (λ (run : Interval). run.last < n)
+firsts-below n low (run ∷ runs) canonical below =
+    let P : Interval → Type 0 = λ each. each.last < n in
+    let order = canonical.1 in
+    let end = All-head P run runs below in
+    All-cons P (first_of run) (map first_of runs) (omega (arith, order, end))
+    (firsts-below n (run.last + 2) runs canonical.2 (All-tail P run runs below))
+
+-- their lengths add up to how many they are
+firsts-length : (runs : List Interval) → sum_by length_of (map first_of runs) ≡ length runs
+firsts-length [] = refl
+firsts-length (run ∷ runs) =
+    let rest = firsts-length runs in
+    let sum = sum_by-cons length_of (first_of run) (map first_of runs) in
+    omega arith
+
+-- before the first of them nothing begins
+begins-below : (low : ℕ) (runs : List Interval) (rank : ℕ) → IsCanonicalFrom low runs → rank < low
+    → begins (members runs) rank ≡ false
+begins-below low runs zero canonical below = members-below low runs zero canonical below
+begins-below low runs (suc rank) canonical below =
+    ap (λ test. test && not (members runs rank)) (members-below low runs (suc rank) canonical below)
+
+-- where a run begins, by whether the rank and the one before it are members
+begins-by : (selected : Selection) (rank before : ℕ) (here past : Bool) → rank ≡ before + 1
+    → selected rank ≡ here → selected before ≡ past → begins selected rank ≡ (here && not past)
+begins-by selected zero before here past is at_rank at_before = absurd (omega (arith, is))
+begins-by selected (suc rank) before here past is at_rank at_before =
+    let same : rank ≡ before = omega (arith, is) in
+    ap (λ test. test && not (selected rank)) at_rank
+    ∙ ap (λ test. here && not test) (ap selected same ∙ at_before)
+
+-- a run begins where the first interval does
+first-begins : (low : ℕ) (run : Interval) (runs : List Interval) (rank : ℕ)
+    → IsCanonicalFrom low (run ∷ runs) → rank ≡ run.first → begins (members (run ∷ runs)) rank ≡ true
+first-begins low run runs zero canonical is =
+    let order = canonical.1 in
+    members-head run runs zero (omega (arith, is)) (omega (arith, order, is))
+first-begins low run runs (suc rank) canonical is =
+    let order = canonical.1 in
+    begins-by (members (run ∷ runs)) (suc rank) rank true false (omega arith)
+    (members-head run runs (suc rank) (omega (arith, is)) (omega (arith, order, is)))
+    (members-below run.first (run ∷ runs) rank (omega arith, order, canonical.2) (omega (arith, is)))
+
+-- past the first interval runs begin where they do without it
+later-begins : (run : Interval) (runs : List Interval) (rank : ℕ) → run.last + 1 < rank
+    → begins (members (run ∷ runs)) rank ≡ begins (members runs) rank
+later-begins run runs zero after = absurd (omega (arith, after))
+later-begins run runs (suc rank) after =
+    ap (λ test. test && not (members (run ∷ runs) rank))
+    (members-tail run runs (suc rank) (inr (omega (arith, after))))
+    ∙ ap (λ test. members runs (suc rank) && not test)
+    (members-tail run runs rank (inr (omega (arith, after))))
+
+-- none begins within it, or right past it
+inside-begins : (low : ℕ) (run : Interval) (runs : List Interval) (rank : ℕ)
+    → IsCanonicalFrom low (run ∷ runs) → run.first < rank → rank ≤ run.last + 1
+    → begins (members (run ∷ runs)) rank ≡ false
+inside-begins low run runs zero canonical past within = absurd (omega (arith, past))
+inside-begins low run runs (suc rank) canonical past within =
+    begins-by (members (run ∷ runs)) (suc rank) rank (members (run ∷ runs) (suc rank)) true
+    (omega arith) refl (members-head run runs rank (omega (arith, past)) (omega (arith, within)))
+    ∙ and-false (members (run ∷ runs) (suc rank))
+
+-- a run of a canonical list begins at the first rank of an interval, and nowhere else
+begins-members : (low : ℕ) (runs : List Interval) (rank : ℕ) → IsCanonicalFrom low runs
+    → begins (members runs) rank ≡ members (map first_of runs) rank
+begins-members low [] zero canonical = refl
+begins-members low [] (suc rank) canonical = refl
+begins-members low (run ∷ runs) rank canonical =
+    let order = canonical.1 in
+    let firsts = map first_of runs in
+    let apart = firsts-canonical (run.last + 2) runs canonical.2 in
+    elim (cases_lt rank run.first) [
+      | inl below ↦
+          begins-below run.first (run ∷ runs) rank (omega arith, order, canonical.2) below
+          ∙ sym (members-below run.first (first_of run ∷ firsts) rank
+          (firsts-canonical run.first (run ∷ runs) (omega arith, order, canonical.2)) below)
+      | inr from ↦ elim (cases_lt run.first rank) [
+        | inr first ↦
+            first-begins low run runs rank canonical (omega (arith, from, first))
+            ∙ sym (members-head (first_of run) firsts rank from first)
+        | inl past ↦
+            let tail = members-tail (first_of run) firsts rank (inr past) in
+            elim (cases_lt (run.last + 1) rank) [
+              | inl after ↦
+                  later-begins run runs rank after ∙ begins-members (run.last + 2) runs rank canonical.2
+                  ∙ sym tail
+              | inr within ↦
+                  inside-begins low run runs rank canonical past within
+                  ∙ sym (tail ∙ members-below (run.last + 2) firsts rank apart (omega (arith, within)))
+            ]
+      ]
+    ]
+
+-- sets that agree begin alike
+begins-agree : (n : ℕ) (selected other : Selection) → Agree n selected other
+    → Agree n (begins selected) (begins other)
+begins-agree n selected other same zero below = same zero below
+begins-agree n selected other same (suc rank) below =
+    ap (λ test. test && not (selected rank)) (same (suc rank) below)
+    ∙ ap (λ test. other (suc rank) && not test) (same rank (omega (arith, below)))
+
+-- as many runs as ranks where one begins
+pub runs-begin : (n : ℕ) (selected : Selection) (runs : List Interval) → AreRuns n selected runs
+    → length runs ≡ count n (begins selected)
+runs-begin n selected runs are =
+    let canonical = runs-canonical n selected runs are in
+    sym (firsts-length runs)
+    ∙ sym (count-members n 0 (map first_of runs) (firsts-canonical 0 runs canonical.0)
+    (firsts-below n 0 runs canonical.0 canonical.1))
+    ∙ sym (count-agree n (begins (members runs)) (members (map first_of runs))
+    (λ rank below. begins-members 0 runs rank canonical.0))
+    ∙ count-agree n (begins (members runs)) (begins selected)
+    (begins-agree n (members runs) selected (runs-members n selected runs are))
+
+-- ---- where sets change
+
+-- how often the set changes along n ranks and before the first
+abbrev changes : ℕ → Selection → ℕ
+changes n selected = count n (begins selected) + count n (ended selected)
+
+-- a set of ranks changes twice at each run, but once at one that reaches the last rank
+changes-twice : (n : ℕ) (selected : Selection)
+    → changes n selected + at_last n selected ≡ 2 * count n (begins selected)
+changes-twice n selected = let once_more = count-begins n selected in omega arith
+
+-- how much one rank changes a set
+abbrev changed : Bool → Bool → ℕ
+changed here before = once (here && not before) + once (not here && before)
+
+-- not at all where it is as the one before, and else by one
+changed-by : (here before : Bool) → ((here ≡ before) × (changed here before ≡ 0))
+    ⊎ (changed here before ≡ 1)
+changed-by true true = inl (refl, refl)
+changed-by true false = inr refl
+changed-by false true = inr refl
+changed-by false false = inl (refl, refl)
+
+-- ---- what is made of two sets rank by rank
+
+-- one that has nothing where both have nothing, and another such
+module _ (one other : Bool → Bool → Bool)
+    (fewer : (left right here there : Bool) → changed (one left right) (one here there)
+    + changed (other left right) (other here there) ≤ changed left here + changed right there)
+    (last : (left right : Bool) → once (one left right) + once (other left right)
+    ≤ once left + once right) where
+  module _ (left right : Selection) where
+    -- the one
+    abbrev ones : Selection
+    ones rank = one (left rank) (right rank)
+
+    -- and the other
+    abbrev others : Selection
+    others rank = other (left rank) (right rank)
+
+    -- they change no more often than the two sets
+    changes-two : (n : ℕ) → changes n ones + changes n others ≤ changes n left + changes n right
+    unfolding count
+    changes-two zero = omega arith
+    changes-two (suc zero) = let first = last (left zero) (right zero) in omega arith
+    changes-two (suc (suc n)) =
+        let before = changes-two (suc n) in
+        let here = fewer (left (suc n)) (right (suc n)) (left n) (right n) in
+        omega arith
+
+    -- and reach the last rank no more often
+    last-two : (n : ℕ) → at_last n ones + at_last n others ≤ at_last n left + at_last n right
+    last-two zero = omega arith
+    last-two (suc n) = last (left n) (right n)
+
+    -- so they have no more runs
+    pub runs-two : (n : ℕ) (lefts rights made also : List Interval) → AreRuns n left lefts
+        → AreRuns n right rights → AreRuns n ones made → AreRuns n others also
+        → length made + length also ≤ length lefts + length rights
+    runs-two n lefts rights made also are_left are_right are_one are_other =
+        let from_left = runs-begin n left lefts are_left in
+        let from_right = runs-begin n right rights are_right in
+        let from_one = runs-begin n ones made are_one in
+        let from_other = runs-begin n others also are_other in
+        let twice_left = changes-twice n left in
+        let twice_right = changes-twice n right in
+        let twice_one = changes-twice n ones in
+        let twice_other = changes-twice n others in
+        let fewer_changes = changes-two n in
+        let fewer_last = last-two n in
+        omega arith
+
+-- what is as before has not changed
+changed-same : (here before : Bool) → here ≡ before → changed here before ≡ 0
+changed-same true true same = refl
+changed-same false false same = refl
+changed-same true false same = absurd (cc)
+changed-same false true same = absurd (cc)
+
+-- one rank changes a set by one at most
+changed-most : (here before : Bool) → changed here before ≤ 1
+changed-most true true = omega arith
+changed-most true false = omega arith
+changed-most false true = omega arith
+changed-most false false = omega arith
+
+-- and adds one at most to a count
+once-most : (test : Bool) → once test ≤ 1
+once-most true = omega arith
+once-most false = omega arith
+
+-- the set of no rank has no runs
+runs-of_nothing : (n : ℕ) → AreRuns n (λ rank. false) []
+runs-of_nothing n = runs-from_canonical n (λ rank. false) [] tt
+    (All-nil (λ (run : Interval). run.last < n)) (λ rank below. refl)
+
+-- nothing at all
+abbrev nothing : Bool → Bool → Bool
+nothing left right = false
+
+-- of one alone: it changes only where one of the two sets does
+module _ (op : Bool → Bool → Bool) (none : op false false ≡ false) where
+  fewer-of_one : (left right here there : Bool)
+      → changed (op left right) (op here there) + changed false false
+      ≤ changed left here + changed right there
+  fewer-of_one left right here there = elim (changed-by left here) [
+    | inl same ↦ elim (changed-by right there) [
+      | inl also ↦
+          let still : op left right ≡ op here there = rw (same.0, also.0) refl in
+          let one = changed-same (op left right) (op here there) still in
+          omega arith
+      | inr more ↦ let one = changed-most (op left right) (op here there) in omega arith
+    ]
+    | inr more ↦ let one = changed-most (op left right) (op here there) in omega arith
+  ]
+
+  last-of_one : (left right : Bool) → once (op left right) + once false ≤ once left + once right
+  last-of_one false false = let zero_more : once (op false false) ≡ 0 = ap once none in omega arith
+  last-of_one true right = let one = once-most (op true right) in omega arith
+  last-of_one false true = let one = once-most (op false true) in omega arith
+
+  -- it has no more runs than both sets together
+  pub runs-of_one : (n : ℕ) (left right : Selection) (lefts rights made : List Interval)
+      → AreRuns n left lefts → AreRuns n right rights
+      → AreRuns n (λ rank. op (left rank) (right rank)) made
+      → length made ≤ length lefts + length rights
+  runs-of_one n left right lefts rights made are_left are_right are =
+      let most = runs-two op nothing fewer-of_one last-of_one left right n lefts rights made []
+      are_left are_right are (runs-of_nothing n) in
+      omega arith
+
+-- ---- the operations
+
+-- a union has no more runs than both sets together
+pub runs-union : (n : ℕ) (left right : Selection) (lefts rights made : List Interval)
+    → AreRuns n left lefts → AreRuns n right rights → AreRuns n (union left right) made
+    → length made ≤ length lefts + length rights
+runs-union = runs-of_one (λ left right. left || right) refl
+
+-- nor has a difference
+pub runs-difference : (n : ℕ) (left right : Selection) (lefts rights made : List Interval)
+    → AreRuns n left lefts → AreRuns n right rights → AreRuns n (difference left right) made
+    → length made ≤ length lefts + length rights
+runs-difference = runs-of_one (λ left right. left && not right) refl
+
+-- nor a symmetric difference
+pub runs-symmetric : (n : ℕ) (left right : Selection) (lefts rights made : List Interval)
+    → AreRuns n left lefts → AreRuns n right rights → AreRuns n (symmetric_difference left right) made
+    → length made ≤ length lefts + length rights
+runs-symmetric = runs-of_one exclusive_or refl
+
+-- of both together and of what both have, rank by rank
+fewer-of_both : (left right here there : Bool)
+    → changed (left || right) (here || there) + changed (left && right) (here && there)
+    ≤ changed left here + changed right there
+fewer-of_both true right true there = omega arith
+fewer-of_both false right false there = omega arith
+fewer-of_both true true false true = omega arith
+fewer-of_both true true false false = omega arith
+fewer-of_both true false false true = omega arith
+fewer-of_both true false false false = omega arith
+fewer-of_both false true true true = omega arith
+fewer-of_both false true true false = omega arith
+fewer-of_both false false true true = omega arith
+fewer-of_both false false true false = omega arith
+
+last-of_both : (left right : Bool) → once (left || right) + once (left && right)
+    ≤ once left + once right
+last-of_both true right = omega arith
+last-of_both false right = omega arith
+
+-- a union and an intersection have together no more runs than both sets
+pub runs-shared : (n : ℕ) (left right : Selection) (lefts rights either both : List Interval)
+    → AreRuns n left lefts → AreRuns n right rights → AreRuns n (union left right) either
+    → AreRuns n (intersection left right) both
+    → length either + length both ≤ length lefts + length rights
+runs-shared n left right lefts rights either both =
+    runs-two (λ one two. one || two) (λ one two. one && two) fewer-of_both last-of_both left right n
+    lefts rights either both
+
+-- the runs of every rank
+abbrev everything : ℕ → List Interval
+everything zero = []
+everything (suc n) = record { first = 0; last = n } ∷ []
+
+-- are those
+runs-of_everything : (n : ℕ) → AreRuns n (λ rank. true) (everything n)
+runs-of_everything zero = runs-from_canonical zero (λ rank. true) [] tt
+    (All-nil (λ (run : Interval). run.last < zero)) (λ rank below. absurd (omega (arith, below)))
+runs-of_everything (suc n) =
+    let whole : Interval = record { first = 0; last = n } in
+    runs-from_canonical (suc n) (λ rank. true) (whole ∷ []) (omega arith, omega arith, tt)
+    (All-cons (λ (run : Interval). run.last < suc n) whole [] (omega arith)
+    (All-nil (λ (run : Interval). run.last < suc n)))
+    (λ rank below. members-head whole [] rank (omega arith) (omega (arith, below)))
+
+-- there is one at most
+everything-length : (n : ℕ) → length (everything n) ≤ 1
+everything-length zero = omega arith
+everything-length (suc n) = omega arith
+
+-- a complement has one run more at most
+pub runs-complement : (n : ℕ) (selected : Selection) (runs gaps : List Interval)
+    → AreRuns n selected runs → AreRuns n (complement selected) gaps → length gaps ≤ length runs + 1
+runs-complement n selected runs gaps are left_out =
+    let most = runs-symmetric n (λ rank. true) selected (everything n) runs gaps
+    (runs-of_everything n) are left_out in
+    let one = everything-length n in
+    omega arith
