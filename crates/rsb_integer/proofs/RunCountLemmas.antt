@@ -289,6 +289,7 @@ nothing left right = false
 
 -- of one alone: it changes only where one of the two sets does
 module _ (op : Bool → Bool → Bool) (none : op false false ≡ false) where
+  -- at a rank
   fewer-of_one : (left right here there : Bool)
       → changed (op left right) (op here there) + changed false false
       ≤ changed left here + changed right there
@@ -303,6 +304,7 @@ module _ (op : Bool → Bool → Bool) (none : op false false ≡ false) where
     | inr more ↦ let one = changed-most (op left right) (op here there) in omega arith
   ]
 
+  -- and it reaches the last rank only where one of them does
   last-of_one : (left right : Bool) → once (op left right) + once false ≤ once left + once right
   last-of_one false false = let zero_more : once (op false false) ≡ 0 = ap once none in omega arith
   last-of_one true right = let one = once-most (op true right) in omega arith
@@ -353,6 +355,7 @@ fewer-of_both false true true false = omega arith
 fewer-of_both false false true true = omega arith
 fewer-of_both false false true false = omega arith
 
+-- and at the last rank
 last-of_both : (left right : Bool) → once (left || right) + once (left && right)
     ≤ once left + once right
 last-of_both true right = omega arith
