@@ -83,7 +83,7 @@ fn ends_with<T: Copy>(end: Option<T>) -> ArrayVec<Option<T>, 2>
 fn first_end<T: Copy>(ends: &ArrayVec<Option<T>, 2>) -> Option<T>
     ensures { result ≡ first_end ends.now.items }
 {
-    ends.first().copied().flatten()
+    *ends.first()?
 }
 
 /// Takes the lesser of two pending ends out, or both where they are one: what both ranges have is
