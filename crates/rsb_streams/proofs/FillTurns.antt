@@ -113,6 +113,17 @@ module _ {I T N : Type 0} (integer : Elements T N) (source : Stream I T N) where
           (fills-last n (record { first = rank start; last = rank greatest })
           (omega (arith, low, top)) top))))
 
+      -- and none is left after it
+      pub last-goes : (pair : RangeInclusive T × Bool)
+          → MakesProgress can (fill_remaining integer) (state i now) (Some pair) (state j None)
+      last-goes pair =
+          let begin = ready.value in
+          rw is (record {
+            on = λ finite. (tt, tt, omega (arith, begin));
+            keeps = tt;
+            rests = λ finite. tt;
+          })
+
       -- ---- one range of the stream
       module _ (range : RangeInclusive T) (call : held.draw_gives i (Some range) j)
           (goes : MakesProgress held.can_draw held.draws_left i (Some range) j) where

@@ -1,6 +1,6 @@
 use Rattle.std.proofs.Common.{◌<◌, ◌≤◌, subst, sym}
 use Rattle.rsb_streams.proofs.Compare.{IsRanked, less-rank, not_less-rank}
-use Rattle.rsb_streams.proofs.FillTurns.{gap-answers, gap-goes, last-gap, run-answers, run-goes, values}
+use Rattle.rsb_streams.proofs.FillTurns.{gap-answers, gap-goes, last-gap, last-goes, run-answers, run-goes, values}
 use Rattle.rsb_streams.proofs.Sources.{IsLawful}
 use Rattle.rsb_streams.proofs.fill_gaps_iter.FillGapsIterIterator.next.Given.{Over}
 use Rattle.rsb_streams.proofs.fill_gaps_iter.FillGapsIterIterator.next.Goals as goal
@@ -19,6 +19,11 @@ returns-in_default-clause-steps g c =
     c.draw.new.self c.args.self.now.start c.in_ok-start.start c.requires c.in_ok-start.was
     c.max_value.result c.new.result c.in_default.ensures.steps c.max_value.ensures
     c.new.ensures.exhausted c.new.ensures.start c.new.ensures.end
+
+pub returns-in_default-clause-goes : goal.returns-in_default-clause-goes
+returns-in_default-clause-goes g c =
+    last-goes g.T.Integer g.I.Draw (laws g) c.args.self.now.iter
+    c.draw.new.self c.args.self.now.start c.in_ok-start.start c.requires c.in_ok-start.was _
 
 -- the gap before a range
 pub returns-then-lt-clause-steps : goal.returns-then-lt-clause-steps
