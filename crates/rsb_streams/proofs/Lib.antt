@@ -1,3 +1,4 @@
+pub mod AheadLemmas
 pub mod ApartLemmas
 pub mod ArraySources
 pub mod CallerLemmas
@@ -10,6 +11,7 @@ pub mod FillTurns
 pub mod FirstItems
 pub mod LawfulSources
 pub mod ListedSources
+pub mod LookaheadLemmas
 pub mod MergeTurns
 pub mod NestedLemmas
 pub mod NotLemmas

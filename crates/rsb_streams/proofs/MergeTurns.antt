@@ -8,12 +8,14 @@ use Rattle.std.specs.Range.{range_inclusive_start}
 use Rattle.std.specs.declared.ops.RangeInclusive.{RangeInclusive}
 use Rattle.rsb_integer.specs.Rank.{interval_of}
 use Rattle.rsb_integer.specs.Runs.{Interval}
-use Rattle.rsb_streams.specs.Merge.{merge}
+use Rattle.rsb_streams.specs.Lookahead.{Ends, GivesFrom, Left, Right, Side, Spares, TakesOne}
+use Rattle.rsb_streams.specs.Merge.{merge, merge_inputs}
 use Rattle.rsb_streams.specs.MergeLaws.{both-finite, merge-starts}
-use Rattle.rsb_streams.specs.PutBack.{put_back, IsPutBack}
+use Rattle.rsb_streams.specs.PutBack.{input_of, put_back, IsPutBack}
 use Rattle.rsb_streams.specs.Stream.{Outcomes, ◌⊆◌, just, merges, HasSortedStarts, HasSortedStartsFrom, IsMergeOf}
 use Rattle.rsb_streams.specs.declared.merge.Merge.{Merge}
 use Rattle.rsb_streams.specs.declared.put_back.PutBack.{PutBack}
+use Rattle.rsb_streams.proofs.LookaheadLemmas.{back-uses, draw-ends, draw-uses, from-none, from-some, no-list, uses-ended}
 use Rattle.rsb_streams.proofs.Sources.{IsLawful, put_back-lawful, put_back-may, put_back-ready, put_back-rests, put_back-size, range-start}
 use Rattle.rsb_streams.proofs.UnionLemmas.{head-sorted}
 
@@ -92,6 +94,68 @@ module _ {L R T N : Type 0} (integer : Elements T N) (left : Stream L T N)
   abbrev Answered : Merge T L R → Option (RangeInclusive T) → Merge T L R → Type 0
   Answered = (merge integer left right).draw_gives
 
+  -- a draw of the left stream uses its range
+  gives-left : (s t : PutBack T L) (range : RangeInclusive T)
+      → lefts.draw_gives s (Some range) t
+      → GivesFrom (input_of integer left s) (interval_of rank range) (input_of integer left t)
+  gives-left s t range call = record {
+    uses = draw-uses integer left left_laws.answers s t range call;
+    room = no-list rank t.held call.room;
+  }
+
+  -- a draw of the right one uses its range
+  gives-right : (s t : PutBack T R) (range : RangeInclusive T)
+      → rights.draw_gives s (Some range) t
+      → GivesFrom (input_of integer right s) (interval_of rank range) (input_of integer right t)
+  gives-right s t range call = record {
+    uses = draw-uses integer right right_laws.answers s t range call;
+    room = no-list rank t.held call.room;
+  }
+
+  -- the range is one of the left stream
+  takes-left : (s t : Merge T L R) (run : Interval)
+      → GivesFrom (input_of integer left s.left) run (input_of integer left t.left)
+      → Spares (input_of integer right s.right) run (input_of integer right t.right)
+      → TakesOne (merge_inputs integer left right s) run (merge_inputs integer left right t)
+  takes-left s t run gives spares = record {
+    place = Left;
+    here = gives;
+    elsewhere = λ other not. other-by other not;
+  }
+    where
+      -- by the other side
+      other-by : (other : Side) → ¬ (other ≡ Left)
+          → Spares (merge_inputs integer left right s other) run
+          (merge_inputs integer left right t other)
+      other-by Left not = absurd (not refl)
+      other-by Right not = spares
+
+  -- the range is one of the right stream
+  takes-right : (s t : Merge T L R) (run : Interval)
+      → GivesFrom (input_of integer right s.right) run (input_of integer right t.right)
+      → Spares (input_of integer left s.left) run (input_of integer left t.left)
+      → TakesOne (merge_inputs integer left right s) run (merge_inputs integer left right t)
+  takes-right s t run gives spares = record {
+    place = Right;
+    here = gives;
+    elsewhere = λ other not. other-by other not;
+  }
+    where
+      -- by the other side
+      other-by : (other : Side) → ¬ (other ≡ Right)
+          → Spares (merge_inputs integer left right s other) run
+          (merge_inputs integer left right t other)
+      other-by Left not = spares
+      other-by Right not = absurd (not refl)
+
+  -- both streams end
+  both-end : (s t : Merge T L R) → lefts.draw_gives s.left None t.left
+      → rights.draw_gives s.right None t.right → (side : Side)
+      → Ends (merge_inputs integer left right s side) (merge_inputs integer left right t side)
+  both-end s t first second Left = draw-ends integer left left_laws.answers s.left t.left first
+  both-end s t first second Right =
+      draw-ends integer right right_laws.answers s.right t.right second
+
   -- nothing comes of the left stream
   pub only-right : (s t : Merge T L R) (item : Option (RangeInclusive T)) → Ready s
       → lefts.draw_gives s.left None t.left → rights.draw_gives s.right item t.right → Answered s item t
@@ -106,6 +170,7 @@ module _ {L R T N : Type 0} (integer : Elements T N) (left : Stream L T N)
           record { left = first.0; right = second.0 },
           no-merges n (lefts.may_give t.left) (rights.may_give t.right) first.1 second.1,
         );
+        asks = both-end s t none call;
       }
   only-right s t (Some range) ready none call =
       let first = put_back-rests integer left s.left t.left none in
@@ -117,6 +182,12 @@ module _ {L R T N : Type 0} (integer : Elements T N) (left : Stream L T N)
             (λ rest at. rw (first.1 rest at) (left_held.answers s.left t.left None none))
             (λ rest at. rw (first.1 rest at) tt);
         rests = tt;
+        asks = takes-right s t (interval_of rank range) (gives-right s.right t.right range call)
+            (record {
+              uses = uses-ended (input_of integer left s.left) (input_of integer left t.left)
+                  (draw-ends integer left left_laws.answers s.left t.left none);
+              later = from-none rank (interval_of rank range).first t.left.held none.room;
+            });
       }
 
   -- nothing more comes of the right stream
@@ -134,6 +205,12 @@ module _ {L R T N : Type 0} (integer : Elements T N) (left : Stream L T N)
             (λ rest at. rw (second.1 rest at) (right_held.answers s.right t.right None none))
             (λ rest at. rw (second.1 rest at) tt);
         rests = tt;
+        asks = takes-left s t (interval_of rank range) (gives-left s.left t.left range call)
+            (record {
+              uses = uses-ended (input_of integer right s.right) (input_of integer right t.right)
+                  (draw-ends integer right right_laws.answers s.right t.right none);
+              later = from-none rank (interval_of rank range).first t.right.held none.room;
+            });
       }
 
   -- both streams give a range
@@ -193,13 +270,23 @@ module _ {L R T N : Type 0} (integer : Elements T N) (left : Stream L T N)
 
       -- the right range comes before what may still come
       pub right-answers : Answered s (Some second) (record { left = w; right = v })
-      right-answers = record {
+      right-answers =
+          let low = range-start rank first left_first.1 in
+          let high = range-start rank second right_first.1 in
+          record {
         answers = head-right n (lefts.may_give s.left) (rights.may_give s.right) (lefts.may_give w)
             (rights.may_give v)
             (interval_of rank second) ready.right.sorted
             (right_held.answers s.right v (Some second) right_call)
             (λ runs at. (held-left runs at).0) (λ runs at. (held-left runs at).1);
         rests = tt;
+        asks = takes-right s (record { left = w; right = v }) (interval_of rank second)
+            (gives-right s.right v second right_call)
+            (record {
+              uses = back-uses integer left left_laws.answers s.left u w first left_call put;
+              later = from-some rank (interval_of rank second).first w.held first put.held
+                  (omega (arith, low, high, less));
+            });
       }
 
       -- the merge may be called again, and is nearer its end
@@ -248,13 +335,23 @@ module _ {L R T N : Type 0} (integer : Elements T N) (left : Stream L T N)
 
       -- the left range comes before what may still come
       pub left-answers : Answered s (Some first) (record { left = u; right = w })
-      left-answers = record {
+      left-answers =
+          let low = range-start rank first left_first.1 in
+          let high = range-start rank second right_first.1 in
+          record {
         answers = head-left n (lefts.may_give s.left) (rights.may_give s.right) (lefts.may_give u)
             (rights.may_give w)
             (interval_of rank first) ready.left.sorted
             (left_held.answers s.left u (Some first) left_call)
             (λ runs at. (held-right runs at).0) (λ runs at. (held-right runs at).1);
         rests = tt;
+        asks = takes-left s (record { left = u; right = w }) (interval_of rank first)
+            (gives-left s.left u first left_call)
+            (record {
+              uses = back-uses integer right right_laws.answers s.right v w second right_call put;
+              later = from-some rank (interval_of rank first).first w.held second put.held
+                  (omega (arith, low, high, most));
+            });
       }
 
       -- the merge may be called again, and is nearer its end

@@ -1,22 +1,23 @@
 -- The loop of a complement.
 use Rattle.rsb_integer.specs.declared.integer.Integer.{Ghosts as Elements}
 use Rattle.rsb_streams.specs.declared.draw.Draw.{Ghosts as Stream}
-use Rattle.std.proofs.Common.{◌≡◌, ◌↔◌, ◌+◌, ◌<◌, ◌≤◌, true, false, List, [], ◌∷◌, refl, sym, ap, ◌∙◌, subst, arith}
+use Rattle.std.proofs.Common.{◌≡◌, ◌↔◌, inl, inr, ◌+◌, ◌<◌, ◌≤◌, true, false, List, [], ◌∷◌, ◌++◌, refl, sym, ap, ◌∙◌, subst, arith}
 use Rattle.std.specs.Prelude.{Option, Some, None, IfSome, IsNone}
-use Rattle.std.specs.Iterator.{Count, IsFinite, MakesProgress, size}
+use Rattle.std.specs.Iterator.{Count, IsFinite, MakesProgress, Yields, size}
 use Rattle.std.specs.Range.{range_inclusive_start, range_inclusive_end, range_inclusive_exhausted}
 use Rattle.std.specs.declared.ops.RangeInclusive.{RangeInclusive}
 use Rattle.rsb_integer.specs.Rank.{interval_of}
 use Rattle.rsb_integer.specs.Runs.{Interval, members, IsCanonicalIn, AreRuns}
 use Rattle.rsb_integer.proofs.CanonicalLemmas.{canonical-lower}
 use Rattle.rsb_integer.proofs.RunsLemmas.{runs-along}
-use Rattle.rsb_streams.specs.NotIter.{gaps_after, not_iter, NotReady}
+use Rattle.rsb_streams.specs.NotIter.{gaps_after, not_iter, NotReady, PassesOver}
 use Rattle.rsb_streams.specs.StreamLaws.{canonical-sorted, sorted-below}
-use Rattle.rsb_streams.specs.Stream.{Outcomes, ◌⊆◌, just, gaps_from, runs_by, AnswersAndRests, HasSortedStartsFrom, SomeOutcome}
+use Rattle.rsb_streams.specs.Stream.{Outcomes, ◌⊆◌, just, gaps_from, runs_by, HasSortedStartsFrom, SomeOutcome}
 use Rattle.rsb_streams.specs.declared.not_iter.NotIter.{NotIter}
 use Rattle.std.specs.Ordering.{partial_lt}
 use Rattle.std.specs.declared.cmp.Ordering.{Ordering}
 use Rattle.rsb_streams.proofs.Compare.{IsRanked, less-rank, next-value, not_less-rank}
+use Rattle.rsb_streams.proofs.LookaheadLemmas.{yields-more}
 use Rattle.rsb_streams.proofs.NotLemmas.{gap-then, gap-last, gaps-along, no-gaps}
 use Rattle.rsb_streams.proofs.Sources.{IsLawful, range-start, range-end}
 use Rattle.rsb_streams.proofs.UnionLemmas.{head-sorted}
@@ -44,11 +45,26 @@ module _ {I T N : Type 0} (integer : Elements T N) (source : Stream I T N) where
   pub record SoFar (entry now : NotIter T I) : Type 0 where
     pub ready : can now
     pub same : may now ⊆ may entry
+    pub took : (used : List (RangeInclusive T)) × Yields source.draw_gives entry.iter used now.iter
     pub nearer : size (left now) ≤ size (left entry)
 
   -- at the entry it is so
   pub begun : (entry : NotIter T I) → can entry → SoFar entry entry
-  begun entry ready = record { ready = ready; same = λ runs at. at; nearer = omega arith }
+  begun entry ready = record {
+    ready = ready;
+    same = λ runs at. at;
+    took = ([], refl);
+    nearer = omega arith;
+  }
+
+  -- one more range is used
+  took-more : (entry : NotIter T I) (i j : I) (now : Option T) (range : RangeInclusive T)
+      → SoFar entry (record { iter = i; start = now }) → source.draw_gives i (Some range) j
+      → (used : List (RangeInclusive T)) × Yields source.draw_gives entry.iter used j
+  took-more entry i j now range so call = (
+    so.took.0 ++ range ∷ [],
+    yields-more source.draw_gives so.took.0 range entry.iter i j so.took.1 call,
+  )
 
   -- the range of ranks from a value to another
   pub answered : (start end : T) (answer : RangeInclusive T) → range_inclusive_exhausted answer
@@ -59,7 +75,7 @@ module _ {I T N : Type 0} (integer : Elements T N) (source : Stream I T N) where
 
   -- what is known of a call of the complement
   abbrev Answered : NotIter T I → Option (RangeInclusive T) → NotIter T I → Type 0
-  Answered = AnswersAndRests rank can may
+  Answered = (not_iter integer source).draw_gives
 
   -- nothing comes after the last gap
   pub rests : (entry now : NotIter T I) → SoFar entry now → now.start ≡ None
@@ -71,6 +87,7 @@ module _ {I T N : Type 0} (integer : Elements T N) (source : Stream I T N) where
         answers = so.same [] (subst (λ start. gaps_after rank n start (source.may_give now.iter) [])
             (sym none) refl);
         rests = (so.ready, nothing);
+        asks = record { used = so.took.0; draws = inl so.took.1 };
       }
 
   -- and none is left
@@ -106,6 +123,7 @@ module _ {I T N : Type 0} (integer : Elements T N) (source : Stream I T N) where
               (subst (λ first. AreRuns n (gaps_from (rank start) (members [])) (first ∷ []))
               (sym gap) all)));
           rests = tt;
+          asks = record { used = so_now.took.0; draws = inr ((i, so_now.took.1, call), refl) };
         }
 
     -- one range of the input, and where the next gap may start
@@ -230,6 +248,9 @@ module _ {I T N : Type 0} (integer : Elements T N) (source : Stream I T N) where
                 (ap (λ each. each.first) gap) (ap (λ each. each.last + 1) gap ∙ one ∙ sym low)
                 (comes given might).0.0.2 runs)));
             rests = tt;
+            asks =
+                let took = took-more entry i j now range so_now call in
+                record { used = took.0; draws = inl took.1 };
           }
 
       -- no gap before the range
@@ -274,4 +295,9 @@ module _ {I T N : Type 0} (integer : Elements T N) (source : Stream I T N) where
       pub so-next : rank past_gap ≤ rank start → SoFar entry (record { iter = j; start = next })
       so-next most =
           let less = fewer input-ends in
-          record { ready = ready-next; same = no-gap most; nearer = omega (arith, less.1) }
+          record {
+            ready = ready-next;
+            same = no-gap most;
+            took = took-more entry i j now range so_now call;
+            nearer = omega (arith, less.1);
+          }

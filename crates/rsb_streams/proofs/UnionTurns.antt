@@ -1,26 +1,75 @@
 -- The loop of a union.
 use Rattle.rsb_integer.specs.declared.integer.Integer.{Ghosts as Elements}
 use Rattle.rsb_streams.specs.declared.draw.Draw.{Ghosts as Stream}
-use Rattle.std.proofs.Common.{◌≡◌, ℕ, ◌+◌, ◌<◌, ◌≤◌, max, true, false, List, [], ◌∷◌, refl, sym, ap, ◌∙◌, subst, arith}
+use Rattle.std.proofs.Common.{◌≡◌, ℕ, ◌+◌, ◌<◌, ◌≤◌, max, true, false, List, [], ◌∷◌, ◌++◌, refl, sym, ap, ◌∙◌, subst, arith}
 use Rattle.std.proofs.lemmas.List.Elements.{All-nil}
-use Rattle.std.specs.Prelude.{Option, Some, None}
-use Rattle.std.specs.Iterator.{Count, IsFinite, MakesProgress, size}
+use Rattle.std.specs.Prelude.{Option, Some, None, MatchOption}
+use Rattle.std.specs.Iterator.{Count, IsFinite, MakesProgress, Yields, size}
 use Rattle.std.specs.Range.{range_inclusive_start, range_inclusive_end, range_inclusive_exhausted}
 use Rattle.std.specs.declared.ops.RangeInclusive.{RangeInclusive}
-use Rattle.rsb_integer.specs.Rank.{interval_of}
+use Rattle.rsb_integer.specs.Rank.{interval_of, intervals_of}
 use Rattle.rsb_integer.specs.Runs.{Interval, members}
 use Rattle.rsb_integer.proofs.ListLemmas.{not_both}
 use Rattle.rsb_integer.proofs.RunsLemmas.{canonical-runs}
-use Rattle.rsb_streams.specs.PutBack.{put_back, HasRoom, IsPutBack}
-use Rattle.rsb_streams.specs.Stream.{Outcomes, joined, AnswersAndRests}
-use Rattle.rsb_streams.specs.UnionIter.{union_iter}
+use Rattle.rsb_streams.specs.Fused.{fused, Fused}
+use Rattle.rsb_streams.specs.Lookahead.{AreWithin, IsOneFrom}
+use Rattle.rsb_streams.specs.PutBack.{fused_of, held_list, put_back, HasRoom, IsPutBack}
+use Rattle.rsb_streams.specs.Stream.{Outcomes, joined}
+use Rattle.rsb_streams.specs.UnionIter.{union_iter, AsksToJoin}
 use Rattle.rsb_streams.specs.declared.put_back.PutBack.{PutBack}
 use Rattle.rsb_streams.specs.declared.union_iter.UnionIter.{UnionIter}
+use Rattle.rsb_streams.proofs.LookaheadLemmas.{call-by, from-none, from-some, room-by, within-more, within-wider, yields-more}
 use Rattle.rsb_streams.proofs.Sources.{IsLawful, put_back-lawful, put_back-may, put_back-ready, put_back-rests, put_back-size, range-end, range-start}
 use Rattle.rsb_streams.proofs.UnionLemmas.{Gathers, gathers-first, gathers-more, gathers-answer, next-sorted, next-past, no-runs}
 
 module _ {S T N : Type 0} (integer : Elements T N) (source : Stream S T N) where
   open integer use {rank, value_count as n}
+
+  -- the draws since the entry: what they gave, and what was held, lies within
+  pub record Took (entry now : PutBack T S) (within : Interval) : Type 0 where
+    pub drawn : List (RangeInclusive T)
+    pub draws : Yields (fused source).draw_gives (fused_of entry) drawn (fused_of now)
+    pub all : AreWithin within (held_list rank entry.held ++ intervals_of rank drawn)
+
+  -- the first draw, by whether a range was held
+  took-by : (held : Option (RangeInclusive T)) (s t : Fused S) (range : RangeInclusive T)
+      (within : Interval) → within.first ≤ (interval_of rank range).first
+      → (interval_of rank range).last ≤ within.last
+      → MatchOption held ((fused source).draw_gives s (Some range) t)
+      (λ each. (Some range ≡ Some each) × (t ≡ s))
+      → (drawn : List (RangeInclusive T)) × Yields (fused source).draw_gives s drawn t
+      × AreWithin within (held_list rank held ++ intervals_of rank drawn)
+  took-by None s t range within low high call = (range ∷ [], (t, call, refl), (low, high, tt))
+  took-by (Some held) s t range within low high call =
+      let is = call.0 in
+      let same : held ≡ range = cc in
+      ([], sym call.1, rw same (low, high, tt))
+
+  -- what the first range took
+  took-first : (s t : PutBack T S) (range : RangeInclusive T) (within : Interval)
+      → within.first ≤ (interval_of rank range).first
+      → (interval_of rank range).last ≤ within.last
+      → (put_back integer source).draw_gives s (Some range) t → Took s t within
+  took-first s t range within low high call =
+      let took = took-by s.held (fused_of s) (fused_of t) range within low high call.call in
+      record { drawn = took.0; draws = took.1; all = took.2 }
+
+  -- what one more range took
+  took-more : (entry s t : PutBack T S) (range : RangeInclusive T) (before within : Interval)
+      → HasRoom s → Took entry s before → within.first ≤ before.first
+      → before.last ≤ within.last → within.first ≤ (interval_of rank range).first
+      → (interval_of rank range).last ≤ within.last
+      → (put_back integer source).draw_gives s (Some range) t → Took entry t within
+  took-more entry s t range before within room took low high from to call = record {
+    drawn = took.drawn ++ range ∷ [];
+    draws = yields-more (fused source).draw_gives took.drawn range (fused_of entry) (fused_of s)
+        (fused_of t) took.draws
+        (call-by integer source s.held (Some range) (fused_of s) (fused_of t) room call.call);
+    all = within-more rank within (held_list rank entry.held) took.drawn range
+        (within-wider before within (held_list rank entry.held ++ intervals_of rank took.drawn)
+        low high took.all)
+        from to;
+  }
 
   -- the ranges drawn since the entry cover those from start to end
   pub record SoFar (entry now : PutBack T S) (start end : T) : Type 0 where
@@ -29,6 +78,7 @@ module _ {S T N : Type 0} (integer : Elements T N) (source : Stream S T N) where
     pub gathers : Gathers n ((put_back integer source).may_give entry)
         ((put_back integer source).may_give now)
         (record { first = rank start; last = rank end })
+    pub took : Took entry now (record { first = rank start; last = rank end })
     pub nearer : size ((put_back integer source).draws_left now)
         < size ((put_back integer source).draws_left entry)
 
@@ -59,9 +109,7 @@ module _ {S T N : Type 0} (integer : Elements T N) (source : Stream S T N) where
 
     -- what is known of a call of the union
     abbrev Answered : Union → Option (RangeInclusive T) → Union → Type 0
-    Answered = AnswersAndRests rank
-        ((union_iter integer source).can_draw)
-        ((union_iter integer source).may_give)
+    Answered = (union_iter integer source).draw_gives
 
     -- the ranks from a value to another
     abbrev run : T → T → Interval
@@ -73,6 +121,7 @@ module _ {S T N : Type 0} (integer : Elements T N) (source : Stream S T N) where
     rests s t item is call =
         let nothing = put_back-rests integer source
         s.iter t.iter call in
+        let room = room-by integer source s.iter.held (fused_of s.iter) (fused_of t.iter) call.call in
         rw is (record {
           answers = λ never. never [] (held_laws.answers s.iter t.iter None call)
               (canonical-runs n [] tt (All-nil (λ (run : Interval). run.last < n)));
@@ -81,6 +130,12 @@ module _ {S T N : Type 0} (integer : Elements T N) (source : Stream S T N) where
             λ runs may. no-runs n runs
                 (λ fails. may (λ given at. fails given (nothing.1 given at))),
           );
+          asks = record {
+            held = room;
+            room = call.room;
+            draw = call-by integer source s.iter.held None (fused_of s.iter) (fused_of t.iter) room
+                call.call;
+          };
         })
 
     -- the first range
@@ -102,6 +157,7 @@ module _ {S T N : Type 0} (integer : Elements T N) (source : Stream S T N) where
           ready = on.0;
           gathers = subst (Gathers n (may s) (may t)) (λ i. record { first = low i; last = high i })
               gathers;
+          took = took-first s t range (run start end) (omega (arith, low)) (omega (arith, high)) call;
           nearer = on.2;
         }
 
@@ -144,6 +200,9 @@ module _ {S T N : Type 0} (integer : Elements T N) (source : Stream S T N) where
           ready = on.0;
           gathers = subst (Gathers n (may entry) (may t))
               (λ i. record { first = rank start; last = end_is i }) gathers;
+          took = took-more entry s t range (run start end) (run start last) so.room so.took
+              (omega arith) (omega (arith, end_is)) (omega (arith, facts.0))
+              (omega (arith, end_is)) call;
           nearer = omega (arith, on.2, so.nearer);
         }
 
@@ -160,12 +219,33 @@ module _ {S T N : Type 0} (integer : Elements T N) (source : Stream S T N) where
         → range_inclusive_start answer ≡ start → range_inclusive_end answer ≡ end
         → ((rest : List Interval) → joined n (may t.iter) rest
         → joined n (may entry) (run start end ∷ rest))
+        → AsksToJoin integer source (record { iter = entry }) (Some answer) t
         → Answered (record { iter = entry }) (Some answer) t
-    answer-from entry t start end answer fresh from to answers = record {
+    answer-from entry t start end answer fresh from to answers asks = record {
       answers = subst (λ first. (rest : List Interval) → joined n (may t.iter) rest
           → joined n (may entry) (first ∷ rest)) (gathered start end answer fresh from to) answers;
       rests = tt;
+      asks = asks;
     }
+
+    -- what was taken lies within the answer, and one more draw gave what is held
+    joins : (entry s : PutBack T S) (t : Union) (start end : T) (answer : RangeInclusive T)
+        → range_inclusive_exhausted answer ≡ false
+        → range_inclusive_start answer ≡ start → range_inclusive_end answer ≡ end
+        → Took entry s (run start end)
+        → (fused source).draw_gives (fused_of s) t.iter.held (fused_of t.iter)
+        → IsOneFrom (rank end + 2) (held_list rank t.iter.held)
+        → AsksToJoin integer source (record { iter = entry }) (Some answer) t
+    joins entry s t start end answer fresh from to took call ahead =
+        let same = gathered start end answer fresh from to in
+        record {
+          drawn = took.drawn;
+          draws = (fused_of s, took.draws, call);
+          within = subst (λ each. AreWithin each
+              (held_list rank entry.held ++ intervals_of rank took.drawn)) same took.all;
+          ahead = subst (λ (each : Interval). IsOneFrom (each.last + 2)
+              (held_list rank t.iter.held)) same ahead;
+        }
 
     -- the answer at the end
     pub answer-last : (entry s : PutBack T S) (t : Union) (start end : T)
@@ -184,6 +264,11 @@ module _ {S T N : Type 0} (integer : Elements T N) (source : Stream S T N) where
           λ place member. absurd (not_both (members [] place)
               (subst (λ each. members each place ≡ true) none member) refl),
         )))
+        (joins entry s t start end answer fresh from to so.took
+        (subst (λ held. (fused source).draw_gives (fused_of s) held (fused_of t.iter))
+        (sym call.room)
+        (call-by integer source s.held None (fused_of s) (fused_of t.iter) so.room call.call))
+        (from-none rank (rank end + 2) t.iter.held call.room))
 
     -- the answer where the next range starts apart, and is put back
     module _ (entry s u : PutBack T S) (t : Union) (start end : T) (range answer : RangeInclusive T)
@@ -210,8 +295,20 @@ module _ {S T N : Type 0} (integer : Elements T N) (source : Stream S T N) where
           → range_inclusive_start answer ≡ start → range_inclusive_end answer ≡ end
           → Answered (record { iter = entry }) (Some answer) t
       answer-ahead fresh from to =
+          let facts = next-sorted n (may entry) (may s) (may u) (run start end)
+          (interval_of rank range)
+          so.gathers (held_laws.sorted u goes.keeps).some (held_laws.answers s u (Some range) call) in
+          let low = range-start rank range facts.1 in
+          let drew = call-by integer source s.held (Some range) (fused_of s) (fused_of u) so.room
+          call.call in
           answer-from entry t start end answer fresh from to
           (gathers-answer n (may entry) (may s) (may t.iter) (run start end) so.gathers past)
+          (joins entry s t start end answer fresh from to so.took
+          (subst (λ held. (fused source).draw_gives (fused_of s) held (fused_of t.iter))
+          (sym put.held)
+          (subst (λ state. (fused source).draw_gives (fused_of s) (Some range) state)
+          (sym put.iter) drew))
+          (from-some rank (rank end + 2) t.iter.held range put.held (omega (arith, low, apart))))
 
       -- the union may be called again, and is nearer its end
       pub ahead-goes : MakesProgress ((union_iter integer source).can_draw)

@@ -16,6 +16,7 @@ pub mod Intersection
 pub mod Items
 pub mod Listed
 pub mod ListedLaws
+pub mod Lookahead
 pub mod Merge
 pub mod MergeLaws
 pub mod NotIter

@@ -1,8 +1,9 @@
 -- The merge of two streams by their starts.
 use Rattle.std.specs.Iterator.{count_add}
 use Rattle.rsb_integer.specs.declared.integer.Integer.{Ghosts as Elements}
-use Rattle.rsb_streams.specs.PutBack.{put_back}
-use Rattle.rsb_streams.specs.Rows.{answering}
+use Rattle.rsb_streams.specs.Lookahead.{at_side, AreUndrawn, AsksOne, Input, Left, Right, Side}
+use Rattle.rsb_streams.specs.PutBack.{input_of, put_back}
+use Rattle.rsb_streams.specs.Rows.{asking}
 use Rattle.rsb_streams.specs.Stream.{merges}
 use Rattle.rsb_streams.specs.declared.draw.Draw.{Ghosts as Stream}
 use Rattle.rsb_streams.specs.declared.merge.Merge.{Merge}
@@ -14,11 +15,21 @@ module _ {T N L R : Type 0} (integer : Elements T N) (lefts : Stream L T N)
     pub left : (put_back integer lefts).can_draw s.left
     pub right : (put_back integer rights).can_draw s.right
 
-  -- the merge: what is held and still to come of both, by starts; as many are left as both have,
-  -- with those held
+  -- both streams, as inputs
+  abbrev pub merge_inputs : Merge T L R → Side → Input
+  merge_inputs s Left = input_of integer lefts s.left
+  merge_inputs s Right = input_of integer rights s.right
+
+  -- the merge: what is held and still to come of both, by starts; a draw takes one range of one of
+  -- them; as many are left as both have, with those held
   abbrev pub merge : Stream (Merge T L R) T N
-  merge = answering integer MergeReady
+  merge = asking integer (AsksOne integer.rank merge_inputs) MergeReady
       (λ s. count_add ((put_back integer lefts).draws_left s.left)
       ((put_back integer rights).draws_left s.right))
       (λ s. merges integer.value_count ((put_back integer lefts).may_give s.left)
       ((put_back integer rights).may_give s.right))
+
+  -- nothing is drawn of two streams, which are merged
+  abbrev pub MergesUndrawn : L → R → Merge T L R → Type 0
+  MergesUndrawn left right s =
+      AreUndrawn (at_side (lefts.may_give left) (rights.may_give right)) (merge_inputs s)

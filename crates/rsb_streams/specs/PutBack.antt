@@ -1,11 +1,14 @@
 -- A stream of which one range may be put back.
-use Rattle.std.proofs.Common.{◌≡◌, ◌+◌, false}
+use Rattle.std.proofs.Common.{◌≡◌, ℕ, ◌+◌, false, List, [], ◌∷◌}
 use Rattle.std.specs.Prelude.{Option, Some, None, MatchOption}
 use Rattle.std.specs.declared.ops.RangeInclusive.{RangeInclusive}
 use Rattle.std.specs.Iterator.{count_map}
 use Rattle.std.specs.Option.{option_len}
+use Rattle.rsb_integer.specs.Rank.{interval_of}
+use Rattle.rsb_integer.specs.Runs.{Interval}
 use Rattle.rsb_integer.specs.declared.integer.Integer.{Ghosts as Elements}
 use Rattle.rsb_streams.specs.Fused.{fused, Fused, fused_steps}
+use Rattle.rsb_streams.specs.Lookahead.{Input}
 use Rattle.rsb_streams.specs.Stream.{◌⊆◌, after, HasSortedStarts, Outcomes}
 use Rattle.rsb_streams.specs.declared.draw.Draw.{Ghosts as Stream}
 use Rattle.rsb_streams.specs.declared.put_back.PutBack.{PutBack}
@@ -17,6 +20,11 @@ fused_of s = record { iter = s.iter; done = s.done }
 -- nothing is held
 abbrev pub HasRoom : {T I : Type 0} → PutBack T I → Type 0
 HasRoom s = s.held ≡ None
+
+-- what is held, as a list
+abbrev pub held_list : {T : Type 0} → (T → ℕ) → Option (RangeInclusive T) → List Interval
+held_list rank None = []
+held_list rank (Some range) = interval_of rank range ∷ []
 
 -- nothing is drawn of the stream yet
 pub record IsFresh {T I : Type 0} (iter : I) (s : PutBack T I) : Type 0 where
@@ -56,4 +64,11 @@ module _ {T N I : Type 0} (integer : Elements T N) (stream : Stream I T N) where
     draws_left = λ s. count_map (λ left. left + option_len s.held)
         ((fused stream).draws_left (fused_of s));
     may_give = put_back_may_give;
+  }
+
+  -- the stream as an input of another
+  abbrev pub input_of : PutBack T I → Input
+  input_of s = record {
+    held = held_list integer.rank s.held;
+    undrawn = (fused stream).may_give (fused_of s);
   }

@@ -1,14 +1,21 @@
 -- What operations on streams make: the result may be drawn from, and gives nothing but runs of what
 -- the operation selects.
+use Rattle.std.specs.Prelude.{◌≡◌}
 use Rattle.rsb_integer.specs.declared.integer.Integer.{Ghosts as Elements}
-use Rattle.rsb_streams.specs.Stream.{GivesComplement, GivesDifference, GivesIntersection, GivesSymmetricDifference, GivesUnion, IsReadyAnd}
+use Rattle.rsb_streams.specs.Stream.{GivesComplement, GivesDifference, GivesIntersection, GivesSymmetricDifference, GivesUnion, IsMade, IsReadyAnd}
+use Rattle.rsb_streams.specs.Union.{UnitesUndrawn}
 use Rattle.rsb_streams.specs.declared.draw.Draw.{Ghosts as Stream}
+use Rattle.rsb_streams.specs.declared.merge.Merge.{Merge}
+use Rattle.rsb_streams.specs.declared.not_iter.NotIter.{NotIter}
+use Rattle.rsb_streams.specs.declared.operation_results.union.Union.{Union}
+use Rattle.rsb_streams.specs.declared.union_iter.UnionIter.{UnionIter}
 
--- of what a stream leaves out
-abbrev pub MakesComplement : {T N I O : Type 0} → Elements T N → Stream I T N → Stream O T N
-    → I → O → Type 0
-MakesComplement integer stream made of result = IsReadyAnd made.can_draw result
+-- of what a stream leaves out, of which nothing is drawn yet
+abbrev pub MakesComplement : {T N I : Type 0} → Elements T N → Stream I T N → Stream (NotIter T I) T N
+    → I → NotIter T I → Type 0
+MakesComplement integer stream made of result = IsMade made.can_draw result
     (GivesComplement integer.value_count (stream.may_give of) (made.may_give result))
+    (result.iter ≡ of)
 
 -- both of two streams may be drawn from
 abbrev pub CanDrawBoth : {T N L R : Type 0} → Stream L T N → Stream R T N → L → R → Type 0
@@ -16,11 +23,6 @@ CanDrawBoth left right one other = left.can_draw one × right.can_draw other
 
 module _ {T N L R O : Type 0} (integer : Elements T N) (left : Stream L T N) (right : Stream R T N)
     (made : Stream O T N) (one : L) (other : R) (result : O) where
-  -- of what either of two streams has
-  abbrev pub MakesUnion : Type 0
-  MakesUnion = IsReadyAnd made.can_draw result (GivesUnion integer.value_count
-      (left.may_give one) (right.may_give other) (made.may_give result))
-
   -- of what both have
   abbrev pub MakesIntersection : Type 0
   MakesIntersection = IsReadyAnd made.can_draw result (GivesIntersection integer.value_count
@@ -36,3 +38,18 @@ module _ {T N L R O : Type 0} (integer : Elements T N) (left : Stream L T N) (ri
   MakesSymmetricDifference = IsReadyAnd made.can_draw result
       (GivesSymmetricDifference integer.value_count
       (left.may_give one) (right.may_give other) (made.may_give result))
+
+module _ {T N L R : Type 0} (integer : Elements T N) (left : Stream L T N) (right : Stream R T N)
+    where
+  -- of what either of two streams has, of which nothing is drawn yet
+  abbrev pub MakesUnion : Stream (Union T L R) T N → L → R → Union T L R → Type 0
+  MakesUnion made one other result = IsMade made.can_draw result
+      (GivesUnion integer.value_count (left.may_give one) (right.may_give other)
+      (made.may_give result)) (UnitesUndrawn integer left right one other result.iter)
+
+  -- the same, by the union of a merge
+  abbrev pub MakesUnionIter : Stream (UnionIter T (Merge T L R)) T N → L → R
+      → UnionIter T (Merge T L R) → Type 0
+  MakesUnionIter made one other result = IsMade made.can_draw result
+      (GivesUnion integer.value_count (left.may_give one) (right.may_give other)
+      (made.may_give result)) (UnitesUndrawn integer left right one other result)

@@ -5,7 +5,7 @@ use Rattle.std.specs.Prelude.{List, Option}
 use Rattle.std.specs.declared.ops.RangeInclusive.{RangeInclusive}
 use Rattle.rsb_integer.specs.declared.integer.Integer.{Ghosts as Elements}
 use Rattle.rsb_integer.specs.Runs.{Interval, IsCanonicalIn}
-use Rattle.rsb_streams.specs.Stream.{Outcomes, Answers, AnswersAndRests, HasSortedStarts, Keeps}
+use Rattle.rsb_streams.specs.Stream.{Outcomes, Answers, AnswersAndAsks, AnswersAndRests, HasSortedStarts, Keeps}
 use Rattle.rsb_streams.specs.declared.draw.Draw.{Ghosts as Stream}
 
 -- a draw answers what may come, and leaves what may come after that
@@ -33,6 +33,16 @@ abbrev pub answering : {S T N : Type 0} → Elements T N → (S → Type 0) → 
 answering integer can_draw draws_left may_give = record {
   can_draw = can_draw;
   draw_gives = AnswersAndRests integer.rank can_draw may_give;
+  draws_left = draws_left;
+  may_give = may_give;
+}
+
+-- such a stream, whose draws ask this of the streams below
+abbrev pub asking : {S T N : Type 0} → Elements T N → (S → Option (RangeInclusive T) → S → Type 0)
+    → (S → Type 0) → (S → Count) → (S → Outcomes) → Stream S T N
+asking integer asks can_draw draws_left may_give = record {
+  can_draw = can_draw;
+  draw_gives = AnswersAndAsks integer.rank can_draw may_give asks;
   draws_left = draws_left;
   may_give = may_give;
 }

@@ -115,6 +115,14 @@ pub record AnswersAndRests {S T : Type 0} (rank : T → ℕ) (can_next : S → T
   pub answers : Answers rank may_give s item t
   pub rests : Rests can_next may_give item t
 
+-- and this is what the call asked of the streams below
+pub record AnswersAndAsks {S T : Type 0} (rank : T → ℕ) (can_next : S → Type 0)
+    (may_give : S → Outcomes) (Asks : S → Option (RangeInclusive T) → S → Type 0)
+    (s : S) (item : Option (RangeInclusive T)) (t : S) : Type 0 where
+  pub answers : Answers rank may_give s item t
+  pub rests : Rests can_next may_give item t
+  pub asks : Asks s item t
+
 -- something may be given, all that may be given keeps the law, and the calls end
 pub record Keeps (law : List Interval → Type 0) (P : Outcomes) (remaining : Count) : Type 0 where
   pub some : HasOutcome P
@@ -148,6 +156,12 @@ GivesSymmetricDifference n left right given =
 pub record IsReadyAnd {S : Type 0} (can_next : S → Type 0) (s : S) (Gives : Type 0) : Type 0 where
   pub ready : can_next s
   pub gives : Gives
+
+-- a stream may be called, the fact holds of what it gives, and nothing is drawn yet of others
+pub record IsMade {S : Type 0} (can_next : S → Type 0) (s : S) (Gives New : Type 0) : Type 0 where
+  pub ready : can_next s
+  pub gives : Gives
+  pub new : New
 
 -- ---- `next` and `draw`
 

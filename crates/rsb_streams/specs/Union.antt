@@ -1,12 +1,33 @@
 -- The union of two streams.
 use Rattle.rsb_integer.specs.declared.integer.Integer.{Ghosts as Elements}
-use Rattle.rsb_streams.specs.Merge.{merge}
-use Rattle.rsb_streams.specs.Rows.{through}
-use Rattle.rsb_streams.specs.UnionIter.{union_iter}
+use Rattle.rsb_streams.specs.Lookahead.{at_side, same_side, Input, Side}
+use Rattle.rsb_streams.specs.Merge.{merge, merge_inputs}
+use Rattle.rsb_streams.specs.Rows.{asking}
+use Rattle.rsb_streams.specs.UnionIter.{joined_inputs, union_iter, AsksAhead, JoinsUndrawn}
 use Rattle.rsb_streams.specs.declared.draw.Draw.{Ghosts as Stream}
+use Rattle.rsb_streams.specs.declared.merge.Merge.{Merge}
 use Rattle.rsb_streams.specs.declared.operation_results.union.Union.{Union}
+use Rattle.rsb_streams.specs.declared.union_iter.UnionIter.{UnionIter}
 
--- a merge of two, joined
-abbrev pub union : {T N L R : Type 0} → Elements T N → Stream L T N → Stream R T N
-    → Stream (Union T L R) T N
-union integer left right = through (λ s. s.iter) (union_iter integer (merge integer left right))
+module _ {T N L R : Type 0} (integer : Elements T N) (left : Stream L T N)
+    (right : Stream R T N) where
+  -- a merge of two, joined
+  abbrev pub joined_merge : Stream (UnionIter T (Merge T L R)) T N
+  joined_merge = union_iter integer (merge integer left right)
+
+  -- the union: a draw looks ahead of each stream by one range at most
+  abbrev pub union : Stream (Union T L R) T N
+  union = asking integer
+      (λ s item t. AsksAhead same_side integer (merge_inputs integer left right) s.iter item t.iter)
+      (λ s. joined_merge.can_draw s.iter)
+      (λ s. joined_merge.draws_left s.iter)
+      (λ s. joined_merge.may_give s.iter)
+
+  -- its inputs, where the range that it holds came of one side
+  abbrev pub union_inputs : Side → Union T L R → Side → Input
+  union_inputs from s = joined_inputs same_side integer (merge_inputs integer left right) from s.iter
+
+  -- nothing is drawn of two streams, which a union of a merge has
+  abbrev pub UnitesUndrawn : L → R → UnionIter T (Merge T L R) → Type 0
+  UnitesUndrawn one other s = JoinsUndrawn same_side integer (merge_inputs integer left right)
+      (at_side (left.may_give one) (right.may_give other)) s

@@ -1,15 +1,73 @@
 -- The union of a stream whose starts do not fall.
+use Rattle.std.proofs.Common.{Bool, true, false, ◌+◌, List, [], ◌++◌}
+use Rattle.std.specs.Iterator.{YieldsThen}
+use Rattle.std.specs.Prelude.{Option, Some, None, MatchOption}
+use Rattle.std.specs.declared.ops.RangeInclusive.{RangeInclusive}
+use Rattle.rsb_integer.specs.Rank.{interval_of, intervals_of}
 use Rattle.rsb_integer.specs.declared.integer.Integer.{Ghosts as Elements}
-use Rattle.rsb_streams.specs.PutBack.{put_back}
-use Rattle.rsb_streams.specs.Rows.{answering}
-use Rattle.rsb_streams.specs.Stream.{joined}
+use Rattle.rsb_streams.specs.Fused.{fused}
+use Rattle.rsb_streams.specs.Lookahead.{holding, if_same, undrawn, AreUndrawn, AreWithin, Ends, Input, IsOneFrom, LooksAheadOfAll, Sameness}
+use Rattle.rsb_streams.specs.PutBack.{fused_of, held_list, put_back, HasRoom}
+use Rattle.rsb_streams.specs.Rows.{asking}
+use Rattle.rsb_streams.specs.Stream.{joined, just, Outcomes}
 use Rattle.rsb_streams.specs.declared.draw.Draw.{Ghosts as Stream}
 use Rattle.rsb_streams.specs.declared.union_iter.UnionIter.{UnionIter}
 
--- the runs of what is held and still to come; as many are left as its stream has, with one that is
--- held
-abbrev pub union_iter : {T N S : Type 0} → Elements T N → Stream S T N → Stream (UnionIter T S) T N
-union_iter integer stream = answering integer
-    (λ s. (put_back integer stream).can_draw s.iter)
-    (λ s. (put_back integer stream).draws_left s.iter)
-    (λ s. joined integer.value_count ((put_back integer stream).may_give s.iter))
+module _ {T N S : Type 0} (integer : Elements T N) (stream : Stream S T N) where
+  open integer use {rank}
+
+  -- what was held before and what draws gave lies within the answer; one more draw gave what is
+  -- held now, which starts past the end of the answer with a gap between
+  pub record Joins (s : UnionIter T S) (answer : RangeInclusive T) (t : UnionIter T S) : Type 0
+      where
+    pub drawn : List (RangeInclusive T)
+    pub draws : YieldsThen (fused stream).draw_gives (fused_of s.iter) drawn t.iter.held
+        (fused_of t.iter)
+    pub within : AreWithin (interval_of rank answer)
+        (held_list rank s.iter.held ++ intervals_of rank drawn)
+    pub ahead : IsOneFrom ((interval_of rank answer).last + 2) (held_list rank t.iter.held)
+
+  -- nothing was held, the only draw gave nothing, and nothing is held
+  pub record JoinsNothing (s t : UnionIter T S) : Type 0 where
+    pub held : HasRoom s.iter
+    pub room : HasRoom t.iter
+    pub draw : (fused stream).draw_gives (fused_of s.iter) None (fused_of t.iter)
+
+  -- what a draw of the union asks of the stream
+  abbrev pub AsksToJoin : UnionIter T S → Option (RangeInclusive T) → UnionIter T S → Type 0
+  AsksToJoin s item t = MatchOption item (JoinsNothing s t) (λ answer. Joins s answer t)
+
+  -- the runs of what is held and still to come; as many are left as its stream has, with one that
+  -- is held
+  abbrev pub union_iter : Stream (UnionIter T S) T N
+  union_iter = asking integer AsksToJoin
+      (λ s. (put_back integer stream).can_draw s.iter)
+      (λ s. (put_back integer stream).draws_left s.iter)
+      (λ s. joined integer.value_count ((put_back integer stream).may_give s.iter))
+
+-- ---- the union of a stream that has inputs itself
+
+-- an input of a stream, and nothing of it once the stream has ended, which is not asked again
+abbrev pub unless_ended : Bool → Input → Input
+unless_ended true input = undrawn (just [])
+unless_ended false input = input
+
+module _ {Place S T N : Type 0} (same : Sameness Place) (integer : Elements T N)
+    (inputs : S → Place → Input) where
+  -- the inputs of its union, where the range that the union holds came of one place
+  abbrev pub joined_inputs : Place → UnionIter T S → Place → Input
+  joined_inputs from s place = holding
+      (if_same (same place from) (held_list integer.rank s.iter.held))
+      (unless_ended s.iter.done (inputs s.iter.iter place))
+
+  -- a draw of the union looks ahead of each input by one range at most, wherever the range came
+  -- from that it held; at the end they end
+  abbrev pub AsksAhead : UnionIter T S → Option (RangeInclusive T) → UnionIter T S → Type 0
+  AsksAhead s item t = (from : Place) → MatchOption item
+      ((place : Place) → Ends (joined_inputs from s place) (joined_inputs from t place))
+      (λ answer. (now_from : Place) × LooksAheadOfAll (interval_of integer.rank answer)
+      (joined_inputs from s) (joined_inputs now_from t))
+
+  -- nothing is drawn yet of any of these streams, which are its inputs
+  abbrev pub JoinsUndrawn : (Place → Outcomes) → UnionIter T S → Type 0
+  JoinsUndrawn may_give s = (from : Place) → AreUndrawn may_give (joined_inputs from s)

@@ -1,6 +1,6 @@
 //! The merge of two streams.
 
-ghost use Rattle.rsb_streams.specs.Merge.{merge};
+ghost use Rattle.rsb_streams.specs.Merge.{merge, MergesUndrawn};
 ghost use Rattle.rsb_streams.specs.MergeLaws.{merge-sorted};
 ghost use Rattle.rsb_streams.specs.PutBack.{IsFresh};
 ghost use Rattle.rsb_streams.specs.Stream.{◌⊆◌, merges};
@@ -43,6 +43,7 @@ impl<T: Integer, L: Draw<T>, R: Draw<T>> Merge<T, L, R> {
         ensures ready { ⟦<Merge<T, L, R> as Draw<T>>⟧.can_draw result }
         ensures gives { ⟦<Merge<T, L, R> as Draw<T>>⟧.may_give result
             ⊆ merges T.value_count (L.may_give left) (R.may_give right) }
+        ensures new { MergesUndrawn T.Integer.own L.Draw R.Draw left right result }
     {
         Merge::of(left, right)
     }

@@ -2,7 +2,7 @@
 
 ghost use Rattle.std.specs.Prelude.{◌≡◌};
 ghost use Rattle.rsb_streams.specs.PutBack.{IsFresh};
-ghost use Rattle.rsb_streams.specs.Results.{MakesUnion};
+ghost use Rattle.rsb_streams.specs.Results.{MakesUnionIter};
 ghost use Rattle.rsb_streams.specs.Stream.{◌⊆◌, joined};
 ghost use Rattle.rsb_streams.specs.StreamLaws.{canonical-starts, drawn-itself};
 ghost use Rattle.rsb_streams.specs.UnionIter.{union_iter};
@@ -49,6 +49,7 @@ impl<T: Integer, SS: Draw<T>> UnionIter<T, SS> {
         ensures ready { ⟦<UnionIter<T, SS> as Draw<T>>⟧.can_draw result }
         ensures gives { ⟦<UnionIter<T, SS> as Draw<T>>⟧.may_give result
             ⊆ joined T.value_count (SS.may_give iter) }
+        ensures new { IsFresh iter result.iter }
     {
         UnionIter::over(iter)
     }
@@ -57,7 +58,7 @@ impl<T: Integer, SS: Draw<T>> UnionIter<T, SS> {
 impl<T: Integer, L: Draw<T>, R: Draw<T>> From<(L, R)> for UnionIter<T, Merge<T, L, R>> {
     // The union of two streams that may be drawn from, of which nothing is drawn yet. (Own.)
     ghost from_gives = { λ streams result. L.can_draw streams.0 → R.can_draw streams.1
-        → MakesUnion T.Integer.own L.Draw R.Draw ⟦<UnionIter<T, Merge<T, L, R>> as Draw<T>>⟧
+        → MakesUnionIter T.Integer.own L.Draw R.Draw ⟦<UnionIter<T, Merge<T, L, R>> as Draw<T>>⟧
         streams.0 streams.1 result };
 
     fn from(streams: (L, R)) -> Self {

@@ -1,3 +1,4 @@
+use Rattle.rsb_streams.proofs.AheadLemmas.{merges-undrawn}
 use Rattle.rsb_streams.proofs.Sources.{fresh-may, fresh-ready}
 use Rattle.rsb_streams.proofs.merge.Merge.new.Goals as goal
 
@@ -20,3 +21,7 @@ returns-clause-gives g c = λ runs may nothing.
     (fresh-may g.T.Integer g.L.Draw c.args.left c.of.result.left c.of.ensures.left first at)
     (fresh-may g.T.Integer g.R.Draw c.args.right c.of.result.right c.of.ensures.right second also)
     all)
+
+pub returns-clause-new : goal.returns-clause-new
+returns-clause-new g c = merges-undrawn g.T.Integer g.L.Draw g.R.Draw c.args.left c.args.right
+    c.of.result c.of.ensures.left c.of.ensures.right

@@ -1,5 +1,6 @@
 use Rattle.rsb_streams.specs.Merge.{merge}
 use Rattle.rsb_streams.specs.MergeLaws.{merge-sorted}
+use Rattle.rsb_streams.proofs.AheadLemmas.{unites-undrawn}
 use Rattle.rsb_streams.proofs.OperationLemmas.{union-of_merge}
 use Rattle.rsb_streams.proofs.Sources.{fresh-may, fresh-ready}
 use Rattle.rsb_streams.proofs.union_iter.UnionIterMergeFromTuple2.from.Goals as goal
@@ -30,4 +31,6 @@ returns g c = λ left_can right_can.
           runs
           (λ nothing. may (λ given at all. nothing given
           (fresh-may g.T.Integer merged both c.over.result.iter c.over.ensures given at) all));
+      new = unites-undrawn g.T.Integer g.L.Draw g.R.Draw first second both
+          c.of-merge.ensures.left c.of-merge.ensures.right c.over.result c.over.ensures;
     }
