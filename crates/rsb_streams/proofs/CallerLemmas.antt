@@ -1,7 +1,8 @@
 -- What a caller of operations on streams needs: their results composed, and the members of a list
 -- that an operation gives.
-use Rattle.std.proofs.Common.{◌≡◌, ℕ, Bool, true, false, ◌&&◌, ◌||◌, sym, ◌∙◌, List, not, refl, ap, [], ◌∷◌, map, subst}
-use Rattle.std.specs.Prelude.{None}
+use Rattle.std.proofs.Common.{◌≡◌, ℕ, ◌+◌, ◌≤◌, Bool, true, false, ◌&&◌, ◌||◌, sym, ◌∙◌, List, not, refl, ap, [], ◌∷◌, ◌++◌, length, map, subst, arith}
+use Rattle.std.proofs.lemmas.List.{length-append}
+use Rattle.std.specs.Prelude.{Option, Some, None, IfSome}
 use Rattle.std.specs.Iterator.{Yields}
 use Rattle.std.specs.declared.ops.RangeInclusive.{RangeInclusive}
 use Rattle.rsb_integer.specs.Rank.{interval_of}
@@ -12,9 +13,13 @@ use Rattle.std.proofs.Math.Bool.{not-not}
 use Rattle.rsb_integer.specs.Runs.{Interval, members}
 use Rattle.rsb_integer.specs.Selection.{Selection, Agree, complement, difference, intersection, union}
 use Rattle.rsb_integer.proofs.RunsLemmas.{runs-along, runs-members}
+use Rattle.rsb_streams.specs.Lookahead.{at_side, undrawn, DrawsFew, Input, IsUndrawn, Left, LooksAhead, LooksAheadOfAll, Side}
 use Rattle.rsb_streams.specs.StreamLaws.{runs-exist}
 use Rattle.rsb_streams.specs.Stream.{Outcomes, ◌⊆◌, joined, just, runs_by, runs_by_two}
+use Rattle.rsb_streams.specs.Union.{union as union_of, union_inputs, UnitesUndrawn}
 use Rattle.rsb_streams.specs.declared.draw.Draw.{Ghosts as Stream}
+use Rattle.rsb_streams.specs.declared.operation_results.union.Union.{Union}
+use Rattle.rsb_streams.proofs.LookaheadLemmas.{from-one}
 
 -- ---- less given gives less
 
@@ -187,3 +192,69 @@ filled-drawn integer stream [] s t u all end =
 filled-drawn integer stream (item ∷ items) s t u all end =
     all.1.answers (map (λ pair. (interval_of integer.rank pair.0, pair.1)) items)
     (filled-drawn integer stream items all.0 t u all.2 end)
+
+-- ---- how far a union looks ahead
+
+-- what is said of an input of which nothing was drawn is said of the stream
+looks-undrawn : (answer : Interval) (may_give : Outcomes) (before now : Input)
+    → IsUndrawn may_give before → LooksAhead answer before now
+    → LooksAhead answer (undrawn may_give) now
+looks-undrawn answer may_give before now new looks = record {
+  used = looks.used;
+  uses = record {
+    drawn = looks.uses.drawn;
+    drew = λ rest at. new.gives (looks.uses.drawn ++ rest) (looks.uses.drew rest at);
+    in_order = ap (λ runs. runs ++ looks.uses.drawn) (sym new.held) ∙ looks.uses.in_order;
+  };
+  within = looks.within;
+  ahead = looks.ahead;
+}
+
+-- the first answer of a union of two looks ahead of each stream by one range at most
+pub first-ahead : {T N L R : Type 0} (integer : Elements T N) (left : Stream L T N)
+    (right : Stream R T N) (one : L) (other : R) (s t : Union T L R)
+    (item : Option (RangeInclusive T)) → UnitesUndrawn integer left right one other s.iter
+    → (union_of integer left right).draw_gives s item t
+    → IfSome item (λ answer. (from : Side) × LooksAheadOfAll (interval_of integer.rank answer)
+    (λ side. undrawn (at_side (left.may_give one) (right.may_give other) side))
+    (union_inputs integer left right from t))
+first-ahead integer left right one other s t None new gives = tt
+first-ahead integer left right one other s t (Some answer) new gives =
+    let looks = gives.asks Left in (
+      looks.0,
+      λ side. looks-undrawn (interval_of integer.rank answer)
+          (at_side (left.may_give one) (right.may_give other) side)
+          (union_inputs integer left right Left s side) (union_inputs integer left right looks.0 t side)
+          (new Left side) (looks.1 side),
+    )
+
+-- what looks ahead of a stream of which nothing was drawn draws few of its ranges
+looks-few : (answer : Interval) (may_give : Outcomes) (now : Input)
+    → LooksAhead answer (undrawn may_give) now → DrawsFew answer may_give now.undrawn
+looks-few answer may_give now looks =
+    let one = from-one (answer.last + 2) now.held looks.ahead in
+    let order : looks.uses.drawn ≡ looks.used ++ now.held = looks.uses.in_order in
+    record {
+      drawn = looks.uses.drawn;
+      inside = looks.used;
+      drew = looks.uses.drew;
+      within = looks.within;
+      few = rw order (rw (length-append looks.used now.held) (omega (arith, one)));
+    }
+
+-- the first answer of a union of two draws few ranges of each
+pub first-few : {T N L R : Type 0} (integer : Elements T N) (left : Stream L T N)
+    (right : Stream R T N) (one : L) (other : R) (s t : Union T L R)
+    (item : Option (RangeInclusive T)) (side : Side)
+    → UnitesUndrawn integer left right one other s.iter
+    → (union_of integer left right).draw_gives s item t
+    → IfSome item (λ answer. DrawsFew (interval_of integer.rank answer)
+    (at_side (left.may_give one) (right.may_give other) side)
+    (union_inputs integer left right side t side).undrawn)
+first-few integer left right one other s t None side new gives = tt
+first-few integer left right one other s t (Some answer) side new gives =
+    let ahead = first-ahead integer left right one other s t (Some answer) new gives in
+    let few = looks-few (interval_of integer.rank answer)
+    (at_side (left.may_give one) (right.may_give other) side)
+    (union_inputs integer left right ahead.0 t side) (ahead.1 side) in
+    record { drawn = few.drawn; inside = few.inside; drew = few.drew; within = few.within; few = few.few }

@@ -1,6 +1,6 @@
 -- How far a stream is ahead of its answers: what it drew of its inputs, what it used, and what it
 -- holds.
-use Rattle.std.proofs.Common.{◌≡◌, ◌⊎◌, inl, inr, refl, ℕ, ◌+◌, ◌≤◌, List, [], ◌∷◌, ◌++◌}
+use Rattle.std.proofs.Common.{◌≡◌, ◌⊎◌, inl, inr, refl, ℕ, ◌+◌, ◌≤◌, List, [], ◌∷◌, ◌++◌, length}
 use Rattle.std.specs.Prelude.{Option, MatchOption}
 use Rattle.std.specs.declared.ops.RangeInclusive.{RangeInclusive}
 use Rattle.rsb_integer.specs.Rank.{interval_of}
@@ -67,6 +67,14 @@ pub record LooksAhead (answer : Interval) (before now : Input) : Type 0 where
   pub uses : Uses before used now
   pub within : AreWithin answer used
   pub ahead : IsOneFrom (answer.last + 2) now.held
+
+-- an answer drew of a stream as many ranges as lie within it, and one more at most
+pub record DrawsFew (answer : Interval) (before now : Outcomes) : Type 0 where
+  pub drawn : List Interval
+  pub inside : List Interval
+  pub drew : Drew before drawn now
+  pub within : AreWithin answer inside
+  pub few : length drawn ≤ length inside + 1
 
 -- ---- inputs at places
 
