@@ -9,6 +9,7 @@ mod fill_gaps;
 mod known_streams;
 mod listed;
 mod lists;
+mod lookahead;
 mod merge;
 mod nested;
 mod operation_rows;

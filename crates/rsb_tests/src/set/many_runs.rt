@@ -4,7 +4,9 @@
 use crate::set::calls::{Change, Making, carry_out, make};
 use crate::set::rows::has;
 use range_set_blaze::RangeSetBlaze;
+use rsb_commands::outside::Counted;
 use std::alloc::{AllocError, Global};
+use std::cell::Cell;
 use std::test::*;
 
 /// Seventy thousand runs that start at a value and each fifth from it on, and end so many values
@@ -135,6 +137,9 @@ fn hints_are_the_lengths_to_come(rt: HostRuntime) -> Result<(), Fail> {
     let mut ranges = set.ranges();
     assert!(rt; ranges.next() == Some(0..=2) && ranges.next_back() == Some(349_995..=349_997));
     assert!(rt; ranges.size_hint() == (69_998, Some(69_998)));
+    let (drawn, full) = (Cell::new(0), Cell::new(usize::MAX - 1));
+    let counted = Counted::new(Counted::new(set.ranges(), &drawn), &full);
+    assert!(rt; counted.count() == 70_000 && drawn.get() == 70_000 && full.get() == usize::MAX);
     let mut owned = set.into_ranges();
     assert!(rt; owned.next() == Some(0..=2) && owned.next_back() == Some(349_995..=349_997));
     assert!(rt; owned.size_hint() == (69_998, Some(69_998)));
