@@ -13,7 +13,7 @@ mod lookahead;
 mod merge;
 mod nested;
 mod operation_rows;
-mod operations;
+pub(crate) mod operations;
 mod operators;
 mod own_stream;
 mod questions;
