@@ -99,8 +99,11 @@ fn seventy_thousand_runs_or_values_make_sets(rt: HostRuntime) -> Result<(), Fail
 }
 
 #[test]
-fn seventy_thousand_gaps_are_filled(rt: HostRuntime) -> Result<(), Fail> {
+fn seventy_thousand_runs_are_counted_and_their_gaps_filled(rt: HostRuntime) -> Result<(), Fail> {
     let mut set = every_fifth(rt.alloc(), 0, 2)?;
+    let (drawn, full) = (Cell::new(0), Cell::new(usize::MAX - 1));
+    let runs = Counted::new(Counted::new(set.ranges(), &drawn), &full);
+    assert!(rt; runs.count() == 70_000 && drawn.get() == 70_000 && full.get() == usize::MAX);
     for place in 0..70_000i32 {
         // In an order that jumps.
         let start = (place.saturating_mul(1237) % 70_000).saturating_mul(5);
@@ -137,9 +140,6 @@ fn hints_are_the_lengths_to_come(rt: HostRuntime) -> Result<(), Fail> {
     let mut ranges = set.ranges();
     assert!(rt; ranges.next() == Some(0..=2) && ranges.next_back() == Some(349_995..=349_997));
     assert!(rt; ranges.size_hint() == (69_998, Some(69_998)));
-    let (drawn, full) = (Cell::new(0), Cell::new(usize::MAX - 1));
-    let counted = Counted::new(Counted::new(set.ranges(), &drawn), &full);
-    assert!(rt; counted.count() == 70_000 && drawn.get() == 70_000 && full.get() == usize::MAX);
     let mut owned = set.into_ranges();
     assert!(rt; owned.next() == Some(0..=2) && owned.next_back() == Some(349_995..=349_997));
     assert!(rt; owned.size_hint() == (69_998, Some(69_998)));
