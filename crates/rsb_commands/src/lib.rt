@@ -5,6 +5,7 @@ pub mod command;
 pub mod commands;
 pub mod fault;
 pub mod laws;
+pub mod outside;
 mod page;
 pub mod parse;
 pub mod program;

@@ -1,7 +1,8 @@
 //! Sets made of others, of streams and of items, on rows worked by hand.
 
-use crate::set::calls::Making;
+use crate::set::calls::{Making, make};
 use crate::set::rows::{Table, has, is_byte_run, makes_of_two};
+use crate::streams::operations::{Operation, operation_gives};
 use crate::tables::set_of;
 use range_set_blaze::{DrawDisjoint, IntoRangeSetBlaze, RangeSetBlaze, UIntPlusOne};
 use std::test::*;
@@ -29,6 +30,41 @@ fn two_sets_are_met_told_apart_and_turned(rt: HostRuntime) {
         let answer = makes_of_two(rt.alloc(), *making, &[(1, 2), (5, 100)], &[(2, 6)], wanted);
         assert!(rt; answer == Ok(true), "{making:?}");
     }
+}
+
+/// An operation and the making by it, of {0..=9, 20..=29} and {5..=24, 26..=40}, and the runs of what
+/// both make: as many as there may be.
+static MOST_RUNS: [(Operation, Making, Table<'static>); 3] = [
+    (
+        Operation::Intersection,
+        Making::Bitand,
+        &[(5, 9), (20, 24), (26, 29)],
+    ),
+    (
+        Operation::SymmetricDifference,
+        Making::Bitxor,
+        &[(0, 4), (10, 19), (25, 25), (30, 40)],
+    ),
+    (
+        Operation::Complement,
+        Making::Not,
+        &[(i32::MIN, -1), (10, 19), (30, i32::MAX)],
+    ),
+];
+
+#[test]
+fn results_of_two_runs_and_two_have_up_to_four(rt: HostRuntime) -> Result<(), Fail> {
+    let left = set_of(rt.alloc(), &[(0, 9), (20, 29)])?;
+    let right = set_of(rt.alloc(), &[(5, 24), (26, 40)])?;
+    for (operation, making, wanted) in &MOST_RUNS {
+        assert!(rt;
+            operation_gives(*operation, left.ranges(), right.ranges(), wanted),
+            "{operation:?}"
+        );
+        let made = make(rt.alloc(), *making, &left, &right)?;
+        assert!(rt; has(&made, wanted), "{making:?}");
+    }
+    Ok(())
 }
 
 /// A making, the two sets that it is given, and what it makes.

@@ -4,7 +4,9 @@
 use crate::set::calls::{Change, Making, carry_out, make};
 use crate::set::rows::has;
 use range_set_blaze::RangeSetBlaze;
+use rsb_commands::outside::Counted;
 use std::alloc::{AllocError, Global};
+use std::cell::Cell;
 use std::test::*;
 
 /// Seventy thousand runs that start at a value and each fifth from it on, and end so many values
@@ -97,8 +99,11 @@ fn seventy_thousand_runs_or_values_make_sets(rt: HostRuntime) -> Result<(), Fail
 }
 
 #[test]
-fn seventy_thousand_gaps_are_filled(rt: HostRuntime) -> Result<(), Fail> {
+fn seventy_thousand_runs_are_counted_and_their_gaps_filled(rt: HostRuntime) -> Result<(), Fail> {
     let mut set = every_fifth(rt.alloc(), 0, 2)?;
+    let (drawn, full) = (Cell::new(0), Cell::new(usize::MAX - 1));
+    let runs = Counted::new(Counted::new(set.ranges(), &drawn), &full);
+    assert!(rt; runs.count() == 70_000 && drawn.get() == 70_000 && full.get() == usize::MAX);
     for place in 0..70_000i32 {
         // In an order that jumps.
         let start = (place.saturating_mul(1237) % 70_000).saturating_mul(5);

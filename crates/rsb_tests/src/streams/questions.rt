@@ -2,7 +2,9 @@
 //! another, or disjoint.
 
 use crate::streams::listed::stream_of;
+use rsb_commands::outside::Counted;
 use rsb_streams::{DrawDisjoint, RangeOnce};
+use std::cell::Cell;
 
 /// The ends of ranges.
 type Ranges = &'static [(u8, u8)];
@@ -167,16 +169,10 @@ enum Question {
 }
 
 /// How many ranges a question draws of the streams of two tables.
-fn drawn_by(question: Question, left: Ranges, right: Ranges) -> (u32, u32) {
-    let (mut lefts, mut rights) = (0_u32, 0_u32);
-    let left = stream_of(left).filter(|_| {
-        lefts = lefts.saturating_add(1);
-        true
-    });
-    let right = stream_of(right).filter(|_| {
-        rights = rights.saturating_add(1);
-        true
-    });
+fn drawn_by(question: Question, left: Ranges, right: Ranges) -> (usize, usize) {
+    let (lefts, rights) = (Cell::new(0), Cell::new(0));
+    let left = Counted::new(stream_of(left), &lefts);
+    let right = Counted::new(stream_of(right), &rights);
     match question {
         Question::IsEmpty => left.is_empty(),
         Question::IsUniversal => left.is_universal(),
@@ -185,7 +181,7 @@ fn drawn_by(question: Question, left: Ranges, right: Ranges) -> (u32, u32) {
         Question::IsSuperset => left.is_superset(right),
         Question::IsDisjoint => left.is_disjoint(right),
     };
-    (lefts, rights)
+    (lefts.get(), rights.get())
 }
 
 /// A stream of nine ranges.
@@ -215,7 +211,7 @@ const RIGHT: Ranges = &[
 ];
 
 /// A question, two streams, and how many ranges are drawn of each.
-static DRAWN: [(Question, Ranges, Ranges, (u32, u32)); 6] = [
+static DRAWN: [(Question, Ranges, Ranges, (usize, usize)); 6] = [
     (Question::IsEmpty, LEFT, RIGHT, (1, 0)),
     (Question::IsUniversal, LEFT, RIGHT, (1, 0)),
     (Question::Equal, LEFT, RIGHT, (2, 2)),
