@@ -9,6 +9,7 @@ ghost use Rattle.rsb_integer.specs.Selection.{
   union,
 };
 ghost use Rattle.range_set_blaze.specs.Algebra.{IsComplementOf};
+ghost use Rattle.range_set_blaze.specs.RunCount.{HasFewerRunsThanBoth, HasOneRunMoreAtMost, HasRunsOfBothAtMost};
 ghost use Rattle.range_set_blaze.specs.Set.{IsSetOf};
 
 use crate::set::RangeSetBlaze;
@@ -24,7 +25,11 @@ impl<'a, 'b, T: Integer, A: Allocator + Copy, B: Allocator> BitOr<&'b RangeSetBl
     ghost bitor_gives = { λ left right made. IfOk made (λ set.
         IsSetOf set (union (members left.now) (members right.now))) };
 
-    fn bitor(self, other: &'b RangeSetBlaze<T, B>) -> Self::Output {
+    fn bitor(self, other: &'b RangeSetBlaze<T, B>) -> Self::Output
+        ensures members { IfOk result (λ set.
+            IsSetOf set (union (members self.now) (members other.now))) }
+        ensures run_count { IfOk result (λ set. HasRunsOfBothAtMost self.now other.now set) }
+    {
         RangeSetBlaze::bitor(self, other)
     }
 }
@@ -37,7 +42,11 @@ impl<'a, 'b, T: Integer, A: Allocator + Copy, B: Allocator> BitAnd<&'b RangeSetB
     ghost bitand_gives = { λ left right made. IfOk made (λ set.
         IsSetOf set (intersection (members left.now) (members right.now))) };
 
-    fn bitand(self, other: &'b RangeSetBlaze<T, B>) -> Self::Output {
+    fn bitand(self, other: &'b RangeSetBlaze<T, B>) -> Self::Output
+        ensures members { IfOk result (λ set.
+            IsSetOf set (intersection (members self.now) (members other.now))) }
+        ensures run_count { IfOk result (λ set. HasFewerRunsThanBoth self.now other.now set) }
+    {
         RangeSetBlaze::bitand(self, other)
     }
 }
@@ -50,7 +59,11 @@ impl<'a, 'b, T: Integer, A: Allocator + Copy, B: Allocator> Sub<&'b RangeSetBlaz
     ghost sub_gives = { λ left right made. IfOk made (λ set.
         IsSetOf set (difference (members left.now) (members right.now))) };
 
-    fn sub(self, other: &'b RangeSetBlaze<T, B>) -> Self::Output {
+    fn sub(self, other: &'b RangeSetBlaze<T, B>) -> Self::Output
+        ensures members { IfOk result (λ set.
+            IsSetOf set (difference (members self.now) (members other.now))) }
+        ensures run_count { IfOk result (λ set. HasRunsOfBothAtMost self.now other.now set) }
+    {
         RangeSetBlaze::sub(self, other)
     }
 }
@@ -63,7 +76,11 @@ impl<'a, 'b, T: Integer, A: Allocator + Copy, B: Allocator> BitXor<&'b RangeSetB
     ghost bitxor_gives = { λ left right made. IfOk made (λ set.
         IsSetOf set (symmetric_difference (members left.now) (members right.now))) };
 
-    fn bitxor(self, other: &'b RangeSetBlaze<T, B>) -> Self::Output {
+    fn bitxor(self, other: &'b RangeSetBlaze<T, B>) -> Self::Output
+        ensures members { IfOk result (λ set.
+            IsSetOf set (symmetric_difference (members self.now) (members other.now))) }
+        ensures run_count { IfOk result (λ set. HasRunsOfBothAtMost self.now other.now set) }
+    {
         RangeSetBlaze::bitxor(self, other)
     }
 }
@@ -75,7 +92,10 @@ impl<'a, T: Integer, A: Allocator + Copy> Not for &'a RangeSetBlaze<T, A> {
     ghost not_gives = { λ set made. IfOk made (λ lacking.
         IsComplementOf T.value_count lacking set.now) };
 
-    fn not(self) -> Self::Output {
+    fn not(self) -> Self::Output
+        ensures members { IfOk result (λ lacking. IsComplementOf T.value_count lacking self.now) }
+        ensures run_count { IfOk result (λ lacking. HasOneRunMoreAtMost self.now lacking) }
+    {
         RangeSetBlaze::not(self)
     }
 }
