@@ -17,7 +17,8 @@ use rsb_integer::Integer;
 use std::alloc::{AllocError, Allocator};
 use std::ops::{BitAnd, BitOr, BitXor, Not, Sub};
 
-/// `(&a | &b)?`: what lies in either of two sets. Without memory nothing is made.
+/// `(&a | &b)?`: what lies in either of two sets. It has at most as many runs as both together.
+/// Without memory nothing is made.
 impl<'a, 'b, T: Integer, A: Allocator + Copy, B: Allocator> BitOr<&'b RangeSetBlaze<T, B>>
     for &'a RangeSetBlaze<T, A> {
     type Output = Result<RangeSetBlaze<T, A>, AllocError>;
@@ -34,7 +35,8 @@ impl<'a, 'b, T: Integer, A: Allocator + Copy, B: Allocator> BitOr<&'b RangeSetBl
     }
 }
 
-/// `(&a & &b)?`: what two sets both have. Without memory nothing is made.
+/// `(&a & &b)?`: what two sets both have. It has no run where one of the sets has none, and else
+/// fewer runs than both together. Without memory nothing is made.
 impl<'a, 'b, T: Integer, A: Allocator + Copy, B: Allocator> BitAnd<&'b RangeSetBlaze<T, B>>
     for &'a RangeSetBlaze<T, A> {
     type Output = Result<RangeSetBlaze<T, A>, AllocError>;
@@ -51,7 +53,8 @@ impl<'a, 'b, T: Integer, A: Allocator + Copy, B: Allocator> BitAnd<&'b RangeSetB
     }
 }
 
-/// `(&a - &b)?`: what the first set has and the second lacks. Without memory nothing is made.
+/// `(&a - &b)?`: what the first set has and the second lacks. It has at most as many runs as both
+/// together. Without memory nothing is made.
 impl<'a, 'b, T: Integer, A: Allocator + Copy, B: Allocator> Sub<&'b RangeSetBlaze<T, B>>
     for &'a RangeSetBlaze<T, A> {
     type Output = Result<RangeSetBlaze<T, A>, AllocError>;
@@ -68,7 +71,8 @@ impl<'a, 'b, T: Integer, A: Allocator + Copy, B: Allocator> Sub<&'b RangeSetBlaz
     }
 }
 
-/// `(&a ^ &b)?`: what lies in one of two sets alone. Without memory nothing is made.
+/// `(&a ^ &b)?`: what lies in one of two sets alone. It has at most as many runs as both together.
+/// Without memory nothing is made.
 impl<'a, 'b, T: Integer, A: Allocator + Copy, B: Allocator> BitXor<&'b RangeSetBlaze<T, B>>
     for &'a RangeSetBlaze<T, A> {
     type Output = Result<RangeSetBlaze<T, A>, AllocError>;
@@ -85,7 +89,8 @@ impl<'a, 'b, T: Integer, A: Allocator + Copy, B: Allocator> BitXor<&'b RangeSetB
     }
 }
 
-/// `(!&a)?`: the values that the set lacks. Without memory nothing is made.
+/// `(!&a)?`: the values that the set lacks. They have at most one run more than the set. Without
+/// memory nothing is made.
 impl<'a, T: Integer, A: Allocator + Copy> Not for &'a RangeSetBlaze<T, A> {
     type Output = Result<RangeSetBlaze<T, A>, AllocError>;
 
