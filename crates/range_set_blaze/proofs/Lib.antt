@@ -31,6 +31,7 @@ pub mod PutOverLemmas
 pub mod RangesLemmas
 pub mod RemoveLemmas
 pub mod RetainLemmas
+pub mod RunCountLemmas
 pub mod SinglesLemmas
 pub mod SplitLemmas
 pub mod SublistLemmas

@@ -1,14 +1,15 @@
 -- How many runs a set has, by where it changes along the ranks.
 use Rattle.std.proofs.Common.{◌≡◌, ◌⊎◌, ℕ, zero, suc, Bool, true, false, not, ◌&&◌, ◌||◌, cond, ◌+◌, ◌*◌, ◌<◌, ◌≤◌, List, [], ◌∷◌, length, map, refl, sym, ap, ◌∙◌, inl, inr, arith}
-use Rattle.std.proofs.Math.Bool.{and-false}
+use Rattle.std.proofs.Math.Bool.{and-false, or-false}
 use Rattle.std.proofs.lemmas.Bool.{cases_lt}
 use Rattle.std.proofs.lemmas.List.Elements.{All-cons, All-head, All-nil, All-tail}
 use Rattle.std.proofs.lemmas.List.Sums.{sum_by-cons}
 use Rattle.std.specs.List.{sum_by}
-use Rattle.rsb_integer.specs.Runs.{Interval, length_of, members, AllEndBelow, AreRuns, IsCanonicalFrom}
+use Rattle.rsb_integer.specs.Runs.{Interval, covers, length_of, members, AllEndBelow, AreRuns, IsCanonicalFrom, IsMaximalRun}
 use Rattle.rsb_integer.specs.Selection.{Selection, Agree, complement, count, difference, exclusive_or, intersection, symmetric_difference, union}
-use Rattle.rsb_integer.proofs.CountLemmas.{count-agree, count-members}
-use Rattle.rsb_integer.proofs.MembersLemmas.{members-below, members-head, members-tail}
+use Rattle.rsb_integer.proofs.CountLemmas.{count-agree, count-less, count-members}
+use Rattle.rsb_integer.proofs.ListLemmas.{true_or_false}
+use Rattle.rsb_integer.proofs.MembersLemmas.{covers-inside, members-below, members-cons, members-head, members-tail}
 use Rattle.rsb_integer.proofs.RunsLemmas.{runs-canonical, runs-from_canonical, runs-members}
 
 -- ---- where a set begins and ends
@@ -187,6 +188,57 @@ runs-begin n selected runs are =
     ∙ count-agree n (begins (members runs)) (begins selected)
     (begins-agree n (members runs) selected (runs-members n selected runs are))
 
+-- at a rank of the set or before it a run begins
+begins-found : (selected : Selection) (rank : ℕ) → selected rank ≡ true
+    → (first : ℕ) × (first ≤ rank) × (begins selected first ≡ true)
+begins-found selected zero has = (0, omega arith, has)
+begins-found selected (suc rank) has = elim (true_or_false (selected rank)) [
+  | inl before ↦
+      let found = begins-found selected rank before in
+      let earlier = found.1 in
+      (found.0, omega (arith, earlier), found.2)
+  | inr apart ↦ (
+    suc rank,
+    omega arith,
+    begins-by selected (suc rank) rank true false (omega arith) has apart,
+  )
+]
+
+-- so a set with a rank has where one begins
+begins-some : (n : ℕ) (selected : Selection) (rank : ℕ) → rank < n → selected rank ≡ true
+    → 0 < count n (begins selected)
+begins-some n selected rank below has =
+    let found = begins-found selected rank has in
+    let earlier = found.1 in
+    let more = count-less n (λ each. false) (begins selected) (λ each holds. absurd (cc)) found.0
+    (omega (arith, earlier, below)) found.2 refl in
+    omega (arith, more)
+
+-- a set with runs has a rank
+runs-have : (n : ℕ) (selected : Selection) (runs : List Interval) → AreRuns n selected runs
+    → 0 < length runs → (rank : ℕ) × (rank < n) × (selected rank ≡ true)
+runs-have n selected [] are some = absurd (omega (arith, some))
+runs-have n selected (run ∷ runs) are some =
+    let maximal = All-head (IsMaximalRun n selected) run runs are.maximal in (
+      run.last,
+      maximal.in_type,
+      maximal.whole run.last
+          (covers-inside run.last run maximal.in_order (omega arith)),
+    )
+
+-- a set within one that has no runs has none
+pub runs-none : (n : ℕ) (large small : Selection) (runs made : List Interval)
+    → AreRuns n large runs → AreRuns n small made
+    → ((rank : ℕ) → small rank ≡ true → large rank ≡ true) → length runs ≡ 0 → length made ≡ 0
+runs-none n large small runs made are are_small within none = elim (cases_lt 0 (length made)) [
+  | inl some ↦
+      let has = runs-have n small made are_small some in
+      let begun = begins-some n large has.0 has.1 (within has.0 has.2) in
+      let as_many = runs-begin n large runs are in
+      absurd (omega (arith, begun, as_many, none))
+  | inr no_more ↦ omega (arith, no_more)
+]
+
 -- ---- where sets change
 
 -- how often the set changes along n ranks and before the first
@@ -242,7 +294,19 @@ module _ (one other : Bool → Bool → Bool)
     last-two zero = omega arith
     last-two (suc n) = last (left n) (right n)
 
-    -- so they have no more runs
+    -- so their runs begin at no more ranks
+    begins-two : (n : ℕ) → count n (begins ones) + count n (begins others)
+        ≤ count n (begins left) + count n (begins right)
+    begins-two n =
+        let twice_left = changes-twice n left in
+        let twice_right = changes-twice n right in
+        let twice_one = changes-twice n ones in
+        let twice_other = changes-twice n others in
+        let fewer_changes = changes-two n in
+        let fewer_last = last-two n in
+        omega arith
+
+    -- and are no more
     pub runs-two : (n : ℕ) (lefts rights made also : List Interval) → AreRuns n left lefts
         → AreRuns n right rights → AreRuns n ones made → AreRuns n others also
         → length made + length also ≤ length lefts + length rights
@@ -251,12 +315,7 @@ module _ (one other : Bool → Bool → Bool)
         let from_right = runs-begin n right rights are_right in
         let from_one = runs-begin n ones made are_one in
         let from_other = runs-begin n others also are_other in
-        let twice_left = changes-twice n left in
-        let twice_right = changes-twice n right in
-        let twice_one = changes-twice n ones in
-        let twice_other = changes-twice n others in
-        let fewer_changes = changes-two n in
-        let fewer_last = last-two n in
+        let no_more = begins-two n in
         omega arith
 
 -- what is as before has not changed
@@ -369,6 +428,49 @@ pub runs-shared : (n : ℕ) (left right : Selection) (lefts rights either both :
 runs-shared n left right lefts rights either both =
     runs-two (λ one two. one || two) (λ one two. one && two) fewer-of_both last-of_both left right n
     lefts rights either both
+
+-- an intersection has fewer than both where the one has some
+pub runs-intersection : (n : ℕ) (left right : Selection) (lefts rights both : List Interval)
+    → AreRuns n left lefts → AreRuns n right rights → AreRuns n (intersection left right) both
+    → 0 < length lefts → length both < length lefts + length rights
+runs-intersection n left right lefts rights both are_left are_right are_both some =
+    let has = runs-have n left lefts are_left some in
+    let begun = begins-some n (union left right) has.0 has.1
+    (ap (λ test. test || right has.0) has.2) in
+    let no_more = begins-two (λ one two. one || two) (λ one two. one && two) fewer-of_both
+    last-of_both left right n in
+    let from_left = runs-begin n left lefts are_left in
+    let from_right = runs-begin n right rights are_right in
+    let from_both = runs-begin n (intersection left right) both are_both in
+    omega arith
+
+-- the ranks of an interval have one run
+runs-of_interval : (n : ℕ) (run : Interval) → run.first ≤ run.last → run.last < n
+    → AreRuns n (λ rank. covers rank run) (run ∷ [])
+runs-of_interval n run ordered below =
+    let P : Interval → Type 0 = λ each. each.last < n in
+    runs-from_canonical n (λ rank. covers rank run) (run ∷ []) (omega arith, ordered, tt)
+    (All-cons P run [] below (All-nil P))
+    (λ rank within. members-cons run [] rank ∙ or-false (covers rank run))
+
+-- a set has one run more at most where an interval is added
+pub runs-with_interval : (n : ℕ) (selected : Selection) (run : Interval)
+    (runs made : List Interval) → run.first ≤ run.last → run.last < n → AreRuns n selected runs
+    → AreRuns n (union selected (λ rank. covers rank run)) made → length made ≤ length runs + 1
+runs-with_interval n selected run runs made ordered below are added =
+    let most = runs-union n selected (λ rank. covers rank run) runs (run ∷ []) made are
+    (runs-of_interval n run ordered below) added in
+    omega (arith, most)
+
+-- and where one is taken out
+pub runs-without_interval : (n : ℕ) (selected : Selection) (run : Interval)
+    (runs made : List Interval) → run.first ≤ run.last → run.last < n → AreRuns n selected runs
+    → AreRuns n (difference selected (λ rank. covers rank run)) made
+    → length made ≤ length runs + 1
+runs-without_interval n selected run runs made ordered below are left_over =
+    let most = runs-difference n selected (λ rank. covers rank run) runs (run ∷ []) made are
+    (runs-of_interval n run ordered below) left_over in
+    omega (arith, most)
 
 -- the runs of every rank
 abbrev everything : ℕ → List Interval

@@ -10,6 +10,7 @@ ghost use Rattle.rsb_integer.specs.Selection.{
 };
 ghost use Rattle.rsb_streams.specs.Stream.{runs_by_two};
 ghost use Rattle.range_set_blaze.specs.Algebra.{IsComplementOf};
+ghost use Rattle.range_set_blaze.specs.RunCount.{HasFewerRunsThanBoth, HasOneRunMoreAtMost, HasRunsOfBothAtMost};
 ghost use Rattle.range_set_blaze.specs.Set.{IsSetOf};
 
 use crate::set::RangeSetBlaze;
@@ -26,46 +27,55 @@ impl<T: Integer, A: Allocator + Copy> RangeSetBlaze<T, A> {
         Self::from_sorted_disjoint(self.alloc, self.ranges())
     }
 
-    /// What lies in either of two sets, by one pass over both. Without memory nothing is made.
+    /// What lies in either of two sets, by one pass over both. It has at most as many runs as both
+    /// sets together. Without memory nothing is made.
     /// (`BitOr` of `RangeSetBlaze`: `a.bitor(&b)?` for `&a | &b`.)
     pub fn bitor<B: Allocator>(&self, other: &RangeSetBlaze<T, B>) -> Result<Self, AllocError>
         ensures members { IfOk result (λ set.
             IsSetOf set (union (members self.now) (members other.now))) }
+        ensures run_count { IfOk result (λ set. HasRunsOfBothAtMost self.now other.now set) }
     {
         union_of(self.alloc, self.ranges(), other.ranges())
     }
 
-    /// What two sets both have, by one pass over both. Without memory nothing is made.
+    /// What two sets both have, by one pass over both. It has no run where one of the sets has none,
+    /// and else fewer runs than both sets together. Without memory nothing is made.
     /// (`BitAnd` of `RangeSetBlaze`: `a.bitand(&b)?` for `&a & &b`.)
     pub fn bitand<B: Allocator>(&self, other: &RangeSetBlaze<T, B>) -> Result<Self, AllocError>
         ensures members { IfOk result (λ set.
             IsSetOf set (intersection (members self.now) (members other.now))) }
+        ensures run_count { IfOk result (λ set. HasFewerRunsThanBoth self.now other.now set) }
     {
         intersection_of(self.alloc, self.ranges(), other.ranges())
     }
 
-    /// What this set has and the other lacks, by one pass over both. Without memory nothing is
-    /// made. (`Sub` of `RangeSetBlaze`: `a.sub(&b)?` for `&a - &b`.)
+    /// What this set has and the other lacks, by one pass over both. It has at most as many runs as
+    /// both sets together. Without memory nothing is made.
+    /// (`Sub` of `RangeSetBlaze`: `a.sub(&b)?` for `&a - &b`.)
     pub fn sub<B: Allocator>(&self, other: &RangeSetBlaze<T, B>) -> Result<Self, AllocError>
         ensures members { IfOk result (λ set.
             IsSetOf set (difference (members self.now) (members other.now))) }
+        ensures run_count { IfOk result (λ set. HasRunsOfBothAtMost self.now other.now set) }
     {
         difference_of(self.alloc, self.ranges(), other.ranges())
     }
 
-    /// What lies in one of two sets alone, by one pass over both. Without memory nothing is made.
+    /// What lies in one of two sets alone, by one pass over both. It has at most as many runs as
+    /// both sets together. Without memory nothing is made.
     /// (`BitXor` of `RangeSetBlaze`: `a.bitxor(&b)?` for `&a ^ &b`.)
     pub fn bitxor<B: Allocator>(&self, other: &RangeSetBlaze<T, B>) -> Result<Self, AllocError>
         ensures members { IfOk result (λ set.
             IsSetOf set (symmetric_difference (members self.now) (members other.now))) }
+        ensures run_count { IfOk result (λ set. HasRunsOfBothAtMost self.now other.now set) }
     {
         symmetric_difference_of(self.alloc, self.ranges(), other.ranges())
     }
 
-    /// The values that the set lacks. Without memory nothing is made. (`Not` of `RangeSetBlaze`:
-    /// `a.not()?` for `!&a`.)
+    /// The values that the set lacks. They have at most one run more than the set. Without memory
+    /// nothing is made. (`Not` of `RangeSetBlaze`: `a.not()?` for `!&a`.)
     pub fn not(&self) -> Result<Self, AllocError>
         ensures members { IfOk result (λ set. IsComplementOf T.value_count set self.now) }
+        ensures run_count { IfOk result (λ set. HasOneRunMoreAtMost self.now set) }
     {
         Self::from_sorted_disjoint(self.alloc, self.ranges().complement())
     }

@@ -5,6 +5,7 @@ ghost use Rattle.rsb_integer.specs.Runs.{covers, members};
 ghost use Rattle.rsb_integer.specs.Selection.{IsNothing};
 ghost use Rattle.range_set_blaze.specs.Kept.{run_of, runs_of, IsKept};
 ghost use Rattle.range_set_blaze.specs.Places.{Has, IsFree, IsInserted, IsReaching};
+ghost use Rattle.range_set_blaze.specs.RunCount.{HasOneRunMoreAtMost};
 ghost use Rattle.range_set_blaze.specs.Set.{first_rank, only, past_rank, ranks_in, Adds, IsReached, LacksSomeOf};
 
 use crate::set::RangeSetBlaze;
@@ -19,8 +20,8 @@ use std::ops::{Bound, RangeBounds};
 
 impl<T: Integer, A: Allocator + Clone> RangeSetBlaze<T, A> {
     /// Adds the values between two bounds, and says whether one of them was new. Bounds with
-    /// nothing between them add nothing. Without memory the set is as it was.
-    /// (`RangeSetBlaze::ranges_insert`.)
+    /// nothing between them add nothing. The set has at most one run more then. Without memory it is
+    /// as it was. (`RangeSetBlaze::ranges_insert`.)
     ///
     /// Nothing is said of a type that does not tell its bounds, nor of a `RangeInclusive` that was
     /// iterated to its end.
@@ -30,6 +31,7 @@ impl<T: Integer, A: Allocator + Clone> RangeSetBlaze<T, A> {
         ensures added { R.has_bounds range → IfOk result (λ added. IsTrue added ↔
             LacksSomeOf self.old
             (ranks_in T.rank T.value_count R.start_bound R.end_bound range)) }
+        ensures run_count { HasOneRunMoreAtMost self.old self.new }
         ensures err { OnErr result (self.new ≡ self.old) }
 
         // No memory is taken where nothing is to be added, nor where a run can be made longer.
@@ -45,12 +47,13 @@ impl<T: Integer, A: Allocator + Clone> RangeSetBlaze<T, A> {
         self.insert_run(run)
     }
 
-    /// Adds a value, and says whether it was new. Without memory the set is as it was.
-    /// (`RangeSetBlaze::insert`.)
+    /// Adds a value, and says whether it was new. The set has at most one run more then. Without
+    /// memory it is as it was. (`RangeSetBlaze::insert`.)
     pub fn insert(&mut self, value: T) -> Result<bool, AllocError>
         ensures members { OnOk result (Adds self.old self.new (only (T.rank value))) }
         ensures added { IfOk result (λ added.
             IsTrue added ↔ IsFalse (members self.old (T.rank value))) }
+        ensures run_count { HasOneRunMoreAtMost self.old self.new }
         ensures err { OnErr result (self.new ≡ self.old) }
 
         // No memory is taken where a run can be made longer.
@@ -59,13 +62,14 @@ impl<T: Integer, A: Allocator + Clone> RangeSetBlaze<T, A> {
         self.ranges_insert(value..=value)
     }
 
-    /// Adds a value, and gives it back exactly where it was a member. Without memory the set is as
-    /// it was. (`RangeSetBlaze::replace`.)
+    /// Adds a value, and gives it back exactly where it was a member. The set has at most one run
+    /// more then. Without memory it is as it was. (`RangeSetBlaze::replace`.)
     pub fn replace(&mut self, value: T) -> Result<Option<T>, AllocError>
         ensures members { OnOk result (Adds self.old self.new (only (T.rank value))) }
         ensures found { IfOk result (λ found.
             IsSome found ↔ IsTrue (members self.old (T.rank value))) }
         ensures value { IfOk result (λ found. IfSome found (λ member. member ≡ value)) }
+        ensures run_count { HasOneRunMoreAtMost self.old self.new }
         ensures err { OnErr result (self.new ≡ self.old) }
 
         // No memory is taken where a run can be made longer.
@@ -86,6 +90,7 @@ impl<T: Integer, A: Allocator + Clone> RangeSetBlaze<T, A> {
             (Adds self.old self.new (λ rank. covers rank (run_of T.rank run))) }
         ensures added { IfOk result (λ added. IsTrue added ↔
             LacksSomeOf self.old (λ rank. covers rank (run_of T.rank run))) }
+        ensures run_count { HasOneRunMoreAtMost self.old self.new }
         ensures err { OnErr result (self.new ≡ self.old) }
         ensures succeeds { IsReached self.old (T.rank run.start) → IsOk result }
     {

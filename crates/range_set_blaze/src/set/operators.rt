@@ -9,6 +9,7 @@ ghost use Rattle.rsb_integer.specs.Selection.{
   union,
 };
 ghost use Rattle.range_set_blaze.specs.Algebra.{IsComplementOf};
+ghost use Rattle.range_set_blaze.specs.RunCount.{HasFewerRunsThanBoth, HasOneRunMoreAtMost, HasRunsOfBothAtMost};
 ghost use Rattle.range_set_blaze.specs.Set.{IsSetOf};
 
 use crate::set::RangeSetBlaze;
@@ -16,7 +17,8 @@ use rsb_integer::Integer;
 use std::alloc::{AllocError, Allocator};
 use std::ops::{BitAnd, BitOr, BitXor, Not, Sub};
 
-/// `(&a | &b)?`: what lies in either of two sets. Without memory nothing is made.
+/// `(&a | &b)?`: what lies in either of two sets. It has at most as many runs as both together.
+/// Without memory nothing is made.
 impl<'a, 'b, T: Integer, A: Allocator + Copy, B: Allocator> BitOr<&'b RangeSetBlaze<T, B>>
     for &'a RangeSetBlaze<T, A> {
     type Output = Result<RangeSetBlaze<T, A>, AllocError>;
@@ -24,12 +26,17 @@ impl<'a, 'b, T: Integer, A: Allocator + Copy, B: Allocator> BitOr<&'b RangeSetBl
     ghost bitor_gives = { λ left right made. IfOk made (λ set.
         IsSetOf set (union (members left.now) (members right.now))) };
 
-    fn bitor(self, other: &'b RangeSetBlaze<T, B>) -> Self::Output {
+    fn bitor(self, other: &'b RangeSetBlaze<T, B>) -> Self::Output
+        ensures members { IfOk result (λ set.
+            IsSetOf set (union (members self.now) (members other.now))) }
+        ensures run_count { IfOk result (λ set. HasRunsOfBothAtMost self.now other.now set) }
+    {
         RangeSetBlaze::bitor(self, other)
     }
 }
 
-/// `(&a & &b)?`: what two sets both have. Without memory nothing is made.
+/// `(&a & &b)?`: what two sets both have. It has no run where one of the sets has none, and else
+/// fewer runs than both together. Without memory nothing is made.
 impl<'a, 'b, T: Integer, A: Allocator + Copy, B: Allocator> BitAnd<&'b RangeSetBlaze<T, B>>
     for &'a RangeSetBlaze<T, A> {
     type Output = Result<RangeSetBlaze<T, A>, AllocError>;
@@ -37,12 +44,17 @@ impl<'a, 'b, T: Integer, A: Allocator + Copy, B: Allocator> BitAnd<&'b RangeSetB
     ghost bitand_gives = { λ left right made. IfOk made (λ set.
         IsSetOf set (intersection (members left.now) (members right.now))) };
 
-    fn bitand(self, other: &'b RangeSetBlaze<T, B>) -> Self::Output {
+    fn bitand(self, other: &'b RangeSetBlaze<T, B>) -> Self::Output
+        ensures members { IfOk result (λ set.
+            IsSetOf set (intersection (members self.now) (members other.now))) }
+        ensures run_count { IfOk result (λ set. HasFewerRunsThanBoth self.now other.now set) }
+    {
         RangeSetBlaze::bitand(self, other)
     }
 }
 
-/// `(&a - &b)?`: what the first set has and the second lacks. Without memory nothing is made.
+/// `(&a - &b)?`: what the first set has and the second lacks. It has at most as many runs as both
+/// together. Without memory nothing is made.
 impl<'a, 'b, T: Integer, A: Allocator + Copy, B: Allocator> Sub<&'b RangeSetBlaze<T, B>>
     for &'a RangeSetBlaze<T, A> {
     type Output = Result<RangeSetBlaze<T, A>, AllocError>;
@@ -50,12 +62,17 @@ impl<'a, 'b, T: Integer, A: Allocator + Copy, B: Allocator> Sub<&'b RangeSetBlaz
     ghost sub_gives = { λ left right made. IfOk made (λ set.
         IsSetOf set (difference (members left.now) (members right.now))) };
 
-    fn sub(self, other: &'b RangeSetBlaze<T, B>) -> Self::Output {
+    fn sub(self, other: &'b RangeSetBlaze<T, B>) -> Self::Output
+        ensures members { IfOk result (λ set.
+            IsSetOf set (difference (members self.now) (members other.now))) }
+        ensures run_count { IfOk result (λ set. HasRunsOfBothAtMost self.now other.now set) }
+    {
         RangeSetBlaze::sub(self, other)
     }
 }
 
-/// `(&a ^ &b)?`: what lies in one of two sets alone. Without memory nothing is made.
+/// `(&a ^ &b)?`: what lies in one of two sets alone. It has at most as many runs as both together.
+/// Without memory nothing is made.
 impl<'a, 'b, T: Integer, A: Allocator + Copy, B: Allocator> BitXor<&'b RangeSetBlaze<T, B>>
     for &'a RangeSetBlaze<T, A> {
     type Output = Result<RangeSetBlaze<T, A>, AllocError>;
@@ -63,19 +80,27 @@ impl<'a, 'b, T: Integer, A: Allocator + Copy, B: Allocator> BitXor<&'b RangeSetB
     ghost bitxor_gives = { λ left right made. IfOk made (λ set.
         IsSetOf set (symmetric_difference (members left.now) (members right.now))) };
 
-    fn bitxor(self, other: &'b RangeSetBlaze<T, B>) -> Self::Output {
+    fn bitxor(self, other: &'b RangeSetBlaze<T, B>) -> Self::Output
+        ensures members { IfOk result (λ set.
+            IsSetOf set (symmetric_difference (members self.now) (members other.now))) }
+        ensures run_count { IfOk result (λ set. HasRunsOfBothAtMost self.now other.now set) }
+    {
         RangeSetBlaze::bitxor(self, other)
     }
 }
 
-/// `(!&a)?`: the values that the set lacks. Without memory nothing is made.
+/// `(!&a)?`: the values that the set lacks. They have at most one run more than the set. Without
+/// memory nothing is made.
 impl<'a, T: Integer, A: Allocator + Copy> Not for &'a RangeSetBlaze<T, A> {
     type Output = Result<RangeSetBlaze<T, A>, AllocError>;
 
     ghost not_gives = { λ set made. IfOk made (λ lacking.
         IsComplementOf T.value_count lacking set.now) };
 
-    fn not(self) -> Self::Output {
+    fn not(self) -> Self::Output
+        ensures members { IfOk result (λ lacking. IsComplementOf T.value_count lacking self.now) }
+        ensures run_count { IfOk result (λ lacking. HasOneRunMoreAtMost self.now lacking) }
+    {
         RangeSetBlaze::not(self)
     }
 }

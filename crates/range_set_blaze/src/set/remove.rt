@@ -5,6 +5,7 @@ ghost use Rattle.rsb_integer.specs.Runs.{members, IsCanonicalIn};
 ghost use Rattle.range_set_blaze.specs.BothEnds.{TakesGreatest, TakesLeast};
 ghost use Rattle.range_set_blaze.specs.Kept.{entry_of, runs_of, IsKept};
 ghost use Rattle.range_set_blaze.specs.Places.{up_to, EndsWith, IsRemoved};
+ghost use Rattle.range_set_blaze.specs.RunCount.{HasOneRunMoreAtMost};
 ghost use Rattle.range_set_blaze.specs.Set.{only, IsLeast, Removes};
 
 use crate::set::RangeSetBlaze;
@@ -16,12 +17,13 @@ use std::alloc::{AllocError, Allocator};
 use std::collections::BTreeMap;
 
 impl<T: Integer, A: Allocator + Clone> RangeSetBlaze<T, A> {
-    /// Takes a value out, and says whether it was a member. Without memory the set is as it was.
-    /// (`RangeSetBlaze::remove`.)
+    /// Takes a value out, and says whether it was a member. The set has at most one run more then.
+    /// Without memory it is as it was. (`RangeSetBlaze::remove`.)
     pub fn remove(&mut self, value: T) -> Result<bool, AllocError>
         ensures members { OnOk result (Removes self.old self.new (only (T.rank value))) }
         ensures removed { IfOk result (λ removed.
             IsTrue removed ↔ IsTrue (members self.old (T.rank value))) }
+        ensures run_count { HasOneRunMoreAtMost self.old self.new }
         ensures err { OnErr result (self.new ≡ self.old) }
 
         // No memory is taken where the value is no member, nor where it is the last of its run.
@@ -36,13 +38,14 @@ impl<T: Integer, A: Allocator + Clone> RangeSetBlaze<T, A> {
         Ok(true)
     }
 
-    /// Takes a value out, and gives it back exactly where it was a member. Without memory the set is
-    /// as it was. (`RangeSetBlaze::take`.)
+    /// Takes a value out, and gives it back exactly where it was a member. The set has at most one
+    /// run more then. Without memory it is as it was. (`RangeSetBlaze::take`.)
     pub fn take(&mut self, value: T) -> Result<Option<T>, AllocError>
         ensures members { OnOk result (Removes self.old self.new (only (T.rank value))) }
         ensures found { IfOk result (λ found.
             IsSome found ↔ IsTrue (members self.old (T.rank value))) }
         ensures value { IfOk result (λ found. IfSome found (λ member. member ≡ value)) }
+        ensures run_count { HasOneRunMoreAtMost self.old self.new }
         ensures err { OnErr result (self.new ≡ self.old) }
 
         // No memory is taken where the value is no member, nor where it is the last of its run.

@@ -1,5 +1,6 @@
 use Rattle.std.proofs.lemmas.Result.{IfOk-weaker}
 use Rattle.range_set_blaze.proofs.AlgebraLemmas.{union-of_sets}
+use Rattle.range_set_blaze.proofs.RunCountLemmas.{run_count-union}
 use Rattle.range_set_blaze.proofs.set.RangeSetBlaze.bitor.Goals as goal
 
 -- the streams give the runs of the two sets
@@ -11,5 +12,9 @@ returns g c =
       members = IfOk-weaker c.union_of.result _ _
           (union-of_sets g.T.Integer.value_count c.args.self.now c.args.other.now _ _
           one.ranges other.ranges one.ready other.ready)
+          c.union_of.ensures.runs;
+      run_count = IfOk-weaker c.union_of.result _ _
+          (run_count-union g.T.Integer.value_count c.args.self.now c.args.other.now _ _
+          one.ranges other.ranges one.runs other.runs)
           c.union_of.ensures.runs;
     }

@@ -1,0 +1,14 @@
+use Rattle.std.proofs.Common.{refl}
+use Rattle.range_set_blaze.specs.Kept.{runs_of}
+use Rattle.range_set_blaze.proofs.RunCountLemmas.{run_count-removed}
+use Rattle.range_set_blaze.proofs.set.RangeSetBlaze.remove.Goals as goal
+
+-- one value was taken out of the runs that are kept
+pub returns-clause-run_count : goal.returns-clause-run_count
+returns-clause-run_count g c =
+    let rank = g.T.Integer.rank in
+    let removed = (rw (c.in-Some.is, c.known.ensures.same) at c.in_ok-length.ensures.removed) refl in
+    rw (← c.self.view_is) (run_count-removed g.T.Integer.value_count
+    (runs_of rank c.self.inside.map.entries) (runs_of rank c.take_value.new.map.entries)
+    c.self.invariant.canonical removed.canonical (rank c.args.value) c.known.ensures.value
+    removed.removes)
