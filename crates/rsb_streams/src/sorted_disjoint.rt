@@ -2,17 +2,25 @@
 
 ghost use Rattle.std.specs.Prelude.{◌↔◌, IsTrue};
 ghost use Rattle.rsb_integer.specs.Runs.{members, IsCanonicalIn};
-ghost use Rattle.rsb_integer.specs.Selection.{Agree, AreDisjoint, IsEverything, IsNothing, IsSubset};
-ghost use Rattle.rsb_streams.specs.FillGapsIter.{fill_may_give, GivesFilled};
-ghost use Rattle.rsb_streams.specs.Results.{
-  MakesComplement,
-  MakesDifference,
-  MakesIntersection,
-  MakesSymmetricDifference,
-  MakesUnion,
+ghost use Rattle.rsb_integer.specs.Selection.{
+  Agree,
+  AreDisjoint,
+  IsEverything,
+  IsNothing,
+  IsSubset,
+  difference,
+  symmetric_difference,
+  union,
 };
+ghost use Rattle.rsb_streams.specs.FillGapsIter.{fill_may_give, GivesFilled};
+ghost use Rattle.rsb_streams.specs.RunCounts.{HasFewerThanBoth, HasNoMoreThanBoth, HasOneMoreAtMost};
 ghost use Rattle.rsb_streams.specs.Stream.{
   ◌⊆◌,
+  GivesComplement,
+  GivesDifference,
+  GivesIntersection,
+  GivesSymmetricDifference,
+  GivesUnion,
   IsDrawn,
   SomeOutcome,
   SomeOutcomes,
@@ -50,7 +58,11 @@ pub trait DrawDisjoint<T: Integer>: Draw<T> {
     where
         Self: Sized,
         requires { Self.can_draw self }
-        ensures { MakesComplement T.Integer.own Self.Draw ⟦<NotIter<T, Self> as Draw<T>>⟧ self result }
+        ensures ready { ⟦<NotIter<T, Self> as Draw<T>>⟧.can_draw result }
+        ensures gives { GivesComplement T.value_count (Self.may_give self)
+            (⟦<NotIter<T, Self> as Draw<T>>⟧.may_give result) }
+        ensures runs { HasOneMoreAtMost T.Integer.own Self.Draw ⟦<NotIter<T, Self> as Draw<T>>⟧
+            self result }
     {
         NotIter::new(self)
     }
@@ -62,8 +74,11 @@ pub trait DrawDisjoint<T: Integer>: Draw<T> {
         Self: Sized,
         requires left { Self.can_draw self }
         requires right { R.can_draw other }
-        ensures { MakesUnion T.Integer.own Self.Draw R.Draw ⟦<Union<T, Self, R> as Draw<T>>⟧
-            self other result }
+        ensures ready { ⟦<Union<T, Self, R> as Draw<T>>⟧.can_draw result }
+        ensures gives { GivesUnion T.value_count (Self.may_give self) (R.may_give other)
+            (⟦<Union<T, Self, R> as Draw<T>>⟧.may_give result) }
+        ensures runs { HasNoMoreThanBoth union T.Integer.own Self.Draw R.Draw
+            ⟦<Union<T, Self, R> as Draw<T>>⟧ self other result }
     {
         Union::from((self, other))
     }
@@ -75,8 +90,11 @@ pub trait DrawDisjoint<T: Integer>: Draw<T> {
         Self: Sized,
         requires left { Self.can_draw self }
         requires right { R.can_draw other }
-        ensures { MakesIntersection T.Integer.own Self.Draw R.Draw ⟦<Intersection<T, Self, R> as Draw<T>>⟧
-            self other result }
+        ensures ready { ⟦<Intersection<T, Self, R> as Draw<T>>⟧.can_draw result }
+        ensures gives { GivesIntersection T.value_count (Self.may_give self) (R.may_give other)
+            (⟦<Intersection<T, Self, R> as Draw<T>>⟧.may_give result) }
+        ensures runs { HasFewerThanBoth T.Integer.own Self.Draw R.Draw
+            ⟦<Intersection<T, Self, R> as Draw<T>>⟧ self other result }
     {
         Intersection::from((self, other))
     }
@@ -88,8 +106,11 @@ pub trait DrawDisjoint<T: Integer>: Draw<T> {
         Self: Sized,
         requires left { Self.can_draw self }
         requires right { R.can_draw other }
-        ensures { MakesDifference T.Integer.own Self.Draw R.Draw ⟦<Difference<T, Self, R> as Draw<T>>⟧
-            self other result }
+        ensures ready { ⟦<Difference<T, Self, R> as Draw<T>>⟧.can_draw result }
+        ensures gives { GivesDifference T.value_count (Self.may_give self) (R.may_give other)
+            (⟦<Difference<T, Self, R> as Draw<T>>⟧.may_give result) }
+        ensures runs { HasNoMoreThanBoth difference T.Integer.own Self.Draw R.Draw
+            ⟦<Difference<T, Self, R> as Draw<T>>⟧ self other result }
     {
         Difference::from((self, other))
     }
@@ -104,8 +125,11 @@ pub trait DrawDisjoint<T: Integer>: Draw<T> {
         Self: Sized,
         requires left { Self.can_draw self }
         requires right { R.can_draw other }
-        ensures { MakesSymmetricDifference T.Integer.own Self.Draw R.Draw ⟦<SymmetricDifference<T, Self, R> as Draw<T>>⟧
-            self other result }
+        ensures ready { ⟦<SymmetricDifference<T, Self, R> as Draw<T>>⟧.can_draw result }
+        ensures gives { GivesSymmetricDifference T.value_count (Self.may_give self) (R.may_give other)
+            (⟦<SymmetricDifference<T, Self, R> as Draw<T>>⟧.may_give result) }
+        ensures runs { HasNoMoreThanBoth symmetric_difference T.Integer.own Self.Draw R.Draw
+            ⟦<SymmetricDifference<T, Self, R> as Draw<T>>⟧ self other result }
     {
         SymmetricDifference::from((self, other))
     }

@@ -1,0 +1,13 @@
+use Rattle.rsb_streams.proofs.ResultCountLemmas.{complement-has}
+use Rattle.rsb_streams.proofs.sorted_disjoint.DrawDisjoint.complement.Goals as goal
+
+-- a gap ends before each run, or after the last one
+pub returns : goal.returns
+returns g c =
+    let made = c.new.ensures in
+    record {
+      ready = made.ready;
+      gives = made.gives;
+      runs = complement-has g.T.Integer g.Self.Draw _ c.args.self _
+          (g.met.Self.DrawDisjoint.canonical c.args.self c.requires) made.gives;
+    }
