@@ -1,6 +1,6 @@
 -- What a caller of operations on streams needs: their results composed, and the members of a list
 -- that an operation gives.
-use Rattle.std.proofs.Common.{◌≡◌, ℕ, Bool, true, false, ◌&&◌, ◌||◌, sym, ◌∙◌, List, not, refl, ap, [], ◌∷◌, map, subst}
+use Rattle.std.proofs.Common.{◌≡◌, ℕ, zero, suc, ◌+◌, ◌≤◌, Bool, true, false, ◌&&◌, ◌||◌, sym, ◌∙◌, List, not, refl, ap, [], ◌∷◌, length, map, subst, arith}
 use Rattle.std.specs.Prelude.{None}
 use Rattle.std.specs.Iterator.{Yields}
 use Rattle.std.specs.declared.ops.RangeInclusive.{RangeInclusive}
@@ -12,7 +12,8 @@ use Rattle.std.proofs.Math.Bool.{not-not}
 use Rattle.rsb_integer.specs.Runs.{Interval, members}
 use Rattle.rsb_integer.specs.Selection.{Selection, Agree, complement, difference, intersection, union}
 use Rattle.rsb_integer.proofs.RunsLemmas.{runs-along, runs-members}
-use Rattle.rsb_streams.specs.StreamLaws.{runs-exist}
+use Rattle.rsb_streams.specs.RunCounts.{HasAtMost, HasFewerThanBoth, HasNoMoreThanBoth, HasOneMoreAtMost, both_but_one}
+use Rattle.rsb_streams.specs.StreamLaws.{runs-exist, settled_le}
 use Rattle.rsb_streams.specs.Stream.{Outcomes, ◌⊆◌, joined, just, runs_by, runs_by_two}
 use Rattle.rsb_streams.specs.declared.draw.Draw.{Ghosts as Stream}
 
@@ -174,6 +175,64 @@ difference-by_complements n P Q Gaps Union gaps either runs may = λ nothing. ma
     (runs-members n (complement (members one)) left gaps_runs rank below)
     ∙ not-outside (members one rank) (members right rank))
     all))))
+
+-- ---- how many runs
+
+-- a stream that gives one list gives no more runs than that has
+pub just-at_most : (P : Outcomes) (these : List Interval) → P ⊆ just these
+    → HasAtMost P (length these)
+just-at_most P these is runs may =
+    let same = ap (λ (list : List Interval). length list) (is runs may) in
+    omega (arith, same)
+
+-- one more than so many, of what a stream leaves out
+pub one_more-at_most : {T N I O : Type 0} (integer : Elements T N) (stream : Stream I T N)
+    (made : Stream O T N) (of : I) (result : O) (most : ℕ)
+    → HasOneMoreAtMost integer stream made of result → HasAtMost (stream.may_give of) most
+    → HasAtMost (made.may_give result) (most + 1)
+unfolding HasOneMoreAtMost
+one_more-at_most integer stream made of result most has few runs may =
+    settled_le (length runs) (most + 1) (λ fails. has runs may (λ given at all.
+    let bound = few given at in
+    let number = all.1 in
+    fails (omega (arith, bound, number))))
+
+-- as few and one less leave as few
+both_but_one-up : (left right more most : ℕ) → left ≤ more → right ≤ most
+    → both_but_one left right ≤ both_but_one more most
+both_but_one-up zero right more most less also = omega arith
+both_but_one-up (suc left) zero more most less also = omega arith
+both_but_one-up (suc left) (suc right) zero most less also = absurd (omega (arith, less))
+both_but_one-up (suc left) (suc right) (suc more) zero less also = absurd (omega (arith, also))
+both_but_one-up (suc left) (suc right) (suc more) (suc most) less also = omega (arith, less, also)
+
+module _ {T N L R O : Type 0} (integer : Elements T N) (left : Stream L T N) (right : Stream R T N)
+    (made : Stream O T N) (one : L) (other : R) (result : O) (most also_most : ℕ) where
+  -- as many as two together, of what an operation makes of them
+  pub no_more-at_most : (operation : Selection → Selection → Selection)
+      → HasNoMoreThanBoth operation integer left right made one other result
+      → HasAtMost (left.may_give one) most → HasAtMost (right.may_give other) also_most
+      → HasAtMost (made.may_give result) (most + also_most)
+  unfolding HasNoMoreThanBoth
+  no_more-at_most operation has few also runs may =
+      settled_le (length runs) (most + also_most) (λ fails. has runs may (λ these those at too all.
+      let bound = few these at in
+      let other_bound = also those too in
+      let number = all.1 in
+      fails (omega (arith, bound, other_bound, number))))
+
+  -- one less, of what both have, and none where the one or the other has none
+  pub fewer-at_most : HasFewerThanBoth integer left right made one other result
+      → HasAtMost (left.may_give one) most → HasAtMost (right.may_give other) also_most
+      → HasAtMost (made.may_give result) (both_but_one most also_most)
+  unfolding HasFewerThanBoth
+  fewer-at_most has few also runs may =
+      settled_le (length runs) (both_but_one most also_most) (λ fails.
+      has runs may (λ these those at too all.
+      let bound = both_but_one-up (length these) (length those) most also_most (few these at)
+      (also those too) in
+      let number = all.1 in
+      fails (omega (arith, bound, number))))
 
 -- ---- runs and gaps
 

@@ -8,6 +8,10 @@ use Rattle.rsb_integer.specs.Selection.{Selection, complement, intersection}
 use Rattle.rsb_streams.specs.Stream.{Outcomes, ◌⊆◌, SomeOutcome, SomeOutcomes}
 use Rattle.rsb_streams.specs.declared.draw.Draw.{Ghosts as Stream}
 
+-- at most so many runs come
+abbrev pub HasAtMost : Outcomes → ℕ → Type 0
+HasAtMost P most = P ⊆ (λ runs. length runs ≤ most)
+
 -- as many as two numbers together
 abbrev pub both : ℕ → ℕ → ℕ
 both left right = left + right

@@ -52,8 +52,8 @@ pub trait SortedStarts<T: Integer>: Iterator<Item = RangeInclusive<T>> + FusedIt
 /// (Own: every `SortedDisjoint` is one. What is passed for a call of an operation is what this asks,
 /// so it has no supertrait but `Draw`.)
 pub trait DrawDisjoint<T: Integer>: Draw<T> {
-    /// The gaps of a stream that may be drawn from, to both ends of the type. It takes no memory.
-    /// (`SortedDisjoint::complement`.)
+    /// The gaps of a stream that may be drawn from, to both ends of the type. They are at most one
+    /// more than its runs. It takes no memory. (`SortedDisjoint::complement`.)
     final fn complement(self) -> NotIter<T, Self>
     where
         Self: Sized,
@@ -67,8 +67,8 @@ pub trait DrawDisjoint<T: Integer>: Draw<T> {
         NotIter::new(self)
     }
 
-    /// What lies in either of two streams that may be drawn from. It takes no memory.
-    /// (`SortedDisjoint::union`.)
+    /// What lies in either of two streams that may be drawn from. It has no more runs than both
+    /// together, and takes no memory. (`SortedDisjoint::union`.)
     final fn union<R: DrawDisjoint<T>>(self, other: R) -> Union<T, Self, R>
     where
         Self: Sized,
@@ -83,8 +83,8 @@ pub trait DrawDisjoint<T: Integer>: Draw<T> {
         Union::from((self, other))
     }
 
-    /// What two streams that may be drawn from both have. It takes no memory.
-    /// (`SortedDisjoint::intersection`.)
+    /// What two streams that may be drawn from both have. It has fewer runs than both together, or
+    /// none where one of them has none, and takes no memory. (`SortedDisjoint::intersection`.)
     final fn intersection<R: DrawDisjoint<T>>(self, other: R) -> Intersection<T, Self, R>
     where
         Self: Sized,
@@ -99,8 +99,8 @@ pub trait DrawDisjoint<T: Integer>: Draw<T> {
         Intersection::from((self, other))
     }
 
-    /// What one of two streams that may be drawn from has and the other lacks. It takes no memory.
-    /// (`SortedDisjoint::difference`.)
+    /// What one of two streams that may be drawn from has and the other lacks. It has no more runs
+    /// than both together, and takes no memory. (`SortedDisjoint::difference`.)
     final fn difference<R: DrawDisjoint<T>>(self, other: R) -> Difference<T, Self, R>
     where
         Self: Sized,
@@ -115,8 +115,8 @@ pub trait DrawDisjoint<T: Integer>: Draw<T> {
         Difference::from((self, other))
     }
 
-    /// What lies in one of two streams alone, both of which may be drawn from. It takes no memory.
-    /// (`SortedDisjoint::symmetric_difference`.)
+    /// What lies in one of two streams alone, both of which may be drawn from. It has no more runs
+    /// than both together, and takes no memory. (`SortedDisjoint::symmetric_difference`.)
     final fn symmetric_difference<R: DrawDisjoint<T>>(
         self,
         other: R,
