@@ -13,7 +13,11 @@ ghost use Rattle.rsb_integer.specs.Selection.{
   union,
 };
 ghost use Rattle.rsb_streams.specs.FillGapsIter.{fill_may_give, GivesFilled};
-ghost use Rattle.rsb_streams.specs.RunCounts.{HasFewerThanBoth, HasNoMoreThanBoth, HasOneMoreAtMost};
+ghost use Rattle.rsb_streams.specs.RunCount.{
+  GivesFewerRunsThanBoth,
+  GivesOneRunMoreAtMost,
+  GivesRunsOfBothAtMost,
+};
 ghost use Rattle.rsb_streams.specs.Stream.{
   ◌⊆◌,
   GivesComplement,
@@ -52,8 +56,8 @@ pub trait SortedStarts<T: Integer>: Iterator<Item = RangeInclusive<T>> + FusedIt
 /// (Own: every `SortedDisjoint` is one. What is passed for a call of an operation is what this asks,
 /// so it has no supertrait but `Draw`.)
 pub trait DrawDisjoint<T: Integer>: Draw<T> {
-    /// The gaps of a stream that may be drawn from, to both ends of the type. They are at most one
-    /// more than its runs. It takes no memory. (`SortedDisjoint::complement`.)
+    /// The gaps of a stream that may be drawn from, to both ends of the type: at most one more than
+    /// it has runs. It takes no memory. (`SortedDisjoint::complement`.)
     final fn complement(self) -> NotIter<T, Self>
     where
         Self: Sized,
@@ -61,14 +65,14 @@ pub trait DrawDisjoint<T: Integer>: Draw<T> {
         ensures ready { ⟦<NotIter<T, Self> as Draw<T>>⟧.can_draw result }
         ensures gives { GivesComplement T.value_count (Self.may_give self)
             (⟦<NotIter<T, Self> as Draw<T>>⟧.may_give result) }
-        ensures runs { HasOneMoreAtMost T.Integer.own Self.Draw ⟦<NotIter<T, Self> as Draw<T>>⟧
-            self result }
+        ensures run_count { GivesOneRunMoreAtMost T.Integer.own Self.Draw
+            ⟦<NotIter<T, Self> as Draw<T>>⟧ self result }
     {
         NotIter::new(self)
     }
 
-    /// What lies in either of two streams that may be drawn from. It has no more runs than both
-    /// together, and takes no memory. (`SortedDisjoint::union`.)
+    /// What lies in either of two streams that may be drawn from. It has at most as many runs as
+    /// both together, and takes no memory. (`SortedDisjoint::union`.)
     final fn union<R: DrawDisjoint<T>>(self, other: R) -> Union<T, Self, R>
     where
         Self: Sized,
@@ -77,14 +81,14 @@ pub trait DrawDisjoint<T: Integer>: Draw<T> {
         ensures ready { ⟦<Union<T, Self, R> as Draw<T>>⟧.can_draw result }
         ensures gives { GivesUnion T.value_count (Self.may_give self) (R.may_give other)
             (⟦<Union<T, Self, R> as Draw<T>>⟧.may_give result) }
-        ensures runs { HasNoMoreThanBoth union T.Integer.own Self.Draw R.Draw
+        ensures run_count { GivesRunsOfBothAtMost union T.Integer.own Self.Draw R.Draw
             ⟦<Union<T, Self, R> as Draw<T>>⟧ self other result }
     {
         Union::from((self, other))
     }
 
-    /// What two streams that may be drawn from both have. It has fewer runs than both together, or
-    /// none where one of them has none, and takes no memory. (`SortedDisjoint::intersection`.)
+    /// What two streams that may be drawn from both have. It has no run where one of them has none,
+    /// and else fewer than both together. It takes no memory. (`SortedDisjoint::intersection`.)
     final fn intersection<R: DrawDisjoint<T>>(self, other: R) -> Intersection<T, Self, R>
     where
         Self: Sized,
@@ -93,14 +97,14 @@ pub trait DrawDisjoint<T: Integer>: Draw<T> {
         ensures ready { ⟦<Intersection<T, Self, R> as Draw<T>>⟧.can_draw result }
         ensures gives { GivesIntersection T.value_count (Self.may_give self) (R.may_give other)
             (⟦<Intersection<T, Self, R> as Draw<T>>⟧.may_give result) }
-        ensures runs { HasFewerThanBoth T.Integer.own Self.Draw R.Draw
+        ensures run_count { GivesFewerRunsThanBoth T.Integer.own Self.Draw R.Draw
             ⟦<Intersection<T, Self, R> as Draw<T>>⟧ self other result }
     {
         Intersection::from((self, other))
     }
 
-    /// What one of two streams that may be drawn from has and the other lacks. It has no more runs
-    /// than both together, and takes no memory. (`SortedDisjoint::difference`.)
+    /// What one of two streams that may be drawn from has and the other lacks. It has at most as
+    /// many runs as both together, and takes no memory. (`SortedDisjoint::difference`.)
     final fn difference<R: DrawDisjoint<T>>(self, other: R) -> Difference<T, Self, R>
     where
         Self: Sized,
@@ -109,14 +113,14 @@ pub trait DrawDisjoint<T: Integer>: Draw<T> {
         ensures ready { ⟦<Difference<T, Self, R> as Draw<T>>⟧.can_draw result }
         ensures gives { GivesDifference T.value_count (Self.may_give self) (R.may_give other)
             (⟦<Difference<T, Self, R> as Draw<T>>⟧.may_give result) }
-        ensures runs { HasNoMoreThanBoth difference T.Integer.own Self.Draw R.Draw
+        ensures run_count { GivesRunsOfBothAtMost difference T.Integer.own Self.Draw R.Draw
             ⟦<Difference<T, Self, R> as Draw<T>>⟧ self other result }
     {
         Difference::from((self, other))
     }
 
-    /// What lies in one of two streams alone, both of which may be drawn from. It has no more runs
-    /// than both together, and takes no memory. (`SortedDisjoint::symmetric_difference`.)
+    /// What lies in one of two streams alone, both of which may be drawn from. It has at most as
+    /// many runs as both together, and takes no memory. (`SortedDisjoint::symmetric_difference`.)
     final fn symmetric_difference<R: DrawDisjoint<T>>(
         self,
         other: R,
@@ -128,7 +132,7 @@ pub trait DrawDisjoint<T: Integer>: Draw<T> {
         ensures ready { ⟦<SymmetricDifference<T, Self, R> as Draw<T>>⟧.can_draw result }
         ensures gives { GivesSymmetricDifference T.value_count (Self.may_give self) (R.may_give other)
             (⟦<SymmetricDifference<T, Self, R> as Draw<T>>⟧.may_give result) }
-        ensures runs { HasNoMoreThanBoth symmetric_difference T.Integer.own Self.Draw R.Draw
+        ensures run_count { GivesRunsOfBothAtMost symmetric_difference T.Integer.own Self.Draw R.Draw
             ⟦<SymmetricDifference<T, Self, R> as Draw<T>>⟧ self other result }
     {
         SymmetricDifference::from((self, other))

@@ -1,4 +1,4 @@
-use Rattle.rsb_streams.proofs.ResultCountLemmas.{complement-has}
+use Rattle.rsb_streams.proofs.RunCountLemmas.{run_count-complement}
 use Rattle.rsb_streams.proofs.sorted_disjoint.DrawDisjoint.complement.Goals as goal
 
 -- a gap ends before each run, or after the last one
@@ -8,6 +8,6 @@ returns g c =
     record {
       ready = made.ready;
       gives = made.gives;
-      runs = complement-has g.T.Integer g.Self.Draw _ c.args.self _
+      run_count = run_count-complement g.T.Integer g.Self.Draw _ c.args.self _
           (g.met.Self.DrawDisjoint.canonical c.args.self c.requires) made.gives;
     }

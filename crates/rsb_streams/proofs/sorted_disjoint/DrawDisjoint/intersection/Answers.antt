@@ -1,4 +1,4 @@
-use Rattle.rsb_streams.proofs.ResultCountLemmas.{intersection-has}
+use Rattle.rsb_streams.proofs.RunCountLemmas.{run_count-intersection}
 use Rattle.rsb_streams.proofs.sorted_disjoint.DrawDisjoint.intersection.Goals as goal
 
 -- where both have runs, those of the union are some
@@ -8,7 +8,7 @@ returns g c =
     record {
       ready = made.ready;
       gives = made.gives;
-      runs = intersection-has g.T.Integer g.Self.Draw g.R.Draw _ c.args.self c.args.other _
+      run_count = run_count-intersection g.T.Integer g.Self.Draw g.R.Draw _ c.args.self c.args.other _
           (g.met.Self.DrawDisjoint.canonical c.args.self c.requires.left)
           (g.met.R.DrawDisjoint.canonical c.args.other c.requires.right) made.gives;
     }
