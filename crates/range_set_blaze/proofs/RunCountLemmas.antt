@@ -10,7 +10,7 @@ use Rattle.rsb_integer.proofs.RunCountLemmas.{runs-complement, runs-difference, 
 use Rattle.rsb_integer.proofs.RunsLemmas.{canonical-runs, runs-from_canonical}
 use Rattle.rsb_streams.specs.StreamLaws.{settled_le, settled_lt}
 use Rattle.rsb_streams.specs.Stream.{Outcomes, ◌⊆◌, just, runs_by, runs_by_two}
-use Rattle.range_set_blaze.specs.RunCount.{HasFewerRunsThanBoth, HasOneRunMoreAtMost, HasRunsOfBothAtMost}
+use Rattle.rsb_streams.specs.RunCount.{HasFewerRunsThanBoth, HasOneRunMoreAtMost, HasRunsOfBothAtMost}
 use Rattle.range_set_blaze.specs.Set.{only, Adds, Removes}
 
 module _ (n : ℕ) where

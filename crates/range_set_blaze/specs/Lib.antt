@@ -7,7 +7,6 @@ pub mod Order
 pub mod OrderLaws
 pub mod Places
 pub mod Retain
-pub mod RunCount
 pub mod Set
 pub mod Singles
 pub mod Split

@@ -1,6 +1,7 @@
 -- What a caller of operations on streams needs: their results composed, and the members of a list
 -- that an operation gives.
-use Rattle.std.proofs.Common.{◌≡◌, ℕ, ◌+◌, ◌≤◌, Bool, true, false, ◌&&◌, ◌||◌, sym, ◌∙◌, List, not, refl, ap, [], ◌∷◌, ◌++◌, length, map, subst, arith}
+use Rattle.std.proofs.Common.{◌≡◌, ◌⊎◌, ℕ, ◌+◌, ◌<◌, ◌≤◌, Bool, true, false, ◌&&◌, ◌||◌, sym, ◌∙◌, List, not, refl, ap, [], ◌∷◌, ◌++◌, inl, inr, length, map, subst, arith}
+use Rattle.std.proofs.lemmas.Bool.{cases_lt}
 use Rattle.std.proofs.lemmas.List.{length-append}
 use Rattle.std.specs.Prelude.{Option, Some, None, IfSome}
 use Rattle.std.specs.Iterator.{Yields}
@@ -14,7 +15,8 @@ use Rattle.rsb_integer.specs.Runs.{Interval, members}
 use Rattle.rsb_integer.specs.Selection.{Selection, Agree, complement, difference, intersection, union}
 use Rattle.rsb_integer.proofs.RunsLemmas.{runs-along, runs-members}
 use Rattle.rsb_streams.specs.Lookahead.{at_side, undrawn, DrawsFew, Input, IsUndrawn, Left, LooksAhead, LooksAheadOfAll, Side}
-use Rattle.rsb_streams.specs.StreamLaws.{runs-exist}
+use Rattle.rsb_streams.specs.RunCount.{GivesFewerRunsThanBoth, GivesOneRunMoreAtMost, GivesRunsOfBothAtMost, HasAtMost}
+use Rattle.rsb_streams.specs.StreamLaws.{runs-exist, settled_le, settled_lt}
 use Rattle.rsb_streams.specs.Stream.{Outcomes, ◌⊆◌, joined, just, runs_by, runs_by_two}
 use Rattle.rsb_streams.specs.Union.{union as union_of, union_inputs, UnitesUndrawn}
 use Rattle.rsb_streams.specs.declared.draw.Draw.{Ghosts as Stream}
@@ -179,6 +181,83 @@ difference-by_complements n P Q Gaps Union gaps either runs may = λ nothing. ma
     (runs-members n (complement (members one)) left gaps_runs rank below)
     ∙ not-outside (members one rank) (members right rank))
     all))))
+
+-- ---- how many runs
+
+-- a stream that gives one list gives no more runs than that has
+pub just-at_most : (P : Outcomes) (these : List Interval) → P ⊆ just these
+    → HasAtMost P (length these)
+just-at_most P these is runs may =
+    let same = ap (λ (list : List Interval). length list) (is runs may) in
+    omega (arith, same)
+
+-- where a stream gives so few, its complement gives one more at most
+pub complement-at_most : {T N I O : Type 0} (integer : Elements T N) (stream : Stream I T N)
+    (made : Stream O T N) (of : I) (result : O) (most : ℕ)
+    → GivesOneRunMoreAtMost integer stream made of result → HasAtMost (stream.may_give of) most
+    → HasAtMost (made.may_give result) (most + 1)
+unfolding GivesOneRunMoreAtMost
+complement-at_most integer stream made of result most gives few runs may =
+    settled_le (length runs) (most + 1) (λ fails. gives runs may (λ given at all.
+    let bound = few given at in
+    let number = all.1 in
+    fails (omega (arith, bound, number))))
+
+module _ {T N L R O : Type 0} (integer : Elements T N) (left : Stream L T N) (right : Stream R T N)
+    (made : Stream O T N) (one : L) (other : R) (result : O) (most also_most : ℕ)
+    (few : HasAtMost (left.may_give one) most) (also : HasAtMost (right.may_give other) also_most)
+  where
+    -- where two streams give so few, an operation on them gives as many at most as both
+    pub operation-at_most : (operation : Selection → Selection → Selection)
+        → GivesRunsOfBothAtMost operation integer left right made one other result
+        → HasAtMost (made.may_give result) (most + also_most)
+    unfolding GivesRunsOfBothAtMost
+    operation-at_most operation gives runs may =
+        settled_le (length runs) (most + also_most) (λ fails. gives runs may (λ these those at too all.
+        let bound = few these at in
+        let other_bound = also those too in
+        let number = all.1 in
+        fails (omega (arith, bound, other_bound, number))))
+
+    -- what both have is less than that where that is any
+    pub intersection-less : GivesFewerRunsThanBoth integer left right made one other result
+        → 0 < most + also_most → (runs : List Interval) → made.may_give result runs
+        → length runs < most + also_most
+    unfolding GivesFewerRunsThanBoth
+    intersection-less gives any runs may =
+        settled_lt (length runs) (most + also_most) (λ fails. gives runs may (λ these those at too all.
+        let bound = few these at in
+        let other_bound = also those too in
+        elim (cases_lt 0 (length these)) [
+          | inr none ↦
+              let no_more = all.1.0 (omega (arith, none)) in
+              fails (omega (arith, any, no_more))
+          | inl some ↦ elim (cases_lt 0 (length those)) [
+            | inr none ↦
+                let no_more = all.1.1 (omega (arith, none)) in
+                fails (omega (arith, any, no_more))
+            | inl more ↦
+                let number = all.1.2 some more in
+                fails (omega (arith, bound, other_bound, number))
+          ]
+        ]))
+
+    -- and nothing where the one or the other gives none
+    pub intersection-none : GivesFewerRunsThanBoth integer left right made one other result
+        → (most ≡ 0) ⊎ (also_most ≡ 0) → HasAtMost (made.may_give result) 0
+    unfolding GivesFewerRunsThanBoth
+    intersection-none gives none runs may =
+        settled_le (length runs) 0 (λ fails. gives runs may (λ these those at too all.
+        elim none [
+          | inl left_none ↦
+              let bound = few these at in
+              let no_more = all.1.0 (omega (arith, bound, left_none)) in
+              fails (omega (arith, no_more))
+          | inr right_none ↦
+              let bound = also those too in
+              let no_more = all.1.1 (omega (arith, bound, right_none)) in
+              fails (omega (arith, no_more))
+        ]))
 
 -- ---- runs and gaps
 

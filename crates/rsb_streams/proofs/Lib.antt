@@ -23,6 +23,7 @@ pub mod OddTurns
 pub mod OperationLemmas
 pub mod PieceLemmas
 pub mod PutBackLemmas
+pub mod RunCountLemmas
 pub mod SortLemmas
 pub mod SpanLemmas
 pub mod SourceLemmas

@@ -30,6 +30,7 @@ pub mod PutBackLaws
 pub mod ResultLaws
 pub mod Results
 pub mod Rows
+pub mod RunCount
 pub mod SortedStartsInVec
 pub mod Stream
 pub mod StreamLaws

@@ -2,7 +2,16 @@
 
 ghost use Rattle.std.specs.Prelude.{◌↔◌, IsTrue};
 ghost use Rattle.rsb_integer.specs.Runs.{members, IsCanonicalIn};
-ghost use Rattle.rsb_integer.specs.Selection.{Agree, AreDisjoint, IsEverything, IsNothing, IsSubset};
+ghost use Rattle.rsb_integer.specs.Selection.{
+  Agree,
+  AreDisjoint,
+  IsEverything,
+  IsNothing,
+  IsSubset,
+  difference,
+  symmetric_difference,
+  union,
+};
 ghost use Rattle.rsb_streams.specs.FillGapsIter.{fill_may_give, GivesFilled};
 ghost use Rattle.rsb_streams.specs.Results.{
   MakesComplement,
@@ -10,6 +19,11 @@ ghost use Rattle.rsb_streams.specs.Results.{
   MakesIntersection,
   MakesSymmetricDifference,
   MakesUnion,
+};
+ghost use Rattle.rsb_streams.specs.RunCount.{
+  GivesFewerRunsThanBoth,
+  GivesOneRunMoreAtMost,
+  GivesRunsOfBothAtMost,
 };
 ghost use Rattle.rsb_streams.specs.Stream.{
   ◌⊆◌,
@@ -44,58 +58,66 @@ pub trait SortedStarts<T: Integer>: Iterator<Item = RangeInclusive<T>> + FusedIt
 /// (Own: every `SortedDisjoint` is one. What is passed for a call of an operation is what this asks,
 /// so it has no supertrait but `Draw`.)
 pub trait DrawDisjoint<T: Integer>: Draw<T> {
-    /// The gaps of a stream that may be drawn from, to both ends of the type. It takes no memory.
-    /// (`SortedDisjoint::complement`.)
+    /// The gaps of a stream that may be drawn from, to both ends of the type: at most one more than
+    /// it has runs. It takes no memory. (`SortedDisjoint::complement`.)
     final fn complement(self) -> NotIter<T, Self>
     where
         Self: Sized,
         requires { Self.can_draw self }
-        ensures { MakesComplement T.Integer.own Self.Draw ⟦<NotIter<T, Self> as Draw<T>>⟧ self result }
+        ensures made { MakesComplement T.Integer.own Self.Draw ⟦<NotIter<T, Self> as Draw<T>>⟧ self result }
+        ensures run_count { GivesOneRunMoreAtMost T.Integer.own Self.Draw
+            ⟦<NotIter<T, Self> as Draw<T>>⟧ self result }
     {
         NotIter::new(self)
     }
 
-    /// What lies in either of two streams that may be drawn from. It takes no memory.
-    /// (`SortedDisjoint::union`.)
+    /// What lies in either of two streams that may be drawn from. It has at most as many runs as
+    /// both together, and takes no memory. (`SortedDisjoint::union`.)
     final fn union<R: DrawDisjoint<T>>(self, other: R) -> Union<T, Self, R>
     where
         Self: Sized,
         requires left { Self.can_draw self }
         requires right { R.can_draw other }
-        ensures { MakesUnion T.Integer.own Self.Draw R.Draw ⟦<Union<T, Self, R> as Draw<T>>⟧
+        ensures made { MakesUnion T.Integer.own Self.Draw R.Draw ⟦<Union<T, Self, R> as Draw<T>>⟧
             self other result }
+        ensures run_count { GivesRunsOfBothAtMost union T.Integer.own Self.Draw R.Draw
+            ⟦<Union<T, Self, R> as Draw<T>>⟧ self other result }
     {
         Union::from((self, other))
     }
 
-    /// What two streams that may be drawn from both have. It takes no memory.
-    /// (`SortedDisjoint::intersection`.)
+    /// What two streams that may be drawn from both have. It has no run where one of them has none,
+    /// and else fewer than both together. It takes no memory. (`SortedDisjoint::intersection`.)
     final fn intersection<R: DrawDisjoint<T>>(self, other: R) -> Intersection<T, Self, R>
     where
         Self: Sized,
         requires left { Self.can_draw self }
         requires right { R.can_draw other }
-        ensures { MakesIntersection T.Integer.own Self.Draw R.Draw ⟦<Intersection<T, Self, R> as Draw<T>>⟧
+        ensures made { MakesIntersection T.Integer.own Self.Draw R.Draw ⟦<Intersection<T, Self, R> as Draw<T>>⟧
             self other result }
+        ensures run_count { GivesFewerRunsThanBoth T.Integer.own Self.Draw R.Draw
+            ⟦<Intersection<T, Self, R> as Draw<T>>⟧ self other result }
     {
         Intersection::from((self, other))
     }
 
-    /// What one of two streams that may be drawn from has and the other lacks. It takes no memory.
-    /// (`SortedDisjoint::difference`.)
+    /// What one of two streams that may be drawn from has and the other lacks. It has at most as
+    /// many runs as both together, and takes no memory. (`SortedDisjoint::difference`.)
     final fn difference<R: DrawDisjoint<T>>(self, other: R) -> Difference<T, Self, R>
     where
         Self: Sized,
         requires left { Self.can_draw self }
         requires right { R.can_draw other }
-        ensures { MakesDifference T.Integer.own Self.Draw R.Draw ⟦<Difference<T, Self, R> as Draw<T>>⟧
+        ensures made { MakesDifference T.Integer.own Self.Draw R.Draw ⟦<Difference<T, Self, R> as Draw<T>>⟧
             self other result }
+        ensures run_count { GivesRunsOfBothAtMost difference T.Integer.own Self.Draw R.Draw
+            ⟦<Difference<T, Self, R> as Draw<T>>⟧ self other result }
     {
         Difference::from((self, other))
     }
 
-    /// What lies in one of two streams alone, both of which may be drawn from. It takes no memory.
-    /// (`SortedDisjoint::symmetric_difference`.)
+    /// What lies in one of two streams alone, both of which may be drawn from. It has at most as
+    /// many runs as both together, and takes no memory. (`SortedDisjoint::symmetric_difference`.)
     final fn symmetric_difference<R: DrawDisjoint<T>>(
         self,
         other: R,
@@ -104,8 +126,10 @@ pub trait DrawDisjoint<T: Integer>: Draw<T> {
         Self: Sized,
         requires left { Self.can_draw self }
         requires right { R.can_draw other }
-        ensures { MakesSymmetricDifference T.Integer.own Self.Draw R.Draw ⟦<SymmetricDifference<T, Self, R> as Draw<T>>⟧
+        ensures made { MakesSymmetricDifference T.Integer.own Self.Draw R.Draw ⟦<SymmetricDifference<T, Self, R> as Draw<T>>⟧
             self other result }
+        ensures run_count { GivesRunsOfBothAtMost symmetric_difference T.Integer.own Self.Draw R.Draw
+            ⟦<SymmetricDifference<T, Self, R> as Draw<T>>⟧ self other result }
     {
         SymmetricDifference::from((self, other))
     }

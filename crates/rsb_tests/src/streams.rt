@@ -21,6 +21,7 @@ mod range_once;
 mod ranges_of_sets;
 mod refused_lists;
 mod refused_unions;
+mod run_count;
 mod set_algebra;
 mod six_operations;
 mod std_markers;

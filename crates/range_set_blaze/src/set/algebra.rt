@@ -10,7 +10,7 @@ ghost use Rattle.rsb_integer.specs.Selection.{
 };
 ghost use Rattle.rsb_streams.specs.Stream.{runs_by_two};
 ghost use Rattle.range_set_blaze.specs.Algebra.{IsComplementOf};
-ghost use Rattle.range_set_blaze.specs.RunCount.{HasFewerRunsThanBoth, HasOneRunMoreAtMost, HasRunsOfBothAtMost};
+ghost use Rattle.rsb_streams.specs.RunCount.{HasFewerRunsThanBoth, HasOneRunMoreAtMost, HasRunsOfBothAtMost};
 ghost use Rattle.range_set_blaze.specs.Set.{IsSetOf};
 
 use crate::set::RangeSetBlaze;

@@ -5,7 +5,7 @@ ghost use Rattle.rsb_integer.specs.Runs.{covers, members};
 ghost use Rattle.rsb_integer.specs.Selection.{IsNothing};
 ghost use Rattle.range_set_blaze.specs.Kept.{run_of, runs_of, IsKept};
 ghost use Rattle.range_set_blaze.specs.Places.{Has, IsFree, IsInserted, IsReaching};
-ghost use Rattle.range_set_blaze.specs.RunCount.{HasOneRunMoreAtMost};
+ghost use Rattle.rsb_streams.specs.RunCount.{HasOneRunMoreAtMost};
 ghost use Rattle.range_set_blaze.specs.Set.{first_rank, only, past_rank, ranks_in, Adds, IsReached, LacksSomeOf};
 
 use crate::set::RangeSetBlaze;

@@ -9,7 +9,7 @@ ghost use Rattle.rsb_integer.specs.Selection.{
   union,
 };
 ghost use Rattle.range_set_blaze.specs.Algebra.{IsComplementOf};
-ghost use Rattle.range_set_blaze.specs.RunCount.{HasFewerRunsThanBoth, HasOneRunMoreAtMost, HasRunsOfBothAtMost};
+ghost use Rattle.rsb_streams.specs.RunCount.{HasFewerRunsThanBoth, HasOneRunMoreAtMost, HasRunsOfBothAtMost};
 ghost use Rattle.range_set_blaze.specs.Set.{IsSetOf};
 
 use crate::set::RangeSetBlaze;

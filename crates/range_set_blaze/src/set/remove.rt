@@ -5,7 +5,7 @@ ghost use Rattle.rsb_integer.specs.Runs.{members, IsCanonicalIn};
 ghost use Rattle.range_set_blaze.specs.BothEnds.{TakesGreatest, TakesLeast};
 ghost use Rattle.range_set_blaze.specs.Kept.{entry_of, runs_of, IsKept};
 ghost use Rattle.range_set_blaze.specs.Places.{up_to, EndsWith, IsRemoved};
-ghost use Rattle.range_set_blaze.specs.RunCount.{HasOneRunMoreAtMost};
+ghost use Rattle.rsb_streams.specs.RunCount.{HasOneRunMoreAtMost};
 ghost use Rattle.range_set_blaze.specs.Set.{only, IsLeast, Removes};
 
 use crate::set::RangeSetBlaze;

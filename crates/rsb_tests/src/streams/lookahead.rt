@@ -1,9 +1,16 @@
 //! How many ranges of its inputs a stream has drawn, call by call.
 
+ghost use Rattle.std.specs.Prelude.{IfSome};
+ghost use Rattle.rsb_integer.specs.Rank.{interval_of};
+ghost use Rattle.rsb_streams.specs.Lookahead.{DrawsFew, Left};
+ghost use Rattle.rsb_streams.specs.Union.{union_inputs};
+
 use crate::streams::listed::stream_of;
 use rsb_commands::outside::Counted;
-use rsb_streams::{Draw, DrawDisjoint, Merge};
+use rsb_integer::Integer;
+use rsb_streams::{Draw, DrawDisjoint, Merge, Union};
 use std::cell::Cell;
+use std::ops::RangeInclusive;
 
 /// Three ranges.
 const LEFT: &[(u8, u8)] = &[(0, 9), (20, 29), (40, 49)];
@@ -31,6 +38,22 @@ fn draws<I: Draw<u8>>(
     }
     let before_the_end = (lefts.get(), rights.get());
     before_the_end == drawn && stream.draw().is_none() && (lefts.get(), rights.get()) == drawn
+}
+
+/// The first range of a union of two streams, and the union after it: of the left stream as many
+/// ranges are drawn as lie within that range, and one more at most.
+fn first_of_both<T: Integer, L: DrawDisjoint<T>, R: DrawDisjoint<T>>(
+    left: L,
+    right: R,
+) -> (Option<RangeInclusive<T>>, Union<T, L, R>)
+    requires left { L.can_draw left }
+    requires right { R.can_draw right }
+    ensures { IfSome result.0 (λ answer. DrawsFew (interval_of T.rank answer) (L.may_give left)
+        (union_inputs T.Integer.own L.Draw R.Draw Left result.1 Left).undrawn) }
+{
+    let mut both = left.union(right);
+    let first = both.next();
+    (first, both)
 }
 
 #[test]

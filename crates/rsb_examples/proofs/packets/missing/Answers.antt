@@ -10,5 +10,5 @@ returns c =
     let acked = c.ranges-3.ensures in
     IfOk-weaker c.into_range_set_blaze.result _ _
     (λ set may. difference-of_sets (2 ^ 32) c.args.sent.now c.args.acked.now _ _
-    sent.ranges acked.ranges sent.ready acked.ready set (c.difference-unanswered.ensures.gives set may))
+    sent.ranges acked.ranges sent.ready acked.ready set (c.difference-unanswered.ensures.made.gives set may))
     c.into_range_set_blaze.ensures.runs

@@ -4,6 +4,6 @@ use Rattle.range_set_blaze.proofs.set.algebra.union_of.Goals as goal
 -- the stream gives nothing but such runs
 pub returns : goal.returns
 returns g c = record {
-  runs = IfOk-weaker c.from_sorted_disjoint.result _ _ c.union.ensures.gives
+  runs = IfOk-weaker c.from_sorted_disjoint.result _ _ c.union.ensures.made.gives
       c.from_sorted_disjoint.ensures.runs;
 }

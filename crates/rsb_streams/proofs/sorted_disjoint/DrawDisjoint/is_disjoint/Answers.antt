@@ -7,4 +7,4 @@ returns g c =
     let n = g.T.Integer.value_count in
     nothing-tells n intersection (AreDisjoint n) (g.Self.Draw.may_give c.args.self)
     (g.R.Draw.may_give c.args.other) _ c.is_empty.result (intersection-tells n)
-    c.intersection.ensures.gives c.is_empty.ensures
+    c.intersection.ensures.made.gives c.is_empty.ensures

@@ -7,4 +7,4 @@ returns g c =
     let n = g.T.Integer.value_count in
     nothing-tells n difference (IsSubset n) (g.Self.Draw.may_give c.args.self)
     (g.R.Draw.may_give c.args.other) _ c.is_empty.result (difference-tells n)
-    c.difference.ensures.gives c.is_empty.ensures
+    c.difference.ensures.made.gives c.is_empty.ensures

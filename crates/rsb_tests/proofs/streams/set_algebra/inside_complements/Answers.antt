@@ -11,5 +11,5 @@ returns-clause-gives g c = λ runs at.
     (λ left right rank. sym (neither-of (left rank) (right rank))) runs
     (runs_by_two-after n intersection complement complement (g.L.Draw.may_give c.args.left)
     (g.R.Draw.may_give c.args.right) _ _ (intersection-respects n)
-    c.complement-gaps.ensures.gives c.complement-others.ensures.gives runs
-    (c.intersection.ensures.gives runs at))
+    c.complement-gaps.ensures.made.gives c.complement-others.ensures.made.gives runs
+    (c.intersection.ensures.made.gives runs at))

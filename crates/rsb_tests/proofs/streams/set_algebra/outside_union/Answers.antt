@@ -7,5 +7,5 @@ returns-clause-gives g c = λ runs at.
     let n = g.T.Integer.value_count in
     runs_by-after_two n complement union (g.L.Draw.may_give c.args.left)
     (g.R.Draw.may_give c.args.right) (complement-respects n) runs
-    (runs_by-within n complement _ _ c.union-either.ensures.gives runs
-    (c.complement.ensures.gives runs at))
+    (runs_by-within n complement _ _ c.union-either.ensures.made.gives runs
+    (c.complement.ensures.made.gives runs at))

@@ -8,5 +8,5 @@ returns g c = λ these those one other some more again other_again.
     let n = g.T.Integer.value_count in
     c.are_the_same.ensures symmetric_difference these those
     (both-of n these those symmetric_difference _ _ _ one other
-    c.symmetric_difference-alone.ensures.gives)
+    c.symmetric_difference-alone.ensures.made.gives)
     (c.unshared-parts.ensures.gives these those some more again other_again)

@@ -1,0 +1,139 @@
+-- How many runs operations on streams make.
+use Rattle.std.proofs.Common.{◌≡◌, ℕ, Bool, true, false, ◌||◌, ◌+◌, ◌<◌, List, [], ◌∷◌, length, refl, ap, arith}
+use Rattle.std.proofs.Math.Bool.{and-false}
+use Rattle.std.proofs.lemmas.List.Elements.{All-head, All-nil}
+use Rattle.rsb_integer.specs.Runs.{Interval, members, AreRuns, IsCanonicalIn}
+use Rattle.rsb_integer.specs.Selection.{Selection, complement, intersection, union}
+use Rattle.rsb_integer.specs.declared.integer.Integer.{Ghosts as Elements}
+use Rattle.rsb_integer.proofs.MembersLemmas.{members-head}
+use Rattle.rsb_integer.proofs.RunCountLemmas.{runs-complement, runs-of_one, runs-shared}
+use Rattle.rsb_integer.proofs.RunsLemmas.{canonical-runs, runs-along, runs-members}
+use Rattle.rsb_streams.specs.RunCount.{GivesFewerRunsThanBoth, GivesOneRunMoreAtMost, GivesRunsOfBothAtMost, HasFewerRunsThanBoth, HasOneRunMoreAtMost, HasRunsOfBothAtMost, bounded_by, bounded_by_two}
+use Rattle.rsb_streams.specs.Stream.{Outcomes, ◌⊆◌, runs_by, runs_by_two}
+use Rattle.rsb_streams.specs.StreamLaws.{runs-exist}
+use Rattle.rsb_streams.specs.declared.draw.Draw.{Ghosts as Stream}
+
+-- ---- of lists
+
+-- the set of no rank has no runs
+runs-nothing : (n : ℕ) → AreRuns n (members []) []
+runs-nothing n = canonical-runs n [] tt (All-nil (λ (run : Interval). run.last < n))
+
+-- so it has none
+length-nothing : (n : ℕ) (runs : List Interval) → AreRuns n (λ rank. false) runs → length runs ≡ 0
+length-nothing n runs are =
+    let none = runs-of_one (λ left right. false) refl n (members []) (members []) [] [] runs
+    (runs-nothing n) (runs-nothing n) are in
+    omega (arith, none)
+
+-- a set with a member has some
+length-some : (n : ℕ) (selected : Selection) (runs : List Interval) (rank : ℕ)
+    → AreRuns n selected runs → rank < n → selected rank ≡ true → 0 < length runs
+length-some n selected [] rank are below has =
+    let none = runs-members n selected [] are rank below in
+    absurd (cc)
+length-some n selected (run ∷ runs) rank are below has = omega arith
+
+-- an intersection of lists that are not empty has fewer runs than both together
+length-intersection : (n : ℕ) (run other : Interval) (left right runs : List Interval)
+    → IsCanonicalIn n (run ∷ left) → IsCanonicalIn n (other ∷ right)
+    → AreRuns n (intersection (members (run ∷ left)) (members (other ∷ right))) runs
+    → length runs < length (run ∷ left) + length (other ∷ right)
+length-intersection n run other left right runs canonical also are =
+    let these = run ∷ left in
+    let those = other ∷ right in
+    let either = runs-exist n (union (members these) (members those)) in
+    let order = canonical.0.1 in
+    let end = All-head (λ (each : Interval). each.last < n) run left canonical.1 in
+    let some = length-some n (union (members these) (members those)) either.0 run.first either.1
+    (omega (arith, order, end))
+    (ap (λ test. test || members those run.first)
+    (members-head run left run.first (omega arith) order)) in
+    let all = runs-shared n (members these) (members those) these those either.0 runs
+    (canonical-runs n these canonical.0 canonical.1) (canonical-runs n those also.0 also.1)
+    either.1 are in
+    omega (arith, some, all)
+
+-- an intersection has no run where one of the lists has none, and else fewer than both together
+bounded-intersection : (n : ℕ) (left right runs : List Interval) → IsCanonicalIn n left
+    → IsCanonicalIn n right → AreRuns n (intersection (members left) (members right)) runs
+    → HasFewerRunsThanBoth left right runs
+bounded-intersection n [] right runs canonical also are =
+    let none = length-nothing n runs are in
+    ((λ empty. none), (λ empty. none), (λ some more. absurd (omega (arith, some))))
+bounded-intersection n (run ∷ left) [] runs canonical also are =
+    let none = length-nothing n runs (runs-along n
+    (intersection (members (run ∷ left)) (members [])) (λ rank. false) runs
+    (λ rank below. and-false (members (run ∷ left) rank)) are) in
+    ((λ empty. none), (λ empty. none), (λ some more. absurd (omega (arith, more))))
+bounded-intersection n (run ∷ left) (other ∷ right) runs canonical also are = (
+  (λ empty. absurd (omega (arith, empty))),
+  (λ empty. absurd (omega (arith, empty))),
+  (λ some more. length-intersection n run other left right runs canonical also are),
+)
+
+-- ---- of streams that give canonical lists
+
+-- a bound on what an operation makes of one list holds of what it makes of a stream
+bounded-runs_by : (n : ℕ) (Bound : List Interval → List Interval → Type 0)
+    (operation : Selection → Selection) (P Given : Outcomes)
+    → ((given runs : List Interval) → IsCanonicalIn n given
+    → AreRuns n (operation (members given)) runs → Bound given runs)
+    → P ⊆ IsCanonicalIn n → Given ⊆ runs_by n operation P
+    → Given ⊆ bounded_by n Bound operation P
+bounded-runs_by n Bound operation P Given bounds canonical gives runs may = λ nothing.
+    gives runs may (λ given at are.
+    nothing given at (are, bounds given runs (canonical given at) are))
+
+-- and one on what it makes of two lists
+bounded-runs_by_two : (n : ℕ) (Bound : List Interval → List Interval → List Interval → Type 0)
+    (operation : Selection → Selection → Selection) (P Q Given : Outcomes)
+    → ((left right runs : List Interval) → IsCanonicalIn n left → IsCanonicalIn n right
+    → AreRuns n (operation (members left) (members right)) runs → Bound left right runs)
+    → P ⊆ IsCanonicalIn n → Q ⊆ IsCanonicalIn n → Given ⊆ runs_by_two n operation P Q
+    → Given ⊆ bounded_by_two n Bound operation P Q
+bounded-runs_by_two n Bound operation P Q Given bounds canonical also gives runs may = λ nothing.
+    gives runs may (λ left right at too are.
+    nothing left right at too
+    (are, bounds left right runs (canonical left at) (also right too) are))
+
+-- a complement has one run more at most
+pub run_count-complement : {T N I O : Type 0} (integer : Elements T N) (stream : Stream I T N)
+    (made : Stream O T N) (of : I) (result : O)
+    → stream.may_give of ⊆ IsCanonicalIn integer.value_count
+    → made.may_give result ⊆ runs_by integer.value_count complement (stream.may_give of)
+    → GivesOneRunMoreAtMost integer stream made of result
+unfolding GivesOneRunMoreAtMost
+run_count-complement integer stream made of result =
+    let n = integer.value_count in
+    bounded-runs_by n HasOneRunMoreAtMost complement (stream.may_give of) (made.may_give result)
+    (λ given runs canonical. runs-complement n (members given) given runs
+    (canonical-runs n given canonical.0 canonical.1))
+
+module _ {T N L R O : Type 0} (integer : Elements T N) (left : Stream L T N) (right : Stream R T N)
+    (made : Stream O T N) (one : L) (other : R) (result : O) where
+  open integer use {value_count as n}
+
+  -- what is made rank by rank, nothing where both have nothing, has runs of both at most
+  pub run_count-of_one : (op : Bool → Bool → Bool) → op false false ≡ false
+      → left.may_give one ⊆ IsCanonicalIn n → right.may_give other ⊆ IsCanonicalIn n
+      → made.may_give result ⊆ runs_by_two n (λ these those rank. op (these rank) (those rank))
+      (left.may_give one) (right.may_give other)
+      → GivesRunsOfBothAtMost (λ these those rank. op (these rank) (those rank)) integer left right
+      made one other result
+  unfolding GivesRunsOfBothAtMost
+  run_count-of_one op none = bounded-runs_by_two n HasRunsOfBothAtMost
+      (λ these those rank. op (these rank) (those rank)) (left.may_give one) (right.may_give other)
+      (made.may_give result)
+      (λ these those runs canonical also. runs-of_one op none n (members these) (members those)
+      these those runs (canonical-runs n these canonical.0 canonical.1)
+      (canonical-runs n those also.0 also.1))
+
+  -- an intersection has fewer
+  pub run_count-intersection : left.may_give one ⊆ IsCanonicalIn n
+      → right.may_give other ⊆ IsCanonicalIn n
+      → made.may_give result ⊆ runs_by_two n intersection (left.may_give one) (right.may_give other)
+      → GivesFewerRunsThanBoth integer left right made one other result
+  unfolding GivesFewerRunsThanBoth
+  run_count-intersection = bounded-runs_by_two n HasFewerRunsThanBoth intersection
+      (left.may_give one) (right.may_give other) (made.may_give result) (bounded-intersection n)

@@ -1,0 +1,12 @@
+use Rattle.rsb_streams.proofs.RunCountLemmas.{run_count-complement}
+use Rattle.rsb_streams.proofs.sorted_disjoint.DrawDisjoint.complement.Goals as goal
+
+-- a gap ends before each run, or after the last one
+pub returns : goal.returns
+returns g c =
+    let made = c.new.ensures in
+    record {
+      made = made;
+      run_count = run_count-complement g.T.Integer g.Self.Draw _ c.args.self _
+          (g.met.Self.DrawDisjoint.canonical c.args.self c.requires) made.gives;
+    }
