@@ -274,20 +274,20 @@ module _ {L R T N : Type 0} (integer : Elements T N) (left : Stream L T N)
           let low = range-start rank first left_first.1 in
           let high = range-start rank second right_first.1 in
           record {
-        answers = head-right n (lefts.may_give s.left) (rights.may_give s.right) (lefts.may_give w)
-            (rights.may_give v)
-            (interval_of rank second) ready.right.sorted
-            (right_held.answers s.right v (Some second) right_call)
-            (λ runs at. (held-left runs at).0) (λ runs at. (held-left runs at).1);
-        rests = tt;
-        asks = takes-right s (record { left = w; right = v }) (interval_of rank second)
-            (gives-right s.right v second right_call)
-            (record {
-              uses = back-uses integer left left_laws.answers s.left u w first left_call put;
-              later = from-some rank (interval_of rank second).first w.held first put.held
-                  (omega (arith, low, high, less));
-            });
-      }
+            answers = head-right n (lefts.may_give s.left) (rights.may_give s.right) (lefts.may_give w)
+                (rights.may_give v)
+                (interval_of rank second) ready.right.sorted
+                (right_held.answers s.right v (Some second) right_call)
+                (λ runs at. (held-left runs at).0) (λ runs at. (held-left runs at).1);
+            rests = tt;
+            asks = takes-right s (record { left = w; right = v }) (interval_of rank second)
+                (gives-right s.right v second right_call)
+                (record {
+                  uses = back-uses integer left left_laws.answers s.left u w first left_call put;
+                  later = from-some rank (interval_of rank second).first w.held first put.held
+                      (omega (arith, low, high, less));
+                });
+          }
 
       -- the merge may be called again, and is nearer its end
       pub right-goes : MakesProgress Ready (merge integer left right).draws_left s
@@ -339,20 +339,20 @@ module _ {L R T N : Type 0} (integer : Elements T N) (left : Stream L T N)
           let low = range-start rank first left_first.1 in
           let high = range-start rank second right_first.1 in
           record {
-        answers = head-left n (lefts.may_give s.left) (rights.may_give s.right) (lefts.may_give u)
-            (rights.may_give w)
-            (interval_of rank first) ready.left.sorted
-            (left_held.answers s.left u (Some first) left_call)
-            (λ runs at. (held-right runs at).0) (λ runs at. (held-right runs at).1);
-        rests = tt;
-        asks = takes-left s (record { left = u; right = w }) (interval_of rank first)
-            (gives-left s.left u first left_call)
-            (record {
-              uses = back-uses integer right right_laws.answers s.right v w second right_call put;
-              later = from-some rank (interval_of rank first).first w.held second put.held
-                  (omega (arith, low, high, most));
-            });
-      }
+            answers = head-left n (lefts.may_give s.left) (rights.may_give s.right) (lefts.may_give u)
+                (rights.may_give w)
+                (interval_of rank first) ready.left.sorted
+                (left_held.answers s.left u (Some first) left_call)
+                (λ runs at. (held-right runs at).0) (λ runs at. (held-right runs at).1);
+            rests = tt;
+            asks = takes-left s (record { left = u; right = w }) (interval_of rank first)
+                (gives-left s.left u first left_call)
+                (record {
+                  uses = back-uses integer right right_laws.answers s.right v w second right_call put;
+                  later = from-some rank (interval_of rank first).first w.held second put.held
+                      (omega (arith, low, high, most));
+                });
+          }
 
       -- the merge may be called again, and is nearer its end
       pub left-goes : MakesProgress Ready (merge integer left right).draws_left s

@@ -40,16 +40,16 @@ module _ {T N L R O : Type 0} (integer : Elements T N) (left : Stream L T N) (ri
       (left.may_give one) (right.may_give other) (made.may_give result))
 
 module _ {T N L R : Type 0} (integer : Elements T N) (left : Stream L T N) (right : Stream R T N)
-    where
-  -- of what either of two streams has, of which nothing is drawn yet
-  abbrev pub MakesUnion : Stream (Union T L R) T N → L → R → Union T L R → Type 0
-  MakesUnion made one other result = IsMade made.can_draw result
-      (GivesUnion integer.value_count (left.may_give one) (right.may_give other)
-      (made.may_give result)) (UnitesUndrawn integer left right one other result.iter)
+  where
+    -- of what either of two streams has, of which nothing is drawn yet
+    abbrev pub MakesUnion : Stream (Union T L R) T N → L → R → Union T L R → Type 0
+    MakesUnion made one other result = IsMade made.can_draw result
+        (GivesUnion integer.value_count (left.may_give one) (right.may_give other)
+        (made.may_give result)) (UnitesUndrawn integer left right one other result.iter)
 
-  -- the same, by the union of a merge
-  abbrev pub MakesUnionIter : Stream (UnionIter T (Merge T L R)) T N → L → R
-      → UnionIter T (Merge T L R) → Type 0
-  MakesUnionIter made one other result = IsMade made.can_draw result
-      (GivesUnion integer.value_count (left.may_give one) (right.may_give other)
-      (made.may_give result)) (UnitesUndrawn integer left right one other result)
+    -- the same, by the union of a merge
+    abbrev pub MakesUnionIter : Stream (UnionIter T (Merge T L R)) T N → L → R
+        → UnionIter T (Merge T L R) → Type 0
+    MakesUnionIter made one other result = IsMade made.can_draw result
+        (GivesUnion integer.value_count (left.may_give one) (right.may_give other)
+        (made.may_give result)) (UnitesUndrawn integer left right one other result)

@@ -19,13 +19,13 @@ module _ {T N S : Type 0} (integer : Elements T N) (stream : Stream S T N) where
   -- what was held before and what draws gave lies within the answer; one more draw gave what is
   -- held now, which starts past the end of the answer with a gap between
   pub record Joins (s : UnionIter T S) (answer : RangeInclusive T) (t : UnionIter T S) : Type 0
-      where
-    pub drawn : List (RangeInclusive T)
-    pub draws : YieldsThen (fused stream).draw_gives (fused_of s.iter) drawn t.iter.held
-        (fused_of t.iter)
-    pub within : AreWithin (interval_of rank answer)
-        (held_list rank s.iter.held ++ intervals_of rank drawn)
-    pub ahead : IsOneFrom ((interval_of rank answer).last + 2) (held_list rank t.iter.held)
+    where
+      pub drawn : List (RangeInclusive T)
+      pub draws : YieldsThen (fused stream).draw_gives (fused_of s.iter) drawn t.iter.held
+          (fused_of t.iter)
+      pub within : AreWithin (interval_of rank answer)
+          (held_list rank s.iter.held ++ intervals_of rank drawn)
+      pub ahead : IsOneFrom ((interval_of rank answer).last + 2) (held_list rank t.iter.held)
 
   -- nothing was held, the only draw gave nothing, and nothing is held
   pub record JoinsNothing (s t : UnionIter T S) : Type 0 where

@@ -11,7 +11,8 @@ use rsb_integer::Integer;
 use std::iter::FusedIterator;
 use std::ops::RangeInclusive;
 
-/// The gaps of a stream, to both ends of the type. (`NotIter` of the Rust crate.)
+/// The gaps of a stream, to both ends of the type. It holds no range of the stream. (`NotIter` of the
+/// Rust crate.)
 #[derive(Clone, Debug, Drop)]
 pub struct NotIter<T, I> {
     iter: I,

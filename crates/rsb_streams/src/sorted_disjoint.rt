@@ -59,7 +59,7 @@ pub trait SortedStarts<T: Integer>: Iterator<Item = RangeInclusive<T>> + FusedIt
 /// so it has no supertrait but `Draw`.)
 pub trait DrawDisjoint<T: Integer>: Draw<T> {
     /// The gaps of a stream that may be drawn from, to both ends of the type: at most one more than
-    /// it has runs. It takes no memory. (`SortedDisjoint::complement`.)
+    /// it has runs. It takes no memory. Nothing is drawn yet. (`SortedDisjoint::complement`.)
     final fn complement(self) -> NotIter<T, Self>
     where
         Self: Sized,
@@ -72,7 +72,8 @@ pub trait DrawDisjoint<T: Integer>: Draw<T> {
     }
 
     /// What lies in either of two streams that may be drawn from. It has at most as many runs as
-    /// both together, and takes no memory. (`SortedDisjoint::union`.)
+    /// both together, looks ahead of each by one range at most, and takes no memory. Nothing is
+    /// drawn yet. (`SortedDisjoint::union`.)
     final fn union<R: DrawDisjoint<T>>(self, other: R) -> Union<T, Self, R>
     where
         Self: Sized,

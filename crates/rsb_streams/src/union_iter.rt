@@ -16,8 +16,9 @@ use rsb_integer::Integer;
 use std::iter::FusedIterator;
 use std::ops::RangeInclusive;
 
-/// The ranges of a stream whose starts do not fall, joined where they overlap or touch. It holds
-/// one range at most: the one after its last answer. (`UnionIter` of the Rust crate.)
+/// The ranges of a stream whose starts do not fall, joined where they overlap or touch. What it has
+/// drawn lies within its answers, but for one range that it holds at most, which starts past the last
+/// of them with a gap between. (`UnionIter` of the Rust crate.)
 #[derive(Clone, Debug, Drop)]
 pub struct UnionIter<T, SS> {
     iter: PutBack<T, SS>,

@@ -13,7 +13,9 @@ use rsb_integer::Integer;
 use std::iter::FusedIterator;
 use std::ops::RangeInclusive;
 
-/// What lies in either of two streams. (`Union` of the Rust crate.)
+/// What lies in either of two streams. It looks ahead of each by one range at most: what it has drawn
+/// lies within its answers, but for one that starts past the last of them with a gap between.
+/// (`Union` of the Rust crate.)
 #[derive(Clone, Debug, Drop)]
 pub struct Union<T, L, R> {
     iter: UnionIter<T, Merge<T, L, R>>,
