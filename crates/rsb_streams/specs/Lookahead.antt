@@ -97,12 +97,20 @@ abbrev pub at_side : Outcomes → Outcomes → Side → Outcomes
 at_side left right Left = left
 at_side left right Right = right
 
+-- the left one is not the right one
+pub left-not_right : ¬ (Left ≡ Right)
+left-not_right same = absurd (cc)
+
+-- nor the right one the left one
+pub right-not_left : ¬ (Right ≡ Left)
+right-not_left same = absurd (cc)
+
 -- two sides are one, or they are not
 abbrev pub same_side : Sameness Side
 same_side Left Left = inl refl
 same_side Right Right = inl refl
-same_side Left Right = inr (λ same. absurd (cc))
-same_side Right Left = inr (λ same. absurd (cc))
+same_side Left Right = inr left-not_right
+same_side Right Left = inr right-not_left
 
 -- nothing is drawn yet of any of these streams, which are the inputs
 abbrev pub AreUndrawn : {Place : Type 0} → (Place → Outcomes) → (Place → Input) → Type 0
