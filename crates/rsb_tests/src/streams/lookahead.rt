@@ -63,6 +63,12 @@ fn union_draws_what_lies_in_its_answer_and_one_range_more(rt: HostRuntime) {
     let right = Counted::new(stream_of(RIGHT), &rights);
     let calls = [((0, 29), (3, 2)), ((40, 49), (3, 2)), ((60, 69), (3, 2))];
     assert!(rt; draws(left.union(right), &lefts, &rights, &calls));
+
+    let (lefts, rights) = (Cell::new(0), Cell::new(0));
+    let left = Counted::new(stream_of(LEFT), &lefts);
+    let right = Counted::new(stream_of(RIGHT), &rights);
+    let (first, _) = first_of_both(left, right);
+    assert!(rt; first == Some(0..=29) && (lefts.get(), rights.get()) == (3, 2));
 }
 
 #[test]
