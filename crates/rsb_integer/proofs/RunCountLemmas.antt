@@ -420,15 +420,6 @@ last-of_both : (left right : Bool) → once (left || right) + once (left && righ
 last-of_both true right = omega arith
 last-of_both false right = omega arith
 
--- a union and an intersection have together no more runs than both sets
-pub runs-shared : (n : ℕ) (left right : Selection) (lefts rights either both : List Interval)
-    → AreRuns n left lefts → AreRuns n right rights → AreRuns n (union left right) either
-    → AreRuns n (intersection left right) both
-    → length either + length both ≤ length lefts + length rights
-runs-shared n left right lefts rights either both =
-    runs-two (λ one two. one || two) (λ one two. one && two) fewer-of_both last-of_both left right n
-    lefts rights either both
-
 -- an intersection has fewer than both where the one has some
 pub runs-intersection : (n : ℕ) (left right : Selection) (lefts rights both : List Interval)
     → AreRuns n left lefts → AreRuns n right rights → AreRuns n (intersection left right) both

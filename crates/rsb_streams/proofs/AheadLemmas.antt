@@ -8,12 +8,12 @@ use Rattle.rsb_integer.specs.Rank.{interval_of, intervals_of}
 use Rattle.rsb_integer.specs.Runs.{Interval}
 use Rattle.rsb_integer.specs.declared.integer.Integer.{Ghosts as Elements}
 use Rattle.rsb_streams.specs.Fused.{fused, Fused}
-use Rattle.rsb_streams.specs.Lookahead.{at_side, holding, if_same, same_side, undrawn, AreUndrawn, AreWithin, AsksOne, Drew, Ends, GivesFrom, HasEnded, Input, IsOneFrom, IsUndrawn, Left, LooksAhead, Right, Sameness, Spares, TakesOne, Uses}
-use Rattle.rsb_streams.specs.Merge.{merge, merge_inputs, MergesUndrawn}
-use Rattle.rsb_streams.specs.PutBack.{fused_of, held_list, HasRoom, IsFresh}
+use Rattle.rsb_streams.specs.Lookahead.{at_side, holding, if_same, same_side, undrawn, AreUndrawn, AreWithin, AsksOne, Drew, GivesFrom, HasEnded, Input, IsOneFrom, IsUndrawn, Left, LooksAhead, Right, Sameness, Spares, TakesOne, Uses}
+use Rattle.rsb_streams.specs.Merge.{merge_inputs, MergesUndrawn}
+use Rattle.rsb_streams.specs.PutBack.{fused_of, held_list, IsFresh}
 use Rattle.rsb_streams.specs.Stream.{just, Outcomes}
 use Rattle.rsb_streams.specs.Union.{UnitesUndrawn}
-use Rattle.rsb_streams.specs.UnionIter.{joined_inputs, unless_ended, AsksAhead, AsksToJoin, Joins, JoinsNothing, JoinsUndrawn}
+use Rattle.rsb_streams.specs.UnionIter.{joined_inputs, unless_ended, AsksAhead, AsksToJoin, Joins, JoinsUndrawn}
 use Rattle.rsb_streams.specs.declared.draw.Draw.{Ghosts as Stream}
 use Rattle.rsb_streams.specs.declared.merge.Merge.{Merge}
 use Rattle.rsb_streams.specs.declared.union_iter.UnionIter.{UnionIter}

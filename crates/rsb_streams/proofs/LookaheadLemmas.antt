@@ -1,5 +1,5 @@
 -- What is drawn, used and held of inputs, call by call.
-use Rattle.std.proofs.Common.{◌≡◌, ℕ, ◌+◌, ◌≤◌, Bool, true, false, List, [], ◌∷◌, ◌++◌, length, refl, sym, ap, ◌∙◌, subst, append_assoc, arith}
+use Rattle.std.proofs.Common.{◌≡◌, ℕ, ◌≤◌, Bool, true, false, List, [], ◌∷◌, ◌++◌, length, refl, sym, ap, ◌∙◌, subst, append_assoc, arith}
 use Rattle.std.proofs.lemmas.List.{append-nil}
 use Rattle.std.specs.Prelude.{Option, Some, None, MatchOption}
 use Rattle.std.specs.Iterator.{Yields}
@@ -10,9 +10,9 @@ use Rattle.rsb_integer.specs.declared.integer.Integer.{Ghosts as Elements}
 use Rattle.rsb_streams.specs.Fused.{fused, Fused}
 use Rattle.rsb_streams.specs.FusedLaws.{fused-answered}
 use Rattle.rsb_streams.specs.Lookahead.{holding, undrawn, AreWithin, Ends, HasEnded, Input, IsOneFrom, IsUndrawn, Uses}
-use Rattle.rsb_streams.specs.PutBack.{fused_of, held_list, input_of, put_back, HasRoom, IsFresh, IsPutBack}
+use Rattle.rsb_streams.specs.PutBack.{fused_of, held_list, input_of, put_back, IsFresh, IsPutBack}
 use Rattle.rsb_streams.specs.Rows.{IsAnswered}
-use Rattle.rsb_streams.specs.Stream.{just, unless, Outcomes}
+use Rattle.rsb_streams.specs.Stream.{just}
 use Rattle.rsb_streams.specs.declared.draw.Draw.{Ghosts as Stream}
 use Rattle.rsb_streams.specs.declared.put_back.PutBack.{PutBack}
 

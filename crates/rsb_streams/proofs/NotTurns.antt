@@ -10,7 +10,7 @@ use Rattle.rsb_integer.specs.Rank.{interval_of}
 use Rattle.rsb_integer.specs.Runs.{Interval, members, IsCanonicalIn, AreRuns}
 use Rattle.rsb_integer.proofs.CanonicalLemmas.{canonical-lower}
 use Rattle.rsb_integer.proofs.RunsLemmas.{runs-along}
-use Rattle.rsb_streams.specs.NotIter.{gaps_after, not_iter, NotReady, PassesOver}
+use Rattle.rsb_streams.specs.NotIter.{gaps_after, not_iter, NotReady}
 use Rattle.rsb_streams.specs.StreamLaws.{canonical-sorted, sorted-below}
 use Rattle.rsb_streams.specs.Stream.{Outcomes, ◌⊆◌, just, gaps_from, runs_by, HasSortedStartsFrom, SomeOutcome}
 use Rattle.rsb_streams.specs.declared.not_iter.NotIter.{NotIter}

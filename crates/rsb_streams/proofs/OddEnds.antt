@@ -8,7 +8,7 @@ use Rattle.std.specs.Range.{range_inclusive_start, range_inclusive_end, range_in
 use Rattle.std.specs.declared.ops.RangeInclusive.{RangeInclusive}
 use Rattle.rsb_integer.specs.Rank.{interval_of}
 use Rattle.rsb_integer.specs.Runs.{Interval}
-use Rattle.rsb_streams.specs.OddPieces.{odd_may_give, odd_pieces, odd_remaining, oddly_covered, begun_from, pieces_of, pending, ArePieces, IsTwofold}
+use Rattle.rsb_streams.specs.OddPieces.{odd_may_give, odd_pieces, oddly_covered, begun_from, pieces_of, pending, ArePieces, IsTwofold}
 use Rattle.rsb_streams.specs.Stream.{Outcomes, ◌⊆◌, unless}
 use Rattle.rsb_streams.specs.declared.odd_pieces.OddPieces.{OddPieces}
 use Rattle.rsb_streams.proofs.NotTurns.{answered}

@@ -1,76 +1,31 @@
 -- How many runs operations on streams make.
-use Rattle.std.proofs.Common.{◌≡◌, ℕ, Bool, true, false, ◌||◌, ◌+◌, ◌<◌, List, [], ◌∷◌, length, refl, ap, arith}
-use Rattle.std.proofs.Math.Bool.{and-false}
-use Rattle.std.proofs.lemmas.List.Elements.{All-head, All-nil}
+use Rattle.std.proofs.Common.{◌≡◌, ℕ, Bool, false, List}
+use Rattle.std.proofs.lemmas.Bool.{and_parts}
 use Rattle.rsb_integer.specs.Runs.{Interval, members, AreRuns, IsCanonicalIn}
-use Rattle.rsb_integer.specs.Selection.{Selection, complement, intersection, union}
+use Rattle.rsb_integer.specs.Selection.{Selection, complement, intersection}
 use Rattle.rsb_integer.specs.declared.integer.Integer.{Ghosts as Elements}
-use Rattle.rsb_integer.proofs.MembersLemmas.{members-head}
-use Rattle.rsb_integer.proofs.RunCountLemmas.{runs-complement, runs-of_one, runs-shared}
-use Rattle.rsb_integer.proofs.RunsLemmas.{canonical-runs, runs-along, runs-members}
+use Rattle.rsb_integer.proofs.RunCountLemmas.{runs-complement, runs-intersection, runs-none, runs-of_one}
+use Rattle.rsb_integer.proofs.RunsLemmas.{canonical-runs}
 use Rattle.rsb_streams.specs.RunCount.{GivesFewerRunsThanBoth, GivesOneRunMoreAtMost, GivesRunsOfBothAtMost, HasFewerRunsThanBoth, HasOneRunMoreAtMost, HasRunsOfBothAtMost, bounded_by, bounded_by_two}
 use Rattle.rsb_streams.specs.Stream.{Outcomes, ◌⊆◌, runs_by, runs_by_two}
-use Rattle.rsb_streams.specs.StreamLaws.{runs-exist}
 use Rattle.rsb_streams.specs.declared.draw.Draw.{Ghosts as Stream}
 
 -- ---- of lists
-
--- the set of no rank has no runs
-runs-nothing : (n : ℕ) → AreRuns n (members []) []
-runs-nothing n = canonical-runs n [] tt (All-nil (λ (run : Interval). run.last < n))
-
--- so it has none
-length-nothing : (n : ℕ) (runs : List Interval) → AreRuns n (λ rank. false) runs → length runs ≡ 0
-length-nothing n runs are =
-    let none = runs-of_one (λ left right. false) refl n (members []) (members []) [] [] runs
-    (runs-nothing n) (runs-nothing n) are in
-    omega (arith, none)
-
--- a set with a member has some
-length-some : (n : ℕ) (selected : Selection) (runs : List Interval) (rank : ℕ)
-    → AreRuns n selected runs → rank < n → selected rank ≡ true → 0 < length runs
-length-some n selected [] rank are below has =
-    let none = runs-members n selected [] are rank below in
-    absurd (cc)
-length-some n selected (run ∷ runs) rank are below has = omega arith
-
--- an intersection of lists that are not empty has fewer runs than both together
-length-intersection : (n : ℕ) (run other : Interval) (left right runs : List Interval)
-    → IsCanonicalIn n (run ∷ left) → IsCanonicalIn n (other ∷ right)
-    → AreRuns n (intersection (members (run ∷ left)) (members (other ∷ right))) runs
-    → length runs < length (run ∷ left) + length (other ∷ right)
-length-intersection n run other left right runs canonical also are =
-    let these = run ∷ left in
-    let those = other ∷ right in
-    let either = runs-exist n (union (members these) (members those)) in
-    let order = canonical.0.1 in
-    let end = All-head (λ (each : Interval). each.last < n) run left canonical.1 in
-    let some = length-some n (union (members these) (members those)) either.0 run.first either.1
-    (omega (arith, order, end))
-    (ap (λ test. test || members those run.first)
-    (members-head run left run.first (omega arith) order)) in
-    let all = runs-shared n (members these) (members those) these those either.0 runs
-    (canonical-runs n these canonical.0 canonical.1) (canonical-runs n those also.0 also.1)
-    either.1 are in
-    omega (arith, some, all)
 
 -- an intersection has no run where one of the lists has none, and else fewer than both together
 bounded-intersection : (n : ℕ) (left right runs : List Interval) → IsCanonicalIn n left
     → IsCanonicalIn n right → AreRuns n (intersection (members left) (members right)) runs
     → HasFewerRunsThanBoth left right runs
-bounded-intersection n [] right runs canonical also are =
-    let none = length-nothing n runs are in
-    ((λ empty. none), (λ empty. none), (λ some more. absurd (omega (arith, some))))
-bounded-intersection n (run ∷ left) [] runs canonical also are =
-    let none = length-nothing n runs (runs-along n
-    (intersection (members (run ∷ left)) (members [])) (λ rank. false) runs
-    (λ rank below. and-false (members (run ∷ left) rank)) are) in
-    ((λ empty. none), (λ empty. none), (λ some more. absurd (omega (arith, more))))
-bounded-intersection n (run ∷ left) (other ∷ right) runs canonical also are = (
-  (λ empty. absurd (omega (arith, empty))),
-  (λ empty. absurd (omega (arith, empty))),
-  (λ some more. length-intersection n run other left right runs canonical also are),
-)
+bounded-intersection n left right runs canonical also are =
+    let one = canonical-runs n left canonical.0 canonical.1 in
+    let other = canonical-runs n right also.0 also.1 in
+    let both = intersection (members left) (members right) in (
+      runs-none n (members left) both left runs one are
+          (λ rank in_both. (and_parts (members left rank) (members right rank) in_both).0),
+      runs-none n (members right) both right runs other are
+          (λ rank in_both. (and_parts (members left rank) (members right rank) in_both).1),
+      λ some more. runs-intersection n (members left) (members right) left right runs one other are some,
+    )
 
 -- ---- of streams that give canonical lists
 

@@ -1,7 +1,7 @@
 -- The union of a stream whose starts do not fall.
 use Rattle.std.proofs.Common.{Bool, true, false, ◌+◌, List, [], ◌++◌}
 use Rattle.std.specs.Iterator.{YieldsThen}
-use Rattle.std.specs.Prelude.{Option, Some, None, MatchOption}
+use Rattle.std.specs.Prelude.{Option, None, MatchOption}
 use Rattle.std.specs.declared.ops.RangeInclusive.{RangeInclusive}
 use Rattle.rsb_integer.specs.Rank.{interval_of, intervals_of}
 use Rattle.rsb_integer.specs.declared.integer.Integer.{Ghosts as Elements}
