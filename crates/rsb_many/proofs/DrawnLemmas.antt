@@ -1,0 +1,126 @@
+-- What a merge and a sweep of many streams hold, when a range is drawn and when one leaves.
+use Rattle.std.proofs.Common.{◌≡◌, ℕ, ◌+◌, ◌<◌, ◌≤◌, true, false, List, [], ◌∷◌, length, set, slice_get, refl, sym, ap, subst, ◌∙◌, arith, All, Option, Some, None}
+use Rattle.std.proofs.lemmas.List.{length-set}
+use Rattle.std.specs.Iterator.{size, IsFinite, MakesProgress}
+use Rattle.std.specs.declared.ops.RangeInclusive.{RangeInclusive}
+use Rattle.rsb_integer.specs.Rank.{interval_of}
+use Rattle.rsb_integer.specs.declared.integer.Integer.{Ghosts as Elements}
+use Rattle.rsb_integer.proofs.RangeLemmas.{interval_of-some}
+use Rattle.rsb_streams.specs.declared.draw.Draw.{Ghosts as Stream}
+use Rattle.rsb_streams.proofs.Sources.{IsLawful}
+use Rattle.rsb_streams.proofs.UnionLemmas.{head-sorted}
+use Rattle.rsb_many.specs.Drawn.{inputs_of, is_at, DrawnReady, HasRoomForAll, Refills}
+use Rattle.rsb_many.specs.Heads.{binary_digits, HasValues}
+use Rattle.rsb_many.specs.Inputs.{has_ended, head_of, inputs_left, left_of, DrawsAt}
+use Rattle.rsb_many.specs.declared.drawn.Drawn.{Drawn}
+use Rattle.rsb_many.proofs.DigitLemmas.{binary_digits-more}
+use Rattle.rsb_many.proofs.InputsLemmas.{draws-ended, draws-less, draws-more, draws-ready, draws-unstarted, draws-uses, drawn_count, nat_eq-differs, nat_eq-itself}
+use Rattle.rsb_many.proofs.LeftLemmas.{left_of-set, LessBy}
+
+module _ {T N I : Type 0} (integer : Elements T N) (stream : Stream I T N)
+    (laws : IsLawful integer stream) where
+  open integer use {rank, value_count as n}
+
+  -- the head of a range that was drawn has values
+  pub values-drawn : (before after : I) (range : RangeInclusive T) (place : ℕ)
+      → stream.can_draw before → stream.draw_gives before (Some range) after
+      → MakesProgress stream.can_draw stream.draws_left before (Some range) after
+      → HasValues rank n (head_of integer stream place range)
+  values-drawn before after range place can call goes =
+      let sorted = head-sorted n 0 (interval_of rank range) (stream.may_give after)
+      (laws.sorted after goes.keeps).some
+      (λ rest at. (laws.sorted before can).all (interval_of rank range ∷ rest)
+      (laws.answers before after (Some range) call rest at)) in
+      let is = interval_of-some rank range sorted.1 in
+      let first = ap (λ run. run.first) is in
+      let last = ap (λ run. run.last) is in
+      record {
+        start = omega (arith, sorted.1, sorted.2, first);
+        end = omega (arith, sorted.2, last);
+      }
+
+  -- the range that was due was drawn
+  module _ {A : Type 0} (s t : Drawn T I A N) (place : ℕ)
+      (ready : DrawnReady integer stream s) (used : s.used ≡ Some place) (none : t.used ≡ None)
+      (room : s.heads.room ≤ t.heads.room)
+      (draws : DrawsAt integer stream place s.streams.items s.heads.heads t.streams.items
+      t.heads.heads)
+      (compared : t.heads.comparisons ≤ s.heads.comparisons + binary_digits (length t.heads.heads))
+      where
+    -- it was due
+    due : is_at s.used place ≡ true
+    due = rw used (nat_eq-itself place)
+
+    -- it is not now
+    now_due : is_at t.used place ≡ false
+    now_due = rw none refl
+
+    -- nor was any other
+    dues : (other : ℕ) → ¬ (other ≡ place) → is_at t.used other ≡ is_at s.used other
+    dues other differs = rw (none, used) (sym (nat_eq-differs place other differs))
+
+    -- there is such a stream
+    less : place < length s.streams.items
+    less = rw used at ready.room.used
+
+    -- as many streams are there
+    long : length t.streams.items ≡ length s.streams.items
+    long = ap (λ (streams : List I). length streams) draws.stands
+        ∙ length-set s.streams.items place draws.after
+
+    -- there is room for all heads
+    few : length t.heads.heads ≤ length s.streams.items
+    few = few-by draws.item (draws-more integer stream laws (inputs_of s) (inputs_of t) place
+        ready.inputs due now_due dues less draws) (rw used at ready.room.few)
+      where
+        -- by what was drawn
+        few-by : (item : Option (RangeInclusive T))
+            → length t.heads.heads ≡ length s.heads.heads + drawn_count integer stream laws
+            (inputs_of s) (inputs_of t) place ready.inputs due now_due dues less draws item
+            → length s.heads.heads + 1 ≤ length s.streams.items
+            → length t.heads.heads ≤ length s.streams.items
+        few-by None more room = omega (arith, more, room)
+        few-by (Some range) more room = omega (arith, more, room)
+
+    -- so nothing is due
+    pub refills : Refills integer stream s t
+    refills = record {
+      ready = record {
+        inputs = draws-ready integer stream laws (inputs_of s) (inputs_of t) place ready.inputs due
+            now_due dues less draws;
+        room = record {
+          used = rw none tt;
+          few = rw none (omega (arith, few, long));
+          room = omega (arith, long, room, ready.room.room);
+        };
+      };
+      none = none;
+      count = long;
+      uses = draws-uses integer stream laws (inputs_of s) (inputs_of t) place ready.inputs due
+          now_due dues less draws;
+      unstarted = draws-unstarted integer stream laws (inputs_of s) (inputs_of t) place ready.inputs
+          due now_due dues less draws;
+      left = λ finite. fewer finite;
+      compared =
+          let more = binary_digits-more (length t.heads.heads) (length s.streams.items) few in
+          omega (arith, compared, more);
+    }
+      where
+        -- no more ranges are left than before
+        fewer : IsFinite (inputs_left integer stream (inputs_of s))
+            → IsFinite (inputs_left integer stream (inputs_of t))
+            × (size (inputs_left integer stream (inputs_of t))
+            ≤ size (inputs_left integer stream (inputs_of s)))
+        fewer finite =
+            let set_left = left_of-set stream.draws_left
+            (drawn_count integer stream laws (inputs_of s) (inputs_of t) place ready.inputs due
+            now_due dues less draws draws.item)
+            (has_ended integer stream (inputs_of s)) (has_ended integer stream (inputs_of t))
+            s.streams.items place draws.before draws.after draws.stood
+            (draws-ended integer stream laws (inputs_of s) (inputs_of t) place ready.inputs due
+            now_due dues less draws)
+            (draws-less integer stream laws (inputs_of s) (inputs_of t) place ready.inputs due
+            now_due dues less draws) finite in
+            let more = draws-more integer stream laws (inputs_of s) (inputs_of t) place ready.inputs
+            due now_due dues less draws in
+            rw draws.stands (set_left.0, omega (arith, set_left.1, more))

@@ -1,0 +1,141 @@
+-- Heaps of heads: what the calls on their lists keep.
+use Rattle.std.proofs.Common.{◌≡◌, ℕ, Bool, ◌+◌, ◌*◌, ◌<◌, ◌≤◌, List, [], ◌∷◌, ◌++◌, length, All, sym, ap, subst, ◌∙◌, arith, slice_index_or, IsPermutation}
+use Rattle.std.proofs.lemmas.List.{get_or_append_left, get_or_default, length-append}
+use Rattle.std.proofs.lemmas.List.Elements.{All-from_get_or, All-get_or, All-tail}
+use Rattle.std.proofs.lemmas.List.Sorted.{All-permutation, IsPermutation-cons, IsPermutation-swap_remove, IsPermutation-sym, IsPermutation-to_front, IsPermutation-trans}
+use Rattle.std.specs.List.{swap_remove, SwappedAt}
+use Rattle.std.specs.Prelude.{◌≢◌, IsFalse, IsTrue}
+use Rattle.rsb_many.specs.Heads.{key_of, IsLeastOf}
+use Rattle.rsb_many.specs.HeapOrder.{key_at, parent, IsHeap, IsHeapButFirst, IsHeapButLast, IsLesserChild}
+use Rattle.rsb_many.specs.Keys.{comes_before}
+use Rattle.rsb_many.specs.declared.heads.Head.{Head}
+use Rattle.rsb_many.proofs.HeapLemmas.{cases_place, first-least, AreSwapped}
+use Rattle.rsb_many.proofs.KeyLemmas.{comes_before-as, comes_before-itself, comes_before-one_way}
+
+module _ {T : Type 0} (rank : T → ℕ) where
+  -- heads that change places change their keys' places
+  pub swapped-keys : (old new : List (Head T)) (one place : ℕ) → SwappedAt old new one place
+      → (other : Head T) → AreSwapped (key_at rank old other) (key_at rank new other) one place
+  swapped-keys old new one place swapped other = record {
+    one_is = ap (key_of rank) (swapped.0 other);
+    other_is = ap (key_of rank) (swapped.1 other);
+    elsewhere = λ next not_one not_other. ap (key_of rank) (swapped.2 next other not_one not_other);
+  }
+
+  -- the key at a place is that of the head there
+  pub key_at-is : (heads : List (Head T)) (place : ℕ) (head other : Head T) → place < length heads
+      → head ≡ slice_index_or heads place head → key_at rank heads other place ≡ key_of rank head
+  key_at-is heads place head other within is =
+      ap (key_of rank) (get_or_default heads place other head within ∙ sym is)
+
+  -- what holds of each head holds of the one at a place, however they are moved
+  pub fact-at : (Fact : Head T → Type 0) (old heads : List (Head T)) → All Fact old
+      → IsPermutation old heads → (place : ℕ) (head : Head T) → place < length heads
+      → head ≡ slice_index_or heads place head → Fact head
+  fact-at Fact old heads all kept place head within is =
+      subst Fact (sym is)
+      (All-get_or Fact heads place head within (All-permutation Fact old heads kept all))
+
+  -- what was answered of heads at two places holds of the keys there
+  pub answer-at : (heads : List (Head T)) (place next : ℕ) (one two : Head T) (answer test : Bool)
+      → place < length heads → next < length heads → one ≡ slice_index_or heads place one
+      → two ≡ slice_index_or heads next two
+      → answer ≡ comes_before (key_of rank one) (key_of rank two) → answer ≡ test
+      → (other : Head T)
+      → comes_before (key_at rank heads other place) (key_at rank heads other next) ≡ test
+  answer-at heads place next one two answer test within next_within one_is two_is answered is
+      other =
+      comes_before-as (key_at-is heads place one other within one_is)
+      (key_at-is heads next two other next_within two_is)
+      ∙ (sym answered ∙ is)
+
+  -- a heap with one head more at its end is one but for that head
+  pub pushed-heap : (heads : List (Head T)) (head : Head T) → IsHeap rank heads
+      → IsHeapButLast rank (heads ++ head ∷ [])
+  pushed-heap heads head heap other place some within not =
+      let long = length-append heads (head ∷ []) in
+      let short : place < length heads = omega (arith, within, not, long) in
+      let here = get_or_append_left heads (head ∷ []) other place short in
+      let low : parent place < length heads = omega (arith, short, some) in
+      let above = get_or_append_left heads (head ∷ []) other (parent place) low in
+      rw (here, above) (heap other place some short)
+
+  -- a list that agrees with a heap past the first place is one but for the head there
+  pub agreed-heap : (old new : List (Head T)) → IsHeap rank old → length new ≤ length old
+      → ((place : ℕ) (other : Head T) → place ≢ 0 → place < length new
+      → slice_index_or new place other ≡ slice_index_or old place other)
+      → IsHeapButFirst rank new
+  agreed-heap old new heap short agree other place some within not =
+      let below : parent place < length new = omega (arith, some, within) in
+      rw (
+        agree place other (λ none. absurd (omega (arith, none, some))) within,
+        agree (parent place) other not below,
+      )
+      (heap other place some (omega (arith, within, short)))
+
+  -- the first head of a heap is least of all
+  pub first-least_of : (heads rest : List (Head T)) (head : Head T) → IsHeap rank heads
+      → 0 < length heads → head ≡ slice_index_or heads 0 head → IsPermutation heads (head ∷ rest)
+      → IsLeastOf rank head rest
+  first-least_of heads rest head heap some is kept =
+      let key = key_of rank head in
+      let Fact = λ (other : Head T). IsFalse (comes_before (key_of rank other) key) in
+      let keys = key_at rank heads head in
+      let all = All-from_get_or Fact heads head (λ place within.
+      subst (λ first. IsFalse (comes_before (keys place) first))
+      (key_at-is heads 0 head head some is)
+      (first-least keys (length heads) (heap head) place place (omega arith) within)) in
+      All-tail Fact head rest (All-permutation Fact heads (head ∷ rest) kept all)
+
+  -- the two heads under a place
+  module _ (heads : List (Head T)) (place : ℕ) (left right : Head T)
+      (within : 2 * place + 1 + 1 < length heads)
+      (left_is : left ≡ slice_index_or heads (2 * place + 1) left)
+      (right_is : right ≡ slice_index_or heads (2 * place + 1 + 1) right) where
+    -- their keys
+    left_key : (other : Head T) → key_at rank heads other (2 * place + 1) ≡ key_of rank left
+    left_key other = key_at-is heads (2 * place + 1) left other (omega (arith, within)) left_is
+
+    right_key : (other : Head T) → key_at rank heads other (2 * place + 1 + 1) ≡ key_of rank right
+    right_key other = key_at-is heads (2 * place + 1 + 1) right other within right_is
+
+    -- where the right one comes first, it is the lesser
+    pub right-lesser : IsTrue (comes_before (key_of rank right) (key_of rank left))
+        → IsLesserChild rank heads place (2 * place + 1 + 1)
+    right-lesser first = record {
+      under = (omega arith, within, omega arith);
+      lesser = λ other next some short same. cases_place next (2 * place + 1 + 1)
+          (λ is. rw is (comes_before-itself (key_at rank heads other (2 * place + 1 + 1))))
+          (λ not.
+          let is : next ≡ 2 * place + 1 = omega (arith, some, same, not) in
+          comes_before-as (ap (key_at rank heads other) is ∙ left_key other) (right_key other)
+          ∙ comes_before-one_way (key_of rank right) (key_of rank left) first);
+    }
+
+    -- else the left one is
+    pub left-lesser : IsFalse (comes_before (key_of rank right) (key_of rank left))
+        → IsLesserChild rank heads place (2 * place + 1)
+    left-lesser most = record {
+      under = (omega arith, omega (arith, within), omega arith);
+      lesser = λ other next some short same. cases_place next (2 * place + 1)
+          (λ is. rw is (comes_before-itself (key_at rank heads other (2 * place + 1))))
+          (λ not.
+          let is : next ≡ 2 * place + 1 + 1 = omega (arith, some, same, not) in
+          comes_before-as (ap (key_at rank heads other) is ∙ right_key other) (left_key other)
+          ∙ most);
+    }
+
+  -- a list with one head more at its end, moved about, has that head and those before
+  pub pushed-kept : (old more new : List (Head T)) (head : Head T) → more ≡ old ++ head ∷ []
+      → IsPermutation more new → IsPermutation (head ∷ old) new
+  pushed-kept old more new head is kept =
+      IsPermutation-trans _ _ _ (IsPermutation-sym _ _ (IsPermutation-to_front old head))
+      (subst (λ heads. IsPermutation heads new) is kept)
+
+  -- a list without its first head, moved about, has those before but for that head
+  pub popped-kept : (old less new : List (Head T)) (head : Head T) → 0 < length old
+      → head ≡ slice_index_or old 0 head → less ≡ swap_remove old 0 head → IsPermutation less new
+      → IsPermutation old (head ∷ new)
+  popped-kept old less new head some first is kept =
+      IsPermutation-trans _ _ _ (IsPermutation-swap_remove old 0 head some first)
+      (IsPermutation-cons head _ _ (subst (λ heads. IsPermutation heads new) is kept))

@@ -1,0 +1,16 @@
+pub mod AscendingLemmas
+pub mod BegunLemmas
+pub mod DigitLemmas
+pub mod DrawnLemmas
+pub mod HeadLemmas
+pub mod HeapExamples
+pub mod HeapLemmas
+pub mod HeldLemmas
+pub mod InputsLemmas
+pub mod KMergeLemmas
+pub mod KeyLemmas
+pub mod LeftLemmas
+pub mod MergeAllLemmas
+pub mod StepLemmas
+pub mod SweepExamples
+pub mod SweepLemmas

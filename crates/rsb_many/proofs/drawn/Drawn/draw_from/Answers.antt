@@ -1,0 +1,54 @@
+use Rattle.std.proofs.Common.{◌≡◌, ap, arith, refl, subst, sym, ◌∙◌, ◌∷◌, slice_get, Some, None, IsPermutation}
+use Rattle.std.specs.Prelude.{IfSome}
+use Rattle.rsb_many.proofs.DrawnLemmas.{values-drawn}
+use Rattle.rsb_many.proofs.HeldLemmas.{slice_get-get_or}
+use Rattle.rsb_many.specs.Inputs.{head_of}
+use Rattle.rsb_streams.proofs.Sources.{IsLawful}
+use Rattle.rsb_many.proofs.drawn.Drawn.draw_from.Given.{Over}
+use Rattle.rsb_many.proofs.drawn.Drawn.draw_from.Goals as goal
+
+laws : (g : Over) → IsLawful g.T.Integer g.I.Draw
+laws g = record {
+  answers = g.met.I.Draw.answers;
+  sorted = g.met.I.Draw.sorted;
+}
+
+pub push-requires-clause-values : goal.push-requires-clause-values
+push-requires-clause-values g c =
+    let found : g.I.Draw.can_draw c.index_mut.result.now =
+    subst (λ each. IfSome each g.I.Draw.can_draw)
+    (slice_get-get_or c.args.self.now.streams.items c.args.place c.index_mut.result.now
+    c.requires.place ∙ ap Some (sym c.index_mut.ensures.value)) c.requires.ready in
+    let values = values-drawn g.T.Integer g.I.Draw (laws g) c.index_mut.result.now c.draw.new.self
+    c.in-Some.range c.args.place found c.in-Some.ensures.steps c.in-Some.ensures.goes in
+    record {
+      start = omega (arith, values.start, ap g.T.Integer.rank c.into_inner-start.ensures.start);
+      end = omega (arith, values.end, ap g.T.Integer.rank c.into_inner-start.ensures.end);
+    }
+
+pub returns-in-Some-clause-draws : goal.returns-in-Some-clause-draws
+returns-in-Some-clause-draws g c = record {
+  before = c.index_mut.result.now;
+  after = c.draw.new.self;
+  item = Some c.in-Some.range;
+  stood = slice_get-get_or c.args.self.now.streams.items c.args.place c.index_mut.result.now
+      c.requires.place ∙ ap Some (sym c.index_mut.ensures.value);
+  call = c.in-Some.ensures.steps;
+  goes = c.in-Some.ensures.goes;
+  stands = refl;
+  kept = rw (c.into_inner-start.ensures.start, c.into_inner-start.ensures.end)
+      at c.push.ensures.kept;
+}
+
+pub returns-in_default-clause-draws : goal.returns-in_default-clause-draws
+returns-in_default-clause-draws g c = record {
+  before = c.index_mut.result.now;
+  after = c.draw.new.self;
+  item = None;
+  stood = slice_get-get_or c.args.self.now.streams.items c.args.place c.index_mut.result.now
+      c.requires.place ∙ ap Some (sym c.index_mut.ensures.value);
+  call = c.in_default.ensures.steps;
+  goes = c.in_default.ensures.goes;
+  stands = refl;
+  kept = refl;
+}

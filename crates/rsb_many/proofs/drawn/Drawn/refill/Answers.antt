@@ -1,0 +1,17 @@
+use Rattle.std.proofs.Common.{sym, ◌∙◌}
+use Rattle.rsb_many.proofs.DrawnLemmas.{refills}
+use Rattle.rsb_streams.proofs.Sources.{IsLawful}
+use Rattle.rsb_many.proofs.drawn.Drawn.refill.Given.{Over}
+use Rattle.rsb_many.proofs.drawn.Drawn.refill.Goals as goal
+
+laws : (g : Over) → IsLawful g.T.Integer g.I.Draw
+laws g = record {
+  answers = g.met.I.Draw.answers;
+  sorted = g.met.I.Draw.sorted;
+}
+
+pub returns-in-Some : goal.returns-in-Some
+returns-in-Some g c = refills g.T.Integer g.I.Draw (laws g) c.args.self.now c.draw_from.new.self
+    c.in-Some.place c.requires (sym c.take.ensures.value ∙ c.in-Some.is)
+    (c.draw_from.ensures.used ∙ c.take.ensures.after) c.draw_from.ensures.room
+    c.draw_from.ensures.draws c.draw_from.ensures.compared

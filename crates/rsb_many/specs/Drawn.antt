@@ -1,0 +1,109 @@
+-- What a merge and a sweep of many streams hold.
+use Rattle.std.specs.Prelude.{◌≡◌, ℕ, ◌+◌, ◌<◌, ◌≤◌, false, nat_eq, nat_le, nat_lt, ◌&&◌, Bool, List, [], length, All, Option, Some, None, MatchOption, IfSome}
+use Rattle.std.specs.Iterator.{size, IsFinite}
+use Rattle.std.specs.Option.{option_len}
+use Rattle.std.specs.declared.ops.RangeInclusive.{RangeInclusive}
+use Rattle.rsb_integer.specs.declared.integer.Integer.{Ghosts as Elements}
+use Rattle.rsb_streams.specs.Lookahead.{Uses}
+use Rattle.rsb_streams.specs.Stream.{◌⊆◌}
+use Rattle.rsb_streams.specs.declared.draw.Draw.{Ghosts as Stream}
+use Rattle.rsb_many.specs.Heads.{binary_digits, HasValues, TakesLeast}
+use Rattle.rsb_many.specs.Inputs.{head_of, input_at, inputs_left, AreReady, Inputs}
+use Rattle.rsb_many.specs.Many.{gives_of, may_give_at, IsBegun}
+use Rattle.rsb_many.specs.declared.drawn.Drawn.{Drawn}
+use Rattle.rsb_many.specs.declared.heads.Head.{Head}
+
+-- whether this is the place
+abbrev pub is_at : Option ℕ → ℕ → Bool
+is_at None place = false
+is_at (Some used) place = nat_eq used place
+
+-- the inputs: a range is due of the one whose range was used last
+abbrev pub inputs_of : {T I A N : Type 0} → Drawn T I A N → Inputs T I
+inputs_of s = record {
+  streams = s.streams.items;
+  heads = s.heads.heads;
+  due = is_at s.used;
+}
+
+-- the start of the range of a head was not given
+abbrev pub IsUnstarted : {T : Type 0} → Head T → Type 0
+IsUnstarted head = head.started ≡ false
+
+-- there is room for a head of each input, and one of them may have been used last
+pub record HasRoomForAll {T I A N : Type 0} (s : Drawn T I A N) : Type 0 where
+  pub used : IfSome s.used (λ place. place < length s.streams.items)
+  pub few : length s.heads.heads + option_len s.used ≤ length s.streams.items
+  pub room : length s.streams.items ≤ s.heads.room
+
+-- it draws from the same streams as before
+pub record KeepsStreams {T I A N : Type 0} (s t : Drawn T I A N) : Type 0 where
+  pub count : length t.streams.items ≡ length s.streams.items
+  pub room : HasRoomForAll t
+
+module _ {T N I A : Type 0} (integer : Elements T N) (stream : Stream I T N) where
+  -- the inputs are ready, and there is room for their heads
+  pub record DrawnReady (s : Drawn T I A N) : Type 0 where
+    pub inputs : AreReady integer stream (inputs_of s)
+    pub room : HasRoomForAll s
+
+  -- the range that is due is drawn, if one is: no input uses anything
+  pub record Refills (s t : Drawn T I A N) : Type 0 where
+    pub ready : DrawnReady t
+    pub none : t.used ≡ None
+    pub count : length t.streams.items ≡ length s.streams.items
+    pub uses : (place : ℕ) → Uses (input_at integer stream (inputs_of s) place) []
+        (input_at integer stream (inputs_of t) place)
+    pub unstarted : All IsUnstarted s.heads.heads → All IsUnstarted t.heads.heads
+    pub left : IsFinite (inputs_left integer stream (inputs_of s))
+        → IsFinite (inputs_left integer stream (inputs_of t))
+        × (size (inputs_left integer stream (inputs_of t))
+        ≤ size (inputs_left integer stream (inputs_of s)))
+    pub compared : t.heads.comparisons
+        ≤ s.heads.comparisons + binary_digits (length s.streams.items)
+
+  -- the least head leaves, and a range of its input is due
+  pub record TakesHead (s : Drawn T I A N) (head : Head T) (t : Drawn T I A N) : Type 0 where
+    pub taken : TakesLeast integer.rank s.heads head t.heads
+    pub streams : t.streams ≡ s.streams
+    pub used : t.used ≡ Some head.input
+    pub room : s.heads.room ≤ t.heads.room
+
+-- no head is there, and nothing changes
+pub record HasNoHead {T I A N : Type 0} (s t : Drawn T I A N) : Type 0 where
+  pub old : s.heads.heads ≡ []
+  pub new : t.heads.heads ≡ []
+  pub streams : t.streams ≡ s.streams
+  pub used : t.used ≡ None
+  pub room : s.heads.room ≤ t.heads.room
+
+-- ---- streams of which the first ranges are drawn
+
+module _ {T N I A : Type 0} (integer : Elements T N) (stream : Stream I T N) where
+  -- of these the first ranges are drawn, and no more
+  pub record IsBegunOf (streams : List I) (s : Drawn T I A N) : Type 0 where
+    pub ready : DrawnReady integer stream s
+    pub unstarted : All IsUnstarted s.heads.heads
+    pub count : length s.streams.items ≡ length streams
+    pub begun : (place : ℕ) → IsBegun (may_give_at stream.may_give streams place)
+        (input_at integer stream (inputs_of s) place)
+
+  -- the inputs, where a range is due of those from a place on
+  abbrev pub due_from : ℕ → Drawn T I A N → Inputs T I
+  due_from first s = record {
+    streams = s.streams.items;
+    heads = s.heads.heads;
+    due = λ place. nat_le first place && nat_lt place (length s.streams.items);
+  }
+
+  -- of these streams the first ranges are drawn up to a place
+  pub record IsBegunTo (streams : List I) (first : ℕ) (s : Drawn T I A N) : Type 0 where
+    pub ready : AreReady integer stream (due_from first s)
+    pub unstarted : All IsUnstarted s.heads.heads
+    pub count : length s.streams.items ≡ length streams
+    pub begun : (place : ℕ) → gives_of (input_at integer stream (due_from first s) place)
+        ⊆ may_give_at stream.may_give streams place
+    pub used : s.used ≡ None
+    pub few : length s.heads.heads ≤ first
+    pub room : length s.streams.items ≤ s.heads.room
+    pub within : first ≤ length streams

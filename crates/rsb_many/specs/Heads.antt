@@ -1,0 +1,44 @@
+-- The heads of inputs, of which the least comes out first.
+use Rattle.std.specs.Prelude.{ℕ, zero, suc, cond, nat_lt, ◌/◌, ◌<◌, List, ◌∷◌, All, IsFalse, IsPermutation}
+use Rattle.rsb_many.specs.Keys.{comes_before, Key}
+use Rattle.rsb_many.specs.declared.heads.Head.{Head}
+
+-- what stands in a heap of heads, in no order that is told; for how many there is room at least;
+-- and how many comparisons of keys were made so far
+pub record Kept (T : Type 0) : Type 0 where
+  pub heads : List (Head T)
+  pub room : ℕ
+  pub comparisons : ℕ
+
+-- a head stands at the start of its range, or, once that was given, at its end
+abbrev pub key_of : {T : Type 0} → (T → ℕ) → Head T → Key
+key_of rank head = record {
+  at = cond head.started (rank head.end) (rank head.start);
+  is_end = head.started;
+  input = head.input;
+}
+
+-- both ends of the range of a head are values of a type of so many
+pub record HasValues {T : Type 0} (rank : T → ℕ) (value_count : ℕ) (head : Head T) : Type 0 where
+  pub start : rank head.start < value_count
+  pub end : rank head.end < value_count
+
+-- none of the heads comes before this one
+abbrev pub IsLeastOf : {T : Type 0} → (T → ℕ) → Head T → List (Head T) → Type 0
+IsLeastOf rank head heads =
+    All (λ other. IsFalse (comes_before (key_of rank other) (key_of rank head))) heads
+
+-- this head came out: none that stays comes before it
+pub record TakesLeast {T : Type 0} (rank : T → ℕ) (old : Kept T) (head : Head T) (new : Kept T)
+    : Type 0 where
+  pub kept : IsPermutation old.heads (head ∷ new.heads)
+  pub least : IsLeastOf rank head new.heads
+
+-- how many binary digits a number has, none of 0: `most` is at least as many
+abbrev pub digits_within : ℕ → ℕ → ℕ
+digits_within zero n = 0
+digits_within (suc most) n = cond (nat_lt 0 n) (suc (digits_within most (n / 2))) 0
+
+-- how many binary digits a number has: none of 0
+unfoldable pub binary_digits : ℕ → ℕ
+binary_digits n = digits_within n n

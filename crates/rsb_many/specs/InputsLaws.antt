@@ -1,0 +1,25 @@
+-- How many ranges many inputs have left.
+use Rattle.std.proofs.Common.{◌≡◌, ℕ, zero, suc, Bool, true, false, List, [], ◌∷◌, slice_get, refl}
+use Rattle.std.specs.Iterator.{Count, count_unless, IsFinite}
+use Rattle.std.specs.Prelude.{IfSome}
+use Rattle.rsb_streams.specs.MergeLaws.{both-finite}
+use Rattle.rsb_integer.specs.declared.integer.Integer.{Ghosts as Elements}
+use Rattle.rsb_streams.specs.Rows.{IsSorted}
+use Rattle.rsb_streams.specs.declared.draw.Draw.{Ghosts as Stream}
+use Rattle.rsb_many.specs.Inputs.{has_ended, inputs_left, left_of, AreReady, Inputs}
+
+-- a count that ends unless it is over, ends
+finite-unless : (over : Bool) (left : Count) → (over ≡ false → IsFinite left)
+    → IsFinite (count_unless over left)
+finite-unless true left ends = tt
+finite-unless false left ends = ends refl
+
+-- where each stream ends that is not over, all end together
+pub left_of-finite : {S : Type 0} (left : S → Count) (over : ℕ → Bool) (streams : List S)
+    → ((place : ℕ) → over place ≡ false → IfSome (slice_get streams place) (λ s. IsFinite (left s)))
+    → IsFinite (left_of left over streams)
+left_of-finite left over [] ends = tt
+left_of-finite left over (stream ∷ streams) ends = both-finite (count_unless (over zero) (left stream))
+    (left_of left (λ place. over (suc place)) streams)
+    (finite-unless (over zero) (left stream) (ends zero))
+    (left_of-finite left (λ place. over (suc place)) streams (λ place. ends (suc place)))

@@ -1,0 +1,40 @@
+-- The merge of any number of streams by their starts.
+use Rattle.std.specs.Prelude.{◌≡◌, ℕ, ◌+◌, ◌*◌, ◌<◌, ◌≤◌, cond, nat_lt, length, All, Option}
+use Rattle.std.specs.declared.ops.RangeInclusive.{RangeInclusive}
+use Rattle.rsb_integer.specs.declared.integer.Integer.{Ghosts as Elements}
+use Rattle.rsb_streams.specs.Lookahead.{AsksOne, Input}
+use Rattle.rsb_streams.specs.Rows.{asking}
+use Rattle.rsb_streams.specs.declared.draw.Draw.{Ghosts as Stream}
+use Rattle.rsb_many.specs.Drawn.{inputs_of, DrawnReady, IsUnstarted}
+use Rattle.rsb_many.specs.Heads.{binary_digits}
+use Rattle.rsb_many.specs.Inputs.{input_at, inputs_left, inputs_merge}
+use Rattle.rsb_many.specs.declared.kmerge.KMerge.{KMerge}
+
+-- how many comparisons of keys one answer may take, of so many inputs: four for each binary digit of
+-- their number, which has one at least, and four more
+abbrev pub comparison_bound : ℕ → ℕ
+comparison_bound count = 4 * binary_digits (cond (nat_lt 0 count) count 1) + 4
+
+module _ {T N I A : Type 0} (integer : Elements T N) (stream : Stream I T N) where
+  -- the streams may be drawn from, and no range was half given
+  pub record KMergeReady (s : KMerge T I A N) : Type 0 where
+    pub drawn : DrawnReady integer stream s.inputs
+    pub unstarted : All IsUnstarted s.inputs.heads.heads
+
+  -- its inputs, at places from 0 on
+  abbrev pub kmerge_inputs : KMerge T I A N → ℕ → Input
+  kmerge_inputs s place = input_at integer stream (inputs_of s.inputs) place
+
+  -- a draw takes one range of one of the streams, with few comparisons
+  pub record AsksInOrder (s : KMerge T I A N) (item : Option (RangeInclusive T))
+      (t : KMerge T I A N) : Type 0 where
+    pub takes : AsksOne integer.rank kmerge_inputs s item t
+    pub count : length t.inputs.streams.items ≡ length s.inputs.streams.items
+    pub compared : t.inputs.heads.comparisons
+        ≤ s.inputs.heads.comparisons + comparison_bound (length s.inputs.streams.items)
+
+  -- the merge: what is held and still to come of all, by starts
+  abbrev pub kmerge : Stream (KMerge T I A N) T N
+  kmerge = asking integer AsksInOrder KMergeReady
+      (λ s. inputs_left integer stream (inputs_of s.inputs))
+      (λ s. inputs_merge integer stream (inputs_of s.inputs))

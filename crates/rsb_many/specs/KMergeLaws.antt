@@ -1,0 +1,61 @@
+-- The law of a merge of any number of streams: it comes by starts.
+use Rattle.std.proofs.Common.{◌≡◌, ℕ, zero, suc, ◌<◌, Bool, true, false, List, [], ◌∷◌, ◌++◌, length, slice_get, refl, arith, Option, Some, None}
+use Rattle.std.specs.Iterator.{Count, IsFinite}
+use Rattle.std.specs.Prelude.{IfSome, MatchOption}
+use Rattle.rsb_integer.specs.Runs.{Interval}
+use Rattle.rsb_integer.specs.declared.integer.Integer.{Ghosts as Elements}
+use Rattle.rsb_streams.specs.Rows.{IsSorted}
+use Rattle.rsb_streams.specs.Stream.{unless, HasOutcome, Outcomes}
+use Rattle.rsb_streams.specs.declared.draw.Draw.{Ghosts as Stream}
+use Rattle.rsb_many.specs.Drawn.{inputs_of}
+use Rattle.rsb_many.specs.Inputs.{has_ended, input_at, inputs_left, AreReady, Inputs}
+use Rattle.rsb_many.specs.InputsLaws.{left_of-finite}
+use Rattle.rsb_many.specs.KMerge.{kmerge}
+use Rattle.rsb_many.specs.Many.{gives_of}
+use Rattle.rsb_many.specs.ManyLaws.{merges_all-some, merges_all-starts}
+
+module _ {T N I : Type 0} (integer : Elements T N) (stream : Stream I T N)
+    (sorted : IsSorted integer stream) where
+  -- something may come of an input, by whether it has ended and by its stream
+  some-by : (over : Bool) (found : Option I) (held : List Interval)
+      → (over ≡ false → IfSome found stream.can_draw)
+      → HasOutcome (gives_of (record {
+        held = held;
+        undrawn = unless over
+            (λ runs. MatchOption found (runs ≡ []) (λ s. stream.may_give s runs));
+      }))
+  some-by true found held can = λ never. never (held ++ []) ([], refl, refl)
+  some-by false None held can = λ never. never (held ++ []) ([], refl, refl)
+  some-by false (Some s) held can =
+      λ never. (sorted s (can refl)).some (λ runs may. never (held ++ runs) (runs, may, refl))
+
+  -- the stream of an input ends, by what it is
+  ends-by : (found : Option I) → IfSome found stream.can_draw
+      → IfSome found (λ s. IsFinite (stream.draws_left s))
+  ends-by None can = tt
+  ends-by (Some s) can = (sorted s can).ends
+
+  -- the ranges that many inputs have left end
+  pub inputs-finite : (s : Inputs T I) → AreReady integer stream s
+      → IsFinite (inputs_left integer stream s)
+  inputs-finite s ready = left_of-finite stream.draws_left (has_ended integer stream s) s.streams
+      (λ place going. ends-by (slice_get s.streams place) (ready.can place going))
+
+  -- the ranges come by their starts, there are some lists of them, and they end
+  pub kmerge-sorted : {A : Type 0} → IsSorted integer (kmerge {A = A} integer stream)
+  kmerge-sorted s ready =
+      let inputs = inputs_of s.inputs in
+      let are = ready.drawn.inputs in
+      let count = length inputs.streams in
+      record {
+        some = merges_all-some integer.value_count count
+            (λ place. gives_of (input_at integer stream inputs place))
+            (λ place less. some-by (has_ended integer stream inputs place)
+            (slice_get inputs.streams place) (input_at integer stream inputs place).held
+            (are.can place))
+            (λ place less. are.sorted place);
+        all = merges_all-starts integer.value_count 0 count
+            (λ place. gives_of (input_at integer stream inputs place))
+            (λ place less. are.sorted place);
+        ends = inputs-finite inputs are;
+      }

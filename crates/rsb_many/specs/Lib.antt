@@ -1,0 +1,11 @@
+pub mod Drawn
+pub mod Heads
+pub mod HeapOrder
+pub mod Inputs
+pub mod InputsLaws
+pub mod KMerge
+pub mod KMergeLaws
+pub mod Keys
+pub mod Many
+pub mod ManyLaws
+pub mod Sweep

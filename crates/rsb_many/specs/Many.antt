@@ -1,0 +1,49 @@
+-- Any number of streams, at places from 0 on, and what is made of what they give.
+use Rattle.std.specs.Prelude.{ℕ, zero, suc, List, [], ◌∷◌, ◌++◌, ◌≡◌, ◌≤◌, length, map, slice_get, MatchOption}
+use Rattle.rsb_integer.specs.Runs.{Interval, members, AreRuns}
+use Rattle.rsb_integer.specs.Selection.{Selection}
+use Rattle.rsb_streams.specs.Lookahead.{Input}
+use Rattle.rsb_streams.specs.Stream.{◌⊆◌, just, merges, Outcomes}
+
+-- what an input may give: what is held of it, and then what it still gives
+abbrev pub gives_of : Input → Outcomes
+gives_of input runs = (rest : List Interval) × input.undrawn rest × (runs ≡ input.held ++ rest)
+
+-- what each of some streams may give, by its place among them: nothing past the last of them
+abbrev pub may_give_at : {S : Type 0} → (S → Outcomes) → List S → ℕ → Outcomes
+may_give_at may_give streams place runs =
+    MatchOption (slice_get streams place) (runs ≡ []) (λ stream. may_give stream runs)
+
+-- ---- of so many streams
+
+-- what they give, merged by starts: what the first gives with a merge of what the others do
+abbrev pub merges_all : ℕ → ℕ → (ℕ → Outcomes) → Outcomes
+merges_all n zero may_give = just []
+merges_all n (suc count) may_give =
+    merges n (may_give zero) (merges_all n count (λ place. may_give (suc place)))
+
+-- each may give the list at its place
+abbrev pub OneOfEach : ℕ → (ℕ → Outcomes) → List (List Interval) → Type 0
+OneOfEach zero may_give [] = Unit {0}
+OneOfEach zero may_give (runs ∷ lists) = ⊥
+OneOfEach (suc count) may_give [] = ⊥
+OneOfEach (suc count) may_give (runs ∷ lists) =
+    may_give zero runs × OneOfEach count (λ place. may_give (suc place)) lists
+
+-- the fact holds of lists that they may give
+abbrev pub SomeOfEach : ℕ → (ℕ → Outcomes) → (List (List Interval) → Type 0) → Type 0
+SomeOfEach count may_give Fact =
+    ¬ ((lists : List (List Interval)) → OneOfEach count may_give lists → ¬ (Fact lists))
+
+-- the runs of a set made of what they gave
+abbrev pub runs_by_all : ℕ → (List Selection → Selection) → ℕ → (ℕ → Outcomes) → Outcomes
+runs_by_all n operation count may_give runs = SomeOfEach count may_give
+    (λ lists. AreRuns n (operation (map members lists)) runs)
+
+-- ---- inputs that a stream has drawn from when it was built
+
+-- what is held of an input and what it still gives is what a stream may give, and one range at most
+-- is held
+pub record IsBegun (may_give : Outcomes) (input : Input) : Type 0 where
+  pub gives : gives_of input ⊆ may_give
+  pub one : length input.held ≤ 1

@@ -1,0 +1,98 @@
+//! The streams of many inputs, with the heads that were drawn of them.
+
+ghost use Rattle.std.specs.Prelude.{◌≡◌, ◌+◌, ◌*◌, ◌<◌, ◌≤◌, [], length, slice_get, All, IfOk, IfSome, MatchOption, None};
+ghost use Rattle.rsb_many.specs.Drawn.{DrawnReady, HasNoHead, IsBegunOf, Refills, TakesHead};
+ghost use Rattle.rsb_many.specs.Heads.{binary_digits};
+ghost use Rattle.rsb_many.specs.Inputs.{DrawsAt};
+
+use crate::heads::{Head, Heads};
+use rsb_integer::Integer;
+use rsb_streams::Draw;
+use std::alloc::{AllocError, Allocator, Global};
+
+/// Streams, and the heads that were drawn of them: what a merge and a sweep of many hold.
+#[derive(Debug, Drop)]
+pub(crate) struct Drawn<T: Integer, I, A: Allocator = Global> {
+    streams: Vec<I, A>,
+    heads: Heads<T, A>,
+    // The input whose range was used last: its next one is drawn when one more is asked for.
+    used: Option<usize>,
+}
+
+impl<T: Integer, I: Draw<T>, A: Allocator> Drawn<T, I, A> {
+    /// Streams that may be drawn from, with the head of each. Without memory nothing is made.
+    pub(crate) fn over(alloc: A, streams: Vec<I, A>) -> Result<Self, AllocError>
+        requires { All I.can_draw streams.items }
+        ensures { IfOk result (λ drawn. IsBegunOf T.Integer.own I.Draw streams.items drawn) }
+    {
+        let heads = Heads::with_room(alloc, streams.len())?;
+        let mut drawn = Drawn {
+            streams,
+            heads,
+            used: None,
+        };
+        drawn.begin();
+        Ok(drawn)
+    }
+
+    /// Draws the first range of each stream.
+    fn begin(&mut self)
+        requires can { All I.can_draw self.old.streams.items }
+        requires none { self.old.heads.heads ≡ [] }
+        requires used { self.old.used ≡ None }
+        requires room { length self.old.streams.items ≤ self.old.heads.room }
+        ensures { IsBegunOf T.Integer.own I.Draw self.old.streams.items self.new }
+    {
+        let mut place = 0;
+        while place < self.streams.len() {
+            self.draw_from(place);
+            place += 1;
+        }
+    }
+
+    /// Draws a range of the input at a place, whose head goes among the others.
+    fn draw_from(&mut self, place: usize)
+        requires place { place < length self.old.streams.items }
+        requires ready { IfSome (slice_get self.old.streams.items place) I.can_draw }
+        requires room { length self.old.heads.heads < self.old.heads.room }
+        ensures draws { DrawsAt T.Integer.own I.Draw place self.old.streams.items
+            self.old.heads.heads self.new.streams.items self.new.heads.heads }
+        ensures used { self.new.used ≡ self.old.used }
+        ensures room { self.old.heads.room ≤ self.new.heads.room }
+        ensures compared { self.new.heads.comparisons
+            ≤ self.old.heads.comparisons + binary_digits (length self.new.heads.heads) }
+    {
+        if let Some(range) = self.streams[place].draw() {
+            let (start, end) = range.into_inner();
+            self.heads.push(Head {
+                start,
+                end,
+                started: false,
+                input: place,
+            });
+        }
+    }
+
+    /// Draws the range that is due, if one is.
+    pub(crate) fn refill(&mut self)
+        requires { DrawnReady T.Integer.own I.Draw self.old }
+        ensures { Refills T.Integer.own I.Draw self.old self.new }
+    {
+        if let Some(place) = self.used.take() {
+            self.draw_from(place);
+        }
+    }
+
+    /// Takes the least head out, where no range is due. The next one of its input is due then.
+    pub(crate) fn take(&mut self) -> Option<Head<T>>
+        requires none { self.old.used ≡ None }
+        ensures taken { MatchOption result (HasNoHead self.old self.new)
+            (λ head. TakesHead T.Integer.own I.Draw self.old head self.new) }
+        ensures compared { self.new.heads.comparisons
+            ≤ self.old.heads.comparisons + 2 * binary_digits (length self.old.heads.heads) }
+    {
+        let head = self.heads.pop()?;
+        self.used = Some(head.input);
+        Some(head)
+    }
+}

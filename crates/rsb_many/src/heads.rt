@@ -1,0 +1,175 @@
+//! The heads of inputs, in a binary heap: the one module that sees keys.
+
+ghost use Rattle.std.specs.Prelude.{◌≡◌, ◌+◌, ◌*◌, ◌<◌, ◌≤◌, [], ◌∷◌, length, All, IfOk, IsFalse, IsPermutation, MatchOption};
+ghost use Rattle.std.specs.Vec.{vec_capacity};
+ghost use Rattle.rsb_many.specs.Heads.{binary_digits, key_of, HasValues, TakesLeast};
+ghost use Rattle.rsb_many.specs.HeapOrder.{IsHeap, IsHeapButFirst, IsHeapButLast, IsLesserChild};
+ghost use Rattle.rsb_many.specs.Keys.{comes_before};
+
+use crate::comparisons::Comparisons;
+use rsb_integer::Integer;
+use std::alloc::{AllocError, Allocator, Global};
+use std::marker::Model;
+
+/// A range that was drawn of an input and is not yet used.
+#[derive(Clone, Copy, Debug, Drop)]
+pub(crate) struct Head<T> {
+    pub(crate) start: T,
+    pub(crate) end: T,
+    // Whether its start was given: it stands at its end then.
+    pub(crate) started: bool,
+    pub(crate) input: usize,
+}
+
+impl<T: Integer> Head<T> {
+    /// The value where it stands.
+    fn at(&self) -> T
+        ensures value { HasValues T.rank T.value_count self.now → T.rank result < T.value_count }
+        ensures at { T.rank result ≡ (key_of T.rank self.now).at }
+    {
+        if self.started { self.end } else { self.start }
+    }
+}
+
+/// Whether one head comes before another: the one comparison of keys.
+fn comes_first<T: Integer>(one: &Head<T>, other: &Head<T>, comparisons: &mut Comparisons) -> bool
+    requires one { HasValues T.rank T.value_count one.now }
+    requires other { HasValues T.rank T.value_count other.now }
+    ensures first { result ≡ comes_before (key_of T.rank one.now) (key_of T.rank other.now) }
+    ensures compared { comparisons.new.made ≡ comparisons.old.made + 1 }
+{
+    comparisons.count();
+    one.at()
+        .cmp(&other.at())
+        .then(one.started.cmp(&other.started))
+        .then(one.input.cmp(&other.input))
+        .is_lt()
+}
+
+/// The one of the heads under a place that the other does not come before.
+fn lesser_child<T: Integer>(heads: &[Head<T>], place: usize, comparisons: &mut Comparisons) -> usize
+    requires some { 2 * place + 1 < length heads.now }
+    requires values { All (HasValues T.rank T.value_count) heads.now }
+    ensures child { IsLesserChild T.rank heads.now place result }
+    ensures compared { comparisons.new.made ≤ comparisons.old.made + 1 }
+{
+    let left = 2 * place + 1;
+    let right = left + 1;
+    if right >= heads.len() {
+        return left;
+    }
+    if comes_first(&heads[right], &heads[left], comparisons) {
+        right
+    } else {
+        left
+    }
+}
+
+/// Moves the last head up to where it belongs, among heads that are a heap but for it.
+fn sift_up<T: Integer, A: Allocator>(heads: &mut Vec<Head<T>, A>, comparisons: &mut Comparisons)
+    requires some { 0 < length heads.old.items }
+    requires values { All (HasValues T.rank T.value_count) heads.old.items }
+    requires order { IsHeapButLast T.rank heads.old.items }
+    ensures kept { IsPermutation heads.old.items heads.new.items }
+    ensures order { IsHeap T.rank heads.new.items }
+    ensures room { vec_capacity heads.new ≡ vec_capacity heads.old }
+    ensures compared { comparisons.new.made
+        ≤ comparisons.old.made + binary_digits (length heads.new.items) }
+{
+    let mut place = heads.len() - 1;
+    while place > 0 {
+        let parent = (place - 1) / 2;
+        if !comes_first(&heads[place], &heads[parent], comparisons) {
+            return;
+        }
+        heads.swap(place, parent);
+        place = parent;
+    }
+}
+
+/// Moves the first head down to where it belongs, among heads that are a heap but for it.
+fn sift_down<T: Integer, A: Allocator>(heads: &mut Vec<Head<T>, A>, comparisons: &mut Comparisons)
+    requires values { All (HasValues T.rank T.value_count) heads.old.items }
+    requires order { IsHeapButFirst T.rank heads.old.items }
+    ensures kept { IsPermutation heads.old.items heads.new.items }
+    ensures order { IsHeap T.rank heads.new.items }
+    ensures room { vec_capacity heads.new ≡ vec_capacity heads.old }
+    ensures compared { comparisons.new.made
+        ≤ comparisons.old.made + 2 * binary_digits (length heads.new.items) }
+{
+    let mut place = 0;
+    while place < heads.len() / 2 {
+        let child = lesser_child(heads, place, comparisons);
+        if !comes_first(&heads[child], &heads[place], comparisons) {
+            return;
+        }
+        heads.swap(place, child);
+        place = child;
+    }
+}
+
+/// Heads of inputs, of which the least comes out first. The room for them is made when it is built.
+#[derive(Debug, Drop)]
+pub(crate) struct Heads<T: Integer, A: Allocator = Global> {
+    heads: Vec<Head<T>, A>,
+    comparisons: Comparisons,
+}
+
+impl<T: Integer, A: Allocator> Model for Heads<T, A> {
+    ghost use Rattle.std.specs.Vec.{vec_capacity};
+    ghost use Rattle.rsb_many.specs.Heads.{Kept};
+    ghost use Rattle.rsb_many.specs.HeapOrder.{AreKept};
+
+    ghost Value = { Kept T };
+
+    ghost view = { λ s. record {
+      heads = s.heads.items;
+      room = vec_capacity s.heads;
+      comparisons = s.comparisons.made;
+    } };
+
+    ghost invariant = { λ s. AreKept T.rank T.value_count s.heads.items };
+}
+
+impl<T: Integer, A: Allocator> Heads<T, A> {
+    /// No heads, with room for as many as are told.
+    pub(crate) fn with_room(alloc: A, room: usize) -> Result<Self, AllocError>
+        ensures none { IfOk result (λ heads. heads.heads ≡ []) }
+        ensures room { IfOk result (λ heads. room ≤ heads.room) }
+        ensures compared { IfOk result (λ heads. heads.comparisons ≡ 0) }
+    {
+        Ok(Heads {
+            heads: Vec::with_capacity(alloc, room)?,
+            comparisons: Comparisons::none(),
+        })
+    }
+
+    /// Adds a head, for which there is room.
+    pub(crate) fn push(&mut self, head: Head<T>)
+        requires room { length self.old.heads < self.old.room }
+        requires values { HasValues T.rank T.value_count head }
+        ensures kept { IsPermutation (head ∷ self.old.heads) self.new.heads }
+        ensures room { self.old.room ≤ self.new.room }
+        ensures compared { self.new.comparisons
+            ≤ self.old.comparisons + binary_digits (length self.new.heads) }
+    {
+        self.heads.push_reserved(head);
+        sift_up(&mut self.heads, &mut self.comparisons);
+    }
+
+    /// Takes the least head out, or says that there is none.
+    pub(crate) fn pop(&mut self) -> Option<Head<T>>
+        ensures taken { MatchOption result ((self.old.heads ≡ []) × (self.new.heads ≡ []))
+            (λ head. TakesLeast T.rank self.old head self.new) }
+        ensures room { self.old.room ≤ self.new.room }
+        ensures compared { self.new.comparisons
+            ≤ self.old.comparisons + 2 * binary_digits (length self.old.heads) }
+    {
+        if self.heads.is_empty() {
+            return None;
+        }
+        let head = self.heads.swap_remove(0);
+        sift_down(&mut self.heads, &mut self.comparisons);
+        Some(head)
+    }
+}

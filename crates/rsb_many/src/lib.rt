@@ -1,0 +1,12 @@
+//! Merges, sweeps and set algebra over any number of streams.
+#![tactic(auto)]
+
+pub(crate) mod comparisons;
+pub(crate) mod drawn;
+pub(crate) mod heads;
+pub mod kmerge;
+pub mod laws;
+pub mod sweep_event;
+
+pub use kmerge::KMerge;
+pub use sweep_event::SweepEvent;
