@@ -1,8 +1,10 @@
 pub mod AscendingLemmas
+pub mod BegunHeads
 pub mod BegunLemmas
 pub mod DigitLemmas
 pub mod DrawnLemmas
 pub mod HeadLemmas
+pub mod HeadTurns
 pub mod HeapExamples
 pub mod HeapLemmas
 pub mod HeldLemmas
@@ -11,6 +13,8 @@ pub mod KMergeLemmas
 pub mod KeyLemmas
 pub mod LeftLemmas
 pub mod MergeAllLemmas
+pub mod MultiwaySweepLemmas
+pub mod RestsLemmas
 pub mod StepLemmas
 pub mod SweepExamples
 pub mod SweepLemmas

@@ -8,4 +8,5 @@ pub mod KMergeLaws
 pub mod Keys
 pub mod Many
 pub mod ManyLaws
+pub mod MultiwaySweep
 pub mod Sweep

@@ -6,7 +6,9 @@ pub(crate) mod drawn;
 pub(crate) mod heads;
 pub mod kmerge;
 pub mod laws;
+pub mod multiway_sweep;
 pub mod sweep_event;
 
 pub use kmerge::KMerge;
+pub use multiway_sweep::MultiwaySweep;
 pub use sweep_event::SweepEvent;
