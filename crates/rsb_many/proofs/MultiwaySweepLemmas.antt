@@ -2,7 +2,7 @@
 use Rattle.std.proofs.Common.{◌≡◌, ◌≢◌, inl, inr, ℕ, zero, suc, ◌+◌, ◌*◌, ◌<◌, ◌≤◌, Bool, true, false, cond, List, [], ◌∷◌, ◌++◌, length, map, slice_get, refl, sym, ap, subst, ◌∙◌, arith, All, sum_by, Option, Some, None, IsFalse}
 use Rattle.std.proofs.lemmas.Bool.{cases_eq}
 use Rattle.std.proofs.lemmas.List.{append-nil}
-use Rattle.std.proofs.lemmas.List.Elements.{All-head, All-tail}
+use Rattle.std.proofs.lemmas.List.Elements.{All-head, All-tail, All-weaker}
 use Rattle.std.proofs.lemmas.List.Sorted.{sum_by-IsPermutation}
 use Rattle.std.proofs.lemmas.List.Sums.{sum_by-cons}
 use Rattle.std.specs.Iterator.{size, IsFinite, MakesProgress}
@@ -56,6 +56,16 @@ at-touching may_give (stream ∷ streams) all zero runs may =
 at-touching may_give (stream ∷ streams) all (suc place) runs may =
     at-touching may_give streams (All-tail (λ each. may_give each ⊆ IsTouching) stream streams all)
     place runs may
+
+-- streams that give canonical lists give lists that may touch
+pub canonical-touching : {S : Type 0} (n : ℕ) (can : S → Type 0) (may_give : S → Outcomes)
+    (streams : List S)
+    → ((stream : S) → can stream → may_give stream ⊆ IsCanonicalIn n) → All can streams
+    → (place : ℕ) → may_give_at may_give streams place ⊆ IsTouching
+canonical-touching n can may_give streams canonical all = at-touching may_give streams
+    (All-weaker can (λ stream. may_give stream ⊆ IsTouching)
+    (λ stream ready runs may. touching-canonical 0 runs (canonical stream ready runs may).0)
+    streams all)
 
 module _ {T N I A : Type 0} (integer : Elements T N) (stream : Stream I T N)
     (laws : IsLawful integer stream) where

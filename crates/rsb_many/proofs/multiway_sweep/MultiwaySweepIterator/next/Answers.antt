@@ -1,4 +1,4 @@
-use Rattle.std.proofs.Common.{◌≡◌, ◌<◌, ◌+◌, length, arith, refl, subst, sym, None}
+use Rattle.std.proofs.Common.{◌≡◌, arith, refl, subst, sym}
 use Rattle.rsb_integer.specs.Rank.{interval_of}
 use Rattle.rsb_many.specs.Inputs.{run_of}
 use Rattle.rsb_many.specs.MultiwaySweep.{Sweeps}
