@@ -10,3 +10,5 @@ pub mod Many
 pub mod ManyLaws
 pub mod MultiwaySweep
 pub mod Sweep
+pub mod SweepPieces
+pub mod SweepPiecesLaws

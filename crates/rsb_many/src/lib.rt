@@ -8,6 +8,7 @@ pub mod kmerge;
 pub mod laws;
 pub mod multiway_sweep;
 pub mod sweep_event;
+pub(crate) mod sweep_pieces;
 
 pub use kmerge::KMerge;
 pub use multiway_sweep::MultiwaySweep;
