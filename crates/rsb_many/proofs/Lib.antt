@@ -3,6 +3,7 @@ pub mod BegunHeads
 pub mod BegunLemmas
 pub mod DigitLemmas
 pub mod DrawnLemmas
+pub mod EdgeLemmas
 pub mod HeadLemmas
 pub mod HeadTurns
 pub mod HeapExamples
@@ -18,3 +19,4 @@ pub mod RestsLemmas
 pub mod StepLemmas
 pub mod SweepExamples
 pub mod SweepLemmas
+pub mod SweepPiecesLemmas

@@ -70,11 +70,15 @@ abbrev pub IsClosed : {T : Type 0} → ℕ → Option T → List Event → Type 
 IsClosed n (Some start) events = odd_past (map edge_of events) n ≡ true
 IsClosed n None events = (odd_past (map edge_of events) n ≡ false) ⊎ HasEdgesFrom n n events
 
--- the piece that has begun starts at a value, no edge lies before it, and each piece has an end
+-- where no edge lies before: at the start of the piece that has begun
+abbrev pub low_of : {T : Type 0} → (T → ℕ) → Option T → ℕ
+low_of rank None = 0
+low_of rank (Some start) = rank start
+
+-- no edge falls, also after the start of the piece that has begun, and each piece has an end
 pub record IsWhole {T : Type 0} (rank : T → ℕ) (n : ℕ) (start : Option T) (events : List Event)
     : Type 0 where
-  pub edges : MatchOption start (HasEdgesFrom n 0 events)
-      (λ value. (rank value < n) × HasEdgesFrom n (rank value) events)
+  pub edges : HasEdgesFrom n (low_of rank start) events
   pub closed : IsClosed n start events
 
 -- the fact holds of a list of events that may come
@@ -112,9 +116,10 @@ module _ {T N I A : Type 0} (integer : Elements T N) (stream : Stream I T N) whe
   abbrev pub pieces_inputs : SweepPieces T I A N → ℕ → Input
   pieces_inputs s = sweep_inputs integer stream s.sweep
 
-  -- the sweep may be called, and each piece has an end
+  -- the sweep may be called, a piece that has begun starts at a value, and each has an end
   pub record TellsPieces (s : SweepPieces T I A N) : Type 0 where
     pub sweep : SweepReady integer stream s.sweep
+    pub start : IfSome s.start (λ value. rank value < n)
     pub whole : (events : List Event) → sweep_may_give integer stream s.sweep events
         → IsWhole rank n s.start events
 

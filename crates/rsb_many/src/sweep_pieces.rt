@@ -89,9 +89,8 @@ impl<T: Integer, I: Draw<T>, A: Allocator> Draw<T> for SweepPieces<T, I, A> {
 
     fn draw(&mut self) -> Option<RangeInclusive<T>> {
         while let Some(event) = self.sweep.next() {
-            let piece = pass(&mut self.start, event);
-            if piece.is_some() {
-                return piece;
+            if let Some(piece) = pass(&mut self.start, event) {
+                return Some(piece);
             }
         }
         None
