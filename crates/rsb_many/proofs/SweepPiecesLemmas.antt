@@ -9,17 +9,17 @@ use Rattle.rsb_integer.specs.Rank.{interval_of}
 use Rattle.rsb_integer.specs.Runs.{Interval}
 use Rattle.rsb_integer.specs.declared.integer.Integer.{Ghosts as Elements}
 use Rattle.rsb_integer.proofs.ListLemmas.{true_or_false}
-use Rattle.rsb_streams.specs.Lookahead.{Ends, Input, Uses}
+use Rattle.rsb_streams.specs.Lookahead.{undrawn, Ends, Input, Uses}
 use Rattle.rsb_streams.specs.OddPieces.{ArePieces}
 use Rattle.rsb_streams.specs.PutBack.{held_list}
 use Rattle.rsb_streams.specs.Stream.{◌⊆◌, just}
 use Rattle.rsb_streams.specs.StreamLaws.{settled_le, settled_lt}
 use Rattle.rsb_streams.specs.declared.draw.Draw.{Ghosts as Stream}
-use Rattle.rsb_streams.proofs.LookaheadLemmas.{uses-ended, uses-nothing, uses-then}
+use Rattle.rsb_streams.proofs.LookaheadLemmas.{uses-nothing, uses-then}
 use Rattle.rsb_streams.proofs.OddLemmas.{no-pieces, only-none}
 use Rattle.rsb_many.specs.MultiwaySweep.{events_left, sweep_inputs, sweep_may_give, AsksAt, HoldsOneOfEach, SweepReady, Sweeps}
 use Rattle.rsb_many.specs.Sweep.{event_of, End, Event, Start}
-use Rattle.rsb_many.specs.SweepPieces.{edge_of, edges_of, ends_at, odd_past, pieces_inputs, pieces_may_give, sweep_pieces, IsEventIn, IsWhole, PassesEdge, PassesSome, TellsPieces, UsesTo}
+use Rattle.rsb_many.specs.SweepPieces.{edge_of, edges_of, ends_at, odd_past, pieces_inputs, pieces_may_give, sweep_pieces, IsEventIn, IsWhole, PassesAll, PassesEdge, PassesSome, TellsPieces, UsesTo}
 use Rattle.rsb_many.specs.declared.multiway_sweep.MultiwaySweep.{MultiwaySweep}
 use Rattle.rsb_many.specs.declared.sweep_event.SweepEvent.{SweepEvent}
 use Rattle.rsb_many.specs.declared.sweep_pieces.SweepPieces.{SweepPieces}
@@ -84,17 +84,18 @@ passes-more first second third event passed asks holds = record {
 
 -- some events were passed, and the sweep ended
 passes-end : (first second third : ℕ → Input) → PassesSome first second
-    → ((place : ℕ) → Ends (second place) (third place)) → HoldsOneOfEach third
-    → PassesSome first third
-passes-end first second third passed ends holds = record {
-  events = passed.events;
-  uses = λ place. subst (λ ends. UsesTo ends (first place) (third place))
-      (append-nil (ends_at place passed.events))
-      (uses_to-then (first place) (second place) (third place) (ends_at place passed.events) []
-      (passed.uses place)
-      (uses_to-none (second place) (third place)
-      (uses-ended (second place) (third place) (ends place))));
-  holds = holds;
+    → ((place : ℕ) → Ends (second place) (third place)) → PassesAll first third
+passes-end first second third passed ends = record {
+  passed = record {
+    events = passed.events;
+    uses = λ place. subst (λ lasts. UsesTo lasts (first place) (undrawn (just [])))
+        (append-nil (ends_at place passed.events))
+        (uses_to-then (first place) (second place) (undrawn (just []))
+        (ends_at place passed.events) [] (passed.uses place)
+        (uses_to-none (second place) (undrawn (just [])) (ends place).uses));
+    holds = λ place. omega arith;
+  };
+  over = λ place. (ends place).over;
 }
 
 -- no events were passed
@@ -283,5 +284,5 @@ module _ {T N I A : Type 0} (integer : Elements T N) (stream : Stream I T N) whe
         nothing-comes,
       );
       asks = passes-end (pieces_inputs integer stream entry) (pieces_inputs integer stream was)
-          (pieces_inputs integer stream ended) so.passed call.asks call.holds;
+          (pieces_inputs integer stream ended) so.passed call.asks;
     }

@@ -9,6 +9,8 @@ pub mod Keys
 pub mod Many
 pub mod ManyLaws
 pub mod MultiwaySweep
+pub mod MultiwaySymmetricDifference
+pub mod MultiwaySymmetricDifferenceLaws
 pub mod Sweep
 pub mod SweepPieces
 pub mod SweepPiecesLaws

@@ -4,11 +4,11 @@ use Rattle.std.specs.declared.ops.RangeInclusive.{RangeInclusive}
 use Rattle.rsb_integer.specs.Runs.{Interval}
 use Rattle.rsb_integer.specs.Selection.{Selection, odd_of}
 use Rattle.rsb_integer.specs.declared.integer.Integer.{Ghosts as Elements}
-use Rattle.rsb_streams.specs.Lookahead.{Input, Uses}
+use Rattle.rsb_streams.specs.Lookahead.{undrawn, HasEnded, Input, Uses}
 use Rattle.rsb_streams.specs.OddPieces.{ArePieces}
 use Rattle.rsb_streams.specs.PutBack.{held_list}
 use Rattle.rsb_streams.specs.Rows.{asking}
-use Rattle.rsb_streams.specs.Stream.{Outcomes}
+use Rattle.rsb_streams.specs.Stream.{just, Outcomes}
 use Rattle.rsb_streams.specs.declared.draw.Draw.{Ghosts as Stream}
 use Rattle.rsb_many.specs.MultiwaySweep.{events_left, sweep_inputs, sweep_may_give, EventOutcomes, HoldsOneOfEach, SweepReady}
 use Rattle.rsb_many.specs.Sweep.{End, Event, Start}
@@ -107,6 +107,17 @@ pub record PassesSome (before now : ℕ → Input) : Type 0 where
   pub uses : (place : ℕ) → UsesTo (ends_at place events) (before place) (now place)
   pub holds : HoldsOneOfEach now
 
+-- the inputs end: each uses the ranges of which the end was passed before, and gives nothing more
+pub record PassesAll (before now : ℕ → Input) : Type 0 where
+  pub passed : PassesSome before (λ place. undrawn (just []))
+  pub over : (place : ℕ) → HasEnded (now place)
+
+-- a call passes some events, and all that are left where it answers `None`
+abbrev pub AsksToPass : {T : Type 0} → (before : ℕ → Input) → Option (RangeInclusive T)
+    → (now : ℕ → Input) → Type 0
+AsksToPass before item now =
+    MatchOption item (PassesAll before now) (λ _. PassesSome before now)
+
 -- ---- the pieces
 
 module _ {T N I A : Type 0} (integer : Elements T N) (stream : Stream I T N) where
@@ -130,5 +141,5 @@ module _ {T N I A : Type 0} (integer : Elements T N) (stream : Stream I T N) whe
 
   -- the pieces: a draw passes some events
   abbrev pub sweep_pieces : Stream (SweepPieces T I A N) T N
-  sweep_pieces = asking integer (λ s item t. PassesSome (pieces_inputs s) (pieces_inputs t))
+  sweep_pieces = asking integer (λ s item t. AsksToPass (pieces_inputs s) item (pieces_inputs t))
       TellsPieces (λ s. events_left integer stream s.sweep) pieces_may_give
