@@ -10,6 +10,7 @@ use Rattle.rsb_integer.proofs.MembersLemmas.{members-cons, members-head}
 use Rattle.rsb_streams.specs.OddPieces.{ArePieces}
 use Rattle.rsb_streams.specs.PutBack.{held_list}
 use Rattle.rsb_streams.specs.Stream.{HasSortedStartsFrom}
+use Rattle.rsb_streams.specs.StreamLaws.{settled_le, settled_lt}
 use Rattle.rsb_streams.proofs.OddLemmas.{pieces-along}
 use Rattle.rsb_many.specs.Sweep.{End, Event, Start}
 use Rattle.rsb_many.specs.SweepPieces.{edge_in, edge_of, edges_of, low_of, odd_past, piece_up_to, HasEdgesFrom, IsClosed, IsEventIn, IsWhole, PassesEdge}
@@ -27,6 +28,24 @@ pub edges-lower : (n low lower : ℕ) (events : List Event) → lower ≤ low
 edges-lower n low lower [] less edges = tt
 edges-lower n low lower (event ∷ events) less edges =
     let starts = edges.0 in (omega (arith, starts), edges.1, edges.2)
+
+-- that an event lies in a type is settled
+pub settled-event : (n : ℕ) (event : Event) → ¬ (¬ (IsEventIn n event)) → IsEventIn n event
+settled-event n (Start range input) holds = (
+  settled_le range.first range.last (λ fails. holds (λ within. fails within.0)),
+  settled_lt range.last n (λ fails. holds (λ within. fails within.1)),
+)
+settled-event n (End last input) holds = settled_lt last n holds
+
+-- and that edges come in order
+pub settled-edges : (n low : ℕ) (events : List Event) → ¬ (¬ (HasEdgesFrom n low events))
+    → HasEdgesFrom n low events
+settled-edges n low [] holds = tt
+settled-edges n low (event ∷ events) holds = (
+  settled_le low (edge_of event) (λ fails. holds (λ edges. fails edges.0)),
+  settled-event n event (λ fails. holds (λ edges. fails edges.1)),
+  settled-edges n (edge_of event) events (λ fails. holds (λ edges. fails edges.2)),
+)
 
 -- no rank before an edge lies past it
 edge-after : (edge rank : ℕ) → rank < edge → nat_le edge rank ≡ false
@@ -91,7 +110,7 @@ twice true false = refl
 twice false other = refl
 
 -- between two edges lies an odd number, and past both as many as past neither
-between-edges : (start edge rank : ℕ) (others : Bool) → start < edge
+pub between-edges : (start edge rank : ℕ) (others : Bool) → start < edge
     → (rank < edge → others ≡ false)
     → (covers rank (record { first = start; last = edge - 1 }) || others)
     ≡ exclusive_or (nat_le start rank) (exclusive_or (nat_le edge rank) others)

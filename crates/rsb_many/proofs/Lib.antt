@@ -15,6 +15,8 @@ pub mod KeyLemmas
 pub mod LeftLemmas
 pub mod MergeAllLemmas
 pub mod MultiwaySweepLemmas
+pub mod MultiwaySymDiffLemmas
+pub mod OddEventsLemmas
 pub mod RestsLemmas
 pub mod StepLemmas
 pub mod SweepExamples

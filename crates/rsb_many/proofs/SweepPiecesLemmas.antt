@@ -13,7 +13,6 @@ use Rattle.rsb_streams.specs.Lookahead.{undrawn, Ends, Input, Uses}
 use Rattle.rsb_streams.specs.OddPieces.{ArePieces}
 use Rattle.rsb_streams.specs.PutBack.{held_list}
 use Rattle.rsb_streams.specs.Stream.{◌⊆◌, just}
-use Rattle.rsb_streams.specs.StreamLaws.{settled_le, settled_lt}
 use Rattle.rsb_streams.specs.declared.draw.Draw.{Ghosts as Stream}
 use Rattle.rsb_streams.proofs.LookaheadLemmas.{uses-nothing, uses-then}
 use Rattle.rsb_streams.proofs.OddLemmas.{no-pieces, only-none}
@@ -23,7 +22,7 @@ use Rattle.rsb_many.specs.SweepPieces.{edge_of, edges_of, ends_at, odd_past, pie
 use Rattle.rsb_many.specs.declared.multiway_sweep.MultiwaySweep.{MultiwaySweep}
 use Rattle.rsb_many.specs.declared.sweep_event.SweepEvent.{SweepEvent}
 use Rattle.rsb_many.specs.declared.sweep_pieces.SweepPieces.{SweepPieces}
-use Rattle.rsb_many.proofs.EdgeLemmas.{pieces-next, start-next, whole-next, whole-over}
+use Rattle.rsb_many.proofs.EdgeLemmas.{pieces-next, settled-event, start-next, whole-next, whole-over}
 use Rattle.rsb_many.proofs.InputsLemmas.{nat_eq-differs, nat_eq-itself}
 
 -- ---- events that are passed
@@ -118,15 +117,7 @@ passes-then first second third before after = record {
   holds = after.holds;
 }
 
--- ---- what holds of an event that may come
-
--- that an event lies in a type is settled
-settled-event : (n : ℕ) (event : Event) → ¬ (¬ (IsEventIn n event)) → IsEventIn n event
-settled-event n (Start range input) holds = (
-  settled_le range.first range.last (λ fails. holds (λ within. fails within.0)),
-  settled_lt range.last n (λ fails. holds (λ within. fails within.1)),
-)
-settled-event n (End last input) holds = settled_lt last n holds
+-- ---- a draw
 
 module _ {T N I A : Type 0} (integer : Elements T N) (stream : Stream I T N) where
   open integer use {rank, value_count as n}

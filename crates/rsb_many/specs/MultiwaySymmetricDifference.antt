@@ -37,10 +37,11 @@ module _ {T N I A : Type 0} (integer : Elements T N) (stream : Stream I T N) whe
       (λ s item t. PassesSome (odd_inputs s) (odd_inputs t))
       OddReady (λ s. joined_pieces.draws_left s.iter) (λ s. joined_pieces.may_give s.iter)
 
-  -- a sweep just made of some streams, whose ranges lie in the type
-  abbrev pub SweepsSome : MultiwaySweep T I A N → Type 0
-  SweepsSome sweep = (streams : List I) × SweepsOver integer stream streams sweep
-      × ((place : ℕ) → may_give_at stream.may_give streams place ⊆ IsTouchingIn integer.value_count)
+  -- a sweep just made of streams, whose ranges lie in the type
+  pub record SweepsIn (streams : List I) (sweep : MultiwaySweep T I A N) : Type 0 where
+    pub over : SweepsOver integer stream streams sweep
+    pub touching : (place : ℕ)
+        → may_give_at stream.may_give streams place ⊆ IsTouchingIn integer.value_count
 
   -- it may be drawn from, all that it may give are runs of what lies in an odd number of the
   -- streams, and the first range of each is drawn

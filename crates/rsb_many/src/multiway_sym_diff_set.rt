@@ -1,8 +1,7 @@
 //! What lies in an odd number of streams.
 
 ghost use Rattle.std.specs.Prelude.{List};
-ghost use Rattle.rsb_many.specs.MultiwaySweep.{SweepsOver};
-ghost use Rattle.rsb_many.specs.MultiwaySymmetricDifference.{MakesOdd, multiway_symmetric_difference, SweepsSome};
+ghost use Rattle.rsb_many.specs.MultiwaySymmetricDifference.{multiway_symmetric_difference, MakesOdd, SweepsIn};
 ghost use Rattle.rsb_many.specs.MultiwaySymmetricDifferenceLaws.{multiway_symmetric_difference-disjoint};
 ghost use Rattle.rsb_streams.specs.StreamLaws.{canonical-starts, drawn-itself};
 
@@ -25,8 +24,8 @@ pub struct MultiwaySymmetricDifference<T: Integer, I, A: Allocator = Global> {
 impl<T: Integer, I: Draw<T>, A: Allocator> MultiwaySymmetricDifference<T, I, A> {
     /// What lies in an odd number of the streams of a sweep that was just made.
     pub(crate) fn over(sweep: MultiwaySweep<T, I, A>) -> Self
-        requires { SweepsSome T.Integer.own I.Draw sweep }
-        ensures { (streams : List I) → SweepsOver T.Integer.own I.Draw streams sweep
+        requires { (streams : List I) × SweepsIn T.Integer.own I.Draw streams sweep }
+        ensures { (streams : List I) → SweepsIn T.Integer.own I.Draw streams sweep
             → MakesOdd T.Integer.own I.Draw streams result }
     {
         MultiwaySymmetricDifference {
