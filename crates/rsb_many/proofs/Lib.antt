@@ -2,6 +2,7 @@ pub mod AscendingLemmas
 pub mod BegunLemmas
 pub mod DigitLemmas
 pub mod DrawnLemmas
+pub mod HandedInLemmas
 pub mod HeadLemmas
 pub mod HeapExamples
 pub mod HeapLemmas

@@ -3,10 +3,12 @@
 
 pub(crate) mod comparisons;
 pub(crate) mod drawn;
+pub mod dyn_sorted_disjoint;
 pub(crate) mod heads;
 pub mod kmerge;
 pub mod laws;
 pub mod sweep_event;
 
+pub use dyn_sorted_disjoint::DynSortedDisjoint;
 pub use kmerge::KMerge;
 pub use sweep_event::SweepEvent;
