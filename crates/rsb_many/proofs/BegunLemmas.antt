@@ -1,5 +1,5 @@
 -- Many streams of which the first ranges are drawn, one after the other.
-use Rattle.std.proofs.Common.{◌≡◌, ◌⊎◌, inl, inr, ℕ, zero, suc, ◌+◌, ◌<◌, ◌≤◌, Bool, true, false, cond, nat_le, nat_lt, ◌&&◌, List, [], ◌∷◌, ◌++◌, length, set, slice_get, refl, sym, ap, subst, ◌∙◌, arith, All, Option, Some, None}
+use Rattle.std.proofs.Common.{◌≡◌, ◌⊎◌, inl, inr, ℕ, zero, suc, ◌+◌, ◌<◌, ◌≤◌, Bool, true, false, cond, nat_le, nat_lt, ◌&&◌, not, List, [], ◌∷◌, ◌++◌, length, set, slice_get, refl, sym, ap, subst, ◌∙◌, arith, All, Option, Some, None}
 use Rattle.std.proofs.lemmas.Bool.{and_right}
 use Rattle.std.proofs.lemmas.Bool.Decides.{nat_tests}
 use Rattle.std.proofs.lemmas.List.{length-set}
@@ -44,12 +44,17 @@ due-none : (first count place : ℕ) → count ≤ first
     → (nat_le first place && nat_lt place count) ≡ false
 due-none first count place past = grind (arith, nat_tests)
 
--- no stream stands at a place that is not due from the first on
-slice_get-past : {S : Type 0} (streams : List S) (place : ℕ)
-    → (nat_le 0 place && nat_lt place (length streams)) ≡ false → slice_get streams place ≡ None
-slice_get-past [] place none = refl
-slice_get-past (stream ∷ streams) zero none = absurd (cc)
-slice_get-past (stream ∷ streams) (suc place) none = slice_get-past streams place none
+-- a place that is not due from the first on is past the last
+due-past : (place count : ℕ) → (nat_le 0 place && nat_lt place count) ≡ false → count ≤ place
+due-past place count none = grind (arith, nat_tests, none)
+
+-- no stream stands past the last
+slice_get-past : {S : Type 0} (streams : List S) (place : ℕ) → length streams ≤ place
+    → slice_get streams place ≡ None
+slice_get-past [] place past = refl
+slice_get-past (stream ∷ streams) zero past = absurd (omega (arith, past))
+slice_get-past (stream ∷ streams) (suc place) past =
+    slice_get-past streams place (omega (arith, past))
 
 module _ {T N I : Type 0} (integer : Elements T N) (stream : Stream I T N)
     (laws : IsLawful integer stream) where
@@ -107,12 +112,15 @@ module _ {T N I : Type 0} (integer : Elements T N) (stream : Stream I T N)
           (may_give_at stream.may_give s.streams.items place);
     }) ⊆ may_give_at stream.may_give s.streams.items place) (sym (holds-none place))
         (gives-due ((due_from 0 s).due place) (slice_get s.streams.items place)
-        (slice_get-past s.streams.items place))
+        (λ none. slice_get-past s.streams.items place
+        (due-past place (length s.streams.items) none)))
 
     -- one range is due of it at most
-    due-one : (due : Bool) → cond {A = ℕ} due 1 0 ≤ 1
-    due-one true = omega arith
-    due-one false = omega arith
+    due-one : (held : List Interval) (due : Bool) → held ≡ []
+        → length held + cond {A = ℕ} due 1 0 ≤ 1
+    due-one [] true is = omega arith
+    due-one [] false is = omega arith
+    due-one (run ∷ runs) due is = absurd (cc)
 
     -- so they are ready
     pub begun-first : s.used ≡ None → length s.streams.items ≤ s.heads.room
@@ -123,7 +131,8 @@ module _ {T N I : Type 0} (integer : Elements T N) (stream : Stream I T N)
         sorted = λ place runs gives. at-sorted (slice_get s.streams.items place)
             (All-slice_get stream.can_draw s.streams.items place can) runs
             (undrawn-gives place runs gives);
-        one = λ place. rw (holds-none place) (due-one ((due_from 0 s).due place));
+        one = λ place. due-one (held_at rank s.heads.heads place) ((due_from 0 s).due place)
+            (holds-none place);
         within = rw none (All-nil (λ (head : Head T). head.input < length s.streams.items));
       };
       unstarted = rw none (All-nil IsUnstarted);

@@ -11,6 +11,7 @@ pub mod InputsLemmas
 pub mod KMergeLemmas
 pub mod KeyLemmas
 pub mod LeftLemmas
+pub mod ListedLemmas
 pub mod MergeAllLemmas
 pub mod StepLemmas
 pub mod SweepExamples
