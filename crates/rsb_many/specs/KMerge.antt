@@ -1,11 +1,11 @@
 -- The merge of any number of streams by their starts.
-use Rattle.std.specs.Prelude.{◌≡◌, ℕ, ◌+◌, ◌*◌, ◌<◌, ◌≤◌, cond, nat_lt, length, All, Option}
+use Rattle.std.specs.Prelude.{◌≡◌, ℕ, ◌+◌, ◌*◌, ◌<◌, ◌≤◌, cond, nat_lt, List, length, All, Option}
 use Rattle.std.specs.declared.ops.RangeInclusive.{RangeInclusive}
 use Rattle.rsb_integer.specs.declared.integer.Integer.{Ghosts as Elements}
 use Rattle.rsb_streams.specs.Lookahead.{AsksOne, Input}
 use Rattle.rsb_streams.specs.Rows.{asking}
 use Rattle.rsb_streams.specs.declared.draw.Draw.{Ghosts as Stream}
-use Rattle.rsb_many.specs.Drawn.{inputs_of, DrawnReady, IsUnstarted}
+use Rattle.rsb_many.specs.Drawn.{inputs_of, DrawnReady, IsBegunOf, IsUnstarted}
 use Rattle.rsb_many.specs.Heads.{binary_digits}
 use Rattle.rsb_many.specs.Inputs.{input_at, inputs_left, inputs_merge}
 use Rattle.rsb_many.specs.declared.kmerge.KMerge.{KMerge}
@@ -38,3 +38,7 @@ module _ {T N I A : Type 0} (integer : Elements T N) (stream : Stream I T N) whe
   kmerge = asking integer AsksInOrder KMergeReady
       (λ s. inputs_left integer stream (inputs_of s.inputs))
       (λ s. inputs_merge integer stream (inputs_of s.inputs))
+
+  -- of these streams, which are merged, the first ranges are drawn, and no more
+  abbrev pub BeginsMerge : List I → KMerge T I A N → Type 0
+  BeginsMerge streams s = IsBegunOf integer stream streams s.inputs

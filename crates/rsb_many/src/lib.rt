@@ -6,7 +6,10 @@ pub(crate) mod drawn;
 pub(crate) mod heads;
 pub mod kmerge;
 pub mod laws;
+pub mod operation_results;
+mod operators;
 pub mod sweep_event;
 
 pub use kmerge::KMerge;
+pub use operation_results::{MultiwayIntersection, MultiwayUnion};
 pub use sweep_event::SweepEvent;
