@@ -10,7 +10,9 @@ pub mod InputsLemmas
 pub mod KMergeLemmas
 pub mod KeyLemmas
 pub mod LeftLemmas
+pub mod ManyLemmas
 pub mod MergeAllLemmas
+pub mod MultiwayLemmas
 pub mod StepLemmas
 pub mod SweepExamples
 pub mod SweepLemmas
