@@ -29,7 +29,8 @@ impl<T: Integer, I: Draw<T>, A: Allocator> MultiwayIntersection<T, I, A> {
     /// from; nothing more is drawn.
     pub(crate) fn of(gaps: KMerge<T, NotIter<T, I>, A>) -> Self
         requires { ⟦<KMerge<T, NotIter<T, I>, A> as Draw<T>>⟧.can_draw gaps }
-        ensures { (streams : List I) (complements : List (NotIter T I))
+        ensures ready { ⟦<MultiwayIntersection<T, I, A> as Draw<T>>⟧.can_draw result }
+        ensures made { (streams : List I) (complements : List (NotIter T I))
             → AreComplements T.Integer.own I.Draw streams complements
             → BeginsMerge T.Integer.own ⟦<NotIter<T, I> as Draw<T>>⟧ complements gaps
             → MakesMultiwayIntersection T.Integer.own I.Draw

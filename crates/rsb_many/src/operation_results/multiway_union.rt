@@ -27,7 +27,8 @@ impl<T: Integer, I: Draw<T>, A: Allocator> MultiwayUnion<T, I, A> {
     /// The union of the streams of a merge that may be drawn from; nothing more is drawn.
     pub(crate) fn of(merge: KMerge<T, I, A>) -> Self
         requires { ⟦<KMerge<T, I, A> as Draw<T>>⟧.can_draw merge }
-        ensures { (streams : List I) → BeginsMerge T.Integer.own I.Draw streams merge
+        ensures ready { ⟦<MultiwayUnion<T, I, A> as Draw<T>>⟧.can_draw result }
+        ensures made { (streams : List I) → BeginsMerge T.Integer.own I.Draw streams merge
             → MakesMultiwayUnion T.Integer.own I.Draw ⟦<MultiwayUnion<T, I, A> as Draw<T>>⟧
             streams result }
     {

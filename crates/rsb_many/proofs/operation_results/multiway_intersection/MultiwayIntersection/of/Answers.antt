@@ -6,9 +6,9 @@ use Rattle.rsb_many.proofs.MultiwayLemmas.{complements-give}
 use Rattle.rsb_many.proofs.operation_results.multiway_intersection.MultiwayIntersection.of.Goals as goal
 
 -- the gaps of what some of the streams leave out
-pub returns : goal.returns
-returns g c = λ streams complements all begins.
-    let outside = c.of-left_out.ensures complements begins in
+pub returns-clause-made : goal.returns-clause-made
+returns-clause-made g c = λ streams complements all begins.
+    let outside = c.of-left_out.ensures.made complements begins in
     let gaps = not_iter g.T.Integer g.I.Draw in
     let made = c.new.ensures in
     record {

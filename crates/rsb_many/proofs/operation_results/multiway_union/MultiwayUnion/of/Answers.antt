@@ -5,8 +5,8 @@ use Rattle.rsb_many.proofs.MultiwayLemmas.{begins-gives, joins-begun}
 use Rattle.rsb_many.proofs.operation_results.multiway_union.MultiwayUnion.of.Goals as goal
 
 -- the runs of the merge are those of what lies in some of the streams
-pub returns : goal.returns
-returns g c = λ streams begins. record {
+pub returns-clause-made : goal.returns-clause-made
+returns-clause-made g c = λ streams begins. record {
   ready = c.new.ensures.ready;
   gives = λ runs may. begins-gives g.T.Integer g.I.Draw streams c.args.merge begins runs
       (c.new.ensures.gives runs may);
