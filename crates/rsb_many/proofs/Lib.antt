@@ -12,7 +12,10 @@ pub mod KMergeLemmas
 pub mod KeyLemmas
 pub mod LeftLemmas
 pub mod ListedLemmas
+pub mod ManyExamples
+pub mod ManyLemmas
 pub mod MergeAllLemmas
+pub mod MultiwayLemmas
 pub mod StepLemmas
 pub mod SweepExamples
 pub mod SweepLemmas

@@ -9,4 +9,8 @@ pub mod KMergeLaws
 pub mod Keys
 pub mod Many
 pub mod ManyLaws
+pub mod MultiwayIntersection
+pub mod MultiwayLaws
+pub mod MultiwayResults
+pub mod MultiwayUnion
 pub mod Sweep
