@@ -74,6 +74,17 @@ module _ {T N I A : Type 0} (integer : Elements T N) (stream : Stream I T N) (st
 module _ {T N I : Type 0} (integer : Elements T N) (stream : Stream I T N) where
   open integer use {value_count as n}
 
+  -- with one complement more they are those of one stream more
+  pub AreComplements-more : (streams : List I) (gaps : List (NotIter T I)) (of : I)
+      (gap : NotIter T I) → AreComplements integer stream streams gaps
+      → MakesComplement integer stream (not_iter integer stream) of gap
+      → AreComplements integer stream (streams ++ of ∷ []) (gaps ++ gap ∷ [])
+  AreComplements-more [] [] of gap are made = (made, tt)
+  AreComplements-more [] (other ∷ gaps) of gap are made = absurd are
+  AreComplements-more (first ∷ streams) [] of gap are made = absurd are
+  AreComplements-more (first ∷ streams) (other ∷ gaps) of gap are made =
+      (are.0, AreComplements-more streams gaps of gap are.1 made)
+
   -- a complement
   abbrev gaps_of : Stream (NotIter T I) T N
   gaps_of = not_iter integer stream

@@ -35,6 +35,17 @@ impl<T: Integer, I: Draw<T>, A: Allocator + Copy> KMerge<T, I, A> {
             (λ streams. MakesKMerge T.Integer.own I.Draw streams merge)) }
     {
         let streams = Vec::from_iter(alloc, inputs)?;
+        KMerge::over(alloc, streams)
+    }
+}
+
+impl<T: Integer, I: Draw<T>, A: Allocator> KMerge<T, I, A> {
+    /// The merge of the streams of a list, which may be drawn from.
+    pub(crate) fn over(alloc: A, streams: Vec<I, A>) -> Result<Self, AllocError>
+        requires { All I.can_draw streams.items }
+        ensures ready { IfOk result ⟦<KMerge<T, I, A> as Draw<T>>⟧.can_draw }
+        ensures made { IfOk result (MakesKMerge T.Integer.own I.Draw streams.items) }
+    {
         Ok(KMerge {
             inputs: Drawn::over(alloc, streams)?,
         })
