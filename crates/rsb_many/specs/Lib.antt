@@ -1,4 +1,5 @@
 pub mod Drawn
+pub mod DynSortedDisjoint
 pub mod HandedIn
 pub mod Heads
 pub mod HeapOrder

@@ -7,6 +7,7 @@ pub mod dyn_sorted_disjoint;
 pub(crate) mod heads;
 pub mod kmerge;
 pub mod laws;
+mod macros;
 pub mod multiway;
 pub mod operation_results;
 mod operators;
