@@ -1,21 +1,34 @@
 -- What a merge and a sweep of many streams hold, when a range is drawn and when one leaves.
-use Rattle.std.proofs.Common.{◌≡◌, ℕ, ◌+◌, ◌<◌, ◌≤◌, true, false, List, [], ◌∷◌, length, set, slice_get, refl, sym, ap, subst, ◌∙◌, arith, All, Option, Some, None}
+use Rattle.std.proofs.Common.{◌≡◌, ℕ, ◌+◌, ◌<◌, ◌≤◌, true, false, List, [], ◌∷◌, length, set, slice_get, refl, sym, ap, subst, ◌∙◌, arith, All, Option, Some, None, IsPermutation}
 use Rattle.std.proofs.lemmas.List.{length-set}
+use Rattle.std.proofs.lemmas.List.Elements.{All-cons, All-nil}
+use Rattle.std.proofs.lemmas.List.Sorted.{IsPermutation-refl}
 use Rattle.std.specs.Iterator.{size, IsFinite, MakesProgress}
+use Rattle.std.specs.Prelude.{MatchOption}
 use Rattle.std.specs.declared.ops.RangeInclusive.{RangeInclusive}
 use Rattle.rsb_integer.specs.Rank.{interval_of}
 use Rattle.rsb_integer.specs.declared.integer.Integer.{Ghosts as Elements}
 use Rattle.rsb_integer.proofs.RangeLemmas.{interval_of-some}
 use Rattle.rsb_streams.specs.declared.draw.Draw.{Ghosts as Stream}
+use Rattle.rsb_streams.proofs.LookaheadLemmas.{uses-nothing}
 use Rattle.rsb_streams.proofs.Sources.{IsLawful}
 use Rattle.rsb_streams.proofs.UnionLemmas.{head-sorted}
-use Rattle.rsb_many.specs.Drawn.{inputs_of, is_at, DrawnReady, HasRoomForAll, Refills}
+use Rattle.rsb_many.specs.Drawn.{inputs_of, is_at, AddsUnstarted, DrawnReady, HasRoomForAll, IsUnstarted, Refills}
 use Rattle.rsb_many.specs.Heads.{binary_digits, HasValues}
-use Rattle.rsb_many.specs.Inputs.{has_ended, head_of, inputs_left, left_of, DrawsAt}
+use Rattle.rsb_many.specs.Inputs.{has_ended, head_of, input_at, inputs_left, left_of, DrawsAt}
 use Rattle.rsb_many.specs.declared.drawn.Drawn.{Drawn}
+use Rattle.rsb_many.specs.declared.heads.Head.{Head}
 use Rattle.rsb_many.proofs.DigitLemmas.{binary_digits-more}
 use Rattle.rsb_many.proofs.InputsLemmas.{draws-ended, draws-less, draws-more, draws-ready, draws-unstarted, draws-uses, drawn_count, nat_eq-differs, nat_eq-itself}
 use Rattle.rsb_many.proofs.LeftLemmas.{left_of-set, LessBy}
+
+-- heads that stay
+nothing-came : {T : Type 0} (old new : List (Head T)) → new ≡ old → AddsUnstarted old new
+nothing-came old new same = record {
+  came = [];
+  unstarted = All-nil IsUnstarted;
+  all = subst (IsPermutation old) (sym same) (IsPermutation-refl old);
+}
 
 module _ {T N I : Type 0} (integer : Elements T N) (stream : Stream I T N)
     (laws : IsLawful integer stream) where
@@ -38,6 +51,27 @@ module _ {T N I : Type 0} (integer : Elements T N) (stream : Stream I T N)
         start = omega (arith, sorted.1, sorted.2, first);
         end = omega (arith, sorted.2, last);
       }
+
+  -- no range was due
+  pub refills-none : {A : Type 0} (s t : Drawn T I A N) → DrawnReady integer stream s
+      → s.used ≡ None → t.streams ≡ s.streams → t.heads ≡ s.heads → t.used ≡ None
+      → Refills integer stream s t
+  refills-none {A} s t ready was_none streams heads now_none =
+      let same : t ≡ s = λ i. record {
+        streams = streams i;
+        heads = heads i;
+        used = (now_none ∙ sym was_none) i;
+      } in
+      subst (Refills integer stream s) (sym same) (record {
+        ready = ready;
+        none = was_none;
+        count = refl;
+        uses = λ place. uses-nothing (input_at integer stream (inputs_of s) place);
+        unstarted = λ all. all;
+        came = nothing-came s.heads.heads s.heads.heads refl;
+        left = λ finite. (finite, omega arith);
+        compared = omega arith;
+      })
 
   -- the range that was due was drawn
   module _ {A : Type 0} (s t : Drawn T I A N) (place : ℕ)
@@ -100,12 +134,28 @@ module _ {T N I : Type 0} (integer : Elements T N) (stream : Stream I T N)
           now_due dues less draws;
       unstarted = draws-unstarted integer stream laws (inputs_of s) (inputs_of t) place ready.inputs
           due now_due dues less draws;
+      came = came-by draws.item draws.kept;
       left = λ finite. fewer finite;
       compared =
           let more = binary_digits-more (length t.heads.heads) (length s.streams.items) few in
           omega (arith, compared, more);
     }
       where
+        -- the head that came is new, by what was drawn
+        came-by : (item : Option (RangeInclusive T))
+            → MatchOption item (t.heads.heads ≡ s.heads.heads)
+            (λ range. IsPermutation (head_of integer stream place range ∷ s.heads.heads)
+            t.heads.heads)
+            → AddsUnstarted s.heads.heads t.heads.heads
+        came-by None kept = nothing-came s.heads.heads t.heads.heads kept
+        came-by (Some range) kept =
+            let head = head_of integer stream place range in
+            record {
+              came = head ∷ [];
+              unstarted = All-cons IsUnstarted head [] refl (All-nil IsUnstarted);
+              all = kept;
+            }
+
         -- no more ranges are left than before
         fewer : IsFinite (inputs_left integer stream (inputs_of s))
             → IsFinite (inputs_left integer stream (inputs_of t))

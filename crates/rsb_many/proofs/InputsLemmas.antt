@@ -398,14 +398,14 @@ module _ {T N S : Type 0} (integer : Elements T N) (stream : Stream S T N) where
         (omega (arith, ready.one place))
 
     -- the range was the first that was held of the input
-    held-head : run ∷ held_at rank t.heads head.input ≡ held_at rank s.heads head.input
+    pub held-head : run ∷ held_at rank t.heads head.input ≡ held_at rank s.heads head.input
     held-head =
         let first : held_at rank (head ∷ t.heads) head.input
         ≡ run ∷ held_at rank t.heads head.input = rw (nat_eq-itself head.input) refl in
         sym first ∙ was-held head.input
 
     -- and the only one
-    leaves-none : held_at rank t.heads head.input ≡ []
+    pub leaves-none : held_at rank t.heads head.input ≡ []
     leaves-none = none-of (held_at rank t.heads head.input)
         (omega (arith, ready.one head.input, ap (λ (runs : List Interval). length runs) held-head))
       where
@@ -415,7 +415,7 @@ module _ {T N S : Type 0} (integer : Elements T N) (stream : Stream S T N) where
         none-of (first ∷ runs) short = absurd (omega (arith, short))
 
     -- what is held of the others stays
-    leaves-others : (place : ℕ) → ¬ (place ≡ head.input)
+    pub leaves-others : (place : ℕ) → ¬ (place ≡ head.input)
         → held_at rank t.heads place ≡ held_at rank s.heads place
     leaves-others place differs =
         let stays : held_at rank (head ∷ t.heads) place ≡ held_at rank t.heads place =
@@ -445,7 +445,7 @@ module _ {T N S : Type 0} (integer : Elements T N) (stream : Stream S T N) where
     }
 
     -- the others use nothing
-    leaves-spares : (place : ℕ) → ¬ (place ≡ head.input)
+    pub leaves-spares : (place : ℕ) → ¬ (place ≡ head.input)
         → Uses (input_at integer stream s place) [] (input_at integer stream t place)
     leaves-spares place differs =
         uses-same s t place (leaves-others place differs) (dues place differs) (found place)

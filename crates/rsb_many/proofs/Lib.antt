@@ -1,9 +1,11 @@
 pub mod AscendingLemmas
+pub mod BegunHeads
 pub mod BegunLemmas
 pub mod DigitLemmas
 pub mod DrawnLemmas
 pub mod HandedInLemmas
 pub mod HeadLemmas
+pub mod HeadTurns
 pub mod HeapExamples
 pub mod HeapLemmas
 pub mod HeldLemmas
@@ -16,6 +18,8 @@ pub mod ManyExamples
 pub mod ManyLemmas
 pub mod MergeAllLemmas
 pub mod MultiwayLemmas
+pub mod MultiwaySweepLemmas
+pub mod RestsLemmas
 pub mod StepLemmas
 pub mod SweepExamples
 pub mod SweepLemmas

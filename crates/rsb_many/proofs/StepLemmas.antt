@@ -173,7 +173,7 @@ module _ (rests : List Rest) (input : ℕ) (default : Rest) (touching : All IsTo
       (touching-lower (last + 1) 0 runs (omega arith) own) touching
 
 -- inputs of which nothing is left have no events left
-nothing-left : (input : ℕ) (rests : List Rest) → All (λ rest. rest ≡ nothing_left) rests
+pub nothing-left : (input : ℕ) (rests : List Rest) → All (λ rest. rest ≡ nothing_left) rests
     → rest_events_from input rests ≡ []
 nothing-left input [] nothing = refl
 nothing-left input (rest ∷ rests) nothing =

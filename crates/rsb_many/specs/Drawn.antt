@@ -1,5 +1,5 @@
 -- What a merge and a sweep of many streams hold.
-use Rattle.std.specs.Prelude.{◌≡◌, ℕ, ◌+◌, ◌<◌, ◌≤◌, false, nat_eq, nat_le, nat_lt, ◌&&◌, Bool, List, [], length, All, Option, Some, None, MatchOption, IfSome}
+use Rattle.std.specs.Prelude.{◌≡◌, ℕ, ◌+◌, ◌<◌, ◌≤◌, true, false, nat_eq, nat_le, nat_lt, ◌&&◌, Bool, List, [], ◌∷◌, ◌++◌, length, All, IsPermutation, Option, Some, None, MatchOption, IfSome}
 use Rattle.std.specs.Iterator.{size, IsFinite}
 use Rattle.std.specs.Option.{option_len}
 use Rattle.std.specs.declared.ops.RangeInclusive.{RangeInclusive}
@@ -30,6 +30,21 @@ inputs_of s = record {
 abbrev pub IsUnstarted : {T : Type 0} → Head T → Type 0
 IsUnstarted head = head.started ≡ false
 
+-- these heads came to those that were there, of ranges whose start was not given
+pub record AddsUnstarted {T : Type 0} (old new : List (Head T)) : Type 0 where
+  pub came : List (Head T)
+  pub unstarted : All IsUnstarted came
+  pub all : IsPermutation (came ++ old) new
+
+-- the head of a range whose start was given
+abbrev pub started : {T : Type 0} → Head T → Head T
+started head = record {
+  start = head.start;
+  end = head.end;
+  started = true;
+  input = head.input;
+}
+
 -- there is room for a head of each input, and one of them may have been used last
 pub record HasRoomForAll {T I A N : Type 0} (s : Drawn T I A N) : Type 0 where
   pub used : IfSome s.used (λ place. place < length s.streams.items)
@@ -55,6 +70,7 @@ module _ {T N I A : Type 0} (integer : Elements T N) (stream : Stream I T N) whe
     pub uses : (place : ℕ) → Uses (input_at integer stream (inputs_of s) place) []
         (input_at integer stream (inputs_of t) place)
     pub unstarted : All IsUnstarted s.heads.heads → All IsUnstarted t.heads.heads
+    pub came : AddsUnstarted s.heads.heads t.heads.heads
     pub left : IsFinite (inputs_left integer stream (inputs_of s))
         → IsFinite (inputs_left integer stream (inputs_of t))
         × (size (inputs_left integer stream (inputs_of t))
@@ -68,6 +84,14 @@ module _ {T N I A : Type 0} (integer : Elements T N) (stream : Stream I T N) whe
     pub streams : t.streams ≡ s.streams
     pub used : t.used ≡ Some head.input
     pub room : s.heads.room ≤ t.heads.room
+
+-- the head that left last stands there again, its start given, and no range is due
+pub record PutsBack {T I A N : Type 0} (s : Drawn T I A N) (head : Head T) (t : Drawn T I A N)
+    : Type 0 where
+  pub kept : IsPermutation (started head ∷ s.heads.heads) t.heads.heads
+  pub streams : t.streams ≡ s.streams
+  pub used : t.used ≡ None
+  pub room : s.heads.room ≤ t.heads.room
 
 -- no head is there, and nothing changes
 pub record HasNoHead {T I A N : Type 0} (s t : Drawn T I A N) : Type 0 where

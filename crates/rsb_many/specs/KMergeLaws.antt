@@ -17,7 +17,7 @@ use Rattle.rsb_many.specs.ManyLaws.{merges_all-some, merges_all-starts}
 module _ {T N I : Type 0} (integer : Elements T N) (stream : Stream I T N)
     (sorted : IsSorted integer stream) where
   -- something may come of an input, by whether it has ended and by its stream
-  some-by : (over : Bool) (found : Option I) (held : List Interval)
+  pub some-by : (over : Bool) (found : Option I) (held : List Interval)
       → (over ≡ false → IfSome found stream.can_draw)
       → HasOutcome (gives_of (record {
         held = held;

@@ -13,5 +13,6 @@ pub mod ManyLaws
 pub mod MultiwayIntersection
 pub mod MultiwayLaws
 pub mod MultiwayResults
+pub mod MultiwaySweep
 pub mod MultiwayUnion
 pub mod Sweep

@@ -1,5 +1,5 @@
 -- Where the ranges of many inputs start and end, in the order in which a sweep tells it.
-use Rattle.std.specs.Prelude.{ℕ, true, false, ◌+◌, ◌≤◌, List, [], ◌∷◌, ◌++◌, AllPairs, IsPermutation, IsTrue, Option, Some, None}
+use Rattle.std.specs.Prelude.{ℕ, zero, suc, Bool, true, false, ◌+◌, ◌≤◌, List, [], ◌∷◌, ◌++◌, AllPairs, IsPermutation, IsTrue, Option, Some, None}
 use Rattle.rsb_integer.specs.Rank.{interval_of}
 use Rattle.rsb_integer.specs.Runs.{Interval, AllEndBelow}
 use Rattle.rsb_many.specs.Keys.{comes_before, Key}
@@ -115,3 +115,15 @@ IsTouchingRest rest = IsTouchingFrom (next_low rest.begun) rest.runs
 -- nothing of the input is left
 abbrev pub nothing_left : Rest
 nothing_left = not_begun []
+
+-- what is left of an input that gives these ranges, where the first of them may have started
+abbrev pub rest_by : Bool → List Interval → Rest
+rest_by false runs = not_begun runs
+rest_by true [] = nothing_left
+rest_by true (run ∷ runs) = begun_to run.last runs
+
+-- what is left of inputs that give these lists, by the places of those whose first range has started
+abbrev pub rests_by : (ℕ → Bool) → List (List Interval) → List Rest
+rests_by begun [] = []
+rests_by begun (runs ∷ lists) =
+    rest_by (begun zero) runs ∷ rests_by (λ place. begun (suc place)) lists

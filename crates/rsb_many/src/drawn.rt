@@ -1,8 +1,8 @@
 //! The streams of many inputs, with the heads that were drawn of them.
 
 ghost use Rattle.std.specs.Prelude.{◌≡◌, ◌+◌, ◌*◌, ◌<◌, ◌≤◌, [], length, slice_get, All, IfOk, IfSome, MatchOption, None};
-ghost use Rattle.rsb_many.specs.Drawn.{DrawnReady, HasNoHead, IsBegunOf, Refills, TakesHead};
-ghost use Rattle.rsb_many.specs.Heads.{binary_digits};
+ghost use Rattle.rsb_many.specs.Drawn.{DrawnReady, HasNoHead, IsBegunOf, PutsBack, Refills, TakesHead};
+ghost use Rattle.rsb_many.specs.Heads.{binary_digits, HasValues};
 ghost use Rattle.rsb_many.specs.Inputs.{DrawsAt};
 
 use crate::heads::{Head, Heads};
@@ -88,11 +88,34 @@ impl<T: Integer, I: Draw<T>, A: Allocator> Drawn<T, I, A> {
         requires none { self.old.used ≡ None }
         ensures taken { MatchOption result (HasNoHead self.old self.new)
             (λ head. TakesHead T.Integer.own I.Draw self.old head self.new) }
+        ensures values { IfSome result (HasValues T.rank T.value_count) }
         ensures compared { self.new.heads.comparisons
             ≤ self.old.heads.comparisons + 2 * binary_digits (length self.old.heads.heads) }
     {
         let head = self.heads.pop()?;
         self.used = Some(head.input);
         Some(head)
+    }
+
+    /// Puts the head back that was taken last, its start given. No range is due then.
+    pub(crate) fn put_back(&mut self, head: Head<T>)
+        requires values { HasValues T.rank T.value_count head }
+        requires room { length self.old.heads.heads < self.old.heads.room }
+        ensures back { PutsBack self.old head self.new }
+        ensures compared { self.new.heads.comparisons
+            ≤ self.old.heads.comparisons + binary_digits (length self.new.heads.heads) }
+    {
+        self.heads.push(Head {
+            started: true,
+            ..head
+        });
+        self.used = None;
+    }
+
+    /// How many streams there are.
+    pub(crate) fn count(&self) -> usize
+        ensures { result ≡ length self.now.streams.items }
+    {
+        self.streams.len()
     }
 }

@@ -1,6 +1,6 @@
 //! The heads of inputs, in a binary heap: the one module that sees keys.
 
-ghost use Rattle.std.specs.Prelude.{◌≡◌, ◌+◌, ◌*◌, ◌<◌, ◌≤◌, [], ◌∷◌, length, All, IfOk, IsFalse, IsPermutation, MatchOption};
+ghost use Rattle.std.specs.Prelude.{◌≡◌, ◌+◌, ◌*◌, ◌<◌, ◌≤◌, [], ◌∷◌, length, All, IfOk, IfSome, IsFalse, IsPermutation, MatchOption};
 ghost use Rattle.std.specs.Vec.{vec_capacity};
 ghost use Rattle.rsb_many.specs.Heads.{binary_digits, key_of, HasValues, TakesLeast};
 ghost use Rattle.rsb_many.specs.HeapOrder.{IsHeap, IsHeapButFirst, IsHeapButLast, IsLesserChild};
@@ -161,6 +161,7 @@ impl<T: Integer, A: Allocator> Heads<T, A> {
     pub(crate) fn pop(&mut self) -> Option<Head<T>>
         ensures taken { MatchOption result ((self.old.heads ≡ []) × (self.new.heads ≡ []))
             (λ head. TakesLeast T.rank self.old head self.new) }
+        ensures values { IfSome result (HasValues T.rank T.value_count) }
         ensures room { self.old.room ≤ self.new.room }
         ensures compared { self.new.comparisons
             ≤ self.old.comparisons + 2 * binary_digits (length self.old.heads) }

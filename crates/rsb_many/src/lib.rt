@@ -11,10 +11,12 @@ mod macros;
 pub mod multiway;
 pub mod operation_results;
 mod operators;
+pub mod multiway_sweep;
 pub mod sweep_event;
 
 pub use dyn_sorted_disjoint::DynSortedDisjoint;
 pub use kmerge::KMerge;
 pub use multiway::MultiwaySortedDisjoint;
 pub use operation_results::{MultiwayIntersection, MultiwayUnion};
+pub use multiway_sweep::MultiwaySweep;
 pub use sweep_event::SweepEvent;

@@ -1,0 +1,123 @@
+-- The events of any number of streams, as they come.
+use Rattle.std.specs.Prelude.{◌≡◌, ℕ, ◌+◌, ◌*◌, ◌<◌, ◌≤◌, Bool, true, false, cond, nat_eq, ◌&&◌, ◌||◌, List, [], ◌∷◌, length, sum_by, Option, Some, None, MatchOption}
+use Rattle.std.specs.Iterator.{Count, count_map, IsFinite}
+use Rattle.rsb_integer.specs.Runs.{Interval}
+use Rattle.rsb_integer.specs.declared.integer.Integer.{Ghosts as Elements}
+use Rattle.rsb_streams.specs.Lookahead.{Ends, GivesFrom, Input, Uses}
+use Rattle.rsb_streams.specs.Stream.{◌⊆◌}
+use Rattle.rsb_streams.specs.declared.draw.Draw.{Ghosts as Stream}
+use Rattle.rsb_many.specs.Drawn.{inputs_of, DrawnReady}
+use Rattle.rsb_many.specs.Inputs.{has_ended, input_at, left_of}
+use Rattle.rsb_many.specs.KMerge.{comparison_bound}
+use Rattle.rsb_many.specs.Many.{gives_of, may_give_at, IsBegun, SomeOfEach}
+use Rattle.rsb_many.specs.Sweep.{event_of, rests_by, AreEvents, AreEventsOf, End, Event, IsTouching, Start}
+use Rattle.rsb_many.specs.declared.heads.Head.{Head}
+use Rattle.rsb_many.specs.declared.multiway_sweep.MultiwaySweep.{MultiwaySweep}
+use Rattle.rsb_many.specs.declared.sweep_event.SweepEvent.{SweepEvent}
+
+-- ---- events that may come
+
+-- the lists of events that a sweep may still give
+abbrev pub EventOutcomes : Type 1
+EventOutcomes = List Event → Type 0
+
+-- some list of events may come. (As of ranges, no list is at hand: it is not so that there is none.)
+abbrev pub HasEvents : EventOutcomes → Type 0
+HasEvents P = ¬ ((events : List Event) → ¬ (P events))
+
+-- ---- heads
+
+-- whether a range of the input at a place has started, and not ended
+abbrev pub has_begun : {T : Type 0} → List (Head T) → ℕ → Bool
+has_begun [] place = false
+has_begun (head ∷ heads) place = (nat_eq head.input place && head.started) || has_begun heads place
+
+-- how many events of the range of a head are to come: its end, and first its start, if that was not
+-- given
+abbrev pub events_of_head : {T : Type 0} → Head T → ℕ
+events_of_head head = cond head.started 1 2
+
+-- ---- inputs
+
+-- a range of the input at a place starts: it is the one that is held of it then, and no input uses
+-- anything
+pub record StartsAt (place : ℕ) (before : ℕ → Input) (run : Interval) (now : ℕ → Input) : Type 0
+  where
+    pub held : (now place).held ≡ run ∷ []
+    pub uses : (other : ℕ) → Uses (before other) [] (now other)
+
+-- a range of the input at a place ends at a rank: the input uses it, nothing is held of it then, and
+-- no other input uses anything
+pub record EndsAt (place : ℕ) (before : ℕ → Input) (last : ℕ) (now : ℕ → Input) : Type 0 where
+  pub run : Interval
+  pub ends : run.last ≡ last
+  pub here : GivesFrom (before place) run (now place)
+  pub elsewhere : (other : ℕ) → ¬ (other ≡ place) → Uses (before other) [] (now other)
+
+-- what an event asks of the inputs: it uses the range that ends, if one does
+abbrev pub AsksAt : (ℕ → Input) → Event → (ℕ → Input) → Type 0
+AsksAt before (Start run place) now = StartsAt place before run now
+AsksAt before (End last place) now = EndsAt place before last now
+
+-- one range of each input is held at most
+abbrev pub HoldsOneOfEach : (ℕ → Input) → Type 0
+HoldsOneOfEach inputs = (place : ℕ) → length (inputs place).held ≤ 1
+
+-- ---- a sweep
+
+-- how many streams it sweeps over
+abbrev pub stream_count : {T I A N : Type 0} → MultiwaySweep T I A N → ℕ
+stream_count s = length s.inputs.streams.items
+
+module _ {T N I A : Type 0} (integer : Elements T N) (stream : Stream I T N) where
+  -- its inputs, at places from 0 on
+  abbrev pub sweep_inputs : MultiwaySweep T I A N → ℕ → Input
+  sweep_inputs s place = input_at integer stream (inputs_of s.inputs) place
+
+  -- the events of lists that the inputs may give, where of some the first range has started
+  abbrev pub sweep_may_give : MultiwaySweep T I A N → EventOutcomes
+  sweep_may_give s events = SomeOfEach (stream_count s) (λ place. gives_of (sweep_inputs s place))
+      (λ lists. AreEventsOf (rests_by (has_begun s.inputs.heads.heads) lists) events)
+
+  -- two for each range to come, and those of the heads
+  abbrev pub events_left : MultiwaySweep T I A N → Count
+  events_left s = count_map (λ left. 2 * left + sum_by events_of_head s.inputs.heads.heads)
+      (left_of stream.draws_left (has_ended integer stream (inputs_of s.inputs))
+      s.inputs.streams.items)
+
+  -- the streams may be drawn from, the ranges of each input ascend and do not overlap, there is some
+  -- list of their events, and it ends
+  pub record SweepReady (s : MultiwaySweep T I A N) : Type 0 where
+    pub drawn : DrawnReady integer stream s.inputs
+    pub touching : (place : ℕ) → gives_of (sweep_inputs s place) ⊆ IsTouching
+    pub some : HasEvents (sweep_may_give s)
+    pub ends : IsFinite (events_left s)
+
+  -- the event, and then what may come after it, might come before it. After `None` the sweep may be
+  -- called again, and no events come. Few comparisons are made
+  pub record Sweeps (s : MultiwaySweep T I A N) (item : Option (SweepEvent T))
+      (t : MultiwaySweep T I A N) : Type 0 where
+    pub answers : MatchOption item (sweep_may_give s [])
+        (λ event. (events : List Event) → sweep_may_give t events
+        → sweep_may_give s (event_of integer.rank event ∷ events))
+    pub rests : MatchOption item
+        (SweepReady t × ((events : List Event) → sweep_may_give t events → events ≡ []))
+        (λ _. Unit {0})
+    pub asks : MatchOption item
+        ((place : ℕ) → Ends (sweep_inputs s place) (sweep_inputs t place))
+        (λ event. AsksAt (sweep_inputs s) (event_of integer.rank event) (sweep_inputs t))
+    pub holds : HoldsOneOfEach (sweep_inputs t)
+    pub count : stream_count t ≡ stream_count s
+    pub compared : t.inputs.heads.comparisons
+        ≤ s.inputs.heads.comparisons + comparison_bound (stream_count s)
+
+  -- a sweep just made of streams: it may be called, all that may come are the events of lists that
+  -- the streams may give, and the first range of each is drawn
+  pub record SweepsOver (streams : List I) (s : MultiwaySweep T I A N) : Type 0 where
+    pub ready : SweepReady s
+    pub gives : (events : List Event) → sweep_may_give s events
+        → SomeOfEach (length streams) (may_give_at stream.may_give streams)
+        (λ lists. AreEvents lists events)
+    pub count : stream_count s ≡ length streams
+    pub begun : (place : ℕ) → IsBegun (may_give_at stream.may_give streams place)
+        (sweep_inputs s place)
