@@ -1,18 +1,15 @@
 //! Streams of unlike types as streams of one type.
 
 ghost use Rattle.std.specs.Iterator.{YieldsFirst, item_count};
-ghost use Rattle.std.specs.Prelude.{◌≡◌, [], All, IfOk};
+ghost use Rattle.std.specs.Prelude.{All, IfOk};
 ghost use Rattle.rsb_integer.specs.Rank.{intervals_of};
 ghost use Rattle.rsb_integer.specs.Runs.{IsCanonicalIn};
-ghost use Rattle.rsb_many.specs.DynSortedDisjoint.{TakesOneMore, WhereTaken};
-ghost use Rattle.rsb_many.specs.MultiwayResults.{MakesMultiwayIntersection, MakesMultiwayUnion};
+ghost use Rattle.rsb_many.specs.DynSortedDisjoint.{TakesOneMore};
 ghost use Rattle.rsb_streams.specs.Listed.{listed_may_give};
 ghost use Rattle.rsb_streams.specs.ListedLaws.{listed-answers, listed-keeps};
 ghost use Rattle.rsb_streams.specs.Stream.{◌⊆◌};
 ghost use Rattle.rsb_streams.specs.StreamLaws.{canonical-starts, drawn-itself};
 
-use crate::multiway::MultiwaySortedDisjoint;
-use crate::operation_results::{MultiwayIntersection, MultiwayUnion};
 use rsb_integer::Integer;
 use rsb_streams::{Draw, DrawDisjoint, SortedDisjoint, SortedStarts};
 use std::alloc::{AllocError, Allocator, Global};
@@ -105,64 +102,21 @@ impl<T: Integer, A: Allocator> DrawDisjoint<T> for DynSortedDisjoint<T, A> {
 
 impl<T: Integer, A: Allocator> SortedDisjoint<T> for DynSortedDisjoint<T, A> {}
 
-/// No streams, before any was taken. It takes no memory. (Own: for the macros.)
-pub fn none_taken<T: Integer, A: Allocator>(
-    alloc: A,
-) -> Result<Vec<DynSortedDisjoint<T, A>, A>, AllocError>
-    ensures { IfOk result (λ taken. taken.items ≡ []) }
-{
-    Ok(Vec::new(alloc))
-}
-
 /// The streams that were taken, and all ranges of one more, which may be drawn from. Without memory
-/// nothing is made, and all are dropped; nothing is taken where no memory was left before.
-/// (Own: for the macros.)
+/// nothing is made, and all are dropped. (Own: for the macros.)
 pub fn one_more_taken<T: Integer, A: Allocator + Copy, I: DrawDisjoint<T>>(
-    taken: Result<Vec<DynSortedDisjoint<T, A>, A>, AllocError>,
     alloc: A,
+    taken: Vec<DynSortedDisjoint<T, A>, A>,
     stream: I,
 ) -> Result<Vec<DynSortedDisjoint<T, A>, A>, AllocError>
-    requires taken { IfOk taken (λ streams. All ⟦<DynSortedDisjoint<T, A> as Draw<T>>⟧.can_draw streams.items) }
+    requires taken { All ⟦<DynSortedDisjoint<T, A> as Draw<T>>⟧.can_draw taken.items }
     requires can { I.can_draw stream }
     ensures ready { IfOk result (λ streams. All ⟦<DynSortedDisjoint<T, A> as Draw<T>>⟧.can_draw streams.items) }
-    ensures more { IfOk result (λ streams. WhereTaken taken (λ before.
-        TakesOneMore ⟦<DynSortedDisjoint<T, A> as Draw<T>>⟧.may_give (I.may_give stream) before.items
-        streams.items)) }
+    ensures more { IfOk result (λ streams.
+        TakesOneMore ⟦<DynSortedDisjoint<T, A> as Draw<T>>⟧.may_give (I.may_give stream) taken.items
+        streams.items) }
 {
-    let mut streams = taken?;
-    streams.push(DynSortedDisjoint::new(alloc, stream)?)?;
-    Ok(streams)
-}
-
-/// What lies in some of the streams that were taken. Without memory nothing is made, and they are
-/// dropped. (Own: for `union_dyn!`.)
-pub fn union_of_taken<T: Integer, A: Allocator + Copy>(
-    taken: Result<Vec<DynSortedDisjoint<T, A>, A>, AllocError>,
-    alloc: A,
-) -> Result<MultiwayUnion<T, DynSortedDisjoint<T, A>, A>, AllocError>
-    requires { IfOk taken (λ streams. All ⟦<DynSortedDisjoint<T, A> as Draw<T>>⟧.can_draw streams.items) }
-    ensures ready { IfOk result ⟦<MultiwayUnion<T, DynSortedDisjoint<T, A>, A> as Draw<T>>⟧.can_draw }
-    ensures made { IfOk result (λ union. WhereTaken taken (λ streams.
-        MakesMultiwayUnion T.Integer.own ⟦<DynSortedDisjoint<T, A> as Draw<T>>⟧
-        ⟦<MultiwayUnion<T, DynSortedDisjoint<T, A>, A> as Draw<T>>⟧ streams.items union)) }
-{
-    let streams = taken?;
-    streams.union(alloc)
-}
-
-/// What lies in all of the streams that were taken. Without memory nothing is made, and they are
-/// dropped. (Own: for `intersection_dyn!`.)
-pub fn intersection_of_taken<T: Integer, A: Allocator + Copy>(
-    taken: Result<Vec<DynSortedDisjoint<T, A>, A>, AllocError>,
-    alloc: A,
-) -> Result<MultiwayIntersection<T, DynSortedDisjoint<T, A>, A>, AllocError>
-    requires { IfOk taken (λ streams. All ⟦<DynSortedDisjoint<T, A> as Draw<T>>⟧.can_draw streams.items) }
-    ensures ready { IfOk result ⟦<MultiwayIntersection<T, DynSortedDisjoint<T, A>, A> as Draw<T>>⟧.can_draw }
-    ensures made { IfOk result (λ intersection. WhereTaken taken (λ streams.
-        MakesMultiwayIntersection T.Integer.own ⟦<DynSortedDisjoint<T, A> as Draw<T>>⟧
-        ⟦<MultiwayIntersection<T, DynSortedDisjoint<T, A>, A> as Draw<T>>⟧ streams.items
-        intersection)) }
-{
-    let streams = taken?;
-    streams.intersection(alloc)
+    let mut taken = taken;
+    taken.push(DynSortedDisjoint::new(alloc, stream)?)?;
+    Ok(taken)
 }

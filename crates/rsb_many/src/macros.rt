@@ -6,10 +6,7 @@
 #[macro_export]
 macro_rules! union_dyn {
     ($alloc:expr $(, $stream:expr)* $(,)?) => {
-        $crate::dyn_sorted_disjoint::union_of_taken(
-            $crate::all_taken!($alloc, $crate::dyn_sorted_disjoint::none_taken($alloc) $(, $stream)*),
-            $alloc,
-        )
+        $crate::with_all_taken!(union, $alloc, std::vec::Vec::new($alloc) $(, $stream)*)
     };
 }
 
@@ -19,25 +16,21 @@ macro_rules! union_dyn {
 #[macro_export]
 macro_rules! intersection_dyn {
     ($alloc:expr $(, $stream:expr)* $(,)?) => {
-        $crate::dyn_sorted_disjoint::intersection_of_taken(
-            $crate::all_taken!($alloc, $crate::dyn_sorted_disjoint::none_taken($alloc) $(, $stream)*),
-            $alloc,
-        )
+        $crate::with_all_taken!(intersection, $alloc, std::vec::Vec::new($alloc) $(, $stream)*)
     };
 }
 
-/// The streams that were taken, and those that follow, one after the other. (Own: for the macros
-/// above.)
+/// An operation on streams that were taken and those that follow, which are taken one after the
+/// other. (Own: for the macros above.)
 #[macro_export]
-macro_rules! all_taken {
-    ($alloc:expr, $taken:expr) => {
-        $taken
+macro_rules! with_all_taken {
+    ($operation:ident, $alloc:expr, $taken:expr) => {
+        $crate::MultiwaySortedDisjoint::$operation($taken, $alloc)
     };
-    ($alloc:expr, $taken:expr, $stream:expr $(, $others:expr)*) => {
-        $crate::all_taken!(
-            $alloc,
-            $crate::dyn_sorted_disjoint::one_more_taken($taken, $alloc, $stream)
-            $(, $others)*
-        )
+    ($operation:ident, $alloc:expr, $taken:expr, $stream:expr $(, $others:expr)*) => {
+        match $crate::dyn_sorted_disjoint::one_more_taken($alloc, $taken, $stream) {
+            Ok(taken) => $crate::with_all_taken!($operation, $alloc, taken $(, $others)*),
+            Err(refused) => Err(refused),
+        }
     };
 }

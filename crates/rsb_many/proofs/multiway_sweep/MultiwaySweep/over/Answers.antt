@@ -10,8 +10,8 @@ laws g = record {
 }
 
 -- the ranges of each stream may touch, since they are canonical
-pub returns-clause : goal.returns-clause
-returns-clause g c = sweeps-over g.T.Integer g.I.Draw (laws g) c.args.streams.items
+pub returns : goal.returns
+returns g c = sweeps-over g.T.Integer g.I.Draw (laws g) c.args.streams.items
     (record { inputs = c.in_ok-over.field-0 }) c.in_ok-over.ensures
     (canonical-touching g.T.Integer.value_count g.I.Draw.can_draw g.I.Draw.may_give
     c.args.streams.items g.met.I.DrawDisjoint.canonical c.requires)
