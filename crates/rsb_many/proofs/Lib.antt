@@ -10,6 +10,7 @@ pub mod InputsLemmas
 pub mod KMergeLemmas
 pub mod KeyLemmas
 pub mod LeftLemmas
+pub mod ManyCallers
 pub mod ManyExamples
 pub mod ManyLemmas
 pub mod MergeAllLemmas
