@@ -133,9 +133,11 @@ begun-few answer may_give before now begun looks =
     record {
       drawn = before.held ++ looks.uses.drawn;
       inside = looks.used;
-      drew = λ rest at. begun.gives ((before.held ++ looks.uses.drawn) ++ rest)
-          (looks.uses.drawn ++ rest, looks.uses.drew rest at,
-          append_assoc before.held looks.uses.drawn rest);
+      drew = λ rest at. begun.gives ((before.held ++ looks.uses.drawn) ++ rest) (
+        looks.uses.drawn ++ rest,
+        looks.uses.drew rest at,
+        append_assoc before.held looks.uses.drawn rest,
+      );
       within = looks.within;
       few = rw order (rw (length-append looks.used now.held) (omega (arith, one)));
     }
