@@ -72,7 +72,7 @@ module _ {T N S : Type 0} (integer : Elements T N) (stream : Stream S T N) where
       (subst (λ each. undrawn_by each now_due now_found rest) first at))
 
   -- an input of which nothing changed uses nothing
-  uses-same : (s t : Inputs T S) (place : ℕ)
+  pub uses-same : (s t : Inputs T S) (place : ℕ)
       → held_at rank t.heads place ≡ held_at rank s.heads place → t.due place ≡ s.due place
       → slice_get t.streams place ≡ slice_get s.streams place
       → Uses (input_at integer stream s place) [] (input_at integer stream t place)
@@ -84,7 +84,7 @@ module _ {T N S : Type 0} (integer : Elements T N) (stream : Stream S T N) where
   }
 
   -- it may be drawn from as before
-  can-same : (s t : Inputs T S) (place : ℕ)
+  pub can-same : (s t : Inputs T S) (place : ℕ)
       → held_at rank t.heads place ≡ held_at rank s.heads place → t.due place ≡ s.due place
       → slice_get t.streams place ≡ slice_get s.streams place
       → (has_ended integer stream s place ≡ false

@@ -2,6 +2,7 @@ pub mod AscendingLemmas
 pub mod BegunLemmas
 pub mod DigitLemmas
 pub mod DrawnLemmas
+pub mod HandedInLemmas
 pub mod HeadLemmas
 pub mod HeapExamples
 pub mod HeapLemmas
@@ -10,6 +11,7 @@ pub mod InputsLemmas
 pub mod KMergeLemmas
 pub mod KeyLemmas
 pub mod LeftLemmas
+pub mod ListedLemmas
 pub mod ManyCallers
 pub mod ManyExamples
 pub mod ManyLemmas

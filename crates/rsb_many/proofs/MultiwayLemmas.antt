@@ -20,7 +20,7 @@ use Rattle.rsb_streams.proofs.CallerLemmas.{runs_by-within}
 use Rattle.rsb_streams.proofs.LookaheadLemmas.{from-one, uses-ended, uses-nothing, uses-then}
 use Rattle.rsb_many.specs.Drawn.{inputs_of}
 use Rattle.rsb_many.specs.Inputs.{input_at}
-use Rattle.rsb_many.specs.KMerge.{kmerge, BeginsMerge, KMergeReady}
+use Rattle.rsb_many.specs.KMerge.{kmerge, MakesKMerge}
 use Rattle.rsb_many.specs.Many.{gives_of, may_give_at, runs_by_all, HoldOneAtMost, IsBegun, UsesSome}
 use Rattle.rsb_many.specs.MultiwayResults.{AreComplements}
 use Rattle.rsb_many.specs.MultiwayUnion.{multiway_union, multiway_union_inputs}
@@ -53,12 +53,8 @@ joins-begun same integer inputs may_give below s fresh begun from place =
     (subst (λ each. IsBegun (may_give place) (inputs each place)) (sym fresh.source) (begun place))
 
 module _ {T N I A : Type 0} (integer : Elements T N) (stream : Stream I T N) (streams : List I)
-    (merge : KMerge T I A N) (begins : BeginsMerge integer stream streams merge) where
+    (merge : KMerge T I A N) (begins : MakesKMerge integer stream streams merge) where
   open integer use {value_count as n}
-
-  -- a merge of streams of which the first ranges are drawn may be drawn from
-  pub begins-ready : KMergeReady integer stream merge
-  begins-ready = record { drawn = begins.ready; unstarted = begins.unstarted }
 
   -- its runs are those of what lies in some of the streams
   pub begins-gives : joined n ((kmerge integer stream).may_give merge)
@@ -77,6 +73,17 @@ module _ {T N I A : Type 0} (integer : Elements T N) (stream : Stream I T N) (st
 
 module _ {T N I : Type 0} (integer : Elements T N) (stream : Stream I T N) where
   open integer use {value_count as n}
+
+  -- with one complement more they are those of one stream more
+  pub AreComplements-more : (streams : List I) (gaps : List (NotIter T I)) (of : I)
+      (gap : NotIter T I) → AreComplements integer stream streams gaps
+      → MakesComplement integer stream (not_iter integer stream) of gap
+      → AreComplements integer stream (streams ++ of ∷ []) (gaps ++ gap ∷ [])
+  AreComplements-more [] [] of gap are made = (made, tt)
+  AreComplements-more [] (other ∷ gaps) of gap are made = absurd are
+  AreComplements-more (first ∷ streams) [] of gap are made = absurd are
+  AreComplements-more (first ∷ streams) (other ∷ gaps) of gap are made =
+      (are.0, AreComplements-more streams gaps of gap are.1 made)
 
   -- a complement
   abbrev gaps_of : Stream (NotIter T I) T N

@@ -1,4 +1,5 @@
 pub mod Drawn
+pub mod HandedIn
 pub mod Heads
 pub mod HeapOrder
 pub mod Inputs

@@ -3,13 +3,17 @@
 
 pub(crate) mod comparisons;
 pub(crate) mod drawn;
+pub mod dyn_sorted_disjoint;
 pub(crate) mod heads;
 pub mod kmerge;
 pub mod laws;
+pub mod multiway;
 pub mod operation_results;
 mod operators;
 pub mod sweep_event;
 
+pub use dyn_sorted_disjoint::DynSortedDisjoint;
 pub use kmerge::KMerge;
+pub use multiway::MultiwaySortedDisjoint;
 pub use operation_results::{MultiwayIntersection, MultiwayUnion};
 pub use sweep_event::SweepEvent;

@@ -2,7 +2,7 @@
 
 ghost use Rattle.std.specs.Prelude.{List};
 ghost use Rattle.rsb_streams.specs.StreamLaws.{canonical-starts, drawn-itself};
-ghost use Rattle.rsb_many.specs.KMerge.{BeginsMerge};
+ghost use Rattle.rsb_many.specs.KMerge.{MakesKMerge};
 ghost use Rattle.rsb_many.specs.MultiwayIntersection.{multiway_intersection};
 ghost use Rattle.rsb_many.specs.MultiwayLaws.{multiway_intersection-disjoint};
 ghost use Rattle.rsb_many.specs.MultiwayResults.{AreComplements, MakesMultiwayIntersection};
@@ -32,7 +32,7 @@ impl<T: Integer, I: Draw<T>, A: Allocator> MultiwayIntersection<T, I, A> {
         ensures ready { ⟦<MultiwayIntersection<T, I, A> as Draw<T>>⟧.can_draw result }
         ensures made { (streams : List I) (complements : List (NotIter T I))
             → AreComplements T.Integer.own I.Draw streams complements
-            → BeginsMerge T.Integer.own ⟦<NotIter<T, I> as Draw<T>>⟧ complements gaps
+            → MakesKMerge T.Integer.own ⟦<NotIter<T, I> as Draw<T>>⟧ complements gaps
             → MakesMultiwayIntersection T.Integer.own I.Draw
             ⟦<MultiwayIntersection<T, I, A> as Draw<T>>⟧ streams result }
     {

@@ -2,7 +2,7 @@
 
 ghost use Rattle.std.specs.Prelude.{List};
 ghost use Rattle.rsb_streams.specs.StreamLaws.{canonical-starts, drawn-itself};
-ghost use Rattle.rsb_many.specs.KMerge.{BeginsMerge};
+ghost use Rattle.rsb_many.specs.KMerge.{MakesKMerge};
 ghost use Rattle.rsb_many.specs.MultiwayLaws.{multiway_union-disjoint};
 ghost use Rattle.rsb_many.specs.MultiwayResults.{MakesMultiwayUnion};
 ghost use Rattle.rsb_many.specs.MultiwayUnion.{multiway_union};
@@ -28,7 +28,7 @@ impl<T: Integer, I: Draw<T>, A: Allocator> MultiwayUnion<T, I, A> {
     pub(crate) fn of(merge: KMerge<T, I, A>) -> Self
         requires { ⟦<KMerge<T, I, A> as Draw<T>>⟧.can_draw merge }
         ensures ready { ⟦<MultiwayUnion<T, I, A> as Draw<T>>⟧.can_draw result }
-        ensures made { (streams : List I) → BeginsMerge T.Integer.own I.Draw streams merge
+        ensures made { (streams : List I) → MakesKMerge T.Integer.own I.Draw streams merge
             → MakesMultiwayUnion T.Integer.own I.Draw ⟦<MultiwayUnion<T, I, A> as Draw<T>>⟧
             streams result }
     {
