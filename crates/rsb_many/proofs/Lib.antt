@@ -14,6 +14,7 @@ pub mod KMergeLemmas
 pub mod KeyLemmas
 pub mod LeftLemmas
 pub mod ListedLemmas
+pub mod ManyCallers
 pub mod ManyExamples
 pub mod ManyLemmas
 pub mod MergeAllLemmas

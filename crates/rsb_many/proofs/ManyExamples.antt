@@ -1,6 +1,6 @@
 -- What lies in some, in all and in an odd number of sets, worked out on 1..=5, 3..=8 and 5..=6.
-use Rattle.std.proofs.Common.{◌≡◌, ℕ, Bool, true, false, List, [], ◌∷◌, map, refl}
-use Rattle.rsb_integer.specs.Runs.{Interval, members}
+use Rattle.std.proofs.Common.{◌≡◌, Bool, true, false, List, [], ◌∷◌, map, refl}
+use Rattle.rsb_integer.specs.Runs.{members}
 use Rattle.rsb_integer.specs.Selection.{Selection, all_of, any_of, odd_of}
 use Rattle.rsb_integer.proofs.Examples.{from_to}
 

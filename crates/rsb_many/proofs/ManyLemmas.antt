@@ -1,7 +1,7 @@
 -- Sets made of what any number of streams gave.
-use Rattle.std.proofs.Common.{◌≡◌, ℕ, zero, suc, ◌<◌, Bool, ◌&&◌, ◌||◌, not, List, [], ◌∷◌, map, length, refl, ap, sym, ◌∙◌, arith}
+use Rattle.std.proofs.Common.{◌≡◌, ℕ, zero, suc, ◌<◌, ◌&&◌, ◌||◌, not, List, [], ◌∷◌, map, refl, ap, ◌∙◌, arith}
 use Rattle.std.proofs.Math.Bool.{not-not}
-use Rattle.rsb_integer.specs.Runs.{Interval, members, AreRuns}
+use Rattle.rsb_integer.specs.Runs.{Interval, members}
 use Rattle.rsb_integer.specs.Selection.{Selection, all_of, any_of, complement, Agree}
 use Rattle.rsb_integer.proofs.RunsLemmas.{runs-along, runs-members}
 use Rattle.rsb_streams.specs.Stream.{◌⊆◌, joined, runs_by, Outcomes}

@@ -1,6 +1,6 @@
 -- The union of any number of streams.
 use Rattle.std.proofs.lemmas.Bool.{cases_eq}
-use Rattle.std.specs.Prelude.{ℕ, List}
+use Rattle.std.specs.Prelude.{ℕ}
 use Rattle.rsb_integer.specs.declared.integer.Integer.{Ghosts as Elements}
 use Rattle.rsb_streams.specs.Lookahead.{Input, Sameness}
 use Rattle.rsb_streams.specs.Rows.{asking}

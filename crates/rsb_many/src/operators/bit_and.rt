@@ -8,7 +8,8 @@ use rsb_streams::{Draw, DrawDisjoint, Intersection};
 use std::alloc::Allocator;
 use std::ops::BitAnd;
 
-impl<T: Integer, I: Draw<T>, A: Allocator, R: DrawDisjoint<T>> BitAnd<R> for MultiwayUnion<T, I, A> {
+impl<T: Integer, I: Draw<T>, A: Allocator, R: DrawDisjoint<T>> BitAnd<R>
+    for MultiwayUnion<T, I, A> {
     type Output = Intersection<T, MultiwayUnion<T, I, A>, R>;
 
     ghost can_bitand = { CanDrawBoth ⟦<MultiwayUnion<T, I, A> as Draw<T>>⟧ R.Draw };
@@ -21,7 +22,8 @@ impl<T: Integer, I: Draw<T>, A: Allocator, R: DrawDisjoint<T>> BitAnd<R> for Mul
     }
 }
 
-impl<T: Integer, I: Draw<T>, A: Allocator, R: DrawDisjoint<T>> BitAnd<R> for MultiwayIntersection<T, I, A> {
+impl<T: Integer, I: Draw<T>, A: Allocator, R: DrawDisjoint<T>> BitAnd<R>
+    for MultiwayIntersection<T, I, A> {
     type Output = Intersection<T, MultiwayIntersection<T, I, A>, R>;
 
     ghost can_bitand = { CanDrawBoth ⟦<MultiwayIntersection<T, I, A> as Draw<T>>⟧ R.Draw };

@@ -21,7 +21,8 @@ impl<T: Integer, I: Draw<T>, A: Allocator, R: DrawDisjoint<T>> BitOr<R> for Mult
     }
 }
 
-impl<T: Integer, I: Draw<T>, A: Allocator, R: DrawDisjoint<T>> BitOr<R> for MultiwayIntersection<T, I, A> {
+impl<T: Integer, I: Draw<T>, A: Allocator, R: DrawDisjoint<T>> BitOr<R>
+    for MultiwayIntersection<T, I, A> {
     type Output = Union<T, MultiwayIntersection<T, I, A>, R>;
 
     ghost can_bitor = { CanDrawBoth ⟦<MultiwayIntersection<T, I, A> as Draw<T>>⟧ R.Draw };

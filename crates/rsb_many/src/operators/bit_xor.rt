@@ -8,7 +8,8 @@ use rsb_streams::{Draw, DrawDisjoint, SymmetricDifference};
 use std::alloc::Allocator;
 use std::ops::BitXor;
 
-impl<T: Integer, I: Draw<T>, A: Allocator, R: DrawDisjoint<T>> BitXor<R> for MultiwayUnion<T, I, A> {
+impl<T: Integer, I: Draw<T>, A: Allocator, R: DrawDisjoint<T>> BitXor<R>
+    for MultiwayUnion<T, I, A> {
     type Output = SymmetricDifference<T, MultiwayUnion<T, I, A>, R>;
 
     ghost can_bitxor = { CanDrawBoth ⟦<MultiwayUnion<T, I, A> as Draw<T>>⟧ R.Draw };
@@ -21,7 +22,8 @@ impl<T: Integer, I: Draw<T>, A: Allocator, R: DrawDisjoint<T>> BitXor<R> for Mul
     }
 }
 
-impl<T: Integer, I: Draw<T>, A: Allocator, R: DrawDisjoint<T>> BitXor<R> for MultiwayIntersection<T, I, A> {
+impl<T: Integer, I: Draw<T>, A: Allocator, R: DrawDisjoint<T>> BitXor<R>
+    for MultiwayIntersection<T, I, A> {
     type Output = SymmetricDifference<T, MultiwayIntersection<T, I, A>, R>;
 
     ghost can_bitxor = { CanDrawBoth ⟦<MultiwayIntersection<T, I, A> as Draw<T>>⟧ R.Draw };

@@ -21,7 +21,8 @@ impl<T: Integer, I: Draw<T>, A: Allocator, R: DrawDisjoint<T>> Sub<R> for Multiw
     }
 }
 
-impl<T: Integer, I: Draw<T>, A: Allocator, R: DrawDisjoint<T>> Sub<R> for MultiwayIntersection<T, I, A> {
+impl<T: Integer, I: Draw<T>, A: Allocator, R: DrawDisjoint<T>> Sub<R>
+    for MultiwayIntersection<T, I, A> {
     type Output = Difference<T, MultiwayIntersection<T, I, A>, R>;
 
     ghost can_sub = { CanDrawBoth ⟦<MultiwayIntersection<T, I, A> as Draw<T>>⟧ R.Draw };
