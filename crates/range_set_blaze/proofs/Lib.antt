@@ -23,6 +23,7 @@ pub mod KeptLemmas
 pub mod LastTurnLemmas
 pub mod ListedElements
 pub mod LookUpLemmas
+pub mod MultiwayLemmas
 pub mod OrderLemmas
 pub mod PartingLemmas
 pub mod PartsLemmas

@@ -3,6 +3,7 @@ pub mod BothEnds
 pub mod Hash
 pub mod HashLaws
 pub mod Kept
+pub mod Multiway
 pub mod Order
 pub mod OrderLaws
 pub mod Places

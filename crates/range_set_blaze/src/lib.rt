@@ -6,6 +6,7 @@ pub mod into_range_set_blaze;
 pub mod into_ranges_iter;
 pub mod iter;
 pub mod laws;
+pub mod multiway;
 mod operators;
 pub mod prelude;
 pub mod ranges_iter;

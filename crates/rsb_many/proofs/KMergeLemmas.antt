@@ -15,19 +15,19 @@ use Rattle.rsb_streams.specs.Stream.{◌⊆◌, just}
 use Rattle.rsb_streams.specs.declared.draw.Draw.{Ghosts as Stream}
 use Rattle.rsb_streams.proofs.LookaheadLemmas.{uses-then}
 use Rattle.rsb_streams.proofs.Sources.{IsLawful}
-use Rattle.rsb_many.specs.Drawn.{inputs_of, is_at, DrawnReady, HasNoHead, IsUnstarted, Refills, TakesHead}
+use Rattle.rsb_many.specs.Drawn.{inputs_of, is_at, DrawnReady, HasNoHead, IsBegunOf, IsUnstarted, Refills, TakesHead}
 use Rattle.rsb_many.specs.Heads.{binary_digits, key_of}
 use Rattle.rsb_many.specs.Inputs.{has_ended, held_at, input_at, inputs_left, inputs_merge, left_of, run_of, AreReady, Inputs}
-use Rattle.rsb_many.specs.KMerge.{comparison_bound, kmerge, kmerge_inputs, KMergeReady}
+use Rattle.rsb_many.specs.KMerge.{comparison_bound, kmerge, kmerge_inputs, KMergeReady, MakesKMerge}
 use Rattle.rsb_many.specs.Keys.{comes_before}
-use Rattle.rsb_many.specs.Many.{gives_of}
+use Rattle.rsb_many.specs.Many.{gives_of, may_give_at, merges_all}
 use Rattle.rsb_many.specs.declared.drawn.Drawn.{Drawn}
 use Rattle.rsb_many.specs.declared.heads.Head.{Head}
 use Rattle.rsb_many.specs.declared.kmerge.KMerge.{KMerge}
 use Rattle.rsb_many.proofs.DigitLemmas.{binary_digits-more}
 use Rattle.rsb_many.proofs.InputsLemmas.{gives_of-uses, leaves-gives, leaves-goes, leaves-others_spared, leaves-ready, leaves-starts, nat_eq-differs, nat_eq-itself}
 use Rattle.rsb_many.proofs.LeftLemmas.{left_of-same}
-use Rattle.rsb_many.proofs.MergeAllLemmas.{merges_all-empty, merges_all-head, merges_all-nothing}
+use Rattle.rsb_many.proofs.MergeAllLemmas.{merges_all-empty, merges_all-head, merges_all-nothing, merges_all-wider}
 
 module _ {T N I A : Type 0} (integer : Elements T N) (stream : Stream I T N)
     (laws : IsLawful integer stream) (s t : KMerge T I A N) (m : Drawn T I A N)
@@ -340,3 +340,23 @@ module _ {T N I A : Type 0} (integer : Elements T N) (stream : Stream I T N)
         compared = few-made t.inputs.heads.comparisons compared;
       };
     }
+
+-- ---- a merge that was built
+module _ {T N I A : Type 0} (integer : Elements T N) (stream : Stream I T N) (streams : List I)
+    (s : KMerge T I A N) (begun : IsBegunOf integer stream streams s.inputs) where
+  -- it may be drawn from
+  pub begun-ready : KMergeReady integer stream s
+  begun-ready = record { drawn = begun.ready; unstarted = begun.unstarted }
+
+  -- it merges the streams
+  pub begun-made : MakesKMerge integer stream streams s
+  begun-made = record {
+    gives = λ runs may. merges_all-wider integer.value_count (length streams)
+        (may_give_at stream.may_give streams)
+        (λ place. gives_of (kmerge_inputs integer stream s place))
+        (λ place less. (begun.begun place).gives) runs
+        (subst (λ count. merges_all integer.value_count count
+        (λ place. gives_of (kmerge_inputs integer stream s place)) runs) begun.count may);
+    begun = begun.begun;
+    count = begun.count;
+  }

@@ -4,6 +4,7 @@ pub mod BegunLemmas
 pub mod DigitLemmas
 pub mod DrawnLemmas
 pub mod EdgeLemmas
+pub mod HandedInLemmas
 pub mod HeadLemmas
 pub mod HeadTurns
 pub mod HeapExamples
@@ -13,7 +14,12 @@ pub mod InputsLemmas
 pub mod KMergeLemmas
 pub mod KeyLemmas
 pub mod LeftLemmas
+pub mod ListedLemmas
+pub mod ManyCallers
+pub mod ManyExamples
+pub mod ManyLemmas
 pub mod MergeAllLemmas
+pub mod MultiwayLemmas
 pub mod MultiwaySweepLemmas
 pub mod MultiwaySymDiffLemmas
 pub mod OddEventsLemmas

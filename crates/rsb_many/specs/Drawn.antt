@@ -103,6 +103,14 @@ pub record HasNoHead {T I A N : Type 0} (s t : Drawn T I A N) : Type 0 where
 
 -- ---- streams of which the first ranges are drawn
 
+-- the inputs, where a range is due of those from a place on
+abbrev pub due_from : {T I A N : Type 0} → ℕ → Drawn T I A N → Inputs T I
+due_from first s = record {
+  streams = s.streams.items;
+  heads = s.heads.heads;
+  due = λ place. nat_le first place && nat_lt place (length s.streams.items);
+}
+
 module _ {T N I A : Type 0} (integer : Elements T N) (stream : Stream I T N) where
   -- of these the first ranges are drawn, and no more
   pub record IsBegunOf (streams : List I) (s : Drawn T I A N) : Type 0 where
@@ -111,14 +119,6 @@ module _ {T N I A : Type 0} (integer : Elements T N) (stream : Stream I T N) whe
     pub count : length s.streams.items ≡ length streams
     pub begun : (place : ℕ) → IsBegun (may_give_at stream.may_give streams place)
         (input_at integer stream (inputs_of s) place)
-
-  -- the inputs, where a range is due of those from a place on
-  abbrev pub due_from : ℕ → Drawn T I A N → Inputs T I
-  due_from first s = record {
-    streams = s.streams.items;
-    heads = s.heads.heads;
-    due = λ place. nat_le first place && nat_lt place (length s.streams.items);
-  }
 
   -- of these streams the first ranges are drawn up to a place
   pub record IsBegunTo (streams : List I) (first : ℕ) (s : Drawn T I A N) : Type 0 where

@@ -1,13 +1,15 @@
 -- The merge of any number of streams by their starts.
-use Rattle.std.specs.Prelude.{◌≡◌, ℕ, ◌+◌, ◌*◌, ◌<◌, ◌≤◌, cond, nat_lt, length, All, Option}
+use Rattle.std.specs.Prelude.{◌≡◌, ℕ, ◌+◌, ◌*◌, ◌<◌, ◌≤◌, cond, nat_lt, List, length, All, Option}
 use Rattle.std.specs.declared.ops.RangeInclusive.{RangeInclusive}
 use Rattle.rsb_integer.specs.declared.integer.Integer.{Ghosts as Elements}
 use Rattle.rsb_streams.specs.Lookahead.{AsksOne, Input}
 use Rattle.rsb_streams.specs.Rows.{asking}
+use Rattle.rsb_streams.specs.Stream.{◌⊆◌}
 use Rattle.rsb_streams.specs.declared.draw.Draw.{Ghosts as Stream}
 use Rattle.rsb_many.specs.Drawn.{inputs_of, DrawnReady, IsUnstarted}
 use Rattle.rsb_many.specs.Heads.{binary_digits}
 use Rattle.rsb_many.specs.Inputs.{input_at, inputs_left, inputs_merge}
+use Rattle.rsb_many.specs.Many.{may_give_at, merges_all, IsBegun}
 use Rattle.rsb_many.specs.declared.kmerge.KMerge.{KMerge}
 
 -- how many comparisons of keys one answer may take, of so many inputs: four for each binary digit of
@@ -38,3 +40,11 @@ module _ {T N I A : Type 0} (integer : Elements T N) (stream : Stream I T N) whe
   kmerge = asking integer AsksInOrder KMergeReady
       (λ s. inputs_left integer stream (inputs_of s.inputs))
       (λ s. inputs_merge integer stream (inputs_of s.inputs))
+
+  -- it gives a merge of what these streams may give, and has drawn the first range of each
+  pub record MakesKMerge (streams : List I) (s : KMerge T I A N) : Type 0 where
+    pub gives : kmerge.may_give s ⊆ merges_all integer.value_count (length streams)
+        (may_give_at stream.may_give streams)
+    pub begun : (place : ℕ) → IsBegun (may_give_at stream.may_give streams place)
+        (kmerge_inputs s place)
+    pub count : length s.inputs.streams.items ≡ length streams

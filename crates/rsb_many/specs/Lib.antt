@@ -1,4 +1,6 @@
 pub mod Drawn
+pub mod DynSortedDisjoint
+pub mod HandedIn
 pub mod Heads
 pub mod HeapOrder
 pub mod Inputs
@@ -8,9 +10,13 @@ pub mod KMergeLaws
 pub mod Keys
 pub mod Many
 pub mod ManyLaws
+pub mod MultiwayIntersection
+pub mod MultiwayLaws
+pub mod MultiwayResults
 pub mod MultiwaySweep
 pub mod MultiwaySymmetricDifference
 pub mod MultiwaySymmetricDifferenceLaws
+pub mod MultiwayUnion
 pub mod Sweep
 pub mod SweepPieces
 pub mod SweepPiecesLaws

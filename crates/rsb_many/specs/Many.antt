@@ -2,7 +2,7 @@
 use Rattle.std.specs.Prelude.{ℕ, zero, suc, List, [], ◌∷◌, ◌++◌, ◌≡◌, ◌≤◌, length, map, slice_get, MatchOption}
 use Rattle.rsb_integer.specs.Runs.{Interval, members, AreRuns}
 use Rattle.rsb_integer.specs.Selection.{Selection}
-use Rattle.rsb_streams.specs.Lookahead.{Input}
+use Rattle.rsb_streams.specs.Lookahead.{Input, Uses}
 use Rattle.rsb_streams.specs.Stream.{◌⊆◌, just, merges, Outcomes}
 
 -- what an input may give: what is held of it, and then what it still gives
@@ -47,3 +47,13 @@ runs_by_all n operation count may_give runs = SomeOfEach count may_give
 pub record IsBegun (may_give : Outcomes) (input : Input) : Type 0 where
   pub gives : gives_of input ⊆ may_give
   pub one : length input.held ≤ 1
+
+-- one range at most is held of each input
+abbrev pub HoldOneAtMost : (ℕ → Input) → Type 0
+HoldOneAtMost inputs = (place : ℕ) → length (inputs place).held ≤ 1
+
+-- some ranges of an input were used, and one at most is held of it then
+pub record UsesSome (before now : Input) : Type 0 where
+  pub used : List Interval
+  pub uses : Uses before used now
+  pub one : length now.held ≤ 1

@@ -1,13 +1,16 @@
 //! The merge of any number of streams.
 
-ghost use Rattle.rsb_many.specs.KMerge.{kmerge};
+ghost use Rattle.std.specs.Prelude.{All, IfOk};
+ghost use Rattle.rsb_many.specs.HandedIn.{EachGaveRun};
+ghost use Rattle.rsb_many.specs.KMerge.{kmerge, MakesKMerge};
 ghost use Rattle.rsb_many.specs.KMergeLaws.{kmerge-sorted};
+ghost use Rattle.rsb_streams.specs.Items.{GaveRun, IsEnding};
 ghost use Rattle.rsb_streams.specs.StreamLaws.{drawn-itself};
 
 use crate::drawn::Drawn;
 use rsb_integer::Integer;
 use rsb_streams::{Draw, SortedStarts};
-use std::alloc::{Allocator, Global};
+use std::alloc::{AllocError, Allocator, Global};
 use std::iter::FusedIterator;
 use std::ops::RangeInclusive;
 
@@ -17,6 +20,36 @@ use std::ops::RangeInclusive;
 #[derive(Debug, Drop)]
 pub struct KMerge<T: Integer, I, A: Allocator = Global> {
     inputs: Drawn<T, I, A>,
+}
+
+impl<T: Integer, I: Draw<T>, A: Allocator + Copy> KMerge<T, I, A> {
+    /// The merge of any number of streams that may be drawn from. Room is taken for all of them, and
+    /// the first range of each is drawn. Without memory nothing is made, and the streams are dropped.
+    /// (`KMerge::new`.)
+    pub fn new<K: IntoIterator<Item = I>>(alloc: A, inputs: K) -> Result<Self, AllocError>
+        requires ends { IsEnding K.into_iter_gives K.IntoIter.can_next K.IntoIter.remaining inputs }
+        requires can { EachGaveRun K.into_iter_gives K.IntoIter.next_gives inputs (All I.can_draw) }
+        ensures ready { IfOk result ⟦<KMerge<T, I, A> as Draw<T>>⟧.can_draw }
+        ensures made { IfOk result (λ merge.
+            GaveRun K.into_iter_gives K.IntoIter.next_gives inputs
+            (λ streams. MakesKMerge T.Integer.own I.Draw streams merge)) }
+    {
+        let streams = Vec::from_iter(alloc, inputs)?;
+        KMerge::over(alloc, streams)
+    }
+}
+
+impl<T: Integer, I: Draw<T>, A: Allocator> KMerge<T, I, A> {
+    /// The merge of the streams of a list, which may be drawn from.
+    pub(crate) fn over(alloc: A, streams: Vec<I, A>) -> Result<Self, AllocError>
+        requires { All I.can_draw streams.items }
+        ensures ready { IfOk result ⟦<KMerge<T, I, A> as Draw<T>>⟧.can_draw }
+        ensures made { IfOk result (MakesKMerge T.Integer.own I.Draw streams.items) }
+    {
+        Ok(KMerge {
+            inputs: Drawn::over(alloc, streams)?,
+        })
+    }
 }
 
 impl<T: Integer, I: Draw<T>, A: Allocator> Iterator for KMerge<T, I, A> {

@@ -1,13 +1,21 @@
 //! Where the ranges of any number of streams start and end.
 
-ghost use Rattle.std.specs.Prelude.{◌≡◌};
-ghost use Rattle.rsb_many.specs.MultiwaySweep.{events_left, stream_count, SweepReady, Sweeps};
+ghost use Rattle.std.specs.Prelude.{◌≡◌, All, IfOk};
+ghost use Rattle.rsb_many.specs.HandedIn.{EachGaveRun};
+ghost use Rattle.rsb_many.specs.MultiwaySweep.{
+  events_left,
+  stream_count,
+  SweepReady,
+  Sweeps,
+  SweepsOver,
+};
+ghost use Rattle.rsb_streams.specs.Items.{GaveRun, IsEnding};
 
 use crate::drawn::Drawn;
 use crate::sweep_event::SweepEvent;
 use rsb_integer::Integer;
-use rsb_streams::Draw;
-use std::alloc::{Allocator, Global};
+use rsb_streams::{Draw, DrawDisjoint};
+use std::alloc::{AllocError, Allocator, Global};
 use std::iter::FusedIterator;
 
 /// The events of any number of streams, by their values: each range of each stream starts and ends.
@@ -17,6 +25,35 @@ use std::iter::FusedIterator;
 #[derive(Debug, Drop)]
 pub struct MultiwaySweep<T: Integer, I, A: Allocator = Global> {
     inputs: Drawn<T, I, A>,
+}
+
+impl<T: Integer, I: DrawDisjoint<T>, A: Allocator + Copy> MultiwaySweep<T, I, A> {
+    /// The sweep over any number of streams that may be drawn from. Room is taken for all of them, and
+    /// the first range of each is drawn. Without memory nothing is made, and the streams are dropped.
+    /// (`MultiwaySweep::new`.)
+    pub fn new<K: IntoIterator<Item = I>>(alloc: A, inputs: K) -> Result<Self, AllocError>
+        requires ends { IsEnding K.into_iter_gives K.IntoIter.can_next K.IntoIter.remaining inputs }
+        requires can { EachGaveRun K.into_iter_gives K.IntoIter.next_gives inputs (All I.can_draw) }
+        ensures ready { IfOk result ⟦<MultiwaySweep<T, I, A> as Iterator>⟧.can_next }
+        ensures made { IfOk result (λ sweep.
+            GaveRun K.into_iter_gives K.IntoIter.next_gives inputs
+            (λ streams. SweepsOver T.Integer.own I.Draw streams sweep)) }
+    {
+        let streams = Vec::from_iter(alloc, inputs)?;
+        MultiwaySweep::over(alloc, streams)
+    }
+}
+
+impl<T: Integer, I: DrawDisjoint<T>, A: Allocator> MultiwaySweep<T, I, A> {
+    /// The sweep over the streams of a list, which may be drawn from.
+    pub(crate) fn over(alloc: A, streams: Vec<I, A>) -> Result<Self, AllocError>
+        requires { All I.can_draw streams.items }
+        ensures { IfOk result (SweepsOver T.Integer.own I.Draw streams.items) }
+    {
+        Ok(MultiwaySweep {
+            inputs: Drawn::over(alloc, streams)?,
+        })
+    }
 }
 
 impl<T: Integer, I: Draw<T>, A: Allocator> MultiwaySweep<T, I, A> {

@@ -1,0 +1,33 @@
+-- Sets made of any number of sets, by the streams of their ranges.
+use Rattle.std.proofs.Common.{◌≡◌, ℕ, ◌<◌, List, [], ◌∷◌, ◌++◌, ◌∙◌, length, map, refl, sym, ap, subst}
+use Rattle.rsb_integer.specs.Runs.{Interval, members}
+use Rattle.rsb_integer.specs.Selection.{Selection}
+use Rattle.rsb_integer.proofs.RunsLemmas.{runs-members}
+use Rattle.rsb_streams.specs.Stream.{◌⊆◌, just, Outcomes}
+use Rattle.rsb_streams.proofs.CallerLemmas.{settled-same}
+use Rattle.rsb_many.specs.Many.{may_give_at, runs_by_all, OneOfEach}
+use Rattle.range_set_blaze.specs.Multiway.{IsMadeOf}
+
+module _ {S : Type 0} (may_give : S → Outcomes) (runs_of : S → List Interval)
+    (known : (s : S) → may_give s ⊆ just (runs_of s)) where
+  -- lists that streams of known lists give are these lists
+  one_of_each-known : (streams : List S) (lists : List (List Interval))
+      → OneOfEach (length streams) (may_give_at may_give streams) lists → lists ≡ map runs_of streams
+  one_of_each-known [] [] each = refl
+  one_of_each-known [] (runs ∷ lists) each = absurd each
+  one_of_each-known (s ∷ streams) [] each = absurd each
+  one_of_each-known (s ∷ streams) (runs ∷ lists) each =
+      ap (λ first. first ∷ lists) (known s runs each.0)
+      ∙ ap (λ others. runs_of s ∷ others) (one_of_each-known streams lists each.1)
+
+  -- so the set of an operation on them is made of these lists
+  pub known-made : (n : ℕ) (operation : List Selection → Selection) (streams : List S)
+      (sets : List (List Interval)) (set : List Interval) → map runs_of streams ≡ sets
+      → runs_by_all n operation (length streams) (may_give_at may_give streams) set
+      → IsMadeOf n operation sets set
+  known-made n operation streams sets set same may rank below =
+      settled-same (members set rank) (operation (map members sets) rank) (λ fails.
+      may (λ lists each all. fails
+      (runs-members n (operation (map members lists)) set all rank below
+      ∙ ap (λ these. operation (map members these) rank)
+      (one_of_each-known streams lists each ∙ same))))

@@ -1,0 +1,14 @@
+use Rattle.rsb_many.proofs.HandedInLemmas.{gave-each}
+use Rattle.rsb_many.specs.MultiwayIntersection.{multiway_intersection}
+use Rattle.rsb_many.specs.MultiwayResults.{AreComplements, MakesMultiwayIntersection}
+use Rattle.rsb_many.proofs.multiway.MultiwaySortedDisjoint.intersection.Goals as goal
+
+-- the intersection is of the streams whose complements were merged
+pub returns-clause-made : goal.returns-clause-made
+returns-clause-made g c = gave-each g.Self.IntoIterator.into_iter_gives
+    g.Self.IntoIter.Iterator.next_gives c.args.self
+    (λ streams. AreComplements g.T.Integer g.I.Draw streams c.in_ok-gaps.gaps.items)
+    (λ streams. MakesMultiwayIntersection g.T.Integer g.I.Draw
+    (multiway_intersection g.T.Integer g.I.Draw) streams c.of.result)
+    (λ streams are. c.of.ensures.made streams c.in_ok-gaps.gaps.items are c.in_ok-merge.ensures.made)
+    c.in_ok-gaps.ensures.made

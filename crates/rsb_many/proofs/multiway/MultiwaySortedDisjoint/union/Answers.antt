@@ -1,0 +1,14 @@
+use Rattle.rsb_many.proofs.HandedInLemmas.{gave-each}
+use Rattle.rsb_many.specs.KMerge.{MakesKMerge}
+use Rattle.rsb_many.specs.MultiwayResults.{MakesMultiwayUnion}
+use Rattle.rsb_many.specs.MultiwayUnion.{multiway_union}
+use Rattle.rsb_many.proofs.multiway.MultiwaySortedDisjoint.union.Goals as goal
+
+-- the union is of the streams of the merge
+pub returns-clause-made : goal.returns-clause-made
+returns-clause-made g c = gave-each g.Self.IntoIterator.into_iter_gives
+    g.Self.IntoIter.Iterator.next_gives c.args.self
+    (λ streams. MakesKMerge g.T.Integer g.I.Draw streams c.in_ok-merge.merge)
+    (λ streams. MakesMultiwayUnion g.T.Integer g.I.Draw (multiway_union g.T.Integer g.I.Draw) streams
+    c.of.result)
+    c.of.ensures.made c.in_ok-merge.ensures.made

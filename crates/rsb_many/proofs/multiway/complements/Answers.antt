@@ -1,0 +1,31 @@
+use Rattle.std.proofs.Common.{[], ◌∷◌, All, subst, sym}
+use Rattle.std.proofs.lemmas.List.Elements.{All-append, All-cons, All-nil}
+use Rattle.rsb_streams.specs.NotIter.{not_iter}
+use Rattle.rsb_many.specs.MultiwayResults.{AreComplements}
+use Rattle.rsb_many.proofs.HandedInLemmas.{ended-run}
+use Rattle.rsb_many.proofs.MultiwayLemmas.{AreComplements-more}
+use Rattle.rsb_many.proofs.multiway.complements.Goals as goal
+
+-- with the complement of one more they are those of all that came
+pub loop-stream-preserved : goal.loop-stream-preserved
+loop-stream-preserved g c =
+    let can = (not_iter g.T.Integer g.I.Draw).can_draw in
+    let more = sym c.in_ok-push.ensures.items in
+    record {
+      ready = subst (All can) more (All-append can c.loop-stream.gaps.items (c.complement.result ∷ [])
+          c.loop-stream.invariant.ready
+          (All-cons can c.complement.result [] c.complement.ensures.made.ready (All-nil can)));
+      made = subst (AreComplements g.T.Integer g.I.Draw _) more
+          (AreComplements-more g.T.Integer g.I.Draw c.loop-stream.yielded c.loop-stream.gaps.items
+          c.in-Some.stream c.complement.result c.loop-stream.invariant.made
+          c.complement.ensures.made);
+    }
+
+-- they are those of what was handed in
+pub returns-clause-made : goal.returns-clause-made
+returns-clause-made g c = ended-run g.K.IntoIterator.into_iter_gives g.K.IntoIter.Iterator.next_gives
+    c.args.streams c.into_iter-stream-iterator.result
+    c.into_iter-stream-iterator.ensures.into_iter_gives
+    (λ items. AreComplements g.T.Integer g.I.Draw items c.loop-stream.gaps.items)
+    c.loop-stream.yielded c.loop-stream.stream-iterator c.next.new.self c.loop-stream.yielded_by
+    c.in-None.ensures.steps c.loop-stream.invariant.made

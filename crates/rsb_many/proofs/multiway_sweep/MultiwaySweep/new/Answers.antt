@@ -1,0 +1,27 @@
+use Rattle.std.proofs.Common.{subst, sym, All}
+use Rattle.std.proofs.lemmas.Result.{IfOk-weaker}
+use Rattle.rsb_many.proofs.HandedInLemmas.{collected-each, collected-run}
+use Rattle.rsb_many.specs.MultiwaySweep.{SweepsOver}
+use Rattle.rsb_many.proofs.multiway_sweep.MultiwaySweep.new.Goals as goal
+
+-- what holds of all that is handed in holds of the list
+pub over-requires : goal.over-requires
+over-requires g c =
+    let ran = c.in_ok-streams.ensures.ran in
+    subst (All g.I.Draw.can_draw) (sym ran.4.0)
+    (collected-each g.K.IntoIterator.into_iter_gives g.K.IntoIter.Iterator.next_gives c.args.inputs
+    ran.0 ran.2 ran.1 ran.3 (All g.I.Draw.can_draw) c.requires.can)
+
+-- the sweep is over what was handed in
+pub returns : goal.returns
+returns g c =
+    let ran = c.in_ok-streams.ensures.ran in
+    record {
+      ready = IfOk-weaker c.over.result _ _ (λ sweep over. over.ready) c.over.ensures;
+      made = IfOk-weaker c.over.result _ _ (λ sweep over.
+          collected-run g.K.IntoIterator.into_iter_gives g.K.IntoIter.Iterator.next_gives
+          c.args.inputs ran.0 ran.2 ran.1 ran.3
+          (λ streams. SweepsOver g.T.Integer g.I.Draw streams sweep)
+          (subst (λ streams. SweepsOver g.T.Integer g.I.Draw streams sweep) ran.4.0 over))
+          c.over.ensures;
+    }

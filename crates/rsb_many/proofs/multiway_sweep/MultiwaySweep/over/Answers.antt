@@ -1,0 +1,17 @@
+use Rattle.rsb_streams.proofs.Sources.{IsLawful}
+use Rattle.rsb_many.proofs.MultiwaySweepLemmas.{canonical-touching, sweeps-over}
+use Rattle.rsb_many.proofs.multiway_sweep.MultiwaySweep.over.Given.{Over}
+use Rattle.rsb_many.proofs.multiway_sweep.MultiwaySweep.over.Goals as goal
+
+laws : (g : Over) → IsLawful g.T.Integer g.I.Draw
+laws g = record {
+  answers = g.met.I.Draw.answers;
+  sorted = g.met.I.Draw.sorted;
+}
+
+-- the ranges of each stream may touch, since they are canonical
+pub returns : goal.returns
+returns g c = sweeps-over g.T.Integer g.I.Draw (laws g) c.args.streams.items
+    (record { inputs = c.in_ok-over.field-0 }) c.in_ok-over.ensures
+    (canonical-touching g.T.Integer.value_count g.I.Draw.can_draw g.I.Draw.may_give
+    c.args.streams.items g.met.I.DrawDisjoint.canonical c.requires)

@@ -1,0 +1,26 @@
+use Rattle.std.proofs.Common.{sym, subst}
+use Rattle.rsb_streams.specs.NotIter.{not_iter}
+use Rattle.rsb_many.specs.Many.{may_give_at, IsBegun}
+use Rattle.rsb_many.specs.MultiwayUnion.{multiway_union, multiway_union_inputs}
+use Rattle.rsb_many.proofs.MultiwayLemmas.{complements-give}
+use Rattle.rsb_many.proofs.operation_results.multiway_intersection.MultiwayIntersection.of.Goals as goal
+
+-- the gaps of what some of the streams leave out
+pub returns-clause-made : goal.returns-clause-made
+returns-clause-made g c = λ streams complements all begins.
+    let outside = c.of-left_out.ensures.made complements begins in
+    let gaps = not_iter g.T.Integer g.I.Draw in
+    let made = c.new.ensures in
+    record {
+      ready = made.ready;
+      gives = λ runs may. complements-give g.T.Integer g.I.Draw streams complements
+          ((multiway_union g.T.Integer gaps).may_give c.of-left_out.result) all outside.gives runs
+          (made.gives runs may);
+      new = record {
+        gaps = complements;
+        complements = all;
+        begun = λ from place. subst (λ each. IsBegun (may_give_at gaps.may_give complements place)
+            (multiway_union_inputs g.T.Integer gaps from each place)) (sym made.new)
+            (outside.new from place);
+      };
+    }

@@ -1,0 +1,43 @@
+-- What lies in all of any number of streams.
+use Rattle.std.specs.Prelude.{ℕ, Option}
+use Rattle.std.specs.declared.ops.RangeInclusive.{RangeInclusive}
+use Rattle.rsb_integer.specs.declared.integer.Integer.{Ghosts as Elements}
+use Rattle.rsb_streams.specs.Lookahead.{Input}
+use Rattle.rsb_streams.specs.NotIter.{not_iter}
+use Rattle.rsb_streams.specs.Rows.{asking}
+use Rattle.rsb_streams.specs.declared.draw.Draw.{Ghosts as Stream}
+use Rattle.rsb_streams.specs.declared.not_iter.NotIter.{NotIter}
+use Rattle.rsb_many.specs.Many.{HoldOneAtMost, UsesSome}
+use Rattle.rsb_many.specs.MultiwayUnion.{multiway_union, multiway_union_inputs}
+use Rattle.rsb_many.specs.declared.operation_results.multiway_intersection.MultiwayIntersection.{MultiwayIntersection}
+use Rattle.rsb_many.specs.declared.operation_results.multiway_union.MultiwayUnion.{MultiwayUnion}
+
+module _ {T N I A : Type 0} (integer : Elements T N) (stream : Stream I T N) where
+  -- what some of them leave out
+  abbrev pub left_out : Stream (MultiwayUnion T (NotIter T I) A N) T N
+  left_out = multiway_union integer (not_iter integer stream)
+
+  -- and its gaps
+  abbrev pub not_left_out : Stream (NotIter T (MultiwayUnion T (NotIter T I) A N)) T N
+  not_left_out = not_iter integer left_out
+
+  -- its inputs, which are the complements of the streams, where the range that the union of these
+  -- holds came of one place
+  abbrev pub multiway_intersection_inputs : ℕ → MultiwayIntersection T I A N → ℕ → Input
+  multiway_intersection_inputs from s =
+      multiway_union_inputs integer (not_iter integer stream) from s.iter.iter
+
+  -- a draw uses some ranges of each input, and where one was held of each at most, one is held of
+  -- each at most
+  abbrev pub AsksOfAll : MultiwayIntersection T I A N → Option (RangeInclusive T)
+      → MultiwayIntersection T I A N → Type 0
+  AsksOfAll s item t = (from : ℕ) → HoldOneAtMost (multiway_intersection_inputs from s)
+      → (now_from : ℕ) × ((place : ℕ) → UsesSome (multiway_intersection_inputs from s place)
+      (multiway_intersection_inputs now_from t place))
+
+  -- the gaps of what some of them leave out
+  abbrev pub multiway_intersection : Stream (MultiwayIntersection T I A N) T N
+  multiway_intersection = asking integer AsksOfAll
+      (λ s. not_left_out.can_draw s.iter)
+      (λ s. not_left_out.draws_left s.iter)
+      (λ s. not_left_out.may_give s.iter)

@@ -1,0 +1,29 @@
+-- The laws of what operations on any number of streams make: each is canonical.
+use Rattle.rsb_integer.specs.declared.integer.Integer.{Ghosts as Elements}
+use Rattle.rsb_streams.specs.NotIter.{not_iter}
+use Rattle.rsb_streams.specs.NotIterLaws.{not_iter-disjoint}
+use Rattle.rsb_streams.specs.Rows.{IsDisjoint, IsSorted}
+use Rattle.rsb_streams.specs.StreamLaws.{disjoint-sorted}
+use Rattle.rsb_streams.specs.UnionIterLaws.{union_iter-disjoint}
+use Rattle.rsb_streams.specs.declared.draw.Draw.{Ghosts as Stream}
+use Rattle.rsb_many.specs.KMerge.{kmerge}
+use Rattle.rsb_many.specs.KMergeLaws.{kmerge-sorted}
+use Rattle.rsb_many.specs.MultiwayIntersection.{left_out, multiway_intersection}
+use Rattle.rsb_many.specs.MultiwayUnion.{multiway_union}
+
+-- what lies in some of them
+pub multiway_union-disjoint : {T N I A : Type 0} (integer : Elements T N) (stream : Stream I T N)
+    → IsSorted integer stream → IsDisjoint integer (multiway_union {A = A} integer stream)
+multiway_union-disjoint integer stream sorted s = union_iter-disjoint integer (kmerge integer stream)
+    (kmerge-sorted integer stream sorted) s.iter
+
+-- what lies in all of them
+pub multiway_intersection-disjoint : {T N I A : Type 0} (integer : Elements T N)
+    (stream : Stream I T N) → IsSorted integer stream
+    → IsDisjoint integer (multiway_intersection {A = A} integer stream)
+multiway_intersection-disjoint integer stream sorted s =
+    let gaps = not_iter integer stream in
+    let outside = left_out integer stream in
+    not_iter-disjoint integer outside (disjoint-sorted integer outside
+    (multiway_union-disjoint integer gaps (disjoint-sorted integer gaps
+    (not_iter-disjoint integer stream sorted)))) s.iter

@@ -1,0 +1,55 @@
+-- What operations on any number of streams make: the result may be drawn from, gives nothing but
+-- runs of what the operation selects, and of each stream one range at most is drawn.
+use Rattle.std.specs.Prelude.{ℕ, List, [], ◌∷◌, length}
+use Rattle.rsb_integer.specs.Selection.{Selection, all_of, any_of}
+use Rattle.rsb_integer.specs.declared.integer.Integer.{Ghosts as Elements}
+use Rattle.rsb_streams.specs.NotIter.{not_iter}
+use Rattle.rsb_streams.specs.Results.{MakesComplement}
+use Rattle.rsb_streams.specs.Stream.{◌⊆◌, IsMade, Outcomes}
+use Rattle.rsb_streams.specs.declared.draw.Draw.{Ghosts as Stream}
+use Rattle.rsb_streams.specs.declared.not_iter.NotIter.{NotIter}
+use Rattle.rsb_many.specs.Many.{may_give_at, runs_by_all, IsBegun}
+use Rattle.rsb_many.specs.MultiwayIntersection.{multiway_intersection_inputs}
+use Rattle.rsb_many.specs.MultiwayUnion.{multiway_union_inputs}
+use Rattle.rsb_many.specs.declared.operation_results.multiway_intersection.MultiwayIntersection.{MultiwayIntersection}
+use Rattle.rsb_many.specs.declared.operation_results.multiway_union.MultiwayUnion.{MultiwayUnion}
+
+-- a stream made of many others gives nothing but runs of a set made of theirs
+abbrev pub GivesByAll : {S : Type 0} → (List Selection → Selection) → ℕ → (S → Outcomes) → List S
+    → Outcomes → Type 0
+GivesByAll operation n may_give streams given =
+    given ⊆ runs_by_all n operation (length streams) (may_give_at may_give streams)
+
+module _ {T N I : Type 0} (integer : Elements T N) (stream : Stream I T N) where
+  -- the streams of the last list are the complements of the others, of which nothing is drawn
+  abbrev pub AreComplements : List I → List (NotIter T I) → Type 0
+  AreComplements [] [] = Unit {0}
+  AreComplements [] (gap ∷ gaps) = ⊥
+  AreComplements (of ∷ streams) [] = ⊥
+  AreComplements (of ∷ streams) (gap ∷ gaps) =
+      MakesComplement integer stream (not_iter integer stream) of gap × AreComplements streams gaps
+
+  module _ {A : Type 0} where
+    -- of what lies in some of the streams
+    abbrev pub MakesMultiwayUnion : Stream (MultiwayUnion T I A N) T N → List I
+        → MultiwayUnion T I A N → Type 0
+    MakesMultiwayUnion made streams result = IsMade made.can_draw result
+        (GivesByAll any_of integer.value_count stream.may_give streams (made.may_give result))
+        ((from place : ℕ) → IsBegun (may_give_at stream.may_give streams place)
+        (multiway_union_inputs integer stream from result place))
+
+    -- of the complements of the streams one range at most is drawn
+    pub record BeginsComplements (streams : List I) (result : MultiwayIntersection T I A N) : Type 0
+      where
+        pub gaps : List (NotIter T I)
+        pub complements : AreComplements streams gaps
+        pub begun : (from place : ℕ)
+            → IsBegun (may_give_at (not_iter integer stream).may_give gaps place)
+            (multiway_intersection_inputs integer stream from result place)
+
+    -- of what lies in all of the streams
+    abbrev pub MakesMultiwayIntersection : Stream (MultiwayIntersection T I A N) T N → List I
+        → MultiwayIntersection T I A N → Type 0
+    MakesMultiwayIntersection made streams result = IsMade made.can_draw result
+        (GivesByAll all_of integer.value_count stream.may_give streams (made.may_give result))
+        (BeginsComplements streams result)

@@ -1,0 +1,34 @@
+-- The union of any number of streams.
+use Rattle.std.proofs.lemmas.Bool.{cases_eq}
+use Rattle.std.specs.Prelude.{ℕ}
+use Rattle.rsb_integer.specs.declared.integer.Integer.{Ghosts as Elements}
+use Rattle.rsb_streams.specs.Lookahead.{Input, Sameness}
+use Rattle.rsb_streams.specs.Rows.{asking}
+use Rattle.rsb_streams.specs.UnionIter.{joined_inputs, union_iter, AsksAhead}
+use Rattle.rsb_streams.specs.declared.draw.Draw.{Ghosts as Stream}
+use Rattle.rsb_streams.specs.declared.union_iter.UnionIter.{UnionIter}
+use Rattle.rsb_many.specs.KMerge.{kmerge, kmerge_inputs}
+use Rattle.rsb_many.specs.declared.kmerge.KMerge.{KMerge}
+use Rattle.rsb_many.specs.declared.operation_results.multiway_union.MultiwayUnion.{MultiwayUnion}
+
+-- two places by number are one, or they are not
+abbrev pub same_place : Sameness ℕ
+same_place one other = cases_eq one other
+
+module _ {T N I A : Type 0} (integer : Elements T N) (stream : Stream I T N) where
+  -- a merge of many, joined
+  abbrev pub joined_kmerge : Stream (UnionIter T (KMerge T I A N)) T N
+  joined_kmerge = union_iter integer (kmerge integer stream)
+
+  -- the union: a draw looks ahead of each stream by one range at most
+  abbrev pub multiway_union : Stream (MultiwayUnion T I A N) T N
+  multiway_union = asking integer
+      (λ s item t. AsksAhead same_place integer (kmerge_inputs integer stream) s.iter item t.iter)
+      (λ s. joined_kmerge.can_draw s.iter)
+      (λ s. joined_kmerge.draws_left s.iter)
+      (λ s. joined_kmerge.may_give s.iter)
+
+  -- its inputs, where the range that it holds came of one place
+  abbrev pub multiway_union_inputs : ℕ → MultiwayUnion T I A N → ℕ → Input
+  multiway_union_inputs from s =
+      joined_inputs same_place integer (kmerge_inputs integer stream) from s.iter

@@ -1,0 +1,83 @@
+//! Set algebra over any number of streams of one type.
+
+ghost use Rattle.std.specs.Prelude.{All, IfOk};
+ghost use Rattle.rsb_many.specs.HandedIn.{EachGaveRun};
+ghost use Rattle.rsb_many.specs.MultiwayResults.{
+  AreComplements,
+  MakesMultiwayIntersection,
+  MakesMultiwayUnion,
+};
+ghost use Rattle.rsb_streams.specs.Items.{GaveRun, IsEnding};
+
+use crate::kmerge::KMerge;
+use crate::operation_results::{MultiwayIntersection, MultiwayUnion};
+use rsb_integer::Integer;
+use rsb_streams::{Draw, DrawDisjoint, NotIter};
+use std::alloc::{AllocError, Allocator};
+
+/// Set algebra over any number of streams of one type, which may be drawn from. Room is taken when a
+/// result is built alone, and then the first range of each stream is drawn. Without memory nothing is
+/// made, and the streams are dropped. (`MultiwaySortedDisjoint` of the Rust crate.)
+pub trait MultiwaySortedDisjoint<T: Integer, I: DrawDisjoint<T>>: IntoIterator<Item = I> {
+    /// What lies in some of the streams: nothing, of none. It looks ahead of each by one range at
+    /// most. (`MultiwaySortedDisjoint::union`.)
+    final fn union<A: Allocator + Copy>(
+        self,
+        alloc: A,
+    ) -> Result<MultiwayUnion<T, I, A>, AllocError>
+    where
+        Self: Sized,
+        requires ends { IsEnding Self.into_iter_gives Self.IntoIter.can_next Self.IntoIter.remaining self }
+        requires can { EachGaveRun Self.into_iter_gives Self.IntoIter.next_gives self (All I.can_draw) }
+        ensures ready { IfOk result ⟦<MultiwayUnion<T, I, A> as Draw<T>>⟧.can_draw }
+        ensures made { IfOk result (λ union.
+            GaveRun Self.into_iter_gives Self.IntoIter.next_gives self
+            (λ streams. MakesMultiwayUnion T.Integer.own I.Draw
+            ⟦<MultiwayUnion<T, I, A> as Draw<T>>⟧ streams union)) }
+    {
+        let merge = KMerge::new(alloc, self)?;
+        Ok(MultiwayUnion::of(merge))
+    }
+
+    /// What lies in all of the streams: every value, of none. It holds one gap of each at most.
+    /// (`MultiwaySortedDisjoint::intersection`.)
+    final fn intersection<A: Allocator + Copy>(
+        self,
+        alloc: A,
+    ) -> Result<MultiwayIntersection<T, I, A>, AllocError>
+    where
+        Self: Sized,
+        requires ends { IsEnding Self.into_iter_gives Self.IntoIter.can_next Self.IntoIter.remaining self }
+        requires can { EachGaveRun Self.into_iter_gives Self.IntoIter.next_gives self (All I.can_draw) }
+        ensures ready { IfOk result ⟦<MultiwayIntersection<T, I, A> as Draw<T>>⟧.can_draw }
+        ensures made { IfOk result (λ intersection.
+            GaveRun Self.into_iter_gives Self.IntoIter.next_gives self
+            (λ streams. MakesMultiwayIntersection T.Integer.own I.Draw
+            ⟦<MultiwayIntersection<T, I, A> as Draw<T>>⟧ streams intersection)) }
+    {
+        let gaps = complements(alloc, self)?;
+        let merge = KMerge::over(alloc, gaps)?;
+        Ok(MultiwayIntersection::of(merge))
+    }
+}
+
+impl<T: Integer, I: DrawDisjoint<T>, K: IntoIterator<Item = I>> MultiwaySortedDisjoint<T, I> for K {}
+
+// The complements of streams that may be drawn from.
+fn complements<T: Integer, I: DrawDisjoint<T>, A: Allocator, K: IntoIterator<Item = I>>(
+    alloc: A,
+    streams: K,
+) -> Result<Vec<NotIter<T, I>, A>, AllocError>
+    requires ends { IsEnding K.into_iter_gives K.IntoIter.can_next K.IntoIter.remaining streams }
+    requires can { EachGaveRun K.into_iter_gives K.IntoIter.next_gives streams (All I.can_draw) }
+    ensures ready { IfOk result (λ gaps. All ⟦<NotIter<T, I> as Draw<T>>⟧.can_draw gaps.items) }
+    ensures made { IfOk result (λ gaps.
+        GaveRun K.into_iter_gives K.IntoIter.next_gives streams
+        (λ items. AreComplements T.Integer.own I.Draw items gaps.items)) }
+{
+    let mut gaps = Vec::new(alloc);
+    for stream in streams {
+        gaps.push(stream.complement())?;
+    }
+    Ok(gaps)
+}

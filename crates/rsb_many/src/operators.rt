@@ -1,0 +1,7 @@
+//! The operators on results of operations on many streams.
+
+mod bit_and;
+mod bit_or;
+mod bit_xor;
+mod not;
+mod sub;

@@ -1,0 +1,36 @@
+//! The operator `|` on results of operations on many streams: what lies in either of two.
+
+ghost use Rattle.rsb_streams.specs.Results.{CanDrawBoth, MakesUnion};
+
+use crate::operation_results::{MultiwayIntersection, MultiwayUnion};
+use rsb_integer::Integer;
+use rsb_streams::{Draw, DrawDisjoint, Union};
+use std::alloc::Allocator;
+use std::ops::BitOr;
+
+impl<T: Integer, I: Draw<T>, A: Allocator, R: DrawDisjoint<T>> BitOr<R> for MultiwayUnion<T, I, A> {
+    type Output = Union<T, MultiwayUnion<T, I, A>, R>;
+
+    ghost can_bitor = { CanDrawBoth ⟦<MultiwayUnion<T, I, A> as Draw<T>>⟧ R.Draw };
+
+    ghost bitor_gives = { MakesUnion T.Integer.own ⟦<MultiwayUnion<T, I, A> as Draw<T>>⟧ R.Draw
+        ⟦<Union<T, MultiwayUnion<T, I, A>, R> as Draw<T>>⟧ };
+
+    fn bitor(self, other: R) -> Self::Output {
+        Union::from((self, other))
+    }
+}
+
+impl<T: Integer, I: Draw<T>, A: Allocator, R: DrawDisjoint<T>> BitOr<R>
+    for MultiwayIntersection<T, I, A> {
+    type Output = Union<T, MultiwayIntersection<T, I, A>, R>;
+
+    ghost can_bitor = { CanDrawBoth ⟦<MultiwayIntersection<T, I, A> as Draw<T>>⟧ R.Draw };
+
+    ghost bitor_gives = { MakesUnion T.Integer.own ⟦<MultiwayIntersection<T, I, A> as Draw<T>>⟧ R.Draw
+        ⟦<Union<T, MultiwayIntersection<T, I, A>, R> as Draw<T>>⟧ };
+
+    fn bitor(self, other: R) -> Self::Output {
+        Union::from((self, other))
+    }
+}

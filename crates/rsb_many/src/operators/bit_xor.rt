@@ -1,0 +1,37 @@
+//! The operator `^` on results of operations on many streams: what one of two has alone.
+
+ghost use Rattle.rsb_streams.specs.Results.{CanDrawBoth, MakesSymmetricDifference};
+
+use crate::operation_results::{MultiwayIntersection, MultiwayUnion};
+use rsb_integer::Integer;
+use rsb_streams::{Draw, DrawDisjoint, SymmetricDifference};
+use std::alloc::Allocator;
+use std::ops::BitXor;
+
+impl<T: Integer, I: Draw<T>, A: Allocator, R: DrawDisjoint<T>> BitXor<R>
+    for MultiwayUnion<T, I, A> {
+    type Output = SymmetricDifference<T, MultiwayUnion<T, I, A>, R>;
+
+    ghost can_bitxor = { CanDrawBoth ⟦<MultiwayUnion<T, I, A> as Draw<T>>⟧ R.Draw };
+
+    ghost bitxor_gives = { MakesSymmetricDifference T.Integer.own ⟦<MultiwayUnion<T, I, A> as Draw<T>>⟧ R.Draw
+        ⟦<SymmetricDifference<T, MultiwayUnion<T, I, A>, R> as Draw<T>>⟧ };
+
+    fn bitxor(self, other: R) -> Self::Output {
+        SymmetricDifference::from((self, other))
+    }
+}
+
+impl<T: Integer, I: Draw<T>, A: Allocator, R: DrawDisjoint<T>> BitXor<R>
+    for MultiwayIntersection<T, I, A> {
+    type Output = SymmetricDifference<T, MultiwayIntersection<T, I, A>, R>;
+
+    ghost can_bitxor = { CanDrawBoth ⟦<MultiwayIntersection<T, I, A> as Draw<T>>⟧ R.Draw };
+
+    ghost bitxor_gives = { MakesSymmetricDifference T.Integer.own ⟦<MultiwayIntersection<T, I, A> as Draw<T>>⟧ R.Draw
+        ⟦<SymmetricDifference<T, MultiwayIntersection<T, I, A>, R> as Draw<T>>⟧ };
+
+    fn bitxor(self, other: R) -> Self::Output {
+        SymmetricDifference::from((self, other))
+    }
+}

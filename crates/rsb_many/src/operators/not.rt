@@ -1,0 +1,35 @@
+//! The operator `!` on results of operations on many streams: what a stream leaves out.
+
+ghost use Rattle.rsb_streams.specs.Results.{MakesComplement};
+
+use crate::operation_results::{MultiwayIntersection, MultiwayUnion};
+use rsb_integer::Integer;
+use rsb_streams::{Draw, NotIter};
+use std::alloc::Allocator;
+use std::ops::Not;
+
+impl<T: Integer, I: Draw<T>, A: Allocator> Not for MultiwayUnion<T, I, A> {
+    type Output = NotIter<T, MultiwayUnion<T, I, A>>;
+
+    ghost can_not = { ⟦<MultiwayUnion<T, I, A> as Draw<T>>⟧.can_draw };
+
+    ghost not_gives = { MakesComplement T.Integer.own ⟦<MultiwayUnion<T, I, A> as Draw<T>>⟧
+        ⟦<NotIter<T, MultiwayUnion<T, I, A>> as Draw<T>>⟧ };
+
+    fn not(self) -> Self::Output {
+        NotIter::from(self)
+    }
+}
+
+impl<T: Integer, I: Draw<T>, A: Allocator> Not for MultiwayIntersection<T, I, A> {
+    type Output = NotIter<T, MultiwayIntersection<T, I, A>>;
+
+    ghost can_not = { ⟦<MultiwayIntersection<T, I, A> as Draw<T>>⟧.can_draw };
+
+    ghost not_gives = { MakesComplement T.Integer.own ⟦<MultiwayIntersection<T, I, A> as Draw<T>>⟧
+        ⟦<NotIter<T, MultiwayIntersection<T, I, A>> as Draw<T>>⟧ };
+
+    fn not(self) -> Self::Output {
+        NotIter::from(self)
+    }
+}

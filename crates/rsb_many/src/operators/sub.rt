@@ -1,0 +1,36 @@
+//! The operator `-` on results of operations on many streams: what the left one has and the right one lacks.
+
+ghost use Rattle.rsb_streams.specs.Results.{CanDrawBoth, MakesDifference};
+
+use crate::operation_results::{MultiwayIntersection, MultiwayUnion};
+use rsb_integer::Integer;
+use rsb_streams::{Difference, Draw, DrawDisjoint};
+use std::alloc::Allocator;
+use std::ops::Sub;
+
+impl<T: Integer, I: Draw<T>, A: Allocator, R: DrawDisjoint<T>> Sub<R> for MultiwayUnion<T, I, A> {
+    type Output = Difference<T, MultiwayUnion<T, I, A>, R>;
+
+    ghost can_sub = { CanDrawBoth ⟦<MultiwayUnion<T, I, A> as Draw<T>>⟧ R.Draw };
+
+    ghost sub_gives = { MakesDifference T.Integer.own ⟦<MultiwayUnion<T, I, A> as Draw<T>>⟧ R.Draw
+        ⟦<Difference<T, MultiwayUnion<T, I, A>, R> as Draw<T>>⟧ };
+
+    fn sub(self, other: R) -> Self::Output {
+        Difference::from((self, other))
+    }
+}
+
+impl<T: Integer, I: Draw<T>, A: Allocator, R: DrawDisjoint<T>> Sub<R>
+    for MultiwayIntersection<T, I, A> {
+    type Output = Difference<T, MultiwayIntersection<T, I, A>, R>;
+
+    ghost can_sub = { CanDrawBoth ⟦<MultiwayIntersection<T, I, A> as Draw<T>>⟧ R.Draw };
+
+    ghost sub_gives = { MakesDifference T.Integer.own ⟦<MultiwayIntersection<T, I, A> as Draw<T>>⟧ R.Draw
+        ⟦<Difference<T, MultiwayIntersection<T, I, A>, R> as Draw<T>>⟧ };
+
+    fn sub(self, other: R) -> Self::Output {
+        Difference::from((self, other))
+    }
+}
