@@ -1,6 +1,6 @@
 -- What a merge and a sweep of many streams hold when the least head leaves, when it is put back, and
 -- when there is none.
-use Rattle.std.proofs.Common.{◌≡◌, inl, inr, ℕ, ◌+◌, ◌*◌, ◌<◌, ◌≤◌, true, false, cond, nat_lt, List, [], ◌∷◌, length, slice_get, refl, sym, ap, subst, ◌∙◌, arith, All, None}
+use Rattle.std.proofs.Common.{◌≡◌, inl, inr, ℕ, ◌+◌, ◌*◌, ◌<◌, ◌≤◌, true, false, cond, nat_lt, List, [], ◌∷◌, ◌++◌, length, slice_get, refl, sym, ap, subst, ◌∙◌, arith, All, None}
 use Rattle.std.proofs.lemmas.Bool.{ltb-false}
 use Rattle.std.proofs.lemmas.List.{append-nil}
 use Rattle.std.proofs.lemmas.List.Elements.{All-cons, All-head, All-tail}
@@ -8,12 +8,14 @@ use Rattle.std.proofs.lemmas.List.Sorted.{All-permutation, length_permutation}
 use Rattle.rsb_integer.specs.Runs.{Interval}
 use Rattle.rsb_integer.specs.declared.integer.Integer.{Ghosts as Elements}
 use Rattle.rsb_integer.proofs.ListLemmas.{true_or_false}
-use Rattle.rsb_streams.specs.Lookahead.{GivesFrom, HasEnded, Uses}
+use Rattle.rsb_streams.specs.Lookahead.{Ends, GivesFrom, HasEnded, Input, Uses}
+use Rattle.rsb_streams.specs.Stream.{◌⊆◌, just}
 use Rattle.rsb_streams.specs.declared.draw.Draw.{Ghosts as Stream}
 use Rattle.rsb_many.specs.Drawn.{inputs_of, is_at, started, DrawnReady, HasNoHead, PutsBack, TakesHead}
 use Rattle.rsb_many.specs.Heads.{binary_digits}
 use Rattle.rsb_many.specs.Inputs.{has_ended, held_at, input_at, left_of, run_of, AreReady, Inputs}
 use Rattle.rsb_many.specs.KMerge.{comparison_bound}
+use Rattle.rsb_many.specs.Many.{gives_of}
 use Rattle.rsb_many.specs.declared.drawn.Drawn.{Drawn}
 use Rattle.rsb_many.specs.declared.heads.Head.{Head}
 use Rattle.rsb_many.proofs.DigitLemmas.{binary_digits-more}
@@ -258,16 +260,43 @@ module _ {T N I A : Type 0} (integer : Elements T N) (stream : Stream I T N) (m 
       gives = λ runs at. rw (none-over place) at at;
     }
 
-    -- it uses nothing
-    pub none-uses : (place : ℕ)
-        → Uses (input_at integer stream before place) [] (input_at integer stream (inputs_of t) place)
-    none-uses place = record {
-      drawn = [];
-      drew = λ rest at. subst (λ each. (input_at integer stream each place).undrawn rest)
-          none-unchanged at;
-      in_order = append-nil (held_at rank m.heads.heads place)
-          ∙ ap (λ each. held_at rank each.heads place) (sym none-unchanged);
-    }
+    -- none gives anything
+    pub none-nothing : (place : ℕ)
+        → gives_of (input_at integer stream (inputs_of t) place) ⊆ just []
+    none-nothing place runs gives =
+        let ended = none-ended place in
+        gives.2 ∙ ap (λ each. each ++ gives.0) ended.held ∙ ended.gives gives.0 gives.1
+
+    -- what was due was drawn before
+    module _ (earlier : ℕ → Input)
+        (filled : (place : ℕ) → Uses (earlier place) [] (input_at integer stream before place)) where
+      -- so an input used nothing
+      none-uses : (place : ℕ)
+          → Uses (earlier place) [] (input_at integer stream (inputs_of t) place)
+      none-uses place = subst (λ each. Uses (earlier place) [] (input_at integer stream each place))
+          (sym none-unchanged) (filled place)
+
+      -- and ended
+      pub none-ends : (place : ℕ)
+          → Ends (earlier place) (input_at integer stream (inputs_of t) place)
+      none-ends place =
+          let uses = none-uses place in
+          let ended = none-ended place in
+          record {
+            uses = record {
+              drawn = uses.drawn;
+              drew = λ rest is. uses.drew rest (rw (none-over place) is);
+              in_order = uses.in_order ∙ ended.held;
+            };
+            over = ended;
+          }
+
+      -- it might have given nothing
+      pub none-might : (place : ℕ) → gives_of (earlier place) []
+      none-might place = gives_of-uses (earlier place)
+          (input_at integer stream (inputs_of t) place) [] (none-uses place) []
+          ([], rw (none-over place) refl,
+          sym (append-nil (held_at rank t.heads.heads place) ∙ (none-ended place).held))
 
     -- the inputs are ready again, and there is room for their heads
     pub none-ready : DrawnReady integer stream t

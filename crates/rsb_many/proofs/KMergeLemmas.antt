@@ -1,32 +1,29 @@
 -- One answer of a merge of any number of streams.
-use Rattle.std.proofs.Common.{◌≡◌, inl, inr, ℕ, ◌+◌, ◌*◌, ◌<◌, ◌≤◌, Bool, true, false, cond, nat_eq, nat_lt, List, [], ◌∷◌, ◌++◌, length, slice_get, refl, sym, ap, subst, ◌∙◌, arith, All, Option, Some, None, IsFalse, IsPermutation}
-use Rattle.std.proofs.lemmas.Bool.{cases_eq, ltb-false}
-use Rattle.std.proofs.lemmas.List.{append-nil}
+use Rattle.std.proofs.Common.{◌≡◌, inl, inr, ℕ, ◌+◌, ◌*◌, ◌<◌, ◌≤◌, true, false, nat_lt, List, [], ◌∷◌, length, refl, sym, ap, subst, ◌∙◌, arith, All, Some, None, IsFalse}
+use Rattle.std.proofs.lemmas.Bool.{ltb-false}
 use Rattle.std.proofs.lemmas.List.Elements.{All-head, All-nil, All-tail}
-use Rattle.std.proofs.lemmas.List.Sorted.{All-permutation, length_permutation}
+use Rattle.std.proofs.lemmas.List.Sorted.{All-permutation}
 use Rattle.std.specs.Iterator.{size, IsFinite, MakesProgress}
 use Rattle.std.specs.declared.ops.RangeInclusive.{RangeInclusive}
 use Rattle.rsb_integer.specs.Rank.{interval_of}
 use Rattle.rsb_integer.specs.Runs.{Interval}
 use Rattle.rsb_integer.specs.declared.integer.Integer.{Ghosts as Elements}
 use Rattle.rsb_integer.proofs.ListLemmas.{true_or_false, All-both}
-use Rattle.rsb_streams.specs.Lookahead.{Ends, GivesFrom, HasEnded, Spares, TakesOne, Uses}
-use Rattle.rsb_streams.specs.Stream.{◌⊆◌, just}
+use Rattle.rsb_streams.specs.Lookahead.{GivesFrom, Spares, TakesOne}
 use Rattle.rsb_streams.specs.declared.draw.Draw.{Ghosts as Stream}
 use Rattle.rsb_streams.proofs.LookaheadLemmas.{uses-then}
 use Rattle.rsb_streams.proofs.Sources.{IsLawful}
-use Rattle.rsb_many.specs.Drawn.{inputs_of, is_at, DrawnReady, HasNoHead, IsBegunOf, IsUnstarted, Refills, TakesHead}
+use Rattle.rsb_many.specs.Drawn.{inputs_of, is_at, HasNoHead, IsBegunOf, IsUnstarted, Refills, TakesHead}
 use Rattle.rsb_many.specs.Heads.{binary_digits, key_of}
-use Rattle.rsb_many.specs.Inputs.{has_ended, held_at, input_at, inputs_left, inputs_merge, left_of, run_of, AreReady, Inputs}
+use Rattle.rsb_many.specs.Inputs.{input_at, inputs_left, inputs_merge, run_of, Inputs}
 use Rattle.rsb_many.specs.KMerge.{comparison_bound, kmerge, kmerge_inputs, KMergeReady, MakesKMerge}
 use Rattle.rsb_many.specs.Keys.{comes_before}
 use Rattle.rsb_many.specs.Many.{gives_of, may_give_at, merges_all}
 use Rattle.rsb_many.specs.declared.drawn.Drawn.{Drawn}
 use Rattle.rsb_many.specs.declared.heads.Head.{Head}
 use Rattle.rsb_many.specs.declared.kmerge.KMerge.{KMerge}
-use Rattle.rsb_many.proofs.DigitLemmas.{binary_digits-more}
-use Rattle.rsb_many.proofs.InputsLemmas.{gives_of-uses, leaves-gives, leaves-goes, leaves-others_spared, leaves-ready, leaves-starts, nat_eq-differs, nat_eq-itself}
-use Rattle.rsb_many.proofs.LeftLemmas.{left_of-same}
+use Rattle.rsb_many.proofs.HeadTurns.{few-compared, none-ends, none-long, none-might, none-nothing, none-ready, taken-due, taken-dues, taken-fewer, taken-gives, taken-left, taken-less, taken-long, taken-ready, taken-streams}
+use Rattle.rsb_many.proofs.InputsLemmas.{gives_of-uses, leaves-others_spared, leaves-starts}
 use Rattle.rsb_many.proofs.MergeAllLemmas.{merges_all-empty, merges_all-head, merges_all-nothing, merges_all-wider}
 
 module _ {T N I A : Type 0} (integer : Elements T N) (stream : Stream I T N)
@@ -53,20 +50,9 @@ module _ {T N I A : Type 0} (integer : Elements T N) (stream : Stream I T N)
   -- few comparisons were made
   few-made : (made : ℕ) → made ≤ m.heads.comparisons + 2 * binary_digits (length m.heads.heads)
       → made ≤ s.inputs.heads.comparisons + comparison_bound (length s.inputs.streams.items)
-  few-made made most =
-      let count = length s.inputs.streams.items in
-      let room = filled.ready.room.few in
-      let heads : length m.heads.heads ≤ count = omega (arith, room, filled.count) in
-      let few = binary_digits-more (length m.heads.heads) count heads in
-      let some = binary_digits-more count (cond (nat_lt 0 count) count 1) (at-least count) in
-      omega (arith, most, few, some, filled.compared)
-    where
-      -- a number, or one where it is none
-      at-least : (count : ℕ) → count ≤ cond (nat_lt 0 count) count 1
-      at-least count = elim (true_or_false (nat_lt 0 count)) [
-        | inl some ↦ rw some (omega arith)
-        | inr none ↦ let nothing = ltb-false 0 count none in rw none (omega (arith, nothing))
-      ]
+  few-made made most = few-compared (length s.inputs.streams.items) (length m.heads.heads)
+      s.inputs.heads.comparisons m.heads.comparisons made
+      (omega (arith, filled.ready.room.few, filled.count)) filled.compared (omega (arith, most))
 
   -- ---- a head left
   module _ (head : Head T) (takes : TakesHead integer stream m head t.inputs) where
@@ -76,15 +62,15 @@ module _ {T N I A : Type 0} (integer : Elements T N) (stream : Stream I T N)
 
     -- the same streams
     streams : now.streams ≡ middle.streams
-    streams = ap (λ each. each.items) takes.streams
+    streams = taken-streams integer stream m filled.ready filled.none t.inputs head takes
 
     -- its input is due
     due : now.due head.input ≡ true
-    due = rw takes.used (nat_eq-itself head.input)
+    due = taken-due integer stream m filled.ready filled.none t.inputs head takes
 
     -- no other is
     dues : (place : ℕ) → ¬ (place ≡ head.input) → now.due place ≡ middle.due place
-    dues place differs = rw (takes.used, filled.none) (nat_eq-differs head.input place differs)
+    dues = taken-dues integer stream m filled.ready filled.none t.inputs head takes
 
     -- the heads that stay start at their starts
     unstarted : All IsUnstarted (head ∷ t.inputs.heads.heads)
@@ -120,8 +106,7 @@ module _ {T N I A : Type 0} (integer : Elements T N) (stream : Stream I T N)
     gives-here : GivesFrom (input_at integer stream before head.input) run
         (input_at integer stream now head.input)
     gives-here =
-        let gives = leaves-gives integer stream middle now head filled.ready.inputs streams
-        takes.taken.kept due dues in
+        let gives = taken-gives integer stream m filled.ready filled.none t.inputs head takes in
         record {
           uses = uses-then (input_at integer stream before head.input)
               (input_at integer stream middle head.input) (input_at integer stream now head.input)
@@ -148,16 +133,13 @@ module _ {T N I A : Type 0} (integer : Elements T N) (stream : Stream I T N)
 
     -- as many streams are there
     long : length t.inputs.streams.items ≡ length s.inputs.streams.items
-    long = ap (λ (each : List I). length each) streams ∙ filled.count
+    long = taken-long integer stream m filled.ready filled.none t.inputs head takes ∙ filled.count
 
     -- the head's input is one of them
     here-less : head.input < length s.inputs.streams.items
     here-less =
-        let within = All-head (λ (each : Head T). each.input < length m.streams.items) head
-        t.inputs.heads.heads
-        (All-permutation (λ (each : Head T). each.input < length m.streams.items) m.heads.heads
-        (head ∷ t.inputs.heads.heads) takes.taken.kept filled.ready.inputs.within) in
-        omega (arith, within, filled.count)
+        let less = taken-less integer stream m filled.ready filled.none t.inputs head takes in
+        omega (arith, less, filled.count)
 
     -- the range comes before what comes then
     pub head-answers : (rest : List Interval) → inputs_merge integer stream now rest
@@ -174,34 +156,12 @@ module _ {T N I A : Type 0} (integer : Elements T N) (stream : Stream I T N)
         takes.taken.kept due dues least (λ other differs. none-due other) place)
         rest (rw long at may)
 
-    -- one head less is there
-    fewer : length m.heads.heads ≡ length t.inputs.heads.heads + 1
-    fewer =
-        let same = length_permutation m.heads.heads (head ∷ t.inputs.heads.heads) takes.taken.kept in
-        omega (arith, same)
-
     -- the merge may be called again
     pub head-ready : KMergeReady integer stream t
     head-ready = record {
-      drawn = record {
-        inputs = leaves-ready integer stream middle now head filled.ready.inputs streams
-            takes.taken.kept due dues;
-        room = record {
-          used = rw takes.used (omega (arith, here-less, long));
-          few = rw takes.used (few-now);
-          room =
-              let most = filled.ready.room.room in
-              omega (arith, most, takes.room, long, filled.count);
-        };
-      };
+      drawn = taken-ready integer stream m filled.ready filled.none t.inputs head takes;
       unstarted = All-tail IsUnstarted head t.inputs.heads.heads unstarted;
     }
-      where
-        -- there is room for its input's next
-        few-now : length t.inputs.heads.heads + 1 ≤ length t.inputs.streams.items
-        few-now =
-            let most = filled.ready.room.few in
-            omega (arith, fewer, most, long, filled.count)
 
     -- one range less is left
     pub head-less : IsFinite (inputs_left integer stream before)
@@ -209,13 +169,8 @@ module _ {T N I A : Type 0} (integer : Elements T N) (stream : Stream I T N)
         × (size (inputs_left integer stream now) < size (inputs_left integer stream before))
     head-less finite =
         let refilled = filled.left finite in
-        let same : left_of stream.draws_left (has_ended integer stream now) now.streams
-        ≡ left_of stream.draws_left (has_ended integer stream middle) middle.streams =
-        left_of-same stream.draws_left (has_ended integer stream middle)
-        (has_ended integer stream now) now.streams
-        (leaves-goes integer stream middle now head filled.ready.inputs streams takes.taken.kept due
-        dues)
-        ∙ ap (λ each. left_of stream.draws_left (has_ended integer stream middle) each) streams in
+        let same = taken-left integer stream m filled.ready filled.none t.inputs head takes in
+        let fewer = taken-fewer integer stream m filled.ready filled.none t.inputs head takes in
         (
           subst (λ each. IsFinite each) (sym same) refilled.0,
           omega (arith, refilled.1, fewer, ap (λ each. size each) same),
@@ -250,74 +205,10 @@ module _ {T N I A : Type 0} (integer : Elements T N) (stream : Stream I T N)
 
   -- ---- no head was there
   module _ (none : HasNoHead m t.inputs) where
-    -- nothing is held of any input
-    nothing-held : (place : ℕ) → held_at rank now.heads place ≡ []
-    nothing-held place = rw none.new refl
-
-    -- each input has ended
-    over : (place : ℕ) → has_ended integer stream now place ≡ true
-    over place = rw (none.new, none.used) refl
-
-    -- the inputs are as they were when what was due was drawn
-    unchanged : now ≡ middle
-    unchanged = same-by (ap (λ each. each.items) none.streams) (none.new ∙ sym none.old)
-        (none.used ∙ sym filled.none)
-      where
-        -- by their parts
-        same-by : t.inputs.streams.items ≡ m.streams.items
-            → t.inputs.heads.heads ≡ m.heads.heads → t.inputs.used ≡ m.used → now ≡ middle
-        same-by first second third = rw (first, second, third) refl
-
-    -- each input has ended, and gives nothing
-    all-ended : (place : ℕ) → HasEnded (input_at integer stream now place)
-    all-ended place = record {
-      held = nothing-held place;
-      gives = λ runs at. rw (over place) at at;
-    }
-
-    -- each ended with this call
-    pub none-ends : (place : ℕ)
-        → Ends (kmerge_inputs integer stream s place) (kmerge_inputs integer stream t place)
-    none-ends place =
-        let uses = subst (λ each. Uses (input_at integer stream before place) []
-        (input_at integer stream each place)) (sym unchanged) (filled.uses place) in
-        record {
-          uses = record {
-            drawn = uses.drawn;
-            drew = λ rest is. uses.drew rest (rw (over place) is);
-            in_order = uses.in_order ∙ nothing-held place;
-          };
-          over = all-ended place;
-        }
-
-    -- each input might have given nothing
-    might-end : (place : ℕ) → gives_of (input_at integer stream before place) []
-    might-end place = gives_of-uses (input_at integer stream before place)
-        (input_at integer stream now place) []
-        (subst (λ each. Uses (input_at integer stream before place) []
-        (input_at integer stream each place)) (sym unchanged) (filled.uses place)) []
-        ([], rw (over place) refl, sym (append-nil (held_at rank now.heads place) ∙ nothing-held place))
-
-    -- none gives anything now
-    gives-nothing : (place : ℕ) → gives_of (input_at integer stream now place) ⊆ just []
-    gives-nothing place runs gives =
-        let ended = all-ended place in
-        gives.2 ∙ ap (λ each. each ++ gives.0) ended.held ∙ ended.gives gives.0 gives.1
-
     -- the merge may be called again
-    none-ready : KMergeReady integer stream t
-    none-ready = record {
-      drawn = record {
-        inputs = subst (AreReady integer stream) (sym unchanged) filled.ready.inputs;
-        room = record {
-          used = rw none.used tt;
-          few = rw (none.used, none.new) (omega arith);
-          room =
-              let most = filled.ready.room.room in
-              let long = ap (λ each. length each.items) none.streams in
-              omega (arith, most, none.room, long);
-        };
-      };
+    none-again : KMergeReady integer stream t
+    none-again = record {
+      drawn = none-ready integer stream m filled.ready filled.none t.inputs none;
       unstarted = rw none.new (All-nil IsUnstarted);
     }
 
@@ -327,16 +218,20 @@ module _ {T N I A : Type 0} (integer : Elements T N) (stream : Stream I T N)
         → (kmerge {A = A} integer stream).draw_gives s None t
     none-known compared = record {
       answers = merges_all-empty n (length before.streams)
-          (λ place. gives_of (input_at integer stream before place)) (λ place less. might-end place);
+          (λ place. gives_of (input_at integer stream before place))
+          (λ place less. none-might integer stream m filled.ready filled.none t.inputs none
+          (kmerge_inputs integer stream s) filled.uses place);
       rests = (
-        none-ready,
+        none-again,
         merges_all-nothing n (length now.streams)
             (λ place. gives_of (input_at integer stream now place))
-            (λ place less. gives-nothing place),
+            (λ place less. none-nothing integer stream m filled.ready filled.none t.inputs none
+            place),
       );
       asks = record {
-        takes = none-ends;
-        count = ap (λ each. length each.items) none.streams ∙ filled.count;
+        takes = none-ends integer stream m filled.ready filled.none t.inputs none
+            (kmerge_inputs integer stream s) filled.uses;
+        count = none-long integer stream m filled.ready filled.none t.inputs none ∙ filled.count;
         compared = few-made t.inputs.heads.comparisons compared;
       };
     }

@@ -1,7 +1,6 @@
 -- One event of a sweep over any number of streams.
 use Rattle.std.proofs.Common.{◌≡◌, inl, inr, ℕ, zero, suc, ◌+◌, ◌*◌, ◌<◌, ◌≤◌, true, false, cond, List, [], ◌∷◌, ◌++◌, length, slice_get, refl, sym, ap, subst, ◌∙◌, arith, All, sum_by, Some, None, IsFalse}
 use Rattle.std.proofs.lemmas.Bool.{cases_eq}
-use Rattle.std.proofs.lemmas.List.{append-nil}
 use Rattle.std.proofs.lemmas.List.Elements.{All-head, All-nil, All-tail, All-weaker}
 use Rattle.std.proofs.lemmas.List.Sorted.{sum_by-IsPermutation}
 use Rattle.std.proofs.lemmas.List.Sums.{sum_by-cons}
@@ -10,7 +9,7 @@ use Rattle.std.specs.declared.ops.RangeInclusive.{RangeInclusive}
 use Rattle.rsb_integer.specs.Rank.{interval_of}
 use Rattle.rsb_integer.specs.Runs.{Interval, IsCanonicalIn}
 use Rattle.rsb_integer.specs.declared.integer.Integer.{Ghosts as Elements}
-use Rattle.rsb_streams.specs.Lookahead.{Ends, Uses}
+use Rattle.rsb_streams.specs.Lookahead.{Uses}
 use Rattle.rsb_streams.specs.Stream.{◌⊆◌, HasOutcome, Outcomes}
 use Rattle.rsb_streams.specs.declared.draw.Draw.{Ghosts as Stream}
 use Rattle.rsb_streams.proofs.LookaheadLemmas.{uses-then}
@@ -29,7 +28,7 @@ use Rattle.rsb_many.specs.declared.heads.Head.{Head}
 use Rattle.rsb_many.specs.declared.multiway_sweep.MultiwaySweep.{MultiwaySweep}
 use Rattle.rsb_many.specs.declared.sweep_event.SweepEvent.TheVariants as events
 use Rattle.rsb_many.proofs.BegunHeads.{events-came, has_begun-came, has_begun-nothing, has_begun-only, has_begun-other, has_begun-permutation, has_begun-unstarted, held-not_before, key-started, key-unstarted}
-use Rattle.rsb_many.proofs.HeadTurns.{back-due, back-held, back-left, back-long, back-many, back-ready, back-uses, few-compared, none-ended, none-long, none-over, none-ready, none-uses, taken-dues, taken-gives, taken-held, taken-left, taken-less, taken-long, taken-none, taken-others, taken-ready, taken-spares}
+use Rattle.rsb_many.proofs.HeadTurns.{back-due, back-held, back-left, back-long, back-many, back-ready, back-uses, few-compared, none-ends, none-long, none-might, none-nothing, none-ready, taken-dues, taken-gives, taken-held, taken-left, taken-less, taken-long, taken-none, taken-others, taken-ready, taken-spares}
 use Rattle.rsb_many.proofs.InputsLemmas.{gives_of-uses}
 use Rattle.rsb_many.proofs.RestsLemmas.{events-end_only, events-may_end, events-told, has_events, not_before-nothing, one_of_each-wider, rests_by-none}
 use Rattle.rsb_many.proofs.StepLemmas.{IsNotBefore}
@@ -458,49 +457,12 @@ module _ {T N I A : Type 0} (integer : Elements T N) (stream : Stream I T N)
 
     -- ---- no head was there
     module _ (empty : HasNoHead m t.inputs) where
-      -- each input used nothing
-      none-spares : (place : ℕ)
-          → Uses (sweep_inputs integer stream s place) [] (sweep_inputs integer stream t place)
-      none-spares place = uses-filled place []
-          (none-uses integer stream m filled.ready filled.none t.inputs empty place)
-
-      -- each ended with this call
-      none-ends : (place : ℕ)
-          → Ends (sweep_inputs integer stream s place) (sweep_inputs integer stream t place)
-      none-ends place =
-          let uses = none-spares place in
-          let over = none-over integer stream m filled.ready filled.none t.inputs empty place in
-          let ended = none-ended integer stream m filled.ready filled.none t.inputs empty place in
-          record {
-            uses = record {
-              drawn = uses.drawn;
-              drew = λ rest is. uses.drew rest (rw over is);
-              in_order = uses.in_order ∙ ended.held;
-            };
-            over = ended;
-          }
-
-      -- each input gives nothing now
-      gives-nothing : (place : ℕ) → (runs : List Interval)
-          → gives_of (sweep_inputs integer stream t place) runs → runs ≡ []
-      gives-nothing place runs gives =
-          let ended = none-ended integer stream m filled.ready filled.none t.inputs empty place in
-          gives.2 ∙ ap (λ each. each ++ gives.0) ended.held ∙ ended.gives gives.0 gives.1
-
-      -- and might have given nothing
-      might-end : (place : ℕ) → gives_of (sweep_inputs integer stream s place) []
-      might-end place =
-          let over = none-over integer stream m filled.ready filled.none t.inputs empty place in
-          let ended = none-ended integer stream m filled.ready filled.none t.inputs empty place in
-          gives_of-uses (sweep_inputs integer stream s place)
-          (sweep_inputs integer stream t place) [] (none-spares place) []
-          ([], rw over refl, sym (append-nil (held_at rank t.inputs.heads.heads place) ∙ ended.held))
-
       -- the sweep may be called again
       none-again : SweepReady integer stream t
       none-again = sweep-ready t
           (none-ready integer stream m filled.ready filled.none t.inputs empty)
-          (λ place runs gives. rw (gives-nothing place runs gives) tt)
+          (λ place runs gives. rw (none-nothing integer stream m filled.ready filled.none t.inputs
+          empty place runs gives) tt)
 
       -- all that is known of such an answer
       pub none-known : t.inputs.heads.comparisons
@@ -509,14 +471,19 @@ module _ {T N I A : Type 0} (integer : Elements T N) (stream : Stream I T N)
       none-known compared = record {
         answers = events-may_end (stream_count s)
             (λ place. gives_of (sweep_inputs integer stream s place))
-            (has_begun s.inputs.heads.heads) (λ place less. might-end place);
+            (has_begun s.inputs.heads.heads)
+            (λ place less. none-might integer stream m filled.ready filled.none t.inputs empty
+            (sweep_inputs integer stream s) filled.uses place);
         rests = (
           none-again,
           events-end_only (stream_count t)
               (λ place. gives_of (sweep_inputs integer stream t place))
-              (has_begun t.inputs.heads.heads) (λ place less. gives-nothing place),
+              (has_begun t.inputs.heads.heads)
+              (λ place less. none-nothing integer stream m filled.ready filled.none t.inputs empty
+              place),
         );
-        asks = none-ends;
+        asks = none-ends integer stream m filled.ready filled.none t.inputs empty
+            (sweep_inputs integer stream s) filled.uses;
         holds = λ place. omega (arith, none-again.drawn.inputs.one place);
         count = none-long integer stream m filled.ready filled.none t.inputs empty ∙ filled.count;
         compared = few-made t.inputs.heads.comparisons (omega (arith, compared));
