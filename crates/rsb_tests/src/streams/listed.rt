@@ -99,10 +99,10 @@ pub(crate) fn stream_of<'a>(ends: &'a [(u8, u8)]) -> Listed<'a>
 }
 
 /// The ranges of a table as a list, in whatever order they stand.
-pub(crate) fn list_of(
+pub(crate) fn list_of<T: Integer>(
     alloc: Global,
-    ends: &[(u8, u8)],
-) -> Result<Vec<RangeInclusive<u8>>, AllocError> {
+    ends: &[(T, T)],
+) -> Result<Vec<RangeInclusive<T>>, AllocError> {
     let mut ranges = Vec::new(alloc);
     for (start, end) in ends {
         ranges.push(*start..=*end)?;
