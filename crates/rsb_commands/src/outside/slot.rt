@@ -40,7 +40,7 @@ impl Slot {
         }
     }
 
-    /// Its number. (Own.)
+    /// Its number, from 0 to 95. (Own.)
     pub fn get(self) -> u8
         ensures number { result ≡ self }
         ensures in_day { result < 96 }
