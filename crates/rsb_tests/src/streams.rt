@@ -15,7 +15,6 @@ mod nested;
 mod operation_rows;
 pub(crate) mod operations;
 mod operators;
-mod own_stream;
 mod questions;
 mod range_once;
 mod ranges_of_sets;

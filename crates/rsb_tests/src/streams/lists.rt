@@ -30,7 +30,7 @@ fn touching_ranges_are_refused_where_they_stand(rt: HostRuntime) -> Result<(), F
 
 #[test]
 fn the_empty_list_is_accepted(rt: HostRuntime) -> Result<(), Fail> {
-    assert!(rt; is_refused_at(rt.alloc(), &[], None)?);
+    assert!(rt; is_refused_at::<u8>(rt.alloc(), &[], None)?);
     Ok(())
 }
 
