@@ -39,9 +39,9 @@ gives-after (suc more) weeks [] s t year start end calls done =
     absurd (goes-on s (omega (arith, year, end)) (subst IsAtEnd (sym calls) done))
 gives-after (suc more) weeks (range ∷ ranges) s t year start end calls done =
     let first : interval_of (signed_rank w32) range ≡ weekend_after weeks = calls.1.1
-        ∙ (λ i. record { first = rank_of_day (start i); last = rank_of_day (end i) }) in
+    ∙ (λ i. record { first = rank_of_day (start i); last = rank_of_day (end i) }) in
     let rest = gives-after more (weeks + 1) ranges calls.0 t (omega (arith, year))
-        (omega (arith, end, calls.1.2)) (omega (arith, end, calls.1.3)) calls.2 done in
+    (omega (arith, end, calls.1.2)) (omega (arith, end, calls.1.3)) calls.2 done in
     ap (λ run. run ∷ intervals_of (signed_rank w32) ranges) first
     ∙ ap (λ runs. weekend_after weeks ∷ runs) rest
 

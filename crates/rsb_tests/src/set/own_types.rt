@@ -114,6 +114,14 @@ fn reckon<T: Integer>(flags: &mut Vec<Flag<T>>, call: u8, start: T, end: T) -> b
     is_changed
 }
 
+/// The value at a place, counted on from the first after the last.
+fn value_at<T: Integer>(flags: &[Flag<T>], place: u8) -> T {
+    let place = usize::from(place).checked_rem(flags.len());
+    place
+        .and_then(|place| flags.get(place))
+        .map_or(T::min_value(), |flag| flag.0)
+}
+
 /// The first turn of some hundred after which a set is not what flags beside it tell, or at which an
 /// answer is not.
 fn first_wrong<T: Integer>(alloc: Global) -> Result<Option<u16>, AllocError> {
@@ -123,8 +131,7 @@ fn first_wrong<T: Integer>(alloc: Global) -> Result<Option<u16>, AllocError> {
     for turn in 0..600u16 {
         drawn = drawn.wrapping_mul(1664525).wrapping_add(1013904223);
         let [_, start, end, call] = drawn.to_le_bytes();
-        let start = flags.get(usize::from(start % 96)).map_or(T::max_value(), |flag| flag.0);
-        let end = flags.get(usize::from(end % 96)).map_or(T::max_value(), |flag| flag.0);
+        let (start, end) = (value_at(&flags, start), value_at(&flags, end));
         let is_changed = change(&mut set, call % 6, start, end)?;
         if is_changed != reckon(&mut flags, call % 6, start, end) || !agrees(&set, &flags) {
             return Ok(Some(turn));

@@ -38,7 +38,11 @@ static OVER_WEEKENDS: [(Operation, (i32, i32), &[(i32, i32)]); 4] = [
         (253, 266),
         &[(253, 253), (259, 260), (266, 266)],
     ),
-    (Operation::Difference, (8, 364), &[(1, 1), (7, 7), (365, 365)]),
+    (
+        Operation::Difference,
+        (8, 364),
+        &[(1, 1), (7, 7), (365, 365)],
+    ),
     (Operation::Intersection, (366, 400), &[]),
 ];
 
