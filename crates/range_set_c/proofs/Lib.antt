@@ -1,0 +1,2 @@
+mod U32Box
+mod U64Box

@@ -1,0 +1,3 @@
+pub mod Answer
+pub mod U32Handle
+pub mod U64Handle
