@@ -2,12 +2,10 @@
 use base.Fml.{Fml, feq}
 use base.Stored.{Coded}
 use denote.RawPtr.{Ptr, block_ptr, null_ptr}
-use Rattle.std.specs.Prelude.{List, [], Option}
+use Rattle.std.specs.Prelude.{List, []}
 use Rattle.std.specs.Box.Ownership.{box_owns}
 use Rattle.std.specs.Global.{Global}
 use Rattle.std.specs.contracts.impls.GlobalAllocator.TheImpl.{ghosts}
-use Rattle.std.specs.declared.boxed.Box.{Box}
-use Rattle.std.specs.declared.option.Option.TheVariants.{None, Some}
 use Rattle.rsb_integer.specs.Runs.{Interval}
 use Rattle.range_set_c.specs.contracts.u32_sets.kept.Kept.{the_row}
 
@@ -21,8 +19,3 @@ abbrev pub handle_owns : Global → Ptr → the_row.Denot → Fml
 handle_owns alloc (block_ptr b o) kept =
     box_owns (ghosts.dealloc_token alloc) the_row (block_ptr b o) kept
 handle_owns alloc null_ptr kept = feq (List Interval) kept.set []
-
--- the runs of a set that was taken out of a handle: none where the handle was null
-abbrev pub taken_runs : Option (Box the_row.Denot Global) → List Interval
-taken_runs (Some boxed) = boxed.value.set
-taken_runs None = []

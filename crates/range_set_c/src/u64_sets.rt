@@ -6,4 +6,5 @@ mod comparisons;
 mod handle;
 mod kept;
 mod look_up;
+mod open;
 mod run;

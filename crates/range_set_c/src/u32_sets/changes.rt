@@ -6,7 +6,7 @@ ghost use Rattle.rsb_integer.specs.Selection.{IsSubset};
 ghost use Rattle.range_set_blaze.specs.Set.{only, Adds, LacksSomeOf, Removes};
 ghost use Rattle.range_set_c.specs.Answer.{between};
 
-use super::handle::{Handle, seen};
+use super::handle::Handle;
 use crate::status::{CHANGED, NO_MEMORY, UNCHANGED};
 use range_set_blaze::RangeSetBlaze;
 use std::alloc::Global;
@@ -60,23 +60,21 @@ pub extern "C" fn rsb_u32_insert(alloc: Global, set: &mut Handle, value: u32) ->
 
 /// Takes a value out.
 #[unsafe(no_mangle)]
-pub extern "C" fn rsb_u32_remove(alloc: Global, set: &mut Handle, value: u32) -> u32
+pub extern "C" fn rsb_u32_remove(set: &mut Handle, value: u32) -> u32
     ensures answer { result ≤ 2 }
     ensures members { result < 2 → Removes set.old.kept.set set.new.kept.set (only value) }
     ensures unchanged { result ≡ 0 → IsFalse (members set.old.kept.set value) }
     ensures changed { result ≡ 1 → IsTrue (members set.old.kept.set value) }
     ensures refused { result ≡ 2 → set.new.kept.set ≡ set.old.kept.set }
 {
-    let Some(mut kept) = set.take(alloc) else {
+    let Some(kept) = set.open() else {
         return UNCHANGED;
     };
-    let answer = match kept.set.remove(value) {
+    match kept.set.remove(value) {
         Ok(true) => CHANGED,
         Ok(false) => UNCHANGED,
         Err(_) => NO_MEMORY,
-    };
-    *set = Handle::of(kept);
-    answer
+    }
 }
 
 /// Adds the members of another set, or, without memory, none of them. It takes no memory where each
@@ -94,30 +92,23 @@ pub extern "C" fn rsb_u32_union_with(alloc: Global, set: &mut Handle, other: &mu
     ensures refused { result ≡ 2 → set.new.kept.set ≡ set.old.kept.set }
     ensures other { other.new.kept.set ≡ other.old.kept.set }
 {
-    let empty = RangeSetBlaze::new(alloc);
-    let one = set.take(alloc);
-    let two = other.take(alloc);
-    if seen(&two, &empty).is_subset(seen(&one, &empty)) {
-        set.put(one);
-        other.put(two);
+    let none = RangeSetBlaze::new(alloc);
+    let nothing = RangeSetBlaze::new(alloc);
+    if other.set_or(&none).is_subset(set.set_or(&nothing)) {
         return UNCHANGED;
     }
-    let made = seen(&one, &empty).bitor(seen(&two, &empty));
-    set.put(one);
-    other.put(two);
+    let made = set.set_or(&none).bitor(other.set_or(&nothing));
     set.set_to(alloc, made)
 }
 
 /// Takes all members out.
 #[unsafe(no_mangle)]
-pub extern "C" fn rsb_u32_clear(alloc: Global, set: &mut Handle)
+pub extern "C" fn rsb_u32_clear(set: &mut Handle)
     ensures { set.new.kept.set ≡ [] }
 {
-    let Some(mut kept) = set.take(alloc) else {
-        return;
-    };
-    kept.set.clear();
-    *set = Handle::of(kept);
+    if let Some(kept) = set.open() {
+        kept.set.clear();
+    }
 }
 
 /// Gives the set's memory back. The handle is null then.

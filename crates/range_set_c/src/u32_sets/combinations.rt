@@ -6,7 +6,7 @@ ghost use Rattle.rsb_integer.specs.Selection.{difference, intersection, symmetri
 ghost use Rattle.range_set_blaze.specs.Algebra.{IsComplementOf};
 ghost use Rattle.range_set_blaze.specs.Set.{IsSetOf};
 
-use super::handle::{Handle, seen};
+use super::handle::Handle;
 use range_set_blaze::RangeSetBlaze;
 use std::alloc::Global;
 
@@ -19,9 +19,7 @@ pub extern "C" fn rsb_u32_clone(alloc: Global, out: &mut Handle, set: &mut Handl
     ensures set { set.new.kept.set ≡ set.old.kept.set }
 {
     let empty = RangeSetBlaze::new(alloc);
-    let taken = set.take(alloc);
-    let made = seen(&taken, &empty).clone();
-    set.put(taken);
+    let made = set.set_or(&empty).clone();
     out.set_to(alloc, made)
 }
 
@@ -34,9 +32,7 @@ pub extern "C" fn rsb_u32_complement(alloc: Global, out: &mut Handle, set: &mut 
     ensures set { set.new.kept.set ≡ set.old.kept.set }
 {
     let empty = RangeSetBlaze::new(alloc);
-    let taken = set.take(alloc);
-    let made = seen(&taken, &empty).not();
-    set.put(taken);
+    let made = set.set_or(&empty).not();
     out.set_to(alloc, made)
 }
 
@@ -55,12 +51,9 @@ pub extern "C" fn rsb_u32_union(
     ensures left { left.new.kept.set ≡ left.old.kept.set }
     ensures right { right.new.kept.set ≡ right.old.kept.set }
 {
-    let empty = RangeSetBlaze::new(alloc);
-    let one = left.take(alloc);
-    let two = right.take(alloc);
-    let made = seen(&one, &empty).bitor(seen(&two, &empty));
-    left.put(one);
-    right.put(two);
+    let none = RangeSetBlaze::new(alloc);
+    let nothing = RangeSetBlaze::new(alloc);
+    let made = left.set_or(&none).bitor(right.set_or(&nothing));
     out.set_to(alloc, made)
 }
 
@@ -79,12 +72,9 @@ pub extern "C" fn rsb_u32_intersection(
     ensures left { left.new.kept.set ≡ left.old.kept.set }
     ensures right { right.new.kept.set ≡ right.old.kept.set }
 {
-    let empty = RangeSetBlaze::new(alloc);
-    let one = left.take(alloc);
-    let two = right.take(alloc);
-    let made = seen(&one, &empty).bitand(seen(&two, &empty));
-    left.put(one);
-    right.put(two);
+    let none = RangeSetBlaze::new(alloc);
+    let nothing = RangeSetBlaze::new(alloc);
+    let made = left.set_or(&none).bitand(right.set_or(&nothing));
     out.set_to(alloc, made)
 }
 
@@ -103,12 +93,9 @@ pub extern "C" fn rsb_u32_difference(
     ensures left { left.new.kept.set ≡ left.old.kept.set }
     ensures right { right.new.kept.set ≡ right.old.kept.set }
 {
-    let empty = RangeSetBlaze::new(alloc);
-    let one = left.take(alloc);
-    let two = right.take(alloc);
-    let made = seen(&one, &empty).sub(seen(&two, &empty));
-    left.put(one);
-    right.put(two);
+    let none = RangeSetBlaze::new(alloc);
+    let nothing = RangeSetBlaze::new(alloc);
+    let made = left.set_or(&none).sub(right.set_or(&nothing));
     out.set_to(alloc, made)
 }
 
@@ -127,11 +114,8 @@ pub extern "C" fn rsb_u32_symmetric_difference(
     ensures left { left.new.kept.set ≡ left.old.kept.set }
     ensures right { right.new.kept.set ≡ right.old.kept.set }
 {
-    let empty = RangeSetBlaze::new(alloc);
-    let one = left.take(alloc);
-    let two = right.take(alloc);
-    let made = seen(&one, &empty).bitxor(seen(&two, &empty));
-    left.put(one);
-    right.put(two);
+    let none = RangeSetBlaze::new(alloc);
+    let nothing = RangeSetBlaze::new(alloc);
+    let made = left.set_or(&none).bitxor(right.set_or(&nothing));
     out.set_to(alloc, made)
 }

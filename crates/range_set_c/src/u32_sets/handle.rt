@@ -1,7 +1,7 @@
 //! The handle that C holds.
 
 ghost use Rattle.std.specs.Prelude.{◌≡◌, ◌⊎◌, ◌<◌, [], IfOk, IsOk, MatchOption, OnErr};
-ghost use Rattle.range_set_c.specs.U32Handle.{handle_owns, kept_coded, taken_runs};
+ghost use Rattle.range_set_c.specs.U32Handle.{handle_owns, kept_coded};
 ghost use Rattle.range_set_c.specs.declared.u32_sets.kept.Kept.{Kept};
 
 use super::kept::Kept;
@@ -15,7 +15,7 @@ use std::mem;
 /// A set of `u32`. C sees a struct of one pointer; where it is null, the set is empty.
 #[repr(C)]
 pub struct Handle {
-    at: *mut u8,
+    pub(super) at: *mut u8,
     alloc: Global,
     pub ghost kept: { Kept } by { kept_coded },
 }
@@ -40,24 +40,6 @@ impl Handle {
         ensures { result.kept ≡ kept.value }
     {
         Handle::of_parts(Unboxed::of(kept))
-    }
-
-    /// The set, which leaves a null handle. It is `None` where the handle was null.
-    pub(crate) fn take(&mut self, alloc: Global) -> Option<Box<Kept>>
-        ensures taken { taken_runs result ≡ self.old.kept.set }
-        ensures left { self.new.kept.set ≡ [] }
-    {
-        mem::replace(self, Handle::empty(alloc)).into_box()
-    }
-
-    /// Puts back what was taken.
-    pub(crate) fn put(&mut self, taken: Option<Box<Kept>>)
-        requires { self.old.kept.set ≡ [] }
-        ensures { self.new.kept.set ≡ taken_runs taken }
-    {
-        if let Some(kept) = taken {
-            *self = Handle::of(kept);
-        }
     }
 
     /// The set, which leaves a null handle. A null handle gives a new, empty one. Without memory the
@@ -95,9 +77,18 @@ impl Handle {
         CHANGED
     }
 
+    // The set, which leaves a null handle. It is `None` where the handle was null.
+    fn take(&mut self, alloc: Global) -> Option<Box<Kept>>
+        ensures taken { MatchOption result (self.old.kept.set ≡ [])
+            (λ kept. kept.value ≡ self.old.kept) }
+        ensures left { self.new.kept.set ≡ [] }
+    {
+        mem::replace(self, Handle::empty(alloc)).into_box()
+    }
+
     // The set, or `None` where the handle is null.
     fn into_box(self) -> Option<Box<Kept>>
-        ensures { taken_runs result ≡ self.kept.set }
+        ensures { MatchOption result (self.kept.set ≡ []) (λ kept. kept.value ≡ self.kept) }
     {
         let parts = self.into_parts()?;
         Some(parts.into_box())
@@ -131,19 +122,5 @@ impl Handle {
 impl Drop for Handle {
     fn drop(self) {
         drop(self.into_box());
-    }
-}
-
-/// The set that was taken out of a handle, or else the empty one.
-pub(crate) fn seen<'a>(
-    taken: &'a Option<Box<Kept>>,
-    empty: &'a RangeSetBlaze<u32, Global>,
-) -> &'a RangeSetBlaze<u32, Global>
-    requires { empty.now ≡ [] }
-    ensures { result.now ≡ taken_runs taken.now }
-{
-    match taken {
-        Some(kept) => &kept.set,
-        None => empty,
     }
 }

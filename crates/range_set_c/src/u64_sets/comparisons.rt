@@ -6,7 +6,7 @@ ghost use Rattle.rsb_integer.specs.Selection.{Agree, AreDisjoint, IsSubset};
 ghost use Rattle.range_set_blaze.specs.Order.{HasOrder};
 ghost use Rattle.range_set_c.specs.Answer.{order_told};
 
-use super::handle::{Handle, seen};
+use super::handle::Handle;
 use range_set_blaze::RangeSetBlaze;
 use range_set_blaze::prelude::{cmp_counted, order_by_least_difference};
 use std::alloc::Global;
@@ -20,14 +20,10 @@ pub extern "C" fn rsb_u64_equal(alloc: Global, left: &mut Handle, right: &mut Ha
     ensures left { left.new.kept.set ≡ left.old.kept.set }
     ensures right { right.new.kept.set ≡ right.old.kept.set }
 {
-    let empty = RangeSetBlaze::new(alloc);
-    let one = left.take(alloc);
-    let two = right.take(alloc);
+    let none = RangeSetBlaze::new(alloc);
+    let nothing = RangeSetBlaze::new(alloc);
     order_by_least_difference::<u64>();
-    let found = seen(&one, &empty) == seen(&two, &empty);
-    left.put(one);
-    right.put(two);
-    found
+    left.set_or(&none) == right.set_or(&nothing)
 }
 
 /// How two sets compare: -1, 0 or 1 where the left one is less, equal or greater. They compare as
@@ -39,12 +35,9 @@ pub extern "C" fn rsb_u64_order(alloc: Global, left: &mut Handle, right: &mut Ha
     ensures left { left.new.kept.set ≡ left.old.kept.set }
     ensures right { right.new.kept.set ≡ right.old.kept.set }
 {
-    let empty = RangeSetBlaze::new(alloc);
-    let one = left.take(alloc);
-    let two = right.take(alloc);
-    let (order, _) = cmp_counted(seen(&one, &empty), seen(&two, &empty));
-    left.put(one);
-    right.put(two);
+    let none = RangeSetBlaze::new(alloc);
+    let nothing = RangeSetBlaze::new(alloc);
+    let (order, _) = cmp_counted(left.set_or(&none), right.set_or(&nothing));
     match order {
         Ordering::Less => -1,
         Ordering::Equal => 0,
@@ -60,13 +53,9 @@ pub extern "C" fn rsb_u64_is_subset(alloc: Global, left: &mut Handle, right: &mu
     ensures left { left.new.kept.set ≡ left.old.kept.set }
     ensures right { right.new.kept.set ≡ right.old.kept.set }
 {
-    let empty = RangeSetBlaze::new(alloc);
-    let one = left.take(alloc);
-    let two = right.take(alloc);
-    let found = seen(&one, &empty).is_subset(seen(&two, &empty));
-    left.put(one);
-    right.put(two);
-    found
+    let none = RangeSetBlaze::new(alloc);
+    let nothing = RangeSetBlaze::new(alloc);
+    left.set_or(&none).is_subset(right.set_or(&nothing))
 }
 
 /// Whether no member of the left set is one of the right set.
@@ -77,11 +66,7 @@ pub extern "C" fn rsb_u64_is_disjoint(alloc: Global, left: &mut Handle, right: &
     ensures left { left.new.kept.set ≡ left.old.kept.set }
     ensures right { right.new.kept.set ≡ right.old.kept.set }
 {
-    let empty = RangeSetBlaze::new(alloc);
-    let one = left.take(alloc);
-    let two = right.take(alloc);
-    let found = seen(&one, &empty).is_disjoint(seen(&two, &empty));
-    left.put(one);
-    right.put(two);
-    found
+    let none = RangeSetBlaze::new(alloc);
+    let nothing = RangeSetBlaze::new(alloc);
+    left.set_or(&none).is_disjoint(right.set_or(&nothing))
 }

@@ -7,7 +7,7 @@ ghost use Rattle.rsb_integer.specs.Runs.{members, IsMaximalRun};
 ghost use Rattle.rsb_integer.specs.Selection.{complement, count};
 ghost use Rattle.range_set_blaze.specs.Set.{IsGreatest, IsLeast, IsRunAround};
 
-use super::handle::{Handle, seen};
+use super::handle::Handle;
 use super::run::{Count, Run};
 use range_set_blaze::RangeSetBlaze;
 use std::alloc::Global;
@@ -20,10 +20,7 @@ pub extern "C" fn rsb_u64_contains(alloc: Global, set: &mut Handle, value: u64) 
     ensures same { set.new.kept.set ≡ set.old.kept.set }
 {
     let empty = RangeSetBlaze::new(alloc);
-    let taken = set.take(alloc);
-    let found = seen(&taken, &empty).contains(value);
-    set.put(taken);
-    found
+    set.set_or(&empty).contains(value)
 }
 
 /// How many members there are.
@@ -33,9 +30,7 @@ pub extern "C" fn rsb_u64_len(alloc: Global, set: &mut Handle) -> Count
     ensures same { set.new.kept.set ≡ set.old.kept.set }
 {
     let empty = RangeSetBlaze::new(alloc);
-    let taken = set.take(alloc);
-    let len = seen(&taken, &empty).len();
-    set.put(taken);
+    let len = set.set_or(&empty).len();
     Count {
         low: (len % (1 << 64)) as u64,
         high: (len / (1 << 64)) as u64,
@@ -49,10 +44,7 @@ pub extern "C" fn rsb_u64_run_count(alloc: Global, set: &mut Handle) -> usize
     ensures same { set.new.kept.set ≡ set.old.kept.set }
 {
     let empty = RangeSetBlaze::new(alloc);
-    let taken = set.take(alloc);
-    let runs = seen(&taken, &empty).ranges_len();
-    set.put(taken);
-    runs
+    set.set_or(&empty).ranges_len()
 }
 
 /// Puts the least member into `value`, and answers whether there is one.
@@ -64,9 +56,7 @@ pub extern "C" fn rsb_u64_first(alloc: Global, set: &mut Handle, value: &mut u64
     ensures same { set.new.kept.set ≡ set.old.kept.set }
 {
     let empty = RangeSetBlaze::new(alloc);
-    let taken = set.take(alloc);
-    let first = seen(&taken, &empty).first();
-    set.put(taken);
+    let first = set.set_or(&empty).first();
     let Some(first) = first else {
         return false;
     };
@@ -83,9 +73,7 @@ pub extern "C" fn rsb_u64_last(alloc: Global, set: &mut Handle, value: &mut u64)
     ensures same { set.new.kept.set ≡ set.old.kept.set }
 {
     let empty = RangeSetBlaze::new(alloc);
-    let taken = set.take(alloc);
-    let last = seen(&taken, &empty).last();
-    set.put(taken);
+    let last = set.set_or(&empty).last();
     let Some(last) = last else {
         return false;
     };
@@ -110,9 +98,7 @@ pub extern "C" fn rsb_u64_run_or_gap(
     ensures same { set.new.kept.set ≡ set.old.kept.set }
 {
     let empty = RangeSetBlaze::new(alloc);
-    let taken = set.take(alloc);
-    let (range, found) = seen(&taken, &empty).range_or_gap_at(value);
-    set.put(taken);
+    let (range, found) = set.set_or(&empty).range_or_gap_at(value);
     block.first = *range.start();
     block.last = *range.end();
     found
@@ -139,9 +125,7 @@ pub extern "C" fn rsb_u64_next_run(
     ensures same { set.new.kept.set ≡ set.old.kept.set }
 {
     let empty = RangeSetBlaze::new(alloc);
-    let taken = set.take(alloc);
-    let found = run_from(seen(&taken, &empty), from);
-    set.put(taken);
+    let found = run_from(set.set_or(&empty), from);
     let Some(range) = found else {
         return false;
     };
