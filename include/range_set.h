@@ -9,15 +9,15 @@
  *     place) is fine. What it holds is read and written by these functions alone.
  *   - Each pointer of a call is valid, not null, and no two of them are equal: two handles are two sets. To combine a
  *     set with itself, clone it first.
- *   - One call at a time uses a handle, a call that only reads it too: threads that share a set lock it. Calls on
- *     different sets may run at once, and a set may be handed from one thread to another under a lock, a start or a join.
+ *   - While a call runs that changes a set, no other call uses its handle: threads that share one lock it, or all of them
+ *     only read. A set may be handed from one thread to another under a lock, a start or a join.
  *   - No call is made from a signal handler, nor from the forked child of a process with threads.
  *   - malloc, realloc and free are one allocator's, and align as the C library's do.
  *
  * A handle that is freed is the empty set again, so freeing it twice, or using it afterwards, is safe.
  *
- * A `const` handle leads to the same set after the call. The handle may be written meanwhile, so it is no object that was
- * defined `const`. Such a call takes no memory.
+ * A call leaves the set of a `const` handle as it was, and takes no memory for it. That such a call writes nothing, so that
+ * several of them may read one set at once, is tested and not proved: the contracts give each call its handles alone.
  */
 #ifndef RANGE_SET_H
 #define RANGE_SET_H

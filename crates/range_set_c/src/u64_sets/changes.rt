@@ -1,6 +1,6 @@
 //! Changes of one set.
 
-ghost use Rattle.std.specs.Prelude.{◌≡◌, ◌<◌, ◌≤◌, ◌^◌, ¬◌, [], IsFalse, IsTrue};
+ghost use Rattle.std.specs.Prelude.{◌≡◌, ◌<◌, ◌≤◌, ◌^◌, [], IsFalse, IsTrue};
 ghost use Rattle.rsb_integer.specs.Runs.{members};
 ghost use Rattle.rsb_integer.specs.Selection.{IsSubset};
 ghost use Rattle.range_set_blaze.specs.Set.{only, Adds, LacksSomeOf, Removes};
