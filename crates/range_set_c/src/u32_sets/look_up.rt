@@ -30,8 +30,7 @@ pub extern "C" fn rsb_u32_len(alloc: Global, set: &mut Handle) -> u64
     ensures same { set.new.kept.set ≡ set.old.kept.set }
 {
     let empty = RangeSetBlaze::new(alloc);
-    let len = set.set_or(&empty).len();
-    len
+    set.set_or(&empty).len()
 }
 
 /// How many runs there are.
