@@ -1,10 +1,7 @@
 -- What the walks of `Unboxed` share: its row, and what it is of a box at the same types, in which it
 -- owns what the box owns.
-use mir.Syntax.{Args}
-use mir.Val.{Val}
 use denote.RattleType.{RattleType}
-use denote.RawPtr.{Ptr}
-use Rattle.std.proofs.BoxSteps.Form.{Bx, D, R, P, X}
+use Rattle.std.proofs.BoxSteps.Form.{Bx, D, R, P}
 use Rattle.range_set_c.specs.contracts.unboxed.Unboxed as Unboxed
 
 module _ (E : Bx) where

@@ -7,14 +7,14 @@ use seplogic.Ra.Ura.{Ura}
 use lib.Dec.{lit<}
 use mir.Raw.{raw as bare}
 use mir.Syntax.{named}
-use mir.Val.{Val, vptr, vnull, vstruct, vcons, vnil, of_list}
+use mir.Val.{Val, vptr, vstruct, vcons, vnil, of_list}
 use base.Fraction.{full_share}
-use base.Logic.{SProp, ent, sep, emp, id⊢, guard_i}
-use base.Fml.{Fml, Lft, GName, Share, ftrue, fsep, flft, fres}
+use base.Logic.{SProp, ent, sep, id⊢, guard_i}
+use base.Fml.{Fml, GName, ftrue, fsep, flft, fres}
 use prog.Model.{Model}
 use prog.Wp.{WpFn}
 use types.Logic.{Logic, sem}
-use types.Kit.{Item, ‵, raw, given, some, later, at_ret, ⋆, ◌⊛◌, ◌$◌, ◌∵◌, !, qed, by, move, keep, drop, use0, use1, learn, join, split, split3, fsplit, fsplit3, fjoin, fpick, fpack, feq_l, feq_i, pick, await, rewrite, group, suffices, frame, done}
+use types.Kit.{‵, given, some, later, at_ret, ⋆, ◌⊛◌, ◌$◌, ◌∵◌, !, qed, by, move, keep, drop, use0, use1, learn, join, split, split3, fsplit, fsplit3, fjoin, fpick, fpack, feq_l, feq_i, pick, await, rewrite, group, suffices, frame, done}
 use types.Part.{whole, sub, agg, look_in}
 use types.Match.{live}
 use types.Run.{stop, fld, load, addr, lit, bin, no_more, and_then, of_opd, first, blocks, branches, skips, exec, returns, returns_within, enter}
@@ -25,7 +25,7 @@ use denote.Exit.{no}
 use denote.RattleType.{RattleType, Valss}
 use denote.RawPtr.{Ptr, block_ptr, null_ptr, ptr_val, Testable, tests_null}
 use denote.Ref.{MutRef, MutBor, mut_vals, mut_Tells}
-use denote.Signature.{plain, type_at, mut_ref_to}
+use denote.Signature.{plain, mut_ref_to}
 use denote.Memory.{mem, cell_at, part_at, part_of}
 use denote.Steps.{nothing, opens, closes}
 use denote.Follow.{follows, follows_by, lends_Part}
@@ -34,7 +34,7 @@ use denote.Struct.Owning.{shape, to}
 use denote.Triple.Walked.{says, Stays, stay_dropped, walk_of, ends_at, Goes-spent_ref}
 use Rattle.std.specs.contracts.option.Option as OP
 use Rattle.std.specs.declared.option.Option.TheVariants.{None, Some}
-use Rattle.std.proofs.alloc.Calls.{token, handle_tells, Fits}
+use Rattle.std.proofs.alloc.Calls.{token, handle_tells}
 use Rattle.std.proofs.alloc.Shapes.{after}
 use Rattle.std.proofs.option.Made.{Some-of, none_of}
 use Rattle.std.proofs.BoxSteps.Form.{τ, handle}
