@@ -3,6 +3,7 @@ pub mod BegunHeads
 pub mod BegunLemmas
 pub mod DigitLemmas
 pub mod DrawnLemmas
+pub mod EdgeLemmas
 pub mod HandedInLemmas
 pub mod HeadLemmas
 pub mod HeadTurns
@@ -20,7 +21,10 @@ pub mod ManyLemmas
 pub mod MergeAllLemmas
 pub mod MultiwayLemmas
 pub mod MultiwaySweepLemmas
+pub mod MultiwaySymDiffLemmas
+pub mod OddEventsLemmas
 pub mod RestsLemmas
 pub mod StepLemmas
 pub mod SweepExamples
 pub mod SweepLemmas
+pub mod SweepPiecesLemmas

@@ -72,6 +72,17 @@ one_of_each-wider count before now lists wider each =
     (λ place less. wider place less (get_or lists place [])
     (one_of_each-at count now lists place each less))
 
+-- what holds of what may be given at each place holds of each list
+pub one_of_each-all : (count : ℕ) (may_give : ℕ → Outcomes) (Fact : List Interval → Type 0)
+    (lists : List (List Interval))
+    → ((place : ℕ) → place < count → may_give place ⊆ Fact) → OneOfEach count may_give lists
+    → All Fact lists
+one_of_each-all count may_give Fact lists holds each =
+    let long = one_of_each-long count may_give lists each in
+    All-from_get_or Fact lists [] (λ place within.
+    holds place (omega (arith, within, long)) (get_or lists place [])
+    (one_of_each-at count may_give lists place each (omega (arith, within, long))))
+
 -- where each may give something, there are such lists
 pub one_of_each-some : (count : ℕ) (may_give : ℕ → Outcomes)
     → ((place : ℕ) → place < count → HasOutcome (may_give place))

@@ -14,5 +14,9 @@ pub mod MultiwayIntersection
 pub mod MultiwayLaws
 pub mod MultiwayResults
 pub mod MultiwaySweep
+pub mod MultiwaySymmetricDifference
+pub mod MultiwaySymmetricDifferenceLaws
 pub mod MultiwayUnion
 pub mod Sweep
+pub mod SweepPieces
+pub mod SweepPiecesLaws

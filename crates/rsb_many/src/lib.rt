@@ -12,11 +12,14 @@ pub mod multiway;
 pub mod operation_results;
 mod operators;
 pub mod multiway_sweep;
+pub mod multiway_sym_diff_set;
 pub mod sweep_event;
+pub(crate) mod sweep_pieces;
 
 pub use dyn_sorted_disjoint::DynSortedDisjoint;
 pub use kmerge::KMerge;
 pub use multiway::MultiwaySortedDisjoint;
 pub use operation_results::{MultiwayIntersection, MultiwayUnion};
 pub use multiway_sweep::MultiwaySweep;
+pub use multiway_sym_diff_set::MultiwaySymmetricDifference;
 pub use sweep_event::SweepEvent;

@@ -1,0 +1,145 @@
+-- The pieces of what lies in an odd number of the inputs of a sweep.
+use Rattle.std.specs.Prelude.{◌≡◌, ◌⊎◌, ℕ, ◌+◌, ◌-◌, ◌<◌, ◌≤◌, Bool, true, false, cond, nat_eq, nat_le, nat_lt, List, [], ◌∷◌, ◌++◌, map, Option, Some, None, IfSome, MatchOption}
+use Rattle.std.specs.declared.ops.RangeInclusive.{RangeInclusive}
+use Rattle.rsb_integer.specs.Runs.{Interval}
+use Rattle.rsb_integer.specs.Selection.{Selection, odd_of}
+use Rattle.rsb_integer.specs.declared.integer.Integer.{Ghosts as Elements}
+use Rattle.rsb_streams.specs.Lookahead.{undrawn, HasEnded, Input, Uses}
+use Rattle.rsb_streams.specs.OddPieces.{ArePieces}
+use Rattle.rsb_streams.specs.PutBack.{held_list}
+use Rattle.rsb_streams.specs.Rows.{asking}
+use Rattle.rsb_streams.specs.Stream.{just, Outcomes}
+use Rattle.rsb_streams.specs.declared.draw.Draw.{Ghosts as Stream}
+use Rattle.rsb_many.specs.MultiwaySweep.{events_left, sweep_inputs, sweep_may_give, EventOutcomes, HoldsOneOfEach, SweepReady}
+use Rattle.rsb_many.specs.Sweep.{End, Event, Start}
+use Rattle.rsb_many.specs.declared.sweep_pieces.SweepPieces.{SweepPieces}
+
+-- ---- edges
+
+-- the rank where an event changes what lies in how many ranges: where a range starts, and past the
+-- end of one
+abbrev pub edge_of : Event → ℕ
+edge_of (Start range input) = range.first
+edge_of (End last input) = last + 1
+
+-- the ranks from an edge on
+abbrev pub from_edge : ℕ → Selection
+from_edge edge rank = nat_le edge rank
+
+-- the ranks that have an odd number of the edges at or before them
+abbrev pub odd_past : List ℕ → Selection
+odd_past edges = odd_of (map from_edge edges)
+
+-- the start of a piece that has begun, as an edge
+abbrev pub edges_of : {T : Type 0} → (T → ℕ) → Option T → List ℕ
+edges_of rank None = []
+edges_of rank (Some start) = rank start ∷ []
+
+-- the edge, where a value of a type of so many lies there
+abbrev pub edge_in : ℕ → ℕ → List ℕ
+edge_in n edge = cond (nat_lt edge n) (edge ∷ []) []
+
+-- the ranks from one edge up to another, if there are any
+abbrev pub piece_up_to : ℕ → ℕ → List Interval
+piece_up_to first edge =
+    cond (nat_lt first edge) (record { first = first; last = edge - 1 } ∷ []) []
+
+-- an edge is passed: a piece that has begun ends before it, and else one begins there
+abbrev pub PassesEdge : {T : Type 0} → (T → ℕ) → ℕ → ℕ → Option T → Option (RangeInclusive T)
+    → Option T → Type 0
+PassesEdge rank n edge old piece new = MatchOption old
+    ((piece ≡ None) × (edges_of rank new ≡ edge_in n edge))
+    (λ start. (held_list rank piece ≡ piece_up_to (rank start) edge) × (new ≡ None))
+
+-- ---- lists of events
+
+-- the range of an event has members and lies in a type of n values, or its end does
+abbrev pub IsEventIn : ℕ → Event → Type 0
+IsEventIn n (Start range input) = (range.first ≤ range.last) × (range.last < n)
+IsEventIn n (End last input) = last < n
+
+-- no edge falls, the first lies at `low` or past it, and the events lie in a type of n values
+abbrev pub HasEdgesFrom : ℕ → ℕ → List Event → Type 0
+HasEdgesFrom n low [] = Unit {0}
+HasEdgesFrom n low (event ∷ events) =
+    (low ≤ edge_of event) × IsEventIn n event × HasEdgesFrom n (edge_of event) events
+
+-- where a piece has begun, an odd number of edges is to come; and else an even number, unless they
+-- all lie past the end of the type
+abbrev pub IsClosed : {T : Type 0} → ℕ → Option T → List Event → Type 0
+IsClosed n (Some start) events = odd_past (map edge_of events) n ≡ true
+IsClosed n None events = (odd_past (map edge_of events) n ≡ false) ⊎ HasEdgesFrom n n events
+
+-- where no edge lies before: at the start of the piece that has begun
+abbrev pub low_of : {T : Type 0} → (T → ℕ) → Option T → ℕ
+low_of rank None = 0
+low_of rank (Some start) = rank start
+
+-- no edge falls, also after the start of the piece that has begun, and each piece has an end
+pub record IsWhole {T : Type 0} (rank : T → ℕ) (n : ℕ) (start : Option T) (events : List Event)
+    : Type 0 where
+  pub edges : HasEdgesFrom n (low_of rank start) events
+  pub closed : IsClosed n start events
+
+-- the fact holds of a list of events that may come
+abbrev pub SomeEvents : EventOutcomes → (List Event → Type 0) → Type 0
+SomeEvents P Fact = ¬ ((events : List Event) → P events → ¬ (Fact events))
+
+-- ---- inputs
+
+-- where the events end ranges of the input at a place
+abbrev pub ends_at : ℕ → List Event → List ℕ
+ends_at place [] = []
+ends_at place (Start range input ∷ events) = ends_at place events
+ends_at place (End last input ∷ events) =
+    cond (nat_eq input place) (last ∷ ends_at place events) (ends_at place events)
+
+-- an input uses ranges that end there
+pub record UsesTo (lasts : List ℕ) (before now : Input) : Type 0 where
+  pub used : List Interval
+  pub uses : Uses before used now
+  pub ends : map (λ (run : Interval). run.last) used ≡ lasts
+
+-- some events are passed: each input uses the ranges of which the end is passed, and one range of
+-- each is held at most then
+pub record PassesSome (before now : ℕ → Input) : Type 0 where
+  pub events : List Event
+  pub uses : (place : ℕ) → UsesTo (ends_at place events) (before place) (now place)
+  pub holds : HoldsOneOfEach now
+
+-- the inputs end: each uses the ranges of which the end was passed before, and gives nothing more
+pub record PassesAll (before now : ℕ → Input) : Type 0 where
+  pub passed : PassesSome before (λ place. undrawn (just []))
+  pub over : (place : ℕ) → HasEnded (now place)
+
+-- a call passes some events, and all that are left where it answers `None`
+abbrev pub AsksToPass : {T : Type 0} → (before : ℕ → Input) → Option (RangeInclusive T)
+    → (now : ℕ → Input) → Type 0
+AsksToPass before item now =
+    MatchOption item (PassesAll before now) (λ _. PassesSome before now)
+
+-- ---- the pieces
+
+module _ {T N I A : Type 0} (integer : Elements T N) (stream : Stream I T N) where
+  open integer use {rank, value_count as n}
+
+  -- the inputs of the sweep, at places from 0 on
+  abbrev pub pieces_inputs : SweepPieces T I A N → ℕ → Input
+  pieces_inputs s = sweep_inputs integer stream s.sweep
+
+  -- the sweep may be called, a piece that has begun starts at a value, and each has an end
+  pub record TellsPieces (s : SweepPieces T I A N) : Type 0 where
+    pub sweep : SweepReady integer stream s.sweep
+    pub start : IfSome s.start (λ value. rank value < n)
+    pub whole : (events : List Event) → sweep_may_give integer stream s.sweep events
+        → IsWhole rank n s.start events
+
+  -- pieces of what has an odd number of edges at or before it
+  abbrev pub pieces_may_give : SweepPieces T I A N → Outcomes
+  pieces_may_give s pieces = SomeEvents (sweep_may_give integer stream s.sweep)
+      (λ events. ArePieces n (odd_past (edges_of rank s.start ++ map edge_of events)) pieces)
+
+  -- the pieces: a draw passes some events
+  abbrev pub sweep_pieces : Stream (SweepPieces T I A N) T N
+  sweep_pieces = asking integer (λ s item t. AsksToPass (pieces_inputs s) item (pieces_inputs t))
+      TellsPieces (λ s. events_left integer stream s.sweep) pieces_may_give
