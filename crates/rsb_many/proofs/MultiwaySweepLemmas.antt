@@ -2,7 +2,7 @@
 use Rattle.std.proofs.Common.{◌≡◌, ◌≢◌, inl, inr, ℕ, zero, suc, ◌+◌, ◌*◌, ◌<◌, ◌≤◌, Bool, true, false, cond, List, [], ◌∷◌, ◌++◌, length, map, slice_get, refl, sym, ap, subst, ◌∙◌, arith, All, sum_by, Option, Some, None, IsFalse}
 use Rattle.std.proofs.lemmas.Bool.{cases_eq}
 use Rattle.std.proofs.lemmas.List.{append-nil}
-use Rattle.std.proofs.lemmas.List.Elements.{All-head, All-tail, All-weaker}
+use Rattle.std.proofs.lemmas.List.Elements.{All-head, All-nil, All-tail, All-weaker}
 use Rattle.std.proofs.lemmas.List.Sorted.{sum_by-IsPermutation}
 use Rattle.std.proofs.lemmas.List.Sums.{sum_by-cons}
 use Rattle.std.specs.Iterator.{size, IsFinite, MakesProgress}
@@ -24,7 +24,7 @@ use Rattle.rsb_many.specs.KMergeLaws.{inputs-finite, some-by}
 use Rattle.rsb_many.specs.Keys.{comes_before}
 use Rattle.rsb_many.specs.Many.{gives_of, may_give_at, OneOfEach, SomeOfEach}
 use Rattle.rsb_many.specs.MultiwaySweep.{events_left, events_of_head, has_begun, stream_count, sweep_inputs, sweep_may_give, AsksAt, EndsAt, StartsAt, SweepReady, Sweeps, SweepsOver}
-use Rattle.rsb_many.specs.Sweep.{event_of, events_of_rest, key_of_event, rest_by, rests_by, AreEvents, AreEventsOf, End, Event, IsTouching, IsTouchingFrom, Start}
+use Rattle.rsb_many.specs.Sweep.{event_of, events_of_rest, key_of_event, rest_by, rests_by, AreEvents, AreEventsOf, End, Event, IsTouching, IsTouchingFrom, IsTouchingIn, Start}
 use Rattle.rsb_many.specs.declared.drawn.Drawn.{Drawn}
 use Rattle.rsb_many.specs.declared.heads.Head.{Head}
 use Rattle.rsb_many.specs.declared.multiway_sweep.MultiwaySweep.{MultiwaySweep}
@@ -47,29 +47,31 @@ touching-after low (run ∷ used) runs touching =
     touching-after (run.last + 1) used runs touching.2
 
 -- what each of some streams may give may touch, by its place among them
-pub at-touching : {S : Type 0} (may_give : S → Outcomes) (streams : List S)
-    → All (λ stream. may_give stream ⊆ IsTouching) streams → (place : ℕ)
-    → may_give_at may_give streams place ⊆ IsTouching
-at-touching may_give [] all place runs is = rw is tt
-at-touching may_give (stream ∷ streams) all zero runs may =
-    All-head (λ each. may_give each ⊆ IsTouching) stream streams all runs may
-at-touching may_give (stream ∷ streams) all (suc place) runs may =
-    at-touching may_give streams (All-tail (λ each. may_give each ⊆ IsTouching) stream streams all)
-    place runs may
+at-touching : {S : Type 0} (n : ℕ) (may_give : S → Outcomes) (streams : List S)
+    → All (λ stream. may_give stream ⊆ IsTouchingIn n) streams → (place : ℕ)
+    → may_give_at may_give streams place ⊆ IsTouchingIn n
+at-touching n may_give [] all place runs is =
+    rw is (tt, All-nil (λ (run : Interval). run.last < n))
+at-touching n may_give (stream ∷ streams) all zero runs may =
+    All-head (λ each. may_give each ⊆ IsTouchingIn n) stream streams all runs may
+at-touching n may_give (stream ∷ streams) all (suc place) runs may =
+    at-touching n may_give streams
+    (All-tail (λ each. may_give each ⊆ IsTouchingIn n) stream streams all) place runs may
 
 -- streams that give canonical lists give lists that may touch
 pub canonical-touching : {S : Type 0} (n : ℕ) (can : S → Type 0) (may_give : S → Outcomes)
     (streams : List S)
     → ((stream : S) → can stream → may_give stream ⊆ IsCanonicalIn n) → All can streams
-    → (place : ℕ) → may_give_at may_give streams place ⊆ IsTouching
-canonical-touching n can may_give streams canonical all = at-touching may_give streams
-    (All-weaker can (λ stream. may_give stream ⊆ IsTouching)
-    (λ stream ready runs may. touching-canonical 0 runs (canonical stream ready runs may).0)
-    streams all)
+    → (place : ℕ) → may_give_at may_give streams place ⊆ IsTouchingIn n
+canonical-touching n can may_give streams canonical all = at-touching n may_give streams
+    (All-weaker can (λ stream. may_give stream ⊆ IsTouchingIn n)
+    (λ stream ready runs may.
+    let lawful = canonical stream ready runs may in
+    (touching-canonical 0 runs lawful.0, lawful.1)) streams all)
 
 module _ {T N I A : Type 0} (integer : Elements T N) (stream : Stream I T N)
     (laws : IsLawful integer stream) where
-  open integer use {rank}
+  open integer use {rank, value_count as n}
 
   -- something may come of each input
   inputs-some : (s : Drawn T I A N) → DrawnReady integer stream s → (place : ℕ)
@@ -94,11 +96,12 @@ module _ {T N I A : Type 0} (integer : Elements T N) (stream : Stream I T N)
   -- a sweep just made tells the events of lists that the streams may give
   pub sweeps-over : (streams : List I) (s : MultiwaySweep T I A N)
       → IsBegunOf integer stream streams s.inputs
-      → ((place : ℕ) → may_give_at stream.may_give streams place ⊆ IsTouching)
+      → ((place : ℕ) → may_give_at stream.may_give streams place ⊆ IsTouchingIn n)
       → SweepsOver integer stream streams s
   sweeps-over streams s begun touching = record {
+    touching = touching;
     ready = sweep-ready s begun.ready
-        (λ place runs gives. touching place runs ((begun.begun place).gives runs gives));
+        (λ place runs gives. (touching place runs ((begun.begun place).gives runs gives)).0);
     gives = λ events may nothing. may (λ lists each given.
         nothing lists
         (subst (λ count. OneOfEach count (may_give_at stream.may_give streams) lists) begun.count

@@ -13,10 +13,11 @@ use Rattle.rsb_streams.specs.Stream.{◌⊆◌, joined, just}
 use Rattle.rsb_streams.specs.UnionIter.{unless_ended}
 use Rattle.rsb_streams.specs.declared.draw.Draw.{Ghosts as Stream}
 use Rattle.rsb_streams.specs.declared.union_iter.UnionIter.{UnionIter}
-use Rattle.rsb_many.specs.Many.{may_give_at, runs_by_all, IsBegun}
-use Rattle.rsb_many.specs.MultiwaySweep.{sweep_inputs, sweep_may_give, HoldsOneOfEach}
-use Rattle.rsb_many.specs.MultiwaySymmetricDifference.{joined_pieces, multiway_symmetric_difference, odd_inputs, MakesOdd, OddReady, SweepsIn}
-use Rattle.rsb_many.specs.SweepPieces.{edge_of, odd_past, pieces_inputs, pieces_may_give, sweep_pieces, PassesSome, SomeEvents, TellsPieces}
+use Rattle.rsb_many.specs.Many.{may_give_at, HoldOneAtMost, IsBegun}
+use Rattle.rsb_many.specs.MultiwayResults.{MakesMultiwaySymmetricDifference}
+use Rattle.rsb_many.specs.MultiwaySweep.{sweep_inputs, sweep_may_give, SweepsOver}
+use Rattle.rsb_many.specs.MultiwaySymmetricDifference.{joined_pieces, multiway_symmetric_difference, odd_inputs, OddReady}
+use Rattle.rsb_many.specs.SweepPieces.{pieces_inputs, pieces_may_give, sweep_pieces, PassesSome, TellsPieces}
 use Rattle.rsb_many.specs.declared.multiway_sweep.MultiwaySweep.{MultiwaySweep}
 use Rattle.rsb_many.specs.declared.multiway_sym_diff_set.MultiwaySymmetricDifference.{MultiwaySymmetricDifference}
 use Rattle.rsb_many.specs.declared.sweep_pieces.SweepPieces.{SweepPieces}
@@ -56,7 +57,7 @@ module _ {T N I A : Type 0} (integer : Elements T N) (stream : Stream I T N) whe
 
   -- so do several
   passes-yields : (s : Fused (SweepPieces T I A N)) (ranges : List (RangeInclusive T))
-      (t : Fused (SweepPieces T I A N)) → HoldsOneOfEach (inputs_now s)
+      (t : Fused (SweepPieces T I A N)) → HoldOneAtMost (inputs_now s)
       → Yields (fused (sweep_pieces {A = A} integer stream)).draw_gives s ranges t
       → PassesSome (inputs_now s) (inputs_now t)
   passes-yields s [] t holds same =
@@ -116,20 +117,20 @@ module _ {T N I A : Type 0} (integer : Elements T N) (stream : Stream I T N) whe
 
   -- ---- how it is made
   module _ (sweep : MultiwaySweep T I A N) (pieces : SweepPieces T I A N)
-      (of : pieces.sweep ≡ sweep) (none : pieces.start ≡ None) where
+      (of : pieces.sweep ≡ sweep) (none : pieces.start ≡ None) (streams : List I)
+      (over : SweepsOver integer stream streams sweep) where
     -- the pieces are those of the sweep, and none has begun
     same : pieces ≡ record { sweep = sweep; start = None }
     same = λ i. record { sweep = of i; start = none i }
 
     -- the pieces of a sweep just made may be drawn
-    pub pieces-made : (streams : List I) → SweepsIn integer stream streams sweep
-        → TellsPieces integer stream pieces
-    pieces-made streams sweeps = subst (TellsPieces integer stream) (sym same) (record {
-      sweep = sweeps.over.ready;
+    pub pieces-made : TellsPieces integer stream pieces
+    pieces-made = subst (TellsPieces integer stream) (sym same) (record {
+      sweep = over.ready;
       start = tt;
       whole = λ events may. whole-events n (length streams)
-          (may_give_at stream.may_give streams) sweeps.touching rank events
-          (sweeps.over.gives events may);
+          (may_give_at stream.may_give streams) over.touching rank events
+          (over.gives events may);
     })
 
     module _ (made : UnionIter T (SweepPieces T I A N)) (new : IsFresh pieces made.iter) where
@@ -147,22 +148,26 @@ module _ {T N I A : Type 0} (integer : Elements T N) (stream : Stream I T N) whe
           (subst (λ each. Fact (pieces_inputs integer stream each place)) (sym new.source)
           (subst (λ each. Fact (pieces_inputs integer stream each place)) (sym same) holds))
 
-      -- it is made of the streams
+      -- it may be drawn from
+      pub odd-ready : (joined_pieces {A = A} integer stream).can_draw made
+          → OddReady integer stream result
+      odd-ready ready = record {
+        joined = ready;
+        holds = λ place. as-inputs (λ input. length input.held ≤ 1) place (over.begun place).one;
+      }
+
+      -- and it is made of the streams
       pub odd-made : (joined_pieces {A = A} integer stream).can_draw made
           → (joined_pieces {A = A} integer stream).may_give made
           ⊆ joined n (pieces_may_give integer stream pieces)
-          → (streams : List I) → SweepsIn integer stream streams sweep
-          → MakesOdd integer stream streams result
-      odd-made ready gives streams sweeps = record {
-        ready = record {
-          joined = ready;
-          holds = λ place. as-inputs (λ input. length input.held ≤ 1) place
-              (sweeps.over.begun place).one;
-        };
+          → MakesMultiwaySymmetricDifference integer stream
+          (multiway_symmetric_difference integer stream) streams result
+      odd-made ready gives = record {
+        ready = odd-ready ready;
         gives = λ runs may. joined-odd n (length streams) (may_give_at stream.may_give streams)
-            sweeps.touching (sweep_may_give integer stream sweep) sweeps.over.gives runs
+            over.touching (sweep_may_give integer stream sweep) over.gives runs
             (subst (λ each. joined n (pieces_may_give integer stream each) runs) same
             (gives runs may));
-        begun = λ place. as-inputs (IsBegun (may_give_at stream.may_give streams place)) place
-            (sweeps.over.begun place);
+        new = λ place. as-inputs (IsBegun (may_give_at stream.may_give streams place)) place
+            (over.begun place);
       }

@@ -16,7 +16,8 @@ use Rattle.rsb_streams.specs.Stream.{◌⊆◌, just}
 use Rattle.rsb_streams.specs.declared.draw.Draw.{Ghosts as Stream}
 use Rattle.rsb_streams.proofs.LookaheadLemmas.{uses-nothing, uses-then}
 use Rattle.rsb_streams.proofs.OddLemmas.{no-pieces, only-none}
-use Rattle.rsb_many.specs.MultiwaySweep.{events_left, sweep_inputs, sweep_may_give, AsksAt, HoldsOneOfEach, SweepReady, Sweeps}
+use Rattle.rsb_many.specs.Many.{HoldOneAtMost}
+use Rattle.rsb_many.specs.MultiwaySweep.{events_left, sweep_inputs, sweep_may_give, AsksAt, SweepReady, Sweeps}
 use Rattle.rsb_many.specs.Sweep.{event_of, End, Event, Start}
 use Rattle.rsb_many.specs.SweepPieces.{edge_of, edges_of, ends_at, odd_past, pieces_inputs, pieces_may_give, sweep_pieces, IsEventIn, IsWhole, PassesAll, PassesEdge, PassesSome, TellsPieces, UsesTo}
 use Rattle.rsb_many.specs.declared.multiway_sweep.MultiwaySweep.{MultiwaySweep}
@@ -71,7 +72,7 @@ asks-uses before now (End last input) asks place = elim (cases_eq place input) [
 
 -- some events were passed, and one more
 passes-more : (first second third : ℕ → Input) (event : Event) → PassesSome first second
-    → AsksAt second event third → HoldsOneOfEach third → PassesSome first third
+    → AsksAt second event third → HoldOneAtMost third → PassesSome first third
 passes-more first second third event passed asks holds = record {
   events = passed.events ++ event ∷ [];
   uses = λ place. subst (λ ends. UsesTo ends (first place) (third place))
@@ -98,7 +99,7 @@ passes-end first second third passed ends = record {
 }
 
 -- no events were passed
-pub passes-none : (inputs : ℕ → Input) → HoldsOneOfEach inputs → PassesSome inputs inputs
+pub passes-none : (inputs : ℕ → Input) → HoldOneAtMost inputs → PassesSome inputs inputs
 passes-none inputs holds = record {
   events = [];
   uses = λ place. uses_to-none (inputs place) (inputs place) (uses-nothing (inputs place));

@@ -15,7 +15,6 @@ pub mod MultiwayLaws
 pub mod MultiwayResults
 pub mod MultiwaySweep
 pub mod MultiwaySymmetricDifference
-pub mod MultiwaySymmetricDifferenceLaws
 pub mod MultiwayUnion
 pub mod Sweep
 pub mod SweepPieces

@@ -9,7 +9,10 @@ use Rattle.rsb_streams.specs.declared.draw.Draw.{Ghosts as Stream}
 use Rattle.rsb_many.specs.KMerge.{kmerge}
 use Rattle.rsb_many.specs.KMergeLaws.{kmerge-sorted}
 use Rattle.rsb_many.specs.MultiwayIntersection.{left_out, multiway_intersection}
+use Rattle.rsb_many.specs.MultiwaySymmetricDifference.{multiway_symmetric_difference}
 use Rattle.rsb_many.specs.MultiwayUnion.{multiway_union}
+use Rattle.rsb_many.specs.SweepPieces.{sweep_pieces}
+use Rattle.rsb_many.specs.SweepPiecesLaws.{sweep_pieces-sorted}
 
 -- what lies in some of them
 pub multiway_union-disjoint : {T N I A : Type 0} (integer : Elements T N) (stream : Stream I T N)
@@ -27,3 +30,11 @@ multiway_intersection-disjoint integer stream sorted s =
     not_iter-disjoint integer outside (disjoint-sorted integer outside
     (multiway_union-disjoint integer gaps (disjoint-sorted integer gaps
     (not_iter-disjoint integer stream sorted)))) s.iter
+
+-- what lies in an odd number of them
+pub multiway_symmetric_difference-disjoint : {T N I A : Type 0} (integer : Elements T N)
+    (stream : Stream I T N)
+    → IsDisjoint integer (multiway_symmetric_difference {A = A} integer stream)
+multiway_symmetric_difference-disjoint integer stream s ready =
+    union_iter-disjoint integer (sweep_pieces integer stream)
+    (sweep_pieces-sorted integer stream) s.iter ready.joined

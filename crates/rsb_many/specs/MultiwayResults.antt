@@ -1,7 +1,7 @@
 -- What operations on any number of streams make: the result may be drawn from, gives nothing but
 -- runs of what the operation selects, and of each stream one range at most is drawn.
 use Rattle.std.specs.Prelude.{ℕ, List, [], ◌∷◌, length}
-use Rattle.rsb_integer.specs.Selection.{Selection, all_of, any_of}
+use Rattle.rsb_integer.specs.Selection.{Selection, all_of, any_of, odd_of}
 use Rattle.rsb_integer.specs.declared.integer.Integer.{Ghosts as Elements}
 use Rattle.rsb_streams.specs.NotIter.{not_iter}
 use Rattle.rsb_streams.specs.Results.{MakesComplement}
@@ -10,7 +10,9 @@ use Rattle.rsb_streams.specs.declared.draw.Draw.{Ghosts as Stream}
 use Rattle.rsb_streams.specs.declared.not_iter.NotIter.{NotIter}
 use Rattle.rsb_many.specs.Many.{may_give_at, runs_by_all, IsBegun}
 use Rattle.rsb_many.specs.MultiwayIntersection.{multiway_intersection_inputs}
+use Rattle.rsb_many.specs.MultiwaySymmetricDifference.{odd_inputs}
 use Rattle.rsb_many.specs.MultiwayUnion.{multiway_union_inputs}
+use Rattle.rsb_many.specs.declared.multiway_sym_diff_set.MultiwaySymmetricDifference.{MultiwaySymmetricDifference}
 use Rattle.rsb_many.specs.declared.operation_results.multiway_intersection.MultiwayIntersection.{MultiwayIntersection}
 use Rattle.rsb_many.specs.declared.operation_results.multiway_union.MultiwayUnion.{MultiwayUnion}
 
@@ -53,3 +55,11 @@ module _ {T N I : Type 0} (integer : Elements T N) (stream : Stream I T N) where
     MakesMultiwayIntersection made streams result = IsMade made.can_draw result
         (GivesByAll all_of integer.value_count stream.may_give streams (made.may_give result))
         (BeginsComplements streams result)
+
+    -- of what lies in an odd number of the streams
+    abbrev pub MakesMultiwaySymmetricDifference : Stream (MultiwaySymmetricDifference T I A N) T N
+        → List I → MultiwaySymmetricDifference T I A N → Type 0
+    MakesMultiwaySymmetricDifference made streams result = IsMade made.can_draw result
+        (GivesByAll odd_of integer.value_count stream.may_give streams (made.may_give result))
+        ((place : ℕ) → IsBegun (may_give_at stream.may_give streams place)
+        (odd_inputs integer stream result place))

@@ -9,8 +9,8 @@ use Rattle.rsb_streams.specs.declared.draw.Draw.{Ghosts as Stream}
 use Rattle.rsb_many.specs.Drawn.{inputs_of, DrawnReady}
 use Rattle.rsb_many.specs.Inputs.{has_ended, input_at, left_of}
 use Rattle.rsb_many.specs.KMerge.{comparison_bound}
-use Rattle.rsb_many.specs.Many.{gives_of, may_give_at, IsBegun, SomeOfEach}
-use Rattle.rsb_many.specs.Sweep.{event_of, rests_by, AreEvents, AreEventsOf, End, Event, IsTouching, Start}
+use Rattle.rsb_many.specs.Many.{gives_of, may_give_at, HoldOneAtMost, IsBegun, SomeOfEach}
+use Rattle.rsb_many.specs.Sweep.{event_of, rests_by, AreEvents, AreEventsOf, End, Event, IsTouching, IsTouchingIn, Start}
 use Rattle.rsb_many.specs.declared.heads.Head.{Head}
 use Rattle.rsb_many.specs.declared.multiway_sweep.MultiwaySweep.{MultiwaySweep}
 use Rattle.rsb_many.specs.declared.sweep_event.SweepEvent.{SweepEvent}
@@ -59,10 +59,6 @@ abbrev pub AsksAt : (ℕ → Input) → Event → (ℕ → Input) → Type 0
 AsksAt before (Start run place) now = StartsAt place before run now
 AsksAt before (End last place) now = EndsAt place before last now
 
--- one range of each input is held at most
-abbrev pub HoldsOneOfEach : (ℕ → Input) → Type 0
-HoldsOneOfEach inputs = (place : ℕ) → length (inputs place).held ≤ 1
-
 -- ---- a sweep
 
 -- how many streams it sweeps over
@@ -106,14 +102,16 @@ module _ {T N I A : Type 0} (integer : Elements T N) (stream : Stream I T N) whe
     pub asks : MatchOption item
         ((place : ℕ) → Ends (sweep_inputs s place) (sweep_inputs t place))
         (λ event. AsksAt (sweep_inputs s) (event_of integer.rank event) (sweep_inputs t))
-    pub holds : HoldsOneOfEach (sweep_inputs t)
+    pub holds : HoldOneAtMost (sweep_inputs t)
     pub count : stream_count t ≡ stream_count s
     pub compared : t.inputs.heads.comparisons
         ≤ s.inputs.heads.comparisons + comparison_bound (stream_count s)
 
-  -- a sweep just made of streams: it may be called, all that may come are the events of lists that
-  -- the streams may give, and the first range of each is drawn
+  -- a sweep just made of streams, of which no range overlaps another: it may be called, all that may
+  -- come are the events of lists that they may give, and the first range of each is drawn
   pub record SweepsOver (streams : List I) (s : MultiwaySweep T I A N) : Type 0 where
+    pub touching : (place : ℕ)
+        → may_give_at stream.may_give streams place ⊆ IsTouchingIn integer.value_count
     pub ready : SweepReady s
     pub gives : (events : List Event) → sweep_may_give s events
         → SomeOfEach (length streams) (may_give_at stream.may_give streams)

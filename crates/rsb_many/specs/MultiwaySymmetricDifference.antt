@@ -1,18 +1,13 @@
 -- What lies in an odd number of streams.
-use Rattle.std.specs.Prelude.{ℕ, List, length}
-use Rattle.rsb_integer.specs.Selection.{odd_of}
+use Rattle.std.specs.Prelude.{ℕ}
 use Rattle.rsb_integer.specs.declared.integer.Integer.{Ghosts as Elements}
 use Rattle.rsb_streams.specs.Lookahead.{Input}
 use Rattle.rsb_streams.specs.Rows.{asking}
-use Rattle.rsb_streams.specs.Stream.{◌⊆◌}
 use Rattle.rsb_streams.specs.UnionIter.{unless_ended, union_iter}
 use Rattle.rsb_streams.specs.declared.draw.Draw.{Ghosts as Stream}
 use Rattle.rsb_streams.specs.declared.union_iter.UnionIter.{UnionIter}
-use Rattle.rsb_many.specs.Many.{may_give_at, runs_by_all, IsBegun}
-use Rattle.rsb_many.specs.MultiwaySweep.{HoldsOneOfEach, SweepsOver}
-use Rattle.rsb_many.specs.Sweep.{IsTouchingIn}
-use Rattle.rsb_many.specs.SweepPieces.{pieces_inputs, sweep_pieces, AsksToPass, PassesSome}
-use Rattle.rsb_many.specs.declared.multiway_sweep.MultiwaySweep.{MultiwaySweep}
+use Rattle.rsb_many.specs.Many.{HoldOneAtMost}
+use Rattle.rsb_many.specs.SweepPieces.{pieces_inputs, sweep_pieces, PassesSome}
 use Rattle.rsb_many.specs.declared.multiway_sym_diff_set.MultiwaySymmetricDifference.{MultiwaySymmetricDifference}
 use Rattle.rsb_many.specs.declared.sweep_pieces.SweepPieces.{SweepPieces}
 
@@ -29,26 +24,10 @@ module _ {T N I A : Type 0} (integer : Elements T N) (stream : Stream I T N) whe
   -- the joined pieces may be drawn from, and one range of each input is held at most
   pub record OddReady (s : MultiwaySymmetricDifference T I A N) : Type 0 where
     pub joined : joined_pieces.can_draw s.iter
-    pub holds : HoldsOneOfEach (odd_inputs s)
+    pub holds : HoldOneAtMost (odd_inputs s)
 
   -- the symmetric difference: a draw passes some events
   abbrev pub multiway_symmetric_difference : Stream (MultiwaySymmetricDifference T I A N) T N
   multiway_symmetric_difference = asking integer
       (λ s item t. PassesSome (odd_inputs s) (odd_inputs t))
       OddReady (λ s. joined_pieces.draws_left s.iter) (λ s. joined_pieces.may_give s.iter)
-
-  -- a sweep just made of streams, whose ranges lie in the type
-  pub record SweepsIn (streams : List I) (sweep : MultiwaySweep T I A N) : Type 0 where
-    pub over : SweepsOver integer stream streams sweep
-    pub touching : (place : ℕ)
-        → may_give_at stream.may_give streams place ⊆ IsTouchingIn integer.value_count
-
-  -- it may be drawn from, all that it may give are runs of what lies in an odd number of the
-  -- streams, and the first range of each is drawn
-  pub record MakesOdd (streams : List I) (s : MultiwaySymmetricDifference T I A N) : Type 0 where
-    pub ready : OddReady s
-    pub gives : multiway_symmetric_difference.may_give s
-        ⊆ runs_by_all integer.value_count odd_of (length streams)
-        (may_give_at stream.may_give streams)
-    pub begun : (place : ℕ) → IsBegun (may_give_at stream.may_give streams place)
-        (odd_inputs s place)

@@ -10,7 +10,8 @@ use Rattle.rsb_streams.specs.PutBack.{held_list}
 use Rattle.rsb_streams.specs.Rows.{asking}
 use Rattle.rsb_streams.specs.Stream.{just, Outcomes}
 use Rattle.rsb_streams.specs.declared.draw.Draw.{Ghosts as Stream}
-use Rattle.rsb_many.specs.MultiwaySweep.{events_left, sweep_inputs, sweep_may_give, EventOutcomes, HoldsOneOfEach, SweepReady}
+use Rattle.rsb_many.specs.Many.{HoldOneAtMost}
+use Rattle.rsb_many.specs.MultiwaySweep.{events_left, sweep_inputs, sweep_may_give, EventOutcomes, SweepReady}
 use Rattle.rsb_many.specs.Sweep.{End, Event, Start}
 use Rattle.rsb_many.specs.declared.sweep_pieces.SweepPieces.{SweepPieces}
 
@@ -105,7 +106,7 @@ pub record UsesTo (lasts : List ℕ) (before now : Input) : Type 0 where
 pub record PassesSome (before now : ℕ → Input) : Type 0 where
   pub events : List Event
   pub uses : (place : ℕ) → UsesTo (ends_at place events) (before place) (now place)
-  pub holds : HoldsOneOfEach now
+  pub holds : HoldOneAtMost now
 
 -- the inputs end: each uses the ranges of which the end was passed before, and gives nothing more
 pub record PassesAll (before now : ℕ → Input) : Type 0 where

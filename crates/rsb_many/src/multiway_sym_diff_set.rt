@@ -1,9 +1,11 @@
 //! What lies in an odd number of streams.
 
 ghost use Rattle.std.specs.Prelude.{List};
-ghost use Rattle.rsb_many.specs.MultiwaySymmetricDifference.{multiway_symmetric_difference, MakesOdd, SweepsIn};
-ghost use Rattle.rsb_many.specs.MultiwaySymmetricDifferenceLaws.{multiway_symmetric_difference-disjoint};
 ghost use Rattle.rsb_streams.specs.StreamLaws.{canonical-starts, drawn-itself};
+ghost use Rattle.rsb_many.specs.MultiwayLaws.{multiway_symmetric_difference-disjoint};
+ghost use Rattle.rsb_many.specs.MultiwayResults.{MakesMultiwaySymmetricDifference};
+ghost use Rattle.rsb_many.specs.MultiwaySweep.{SweepsOver};
+ghost use Rattle.rsb_many.specs.MultiwaySymmetricDifference.{multiway_symmetric_difference};
 
 use crate::multiway_sweep::MultiwaySweep;
 use crate::sweep_pieces::SweepPieces;
@@ -13,20 +15,23 @@ use std::alloc::{Allocator, Global};
 use std::iter::FusedIterator;
 use std::ops::RangeInclusive;
 
-/// What lies in an odd number of streams, of none nothing. It holds one range of each stream at
-/// most, and room is taken when it is built alone. (`MultiwaySymmetricDifference` of the Rust
-/// crate.)
+/// What lies in an odd number of any number of streams: nothing, of none. It draws the first range
+/// of each when it is built, and holds one range of each at most. Room is taken when it is built
+/// alone. (`MultiwaySymmetricDifference` of the Rust crate.)
 #[derive(Debug, Drop)]
 pub struct MultiwaySymmetricDifference<T: Integer, I, A: Allocator = Global> {
     iter: UnionIter<T, SweepPieces<T, I, A>>,
 }
 
 impl<T: Integer, I: Draw<T>, A: Allocator> MultiwaySymmetricDifference<T, I, A> {
-    /// What lies in an odd number of the streams of a sweep that was just made.
-    pub(crate) fn over(sweep: MultiwaySweep<T, I, A>) -> Self
-        requires { (streams : List I) × SweepsIn T.Integer.own I.Draw streams sweep }
-        ensures { (streams : List I) → SweepsIn T.Integer.own I.Draw streams sweep
-            → MakesOdd T.Integer.own I.Draw streams result }
+    /// What lies in an odd number of the streams of a sweep that was just made; nothing more is
+    /// drawn.
+    pub(crate) fn of(sweep: MultiwaySweep<T, I, A>) -> Self
+        requires { (streams : List I) × SweepsOver T.Integer.own I.Draw streams sweep }
+        ensures ready { ⟦<MultiwaySymmetricDifference<T, I, A> as Draw<T>>⟧.can_draw result }
+        ensures made { (streams : List I) → SweepsOver T.Integer.own I.Draw streams sweep
+            → MakesMultiwaySymmetricDifference T.Integer.own I.Draw
+            ⟦<MultiwaySymmetricDifference<T, I, A> as Draw<T>>⟧ streams result }
     {
         MultiwaySymmetricDifference {
             iter: UnionIter::new(SweepPieces::over(sweep)),
