@@ -16,7 +16,7 @@ pub use rsb_integer::Integer;
 pub use rsb_length::{SafeLength, UInt, UIntPlusOne};
 pub use rsb_many::{
     DynSortedDisjoint, KMerge, MultiwayIntersection, MultiwaySortedDisjoint, MultiwaySweep,
-    MultiwayUnion, SweepEvent,
+    MultiwaySymmetricDifference, MultiwayUnion, SweepEvent,
 };
 pub use rsb_streams::{
     AnythingGoes, AssumeSortedStarts, CheckSortedDisjoint, Difference, Draw, DrawDisjoint,

@@ -20,6 +20,16 @@ macro_rules! intersection_dyn {
     };
 }
 
+/// What lies in an odd number of any number of streams, whatever their types:
+/// `symmetric_difference_dyn!(alloc, a, b, ..)`. All ranges of each are taken first. Without memory
+/// nothing is made, and all streams are dropped. (`symmetric_difference_dyn!` of the Rust crate.)
+#[macro_export]
+macro_rules! symmetric_difference_dyn {
+    ($alloc:expr $(, $stream:expr)* $(,)?) => {
+        $crate::with_all_taken!(symmetric_difference, $alloc, std::vec::Vec::new($alloc) $(, $stream)*)
+    };
+}
+
 /// An operation on streams that were taken and those that follow, which are taken one after the
 /// other. (Own: for the macros above.)
 #[macro_export]

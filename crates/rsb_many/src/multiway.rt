@@ -5,11 +5,14 @@ ghost use Rattle.rsb_many.specs.HandedIn.{EachGaveRun};
 ghost use Rattle.rsb_many.specs.MultiwayResults.{
   AreComplements,
   MakesMultiwayIntersection,
+  MakesMultiwaySymmetricDifference,
   MakesMultiwayUnion,
 };
 ghost use Rattle.rsb_streams.specs.Items.{GaveRun, IsEnding};
 
 use crate::kmerge::KMerge;
+use crate::multiway_sweep::MultiwaySweep;
+use crate::multiway_sym_diff_set::MultiwaySymmetricDifference;
 use crate::operation_results::{MultiwayIntersection, MultiwayUnion};
 use rsb_integer::Integer;
 use rsb_streams::{Draw, DrawDisjoint, NotIter};
@@ -58,6 +61,26 @@ pub trait MultiwaySortedDisjoint<T: Integer, I: DrawDisjoint<T>>: IntoIterator<I
         let gaps = complements(alloc, self)?;
         let merge = KMerge::over(alloc, gaps)?;
         Ok(MultiwayIntersection::of(merge))
+    }
+
+    /// What lies in an odd number of the streams: nothing, of none. It holds one range of each at
+    /// most. (`MultiwaySortedDisjoint::symmetric_difference`.)
+    final fn symmetric_difference<A: Allocator + Copy>(
+        self,
+        alloc: A,
+    ) -> Result<MultiwaySymmetricDifference<T, I, A>, AllocError>
+    where
+        Self: Sized,
+        requires ends { IsEnding Self.into_iter_gives Self.IntoIter.can_next Self.IntoIter.remaining self }
+        requires can { EachGaveRun Self.into_iter_gives Self.IntoIter.next_gives self (All I.can_draw) }
+        ensures ready { IfOk result ⟦<MultiwaySymmetricDifference<T, I, A> as Draw<T>>⟧.can_draw }
+        ensures made { IfOk result (λ difference.
+            GaveRun Self.into_iter_gives Self.IntoIter.next_gives self
+            (λ streams. MakesMultiwaySymmetricDifference T.Integer.own I.Draw
+            ⟦<MultiwaySymmetricDifference<T, I, A> as Draw<T>>⟧ streams difference)) }
+    {
+        let sweep = MultiwaySweep::new(alloc, self)?;
+        Ok(MultiwaySymmetricDifference::of(sweep))
     }
 }
 

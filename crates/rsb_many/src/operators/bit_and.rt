@@ -2,6 +2,7 @@
 
 ghost use Rattle.rsb_streams.specs.Results.{CanDrawBoth, MakesIntersection};
 
+use crate::multiway_sym_diff_set::MultiwaySymmetricDifference;
 use crate::operation_results::{MultiwayIntersection, MultiwayUnion};
 use rsb_integer::Integer;
 use rsb_streams::{Draw, DrawDisjoint, Intersection};
@@ -30,6 +31,20 @@ impl<T: Integer, I: Draw<T>, A: Allocator, R: DrawDisjoint<T>> BitAnd<R>
 
     ghost bitand_gives = { MakesIntersection T.Integer.own ⟦<MultiwayIntersection<T, I, A> as Draw<T>>⟧ R.Draw
         ⟦<Intersection<T, MultiwayIntersection<T, I, A>, R> as Draw<T>>⟧ };
+
+    fn bitand(self, other: R) -> Self::Output {
+        Intersection::from((self, other))
+    }
+}
+
+impl<T: Integer, I: Draw<T>, A: Allocator, R: DrawDisjoint<T>> BitAnd<R>
+    for MultiwaySymmetricDifference<T, I, A> {
+    type Output = Intersection<T, MultiwaySymmetricDifference<T, I, A>, R>;
+
+    ghost can_bitand = { CanDrawBoth ⟦<MultiwaySymmetricDifference<T, I, A> as Draw<T>>⟧ R.Draw };
+
+    ghost bitand_gives = { MakesIntersection T.Integer.own ⟦<MultiwaySymmetricDifference<T, I, A> as Draw<T>>⟧ R.Draw
+        ⟦<Intersection<T, MultiwaySymmetricDifference<T, I, A>, R> as Draw<T>>⟧ };
 
     fn bitand(self, other: R) -> Self::Output {
         Intersection::from((self, other))

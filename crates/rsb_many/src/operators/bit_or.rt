@@ -2,6 +2,7 @@
 
 ghost use Rattle.rsb_streams.specs.Results.{CanDrawBoth, MakesUnion};
 
+use crate::multiway_sym_diff_set::MultiwaySymmetricDifference;
 use crate::operation_results::{MultiwayIntersection, MultiwayUnion};
 use rsb_integer::Integer;
 use rsb_streams::{Draw, DrawDisjoint, Union};
@@ -29,6 +30,20 @@ impl<T: Integer, I: Draw<T>, A: Allocator, R: DrawDisjoint<T>> BitOr<R>
 
     ghost bitor_gives = { MakesUnion T.Integer.own ⟦<MultiwayIntersection<T, I, A> as Draw<T>>⟧ R.Draw
         ⟦<Union<T, MultiwayIntersection<T, I, A>, R> as Draw<T>>⟧ };
+
+    fn bitor(self, other: R) -> Self::Output {
+        Union::from((self, other))
+    }
+}
+
+impl<T: Integer, I: Draw<T>, A: Allocator, R: DrawDisjoint<T>> BitOr<R>
+    for MultiwaySymmetricDifference<T, I, A> {
+    type Output = Union<T, MultiwaySymmetricDifference<T, I, A>, R>;
+
+    ghost can_bitor = { CanDrawBoth ⟦<MultiwaySymmetricDifference<T, I, A> as Draw<T>>⟧ R.Draw };
+
+    ghost bitor_gives = { MakesUnion T.Integer.own ⟦<MultiwaySymmetricDifference<T, I, A> as Draw<T>>⟧ R.Draw
+        ⟦<Union<T, MultiwaySymmetricDifference<T, I, A>, R> as Draw<T>>⟧ };
 
     fn bitor(self, other: R) -> Self::Output {
         Union::from((self, other))

@@ -2,6 +2,7 @@
 
 ghost use Rattle.rsb_streams.specs.Results.{MakesComplement};
 
+use crate::multiway_sym_diff_set::MultiwaySymmetricDifference;
 use crate::operation_results::{MultiwayIntersection, MultiwayUnion};
 use rsb_integer::Integer;
 use rsb_streams::{Draw, NotIter};
@@ -28,6 +29,19 @@ impl<T: Integer, I: Draw<T>, A: Allocator> Not for MultiwayIntersection<T, I, A>
 
     ghost not_gives = { MakesComplement T.Integer.own ⟦<MultiwayIntersection<T, I, A> as Draw<T>>⟧
         ⟦<NotIter<T, MultiwayIntersection<T, I, A>> as Draw<T>>⟧ };
+
+    fn not(self) -> Self::Output {
+        NotIter::from(self)
+    }
+}
+
+impl<T: Integer, I: Draw<T>, A: Allocator> Not for MultiwaySymmetricDifference<T, I, A> {
+    type Output = NotIter<T, MultiwaySymmetricDifference<T, I, A>>;
+
+    ghost can_not = { ⟦<MultiwaySymmetricDifference<T, I, A> as Draw<T>>⟧.can_draw };
+
+    ghost not_gives = { MakesComplement T.Integer.own ⟦<MultiwaySymmetricDifference<T, I, A> as Draw<T>>⟧
+        ⟦<NotIter<T, MultiwaySymmetricDifference<T, I, A>> as Draw<T>>⟧ };
 
     fn not(self) -> Self::Output {
         NotIter::from(self)
