@@ -1,5 +1,5 @@
 -- Which inputs have begun, by the heads: whatever their order, and what comes first of an input.
-use Rattle.std.proofs.Common.{◌≡◌, ◌≢◌, inl, inr, ℕ, ◌+◌, ◌<◌, ◌≤◌, Bool, true, false, cond, not, nat_eq, nat_lt, ◌&&◌, ◌||◌, List, [], ◌∷◌, ◌++◌, length, refl, sym, ap, subst, ◌∙◌, arith, All, sum_by, IsPermutation, IsFalse}
+use Rattle.std.proofs.Common.{◌≡◌, inl, inr, ℕ, ◌+◌, ◌<◌, ◌≤◌, Bool, true, false, cond, nat_eq, nat_lt, ◌&&◌, ◌||◌, List, [], ◌∷◌, ◌++◌, length, refl, sym, ap, ◌∙◌, arith, All, sum_by, IsPermutation, IsFalse}
 use Rattle.std.proofs.lemmas.Bool.{eqb-true}
 use Rattle.std.proofs.lemmas.Bool.Decides.{nat_tests}
 use Rattle.std.proofs.lemmas.List.Elements.{All-head, All-tail}
@@ -8,7 +8,7 @@ use Rattle.std.proofs.lemmas.List.Sums.{sum_by-cons}
 use Rattle.std.proofs.lemmas.List.{length-append}
 use Rattle.rsb_integer.proofs.ListLemmas.{true_or_false}
 use Rattle.rsb_integer.specs.Runs.{Interval}
-use Rattle.rsb_many.specs.Drawn.{started, AddsUnstarted, IsUnstarted}
+use Rattle.rsb_many.specs.Drawn.{AddsUnstarted, IsUnstarted}
 use Rattle.rsb_many.specs.Heads.{key_of}
 use Rattle.rsb_many.specs.Inputs.{held_at, run_of}
 use Rattle.rsb_many.specs.Keys.{comes_before}

@@ -1,5 +1,5 @@
 -- The edges of events, and pieces of what has an odd number of them at or before it.
-use Rattle.std.proofs.Common.{◌≡◌, ◌⊎◌, inl, inr, ℕ, ◌+◌, ◌-◌, ◌<◌, ◌≤◌, Bool, true, false, not, cond, ◌||◌, nat_le, nat_lt, List, [], ◌∷◌, ◌++◌, map, refl, sym, ap, subst, ◌∙◌, arith, Option, Some, None}
+use Rattle.std.proofs.Common.{◌≡◌, inl, inr, ℕ, ◌-◌, ◌<◌, ◌≤◌, Bool, true, false, ◌||◌, nat_le, nat_lt, List, [], ◌∷◌, ◌++◌, map, refl, sym, ap, subst, ◌∙◌, arith, Option, Some, None}
 use Rattle.std.proofs.lemmas.Bool.{cases_lt}
 use Rattle.std.proofs.lemmas.Bool.Decides.{nat_tests}
 use Rattle.std.specs.declared.ops.RangeInclusive.{RangeInclusive}
@@ -13,7 +13,7 @@ use Rattle.rsb_streams.specs.Stream.{HasSortedStartsFrom}
 use Rattle.rsb_streams.specs.StreamLaws.{settled_le, settled_lt}
 use Rattle.rsb_streams.proofs.OddLemmas.{pieces-along}
 use Rattle.rsb_many.specs.Sweep.{End, Event, Start}
-use Rattle.rsb_many.specs.SweepPieces.{edge_in, edge_of, edges_of, low_of, odd_past, piece_up_to, HasEdgesFrom, IsClosed, IsEventIn, IsWhole, PassesEdge}
+use Rattle.rsb_many.specs.SweepPieces.{edge_in, edge_of, edges_of, odd_past, piece_up_to, HasEdgesFrom, IsEventIn, IsWhole, PassesEdge}
 
 -- ---- edges
 

@@ -1,22 +1,19 @@
 -- What a merge and a sweep of many streams hold when the least head leaves, when it is put back, and
 -- when there is none.
-use Rattle.std.proofs.Common.{◌≡◌, ◌≢◌, inl, inr, ℕ, ◌+◌, ◌*◌, ◌<◌, ◌≤◌, Bool, true, false, cond, nat_eq, nat_lt, List, [], ◌∷◌, ◌++◌, length, slice_get, refl, sym, ap, subst, ◌∙◌, arith, All, Option, Some, None, IsPermutation}
-use Rattle.std.proofs.lemmas.Bool.{cases_eq, ltb-false}
+use Rattle.std.proofs.Common.{◌≡◌, inl, inr, ℕ, ◌+◌, ◌*◌, ◌<◌, ◌≤◌, true, false, cond, nat_lt, List, [], ◌∷◌, length, slice_get, refl, sym, ap, subst, ◌∙◌, arith, All, None}
+use Rattle.std.proofs.lemmas.Bool.{ltb-false}
 use Rattle.std.proofs.lemmas.List.{append-nil}
 use Rattle.std.proofs.lemmas.List.Elements.{All-cons, All-head, All-tail}
 use Rattle.std.proofs.lemmas.List.Sorted.{All-permutation, length_permutation}
-use Rattle.std.specs.Iterator.{Count}
 use Rattle.rsb_integer.specs.Runs.{Interval}
 use Rattle.rsb_integer.specs.declared.integer.Integer.{Ghosts as Elements}
 use Rattle.rsb_integer.proofs.ListLemmas.{true_or_false}
-use Rattle.rsb_streams.specs.Lookahead.{undrawn, Ends, GivesFrom, HasEnded, Uses}
-use Rattle.rsb_streams.specs.Stream.{◌⊆◌, just}
+use Rattle.rsb_streams.specs.Lookahead.{GivesFrom, HasEnded, Uses}
 use Rattle.rsb_streams.specs.declared.draw.Draw.{Ghosts as Stream}
-use Rattle.rsb_many.specs.Drawn.{inputs_of, is_at, started, DrawnReady, HasNoHead, PutsBack, Refills, TakesHead}
+use Rattle.rsb_many.specs.Drawn.{inputs_of, is_at, started, DrawnReady, HasNoHead, PutsBack, TakesHead}
 use Rattle.rsb_many.specs.Heads.{binary_digits}
 use Rattle.rsb_many.specs.Inputs.{has_ended, held_at, input_at, left_of, run_of, AreReady, Inputs}
 use Rattle.rsb_many.specs.KMerge.{comparison_bound}
-use Rattle.rsb_many.specs.Many.{gives_of}
 use Rattle.rsb_many.specs.declared.drawn.Drawn.{Drawn}
 use Rattle.rsb_many.specs.declared.heads.Head.{Head}
 use Rattle.rsb_many.proofs.DigitLemmas.{binary_digits-more}

@@ -1,6 +1,6 @@
 -- One answer of a merge of any number of streams.
-use Rattle.std.proofs.Common.{◌≡◌, inl, inr, ℕ, ◌+◌, ◌*◌, ◌<◌, ◌≤◌, Bool, true, false, cond, nat_eq, nat_lt, List, [], ◌∷◌, ◌++◌, length, slice_get, refl, sym, ap, subst, ◌∙◌, arith, All, Option, Some, None, IsFalse, IsPermutation}
-use Rattle.std.proofs.lemmas.Bool.{cases_eq, ltb-false}
+use Rattle.std.proofs.Common.{◌≡◌, inl, inr, ℕ, ◌+◌, ◌*◌, ◌<◌, ◌≤◌, true, false, cond, nat_lt, List, [], ◌∷◌, ◌++◌, length, refl, sym, ap, subst, ◌∙◌, arith, All, Some, None, IsFalse}
+use Rattle.std.proofs.lemmas.Bool.{ltb-false}
 use Rattle.std.proofs.lemmas.List.{append-nil}
 use Rattle.std.proofs.lemmas.List.Elements.{All-head, All-nil, All-tail}
 use Rattle.std.proofs.lemmas.List.Sorted.{All-permutation, length_permutation}
@@ -15,7 +15,7 @@ use Rattle.rsb_streams.specs.Stream.{◌⊆◌, just}
 use Rattle.rsb_streams.specs.declared.draw.Draw.{Ghosts as Stream}
 use Rattle.rsb_streams.proofs.LookaheadLemmas.{uses-then}
 use Rattle.rsb_streams.proofs.Sources.{IsLawful}
-use Rattle.rsb_many.specs.Drawn.{inputs_of, is_at, DrawnReady, HasNoHead, IsBegunOf, IsUnstarted, Refills, TakesHead}
+use Rattle.rsb_many.specs.Drawn.{inputs_of, is_at, HasNoHead, IsBegunOf, IsUnstarted, Refills, TakesHead}
 use Rattle.rsb_many.specs.Heads.{binary_digits, key_of}
 use Rattle.rsb_many.specs.Inputs.{has_ended, held_at, input_at, inputs_left, inputs_merge, left_of, run_of, AreReady, Inputs}
 use Rattle.rsb_many.specs.KMerge.{comparison_bound, kmerge, kmerge_inputs, KMergeReady, MakesKMerge}
@@ -215,8 +215,7 @@ module _ {T N I A : Type 0} (integer : Elements T N) (stream : Stream I T N)
         (has_ended integer stream now) now.streams
         (leaves-goes integer stream middle now head filled.ready.inputs streams takes.taken.kept due
         dues)
-        ∙ ap (λ each. left_of stream.draws_left (has_ended integer stream middle) each) streams in
-        (
+        ∙ ap (λ each. left_of stream.draws_left (has_ended integer stream middle) each) streams in (
           subst (λ each. IsFinite each) (sym same) refilled.0,
           omega (arith, refilled.1, fewer, ap (λ each. size each) same),
         )

@@ -1,37 +1,35 @@
 -- One event of a sweep over any number of streams.
-use Rattle.std.proofs.Common.{◌≡◌, ◌≢◌, inl, inr, ℕ, zero, suc, ◌+◌, ◌*◌, ◌<◌, ◌≤◌, Bool, true, false, cond, List, [], ◌∷◌, ◌++◌, length, map, slice_get, refl, sym, ap, subst, ◌∙◌, arith, All, sum_by, Option, Some, None, IsFalse}
+use Rattle.std.proofs.Common.{◌≡◌, inl, inr, ℕ, zero, suc, ◌+◌, ◌*◌, ◌<◌, ◌≤◌, true, false, cond, List, [], ◌∷◌, ◌++◌, length, slice_get, refl, sym, ap, subst, ◌∙◌, arith, All, sum_by, Some, None, IsFalse}
 use Rattle.std.proofs.lemmas.Bool.{cases_eq}
 use Rattle.std.proofs.lemmas.List.{append-nil}
 use Rattle.std.proofs.lemmas.List.Elements.{All-head, All-nil, All-tail, All-weaker}
 use Rattle.std.proofs.lemmas.List.Sorted.{sum_by-IsPermutation}
 use Rattle.std.proofs.lemmas.List.Sums.{sum_by-cons}
 use Rattle.std.specs.Iterator.{size, IsFinite, MakesProgress}
-use Rattle.std.specs.Prelude.{MatchOption}
 use Rattle.std.specs.declared.ops.RangeInclusive.{RangeInclusive}
 use Rattle.rsb_integer.specs.Rank.{interval_of}
 use Rattle.rsb_integer.specs.Runs.{Interval, IsCanonicalIn}
 use Rattle.rsb_integer.specs.declared.integer.Integer.{Ghosts as Elements}
 use Rattle.rsb_streams.specs.Lookahead.{Ends, Uses}
-use Rattle.rsb_streams.specs.Stream.{◌⊆◌, just, unless, HasOutcome, Outcomes}
+use Rattle.rsb_streams.specs.Stream.{◌⊆◌, HasOutcome, Outcomes}
 use Rattle.rsb_streams.specs.declared.draw.Draw.{Ghosts as Stream}
 use Rattle.rsb_streams.proofs.LookaheadLemmas.{uses-then}
 use Rattle.rsb_streams.proofs.Sources.{IsLawful}
 use Rattle.rsb_many.specs.Drawn.{inputs_of, is_at, started, DrawnReady, HasNoHead, IsBegunOf, PutsBack, Refills, TakesHead}
 use Rattle.rsb_many.specs.Heads.{binary_digits, key_of}
-use Rattle.rsb_many.specs.Inputs.{has_ended, held_at, input_at, is_over, run_of}
+use Rattle.rsb_many.specs.Inputs.{has_ended, held_at, input_at, run_of}
 use Rattle.rsb_many.specs.KMerge.{comparison_bound}
 use Rattle.rsb_many.specs.KMergeLaws.{inputs-finite, some-by}
 use Rattle.rsb_many.specs.Keys.{comes_before}
-use Rattle.rsb_many.specs.Many.{gives_of, may_give_at, OneOfEach, SomeOfEach}
-use Rattle.rsb_many.specs.MultiwaySweep.{events_left, events_of_head, has_begun, stream_count, sweep_inputs, sweep_may_give, AsksAt, EndsAt, StartsAt, SweepReady, Sweeps, SweepsOver}
-use Rattle.rsb_many.specs.Sweep.{event_of, events_of_rest, key_of_event, rest_by, rests_by, AreEvents, AreEventsOf, End, Event, IsTouching, IsTouchingFrom, IsTouchingIn, Start}
+use Rattle.rsb_many.specs.Many.{gives_of, may_give_at, OneOfEach}
+use Rattle.rsb_many.specs.MultiwaySweep.{events_left, events_of_head, has_begun, stream_count, sweep_inputs, sweep_may_give, SweepReady, Sweeps, SweepsOver}
+use Rattle.rsb_many.specs.Sweep.{events_of_rest, key_of_event, rest_by, AreEventsOf, End, Event, IsTouching, IsTouchingFrom, IsTouchingIn, Start}
 use Rattle.rsb_many.specs.declared.drawn.Drawn.{Drawn}
 use Rattle.rsb_many.specs.declared.heads.Head.{Head}
 use Rattle.rsb_many.specs.declared.multiway_sweep.MultiwaySweep.{MultiwaySweep}
-use Rattle.rsb_many.specs.declared.sweep_event.SweepEvent.{SweepEvent}
 use Rattle.rsb_many.specs.declared.sweep_event.SweepEvent.TheVariants as events
 use Rattle.rsb_many.proofs.BegunHeads.{events-came, has_begun-came, has_begun-nothing, has_begun-only, has_begun-other, has_begun-permutation, has_begun-unstarted, held-not_before, key-started, key-unstarted}
-use Rattle.rsb_many.proofs.HeadTurns.{back-due, back-held, back-left, back-long, back-many, back-ready, back-uses, few-compared, none-ended, none-long, none-over, none-ready, none-unchanged, none-uses, taken-dues, taken-fewer, taken-gives, taken-held, taken-left, taken-less, taken-long, taken-none, taken-others, taken-ready, taken-spares}
+use Rattle.rsb_many.proofs.HeadTurns.{back-due, back-held, back-left, back-long, back-many, back-ready, back-uses, few-compared, none-ended, none-long, none-over, none-ready, none-uses, taken-dues, taken-gives, taken-held, taken-left, taken-less, taken-long, taken-none, taken-others, taken-ready, taken-spares}
 use Rattle.rsb_many.proofs.InputsLemmas.{gives_of-uses}
 use Rattle.rsb_many.proofs.RestsLemmas.{events-end_only, events-may_end, events-told, has_events, not_before-nothing, one_of_each-wider, rests_by-none}
 use Rattle.rsb_many.proofs.StepLemmas.{IsNotBefore}

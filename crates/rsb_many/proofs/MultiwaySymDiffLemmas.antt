@@ -1,13 +1,11 @@
 -- What lies in an odd number of streams: one answer, and how it is made.
-use Rattle.std.proofs.Common.{◌≡◌, ℕ, ◌≤◌, Bool, true, false, List, [], ◌∷◌, ◌++◌, length, map, refl, sym, subst, arith, Option, Some, None}
+use Rattle.std.proofs.Common.{◌≡◌, ℕ, ◌≤◌, Bool, true, false, List, [], ◌∷◌, length, sym, subst, arith, Option, Some, None}
 use Rattle.std.specs.Iterator.{MakesProgress, Yields}
 use Rattle.std.specs.Prelude.{MatchBool, MatchOption}
 use Rattle.std.specs.declared.ops.RangeInclusive.{RangeInclusive}
-use Rattle.rsb_integer.specs.Selection.{odd_of}
 use Rattle.rsb_integer.specs.declared.integer.Integer.{Ghosts as Elements}
 use Rattle.rsb_streams.specs.Fused.{fused, Fused}
 use Rattle.rsb_streams.specs.Lookahead.{undrawn, Input}
-use Rattle.rsb_streams.specs.OddPieces.{ArePieces}
 use Rattle.rsb_streams.specs.PutBack.{fused_of, IsFresh}
 use Rattle.rsb_streams.specs.Stream.{◌⊆◌, joined, just}
 use Rattle.rsb_streams.specs.UnionIter.{unless_ended}

@@ -1,8 +1,8 @@
 -- The pieces of a sweep, event by event.
-use Rattle.std.proofs.Common.{◌≡◌, inl, inr, ℕ, ◌+◌, ◌<◌, ◌≤◌, Bool, true, false, nat_eq, List, [], ◌∷◌, ◌++◌, map, refl, sym, ap, subst, ◌∙◌, arith, Option, Some, None}
+use Rattle.std.proofs.Common.{◌≡◌, inl, inr, ℕ, ◌<◌, ◌≤◌, nat_eq, List, [], ◌∷◌, ◌++◌, map, refl, sym, ap, subst, ◌∙◌, arith, Option, Some, None}
 use Rattle.std.proofs.lemmas.Bool.{cases_eq}
 use Rattle.std.proofs.lemmas.List.{append-nil, map-append}
-use Rattle.std.specs.Iterator.{size, IsFinite, MakesProgress}
+use Rattle.std.specs.Iterator.{size, MakesProgress}
 use Rattle.std.specs.Prelude.{IfSome}
 use Rattle.std.specs.declared.ops.RangeInclusive.{RangeInclusive}
 use Rattle.rsb_integer.specs.Rank.{interval_of}
@@ -17,7 +17,7 @@ use Rattle.rsb_streams.specs.declared.draw.Draw.{Ghosts as Stream}
 use Rattle.rsb_streams.proofs.LookaheadLemmas.{uses-nothing, uses-then}
 use Rattle.rsb_streams.proofs.OddLemmas.{no-pieces, only-none}
 use Rattle.rsb_many.specs.Many.{HoldOneAtMost}
-use Rattle.rsb_many.specs.MultiwaySweep.{events_left, sweep_inputs, sweep_may_give, AsksAt, SweepReady, Sweeps}
+use Rattle.rsb_many.specs.MultiwaySweep.{events_left, sweep_may_give, AsksAt, SweepReady, Sweeps}
 use Rattle.rsb_many.specs.Sweep.{event_of, End, Event, Start}
 use Rattle.rsb_many.specs.SweepPieces.{edge_of, edges_of, ends_at, odd_past, pieces_inputs, pieces_may_give, sweep_pieces, IsEventIn, IsWhole, PassesAll, PassesEdge, PassesSome, TellsPieces, UsesTo}
 use Rattle.rsb_many.specs.declared.multiway_sweep.MultiwaySweep.{MultiwaySweep}

@@ -84,7 +84,8 @@ pub trait MultiwaySortedDisjoint<T: Integer, I: DrawDisjoint<T>>: IntoIterator<I
     }
 }
 
-impl<T: Integer, I: DrawDisjoint<T>, K: IntoIterator<Item = I>> MultiwaySortedDisjoint<T, I> for K {}
+impl<T: Integer, I: DrawDisjoint<T>, K: IntoIterator<Item = I>> MultiwaySortedDisjoint<T, I>
+    for K {}
 
 // The complements of streams that may be drawn from.
 fn complements<T: Integer, I: DrawDisjoint<T>, A: Allocator, K: IntoIterator<Item = I>>(

@@ -74,13 +74,16 @@ impl<T: Integer, I: Draw<T>, A: Allocator> Draw<T> for MultiwaySymmetricDifferen
         (multiway_symmetric_difference-disjoint T.Integer.own ⟦<I as Draw<T>>⟧ s ready) };
 }
 
-impl<T: Integer, I: Draw<T>, A: Allocator> SortedStarts<T> for MultiwaySymmetricDifference<T, I, A> {
+impl<T: Integer, I: Draw<T>, A: Allocator> SortedStarts<T>
+    for MultiwaySymmetricDifference<T, I, A> {
     ghost drawn = { drawn-itself };
 }
 
-impl<T: Integer, I: Draw<T>, A: Allocator> DrawDisjoint<T> for MultiwaySymmetricDifference<T, I, A> {
+impl<T: Integer, I: Draw<T>, A: Allocator> DrawDisjoint<T>
+    for MultiwaySymmetricDifference<T, I, A> {
     ghost canonical = { λ s ready.
         (multiway_symmetric_difference-disjoint T.Integer.own ⟦<I as Draw<T>>⟧ s ready).all };
 }
 
-impl<T: Integer, I: Draw<T>, A: Allocator> SortedDisjoint<T> for MultiwaySymmetricDifference<T, I, A> {}
+impl<T: Integer, I: Draw<T>, A: Allocator> SortedDisjoint<T>
+    for MultiwaySymmetricDifference<T, I, A> {}
