@@ -1,5 +1,10 @@
 -- Sets made of any number of sets, by the streams of their ranges.
-use Rattle.std.proofs.Common.{◌≡◌, ℕ, ◌<◌, List, [], ◌∷◌, ◌++◌, ◌∙◌, length, map, refl, sym, ap, subst}
+use Rattle.std.proofs.Common.{◌≡◌, ℕ, ◌<◌, List, [], ◌∷◌, ◌++◌, ◌∙◌, length, map, refl, sym, ap, subst, All}
+use Rattle.std.proofs.lemmas.List.{map-append}
+use Rattle.std.proofs.lemmas.List.Elements.{All-append, All-cons, All-nil}
+use Rattle.std.specs.Iterator.Runs.{EveryRun, ItemsAre, WholeRun}
+use Rattle.std.specs.Vec.Iter.{into_iter_items, into_iter_steps}
+use Rattle.std.specs.declared.vec.IntoIter.{IntoIter}
 use Rattle.rsb_integer.specs.Runs.{Interval, members}
 use Rattle.rsb_integer.specs.Selection.{Selection}
 use Rattle.rsb_integer.proofs.RunsLemmas.{runs-members}
@@ -31,3 +36,26 @@ module _ {S : Type 0} (may_give : S → Outcomes) (runs_of : S → List Interval
       (runs-members n (operation (map members lists)) set all rank below
       ∙ ap (λ these. operation (map members these) rank)
       (one_of_each-known streams lists each ∙ same))))
+
+-- with the runs of one set more, streams have the runs of one set more
+pub map-more : {X Y : Type 0} (f : X → Y) (values : List X) (value : X) (results : List Y) (result : Y)
+    → map f values ≡ results → f value ≡ result
+    → map f (values ++ value ∷ []) ≡ results ++ result ∷ []
+map-more f values value results result kept same =
+    map-append f values (value ∷ []) ∙ ap (λ first. first ++ f value ∷ []) kept
+    ∙ ap (λ last. results ++ last ∷ []) same
+
+-- what holds of all and of one more holds of all with it
+pub All-more : {X : Type 0} (P : X → Type 0) (values : List X) (value : X) → All P values → P value
+    → All P (values ++ value ∷ [])
+All-more P values value all holds =
+    All-append P values (value ∷ []) all (All-cons P value [] holds (All-nil P))
+
+module _ {X Z : Type 0} where
+  -- what a list became gives the list
+  pub given-list : (items : List X) (iter : IntoIter X Z) (Fact : List X → Type 0)
+      → into_iter_items iter ≡ items
+      → EveryRun (into_iter_steps {X = X} {Z = Z}) (λ run. ItemsAre run (into_iter_items run.from))
+      → WholeRun (into_iter_steps {X = X} {Z = Z}) iter (λ run. Fact run.items) → Fact items
+  given-list items iter Fact is runs whole = subst Fact
+      ((runs whole.0 whole.0.seen).4 whole.2 ∙ ap (λ from. into_iter_items from) whole.1 ∙ is) whole.3

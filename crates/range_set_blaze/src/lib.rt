@@ -14,8 +14,10 @@ pub mod set;
 
 pub use crate::prelude::{
     AnythingGoes, AssumeSortedStarts, CheckSortedDisjoint, Difference, Draw, DrawDisjoint,
-    FillGapsIter, Integer, Intersection, IntoIter, IntoRangeSetBlaze, IntoRangesIter, Iter, Merge,
-    NotIter, NotSortedDisjoint, RangeOnce, RangeSetBlaze, RangesIter, SafeLength, SortedDisjoint,
-    SortedStarts, SortedStartsInVec, SymDiffIter, SymmetricDifference, UInt, UIntPlusOne, Union,
-    UnionIter,
+    DynSortedDisjoint, FillGapsIter, Integer, Intersection, IntoIter, IntoRangeSetBlaze,
+    IntoRangesIter, Iter, KMerge, Merge, MultiwayIntersection, MultiwayRangeSetBlaze,
+    MultiwayRangeSetBlazeRef, MultiwaySortedDisjoint, MultiwaySweep,
+    MultiwaySymmetricDifference, MultiwayUnion, NotIter, NotSortedDisjoint, RangeOnce, RangeSetBlaze, RangesIter, SafeLength, SortedDisjoint,
+    SortedStarts, SortedStartsInVec, SweepEvent, SymDiffIter, SymmetricDifference, UInt,
+    UIntPlusOne, Union, UnionIter,
 };

@@ -2,7 +2,7 @@
 
 ghost use Rattle.std.specs.Prelude.{◌≡◌, length, map, All, IfOk};
 ghost use Rattle.rsb_integer.specs.Rank.{intervals_of};
-ghost use Rattle.rsb_integer.specs.Selection.{all_of, any_of};
+ghost use Rattle.rsb_integer.specs.Selection.{all_of, any_of, odd_of};
 ghost use Rattle.rsb_many.specs.Many.{may_give_at, runs_by_all};
 ghost use Rattle.rsb_streams.specs.Items.{GaveRun, IsEnding};
 ghost use Rattle.range_set_blaze.specs.Multiway.{IsMadeOf};
@@ -49,6 +49,23 @@ pub trait MultiwayRangeSetBlaze<T: Integer, S: Allocator>: IntoIterator<Item = R
         let streams = given_up(alloc, self)?;
         intersection_of(alloc, streams)
     }
+
+    /// What lies in an odd number of the sets: nothing, of none.
+    /// (`MultiwayRangeSetBlaze::symmetric_difference`.)
+    final fn symmetric_difference<A: Allocator + Copy>(
+        self,
+        alloc: A,
+    ) -> Result<RangeSetBlaze<T, A>, AllocError>
+    where
+        Self: Sized,
+        requires { IsEnding Self.into_iter_gives Self.IntoIter.can_next Self.IntoIter.remaining self }
+        ensures members { IfOk result (λ set.
+            GaveRun Self.into_iter_gives Self.IntoIter.next_gives self
+            (λ sets. IsMadeOf T.value_count odd_of sets set)) }
+    {
+        let streams = given_up(alloc, self)?;
+        symmetric_difference_of(alloc, streams)
+    }
 }
 
 impl<T: Integer, S: Allocator, K: IntoIterator<Item = RangeSetBlaze<T, S>>> MultiwayRangeSetBlaze<T, S> for K {}
@@ -89,6 +106,23 @@ pub trait MultiwayRangeSetBlazeRef<'a, T: Integer + 'a, S: Allocator + 'a>:
     {
         let streams = lent_ranges(alloc, self)?;
         intersection_of(alloc, streams)
+    }
+
+    /// What lies in an odd number of the sets: nothing, of none.
+    /// (`MultiwayRangeSetBlazeRef::symmetric_difference`.)
+    final fn symmetric_difference<A: Allocator + Copy>(
+        self,
+        alloc: A,
+    ) -> Result<RangeSetBlaze<T, A>, AllocError>
+    where
+        Self: Sized,
+        requires { IsEnding Self.into_iter_gives Self.IntoIter.can_next Self.IntoIter.remaining self }
+        ensures members { IfOk result (λ set.
+            GaveRun Self.into_iter_gives Self.IntoIter.next_gives self
+            (λ sets. IsMadeOf T.value_count odd_of (map (λ lent. lent.now) sets) set)) }
+    {
+        let streams = lent_ranges(alloc, self)?;
+        symmetric_difference_of(alloc, streams)
     }
 }
 
@@ -163,4 +197,17 @@ fn intersection_of<T: Integer, I: DrawDisjoint<T>, A: Allocator + Copy>(
 {
     let intersection = streams.intersection(alloc)?;
     RangeSetBlaze::from_sorted_disjoint(alloc, intersection)
+}
+
+// The set of what lies in an odd number of the streams, which may be drawn from.
+fn symmetric_difference_of<T: Integer, I: DrawDisjoint<T>, A: Allocator + Copy>(
+    alloc: A,
+    streams: Vec<I, A>,
+) -> Result<RangeSetBlaze<T, A>, AllocError>
+    requires { All I.can_draw streams.items }
+    ensures { IfOk result (runs_by_all T.value_count odd_of (length streams.items)
+        (may_give_at I.may_give streams.items)) }
+{
+    let difference = streams.symmetric_difference(alloc)?;
+    RangeSetBlaze::from_sorted_disjoint(alloc, difference)
 }

@@ -9,10 +9,15 @@ pub use crate::laws::{
     equal_members_equal_lists, offsets_undo_length, one_filled_list, order_by_least_difference,
     run_bounds_are_ends, symmetric_by_union,
 };
+pub use crate::multiway::{MultiwayRangeSetBlaze, MultiwayRangeSetBlazeRef};
 pub use crate::ranges_iter::RangesIter;
 pub use crate::set::RangeSetBlaze;
 pub use rsb_integer::Integer;
 pub use rsb_length::{SafeLength, UInt, UIntPlusOne};
+pub use rsb_many::{
+    DynSortedDisjoint, KMerge, MultiwayIntersection, MultiwaySortedDisjoint, MultiwaySweep,
+    MultiwaySymmetricDifference, MultiwayUnion, SweepEvent,
+};
 pub use rsb_streams::{
     AnythingGoes, AssumeSortedStarts, CheckSortedDisjoint, Difference, Draw, DrawDisjoint,
     FillGapsIter, Intersection, Merge, NotIter, NotSortedDisjoint, RangeOnce, SortedDisjoint,

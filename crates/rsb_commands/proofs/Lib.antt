@@ -8,4 +8,5 @@ pub mod RunLemmas
 pub mod SetsLemmas
 pub mod SpellingLemmas
 pub mod TransferLemmas
+pub mod WeekendsLemmas
 pub mod WriteLemmas

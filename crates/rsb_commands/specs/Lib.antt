@@ -5,3 +5,4 @@ pub mod Fault
 pub mod Spelling
 pub mod Text
 pub mod Transfer
+pub mod Weekends

@@ -1,2 +1,1 @@
 pub mod FreeSpace
-pub mod Slots

@@ -1,22 +1,56 @@
 //! A booking calendar of one day, by quarter hours: nothing is booked twice.
 
-ghost use Rattle.std.specs.Prelude.{◌≡◌, ◌↔◌, ℕ, ◌≤◌, ◌&&◌, nat_le, IfOk, IsFalse, IsTrue, OnErr};
+ghost use Rattle.std.specs.Prelude.{
+  ◌≡◌,
+  ◌↔◌,
+  ℕ,
+  ◌+◌,
+  ◌*◌,
+  ◌<◌,
+  ◌≤◌,
+  ◌&&◌,
+  nat_le,
+  IfOk,
+  IsFalse,
+  IsTrue,
+  OnErr,
+};
 ghost use Rattle.rsb_integer.specs.Runs.{members};
 ghost use Rattle.range_set_blaze.specs.Set.{Adds};
 
-pub mod slot;
-
-use crate::calendar::slot::Slot;
 use range_set_blaze::{DrawDisjoint, RangeSetBlaze};
+use rsb_commands::outside::Slot;
 use std::alloc::{AllocError, Global};
+use std::fmt::{self, Display, Formatter, Write};
 use std::io;
+
+/// The slot of an hour and a quarter of it.
+pub fn slot_at(hour: u8, quarter: u8) -> Slot
+    requires hour { hour < 24 }
+    requires quarter { quarter < 4 }
+    ensures { result ≡ 4 * hour + quarter }
+{
+    Slot::new(4 * hour + quarter).unwrap()
+}
+
+/// The time at which a slot begins, as in `09:15`.
+#[derive(Clone, Copy)]
+struct Time(Slot);
+
+impl Display for Time {
+    fn fmt<W: Write>(&self, f: &mut Formatter<W>) -> fmt::Result {
+        let quarters = self.0.get();
+        let (hour, minute) = (quarters / 4, quarters % 4 * 15);
+        write!(f, "{hour:02}:{minute:02}")
+    }
+}
 
 /// Three bookings are tried, and the day is written with its gaps.
 pub fn show(alloc: Global, rt: &impl Print) -> io::Result<()> {
     let mut booked = RangeSetBlaze::new(alloc);
-    let morning = book(&mut booked, Slot::at(9, 0), Slot::at(10, 1))?;
-    let noon = book(&mut booked, Slot::at(10, 1), Slot::at(12, 3))?;
-    let afternoon = book(&mut booked, Slot::at(13, 2), Slot::at(14, 3))?;
+    let morning = book(&mut booked, slot_at(9, 0), slot_at(10, 1))?;
+    let noon = book(&mut booked, slot_at(10, 1), slot_at(12, 3))?;
+    let afternoon = book(&mut booked, slot_at(13, 2), slot_at(14, 3))?;
     println!(rt; "morning: {morning}, noon: {noon}, afternoon: {afternoon}")?;
     println!(rt; "{} slots are booked", booked.len())?;
     show_day(&booked, rt)
@@ -27,7 +61,7 @@ fn show_day(booked: &RangeSetBlaze<Slot>, rt: &impl Print) -> io::Result<()> {
     for (slots, is_booked) in booked.ranges().fill_gaps() {
         let (first, last) = slots.into_inner();
         let what = if is_booked { "booked" } else { "free" };
-        println!(rt; "{first}..={last} {what}")?;
+        println!(rt; "{}..={} {what}", Time(first), Time(last))?;
     }
     Ok(())
 }
@@ -35,10 +69,10 @@ fn show_day(booked: &RangeSetBlaze<Slot>, rt: &impl Print) -> io::Result<()> {
 /// Books the slots from the first to the last if all are free, and says whether it did. Without
 /// memory the calendar is as it was.
 pub fn book(booked: &mut RangeSetBlaze<Slot>, first: Slot, last: Slot) -> Result<bool, AllocError>
-    ensures free { IfOk result (λ done. IsTrue done ↔ ((quarter : ℕ) → first.quarter ≤ quarter
-        → quarter ≤ last.quarter → IsFalse (members booked.old quarter))) }
+    ensures free { IfOk result (λ done. IsTrue done ↔ ((quarter : ℕ) → first ≤ quarter
+        → quarter ≤ last → IsFalse (members booked.old quarter))) }
     ensures members { IfOk result (λ done. IsTrue done → Adds booked.old booked.new
-        (λ quarter. nat_le first.quarter quarter && nat_le quarter last.quarter)) }
+        (λ quarter. nat_le first quarter && nat_le quarter last)) }
     ensures refused { IfOk result (λ done. IsFalse done → booked.new ≡ booked.old) }
     ensures err { OnErr result (booked.new ≡ booked.old) }
 {
@@ -51,7 +85,7 @@ pub fn book(booked: &mut RangeSetBlaze<Slot>, first: Slot, last: Slot) -> Result
 
 // Whether no slot from the first to the last is booked.
 fn are_free(booked: &RangeSetBlaze<Slot>, first: Slot, last: Slot) -> bool
-    ensures { IsTrue result ↔ ((quarter : ℕ) → first.quarter ≤ quarter → quarter ≤ last.quarter
+    ensures { IsTrue result ↔ ((quarter : ℕ) → first ≤ quarter → quarter ≤ last
         → IsFalse (members booked.now quarter)) }
 {
     if last < first {

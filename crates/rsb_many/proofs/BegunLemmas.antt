@@ -1,6 +1,5 @@
 -- Many streams of which the first ranges are drawn, one after the other.
-use Rattle.std.proofs.Common.{◌≡◌, ◌⊎◌, inl, inr, ℕ, zero, suc, ◌+◌, ◌<◌, ◌≤◌, Bool, true, false, cond, nat_le, nat_lt, ◌&&◌, not, List, [], ◌∷◌, ◌++◌, length, set, slice_get, refl, sym, ap, subst, ◌∙◌, arith, All, Option, Some, None}
-use Rattle.std.proofs.lemmas.Bool.{and_right}
+use Rattle.std.proofs.Common.{◌≡◌, ℕ, zero, suc, ◌+◌, ◌<◌, ◌≤◌, Bool, true, false, cond, nat_le, nat_lt, ◌&&◌, not, List, [], ◌∷◌, length, slice_get, refl, sym, ap, subst, ◌∙◌, arith, All, Option, Some, None}
 use Rattle.std.proofs.lemmas.Bool.Decides.{nat_tests}
 use Rattle.std.proofs.lemmas.List.{length-set}
 use Rattle.std.proofs.lemmas.List.Elements.{All-head, All-nil, All-tail}
@@ -13,7 +12,7 @@ use Rattle.rsb_streams.specs.declared.draw.Draw.{Ghosts as Stream}
 use Rattle.rsb_streams.proofs.Sources.{IsLawful}
 use Rattle.rsb_many.specs.Drawn.{due_from, inputs_of, IsBegunOf, IsBegunTo, IsUnstarted}
 use Rattle.rsb_many.specs.Inputs.{held_at, input_at, is_over, AreReady, DrawsAt, Inputs}
-use Rattle.rsb_many.specs.Many.{gives_of, may_give_at, IsBegun}
+use Rattle.rsb_many.specs.Many.{gives_of, may_give_at}
 use Rattle.rsb_many.specs.declared.drawn.Drawn.{Drawn}
 use Rattle.rsb_many.specs.declared.heads.Head.{Head}
 use Rattle.rsb_many.proofs.InputsLemmas.{can-same, draws-more, draws-ready, draws-unstarted, draws-uses, drawn_count, gives_of-uses, uses-same}
@@ -147,16 +146,16 @@ module _ {T N I : Type 0} (integer : Elements T N) (stream : Stream I T N)
   -- ---- the next one may be drawn from
   module _ {A : Type 0} (streams : List I) (first : ℕ) (s : Drawn T I A N)
       (begun : IsBegunTo integer stream streams first s) (less : first < length s.streams.items)
-      where
-    -- an input of which a range is due has not ended
-    goes_on : (held : List Interval) (due : Bool) → due ≡ true → is_over held due ≡ false
-    goes_on [] due is = rw is refl
-    goes_on (run ∷ runs) due is = refl
+    where
+      -- an input of which a range is due has not ended
+      goes_on : (held : List Interval) (due : Bool) → due ≡ true → is_over held due ≡ false
+      goes_on [] due is = rw is refl
+      goes_on (run ∷ runs) due is = refl
 
-    -- its stream may be drawn from
-    pub begun-can : IfSome (slice_get s.streams.items first) stream.can_draw
-    begun-can = begun.ready.can first (goes_on (held_at rank s.heads.heads first)
-        ((due_from first s).due first) (due-here first (length s.streams.items) less))
+      -- its stream may be drawn from
+      pub begun-can : IfSome (slice_get s.streams.items first) stream.can_draw
+      begun-can = begun.ready.can first (goes_on (held_at rank s.heads.heads first)
+          ((due_from first s).due first) (due-here first (length s.streams.items) less))
 
   -- ---- one more is drawn
   module _ {A : Type 0} (streams : List I) (first : ℕ) (s t : Drawn T I A N)

@@ -1,5 +1,5 @@
 -- What a merge and a sweep of many streams hold, when a range is drawn and when one leaves.
-use Rattle.std.proofs.Common.{◌≡◌, ℕ, ◌+◌, ◌<◌, ◌≤◌, true, false, List, [], ◌∷◌, length, set, slice_get, refl, sym, ap, subst, ◌∙◌, arith, All, Option, Some, None, IsPermutation}
+use Rattle.std.proofs.Common.{◌≡◌, ℕ, ◌+◌, ◌<◌, ◌≤◌, true, false, List, [], ◌∷◌, length, refl, sym, ap, subst, ◌∙◌, arith, Option, Some, None, IsPermutation}
 use Rattle.std.proofs.lemmas.List.{length-set}
 use Rattle.std.proofs.lemmas.List.Elements.{All-cons, All-nil}
 use Rattle.std.proofs.lemmas.List.Sorted.{IsPermutation-refl}
@@ -13,14 +13,14 @@ use Rattle.rsb_streams.specs.declared.draw.Draw.{Ghosts as Stream}
 use Rattle.rsb_streams.proofs.LookaheadLemmas.{uses-nothing}
 use Rattle.rsb_streams.proofs.Sources.{IsLawful}
 use Rattle.rsb_streams.proofs.UnionLemmas.{head-sorted}
-use Rattle.rsb_many.specs.Drawn.{inputs_of, is_at, AddsUnstarted, DrawnReady, HasRoomForAll, IsUnstarted, Refills}
+use Rattle.rsb_many.specs.Drawn.{inputs_of, is_at, AddsUnstarted, DrawnReady, IsUnstarted, Refills}
 use Rattle.rsb_many.specs.Heads.{binary_digits, HasValues}
-use Rattle.rsb_many.specs.Inputs.{has_ended, head_of, input_at, inputs_left, left_of, DrawsAt}
+use Rattle.rsb_many.specs.Inputs.{has_ended, head_of, input_at, inputs_left, DrawsAt}
 use Rattle.rsb_many.specs.declared.drawn.Drawn.{Drawn}
 use Rattle.rsb_many.specs.declared.heads.Head.{Head}
 use Rattle.rsb_many.proofs.DigitLemmas.{binary_digits-more}
 use Rattle.rsb_many.proofs.InputsLemmas.{draws-ended, draws-less, draws-more, draws-ready, draws-unstarted, draws-uses, drawn_count, nat_eq-differs, nat_eq-itself}
-use Rattle.rsb_many.proofs.LeftLemmas.{left_of-set, LessBy}
+use Rattle.rsb_many.proofs.LeftLemmas.{left_of-set}
 
 -- heads that stay
 nothing-came : {T : Type 0} (old new : List (Head T)) → new ≡ old → AddsUnstarted old new
@@ -80,97 +80,97 @@ module _ {T N I : Type 0} (integer : Elements T N) (stream : Stream I T N)
       (draws : DrawsAt integer stream place s.streams.items s.heads.heads t.streams.items
       t.heads.heads)
       (compared : t.heads.comparisons ≤ s.heads.comparisons + binary_digits (length t.heads.heads))
-      where
-    -- it was due
-    due : is_at s.used place ≡ true
-    due = rw used (nat_eq-itself place)
+    where
+      -- it was due
+      due : is_at s.used place ≡ true
+      due = rw used (nat_eq-itself place)
 
-    -- it is not now
-    now_due : is_at t.used place ≡ false
-    now_due = rw none refl
+      -- it is not now
+      now_due : is_at t.used place ≡ false
+      now_due = rw none refl
 
-    -- nor was any other
-    dues : (other : ℕ) → ¬ (other ≡ place) → is_at t.used other ≡ is_at s.used other
-    dues other differs = rw (none, used) (sym (nat_eq-differs place other differs))
+      -- nor was any other
+      dues : (other : ℕ) → ¬ (other ≡ place) → is_at t.used other ≡ is_at s.used other
+      dues other differs = rw (none, used) (sym (nat_eq-differs place other differs))
 
-    -- there is such a stream
-    less : place < length s.streams.items
-    less = rw used at ready.room.used
+      -- there is such a stream
+      less : place < length s.streams.items
+      less = rw used at ready.room.used
 
-    -- as many streams are there
-    long : length t.streams.items ≡ length s.streams.items
-    long = ap (λ (streams : List I). length streams) draws.stands
-        ∙ length-set s.streams.items place draws.after
+      -- as many streams are there
+      long : length t.streams.items ≡ length s.streams.items
+      long = ap (λ (streams : List I). length streams) draws.stands
+          ∙ length-set s.streams.items place draws.after
 
-    -- there is room for all heads
-    few : length t.heads.heads ≤ length s.streams.items
-    few = few-by draws.item (draws-more integer stream laws (inputs_of s) (inputs_of t) place
-        ready.inputs due now_due dues less draws) (rw used at ready.room.few)
-      where
-        -- by what was drawn
-        few-by : (item : Option (RangeInclusive T))
-            → length t.heads.heads ≡ length s.heads.heads + drawn_count integer stream laws
-            (inputs_of s) (inputs_of t) place ready.inputs due now_due dues less draws item
-            → length s.heads.heads + 1 ≤ length s.streams.items
-            → length t.heads.heads ≤ length s.streams.items
-        few-by None more room = omega (arith, more, room)
-        few-by (Some range) more room = omega (arith, more, room)
+      -- there is room for all heads
+      few : length t.heads.heads ≤ length s.streams.items
+      few = few-by draws.item (draws-more integer stream laws (inputs_of s) (inputs_of t) place
+          ready.inputs due now_due dues less draws) (rw used at ready.room.few)
+        where
+          -- by what was drawn
+          few-by : (item : Option (RangeInclusive T))
+              → length t.heads.heads ≡ length s.heads.heads + drawn_count integer stream laws
+              (inputs_of s) (inputs_of t) place ready.inputs due now_due dues less draws item
+              → length s.heads.heads + 1 ≤ length s.streams.items
+              → length t.heads.heads ≤ length s.streams.items
+          few-by None more room = omega (arith, more, room)
+          few-by (Some range) more room = omega (arith, more, room)
 
-    -- so nothing is due
-    pub refills : Refills integer stream s t
-    refills = record {
-      ready = record {
-        inputs = draws-ready integer stream laws (inputs_of s) (inputs_of t) place ready.inputs due
-            now_due dues less draws;
-        room = record {
-          used = rw none tt;
-          few = rw none (omega (arith, few, long));
-          room = omega (arith, long, room, ready.room.room);
+      -- so nothing is due
+      pub refills : Refills integer stream s t
+      refills = record {
+        ready = record {
+          inputs = draws-ready integer stream laws (inputs_of s) (inputs_of t) place ready.inputs due
+              now_due dues less draws;
+          room = record {
+            used = rw none tt;
+            few = rw none (omega (arith, few, long));
+            room = omega (arith, long, room, ready.room.room);
+          };
         };
-      };
-      none = none;
-      count = long;
-      uses = draws-uses integer stream laws (inputs_of s) (inputs_of t) place ready.inputs due
-          now_due dues less draws;
-      unstarted = draws-unstarted integer stream laws (inputs_of s) (inputs_of t) place ready.inputs
-          due now_due dues less draws;
-      came = came-by draws.item draws.kept;
-      left = λ finite. fewer finite;
-      compared =
-          let more = binary_digits-more (length t.heads.heads) (length s.streams.items) few in
-          omega (arith, compared, more);
-    }
-      where
-        -- the head that came is new, by what was drawn
-        came-by : (item : Option (RangeInclusive T))
-            → MatchOption item (t.heads.heads ≡ s.heads.heads)
-            (λ range. IsPermutation (head_of integer stream place range ∷ s.heads.heads)
-            t.heads.heads)
-            → AddsUnstarted s.heads.heads t.heads.heads
-        came-by None kept = nothing-came s.heads.heads t.heads.heads kept
-        came-by (Some range) kept =
-            let head = head_of integer stream place range in
-            record {
-              came = head ∷ [];
-              unstarted = All-cons IsUnstarted head [] refl (All-nil IsUnstarted);
-              all = kept;
-            }
+        none = none;
+        count = long;
+        uses = draws-uses integer stream laws (inputs_of s) (inputs_of t) place ready.inputs due
+            now_due dues less draws;
+        unstarted = draws-unstarted integer stream laws (inputs_of s) (inputs_of t) place ready.inputs
+            due now_due dues less draws;
+        came = came-by draws.item draws.kept;
+        left = λ finite. fewer finite;
+        compared =
+            let more = binary_digits-more (length t.heads.heads) (length s.streams.items) few in
+            omega (arith, compared, more);
+      }
+        where
+          -- the head that came is new, by what was drawn
+          came-by : (item : Option (RangeInclusive T))
+              → MatchOption item (t.heads.heads ≡ s.heads.heads)
+              (λ range. IsPermutation (head_of integer stream place range ∷ s.heads.heads)
+              t.heads.heads)
+              → AddsUnstarted s.heads.heads t.heads.heads
+          came-by None kept = nothing-came s.heads.heads t.heads.heads kept
+          came-by (Some range) kept =
+              let head = head_of integer stream place range in
+              record {
+                came = head ∷ [];
+                unstarted = All-cons IsUnstarted head [] refl (All-nil IsUnstarted);
+                all = kept;
+              }
 
-        -- no more ranges are left than before
-        fewer : IsFinite (inputs_left integer stream (inputs_of s))
-            → IsFinite (inputs_left integer stream (inputs_of t))
-            × (size (inputs_left integer stream (inputs_of t))
-            ≤ size (inputs_left integer stream (inputs_of s)))
-        fewer finite =
-            let set_left = left_of-set stream.draws_left
-            (drawn_count integer stream laws (inputs_of s) (inputs_of t) place ready.inputs due
-            now_due dues less draws draws.item)
-            (has_ended integer stream (inputs_of s)) (has_ended integer stream (inputs_of t))
-            s.streams.items place draws.before draws.after draws.stood
-            (draws-ended integer stream laws (inputs_of s) (inputs_of t) place ready.inputs due
-            now_due dues less draws)
-            (draws-less integer stream laws (inputs_of s) (inputs_of t) place ready.inputs due
-            now_due dues less draws) finite in
-            let more = draws-more integer stream laws (inputs_of s) (inputs_of t) place ready.inputs
-            due now_due dues less draws in
-            rw draws.stands (set_left.0, omega (arith, set_left.1, more))
+          -- no more ranges are left than before
+          fewer : IsFinite (inputs_left integer stream (inputs_of s))
+              → IsFinite (inputs_left integer stream (inputs_of t))
+              × (size (inputs_left integer stream (inputs_of t))
+              ≤ size (inputs_left integer stream (inputs_of s)))
+          fewer finite =
+              let set_left = left_of-set stream.draws_left
+              (drawn_count integer stream laws (inputs_of s) (inputs_of t) place ready.inputs due
+              now_due dues less draws draws.item)
+              (has_ended integer stream (inputs_of s)) (has_ended integer stream (inputs_of t))
+              s.streams.items place draws.before draws.after draws.stood
+              (draws-ended integer stream laws (inputs_of s) (inputs_of t) place ready.inputs due
+              now_due dues less draws)
+              (draws-less integer stream laws (inputs_of s) (inputs_of t) place ready.inputs due
+              now_due dues less draws) finite in
+              let more = draws-more integer stream laws (inputs_of s) (inputs_of t) place ready.inputs
+              due now_due dues less draws in
+              rw draws.stands (set_left.0, omega (arith, set_left.1, more))

@@ -1,7 +1,7 @@
 -- What was handed in as an iterator, item by item and where all of it was collected.
 use Rattle.std.proofs.Common.{true, false, List, [], ◌∷◌, ◌++◌, refl}
 use Rattle.std.proofs.iter.runs.Made.{run, seen, to_end, to_item}
-use Rattle.std.specs.Iterator.{Drains, DrainsIf, Yields}
+use Rattle.std.specs.Iterator.{DrainsIf, Yields}
 use Rattle.std.specs.Prelude.{⊤, length, Option, Some, None}
 use Rattle.rsb_streams.specs.Items.{GaveRun}
 use Rattle.rsb_many.specs.HandedIn.{EachGaveRun}

@@ -1,8 +1,8 @@
 -- One step of the inputs of a stream: a draw of one of them, and a head that leaves.
-use Rattle.std.proofs.Common.{◌≡◌, ◌⊎◌, inl, inr, ℕ, zero, suc, ◌+◌, ◌<◌, ◌≤◌, Bool, true, false, cond, nat_eq, List, [], ◌∷◌, ◌++◌, length, set, slice_get, refl, sym, ap, subst, ◌∙◌, append_assoc, arith, All, Option, Some, None, IsPermutation}
+use Rattle.std.proofs.Common.{◌≡◌, ◌⊎◌, inl, inr, ℕ, ◌+◌, ◌<◌, ◌≤◌, Bool, true, false, cond, nat_eq, List, [], ◌∷◌, ◌++◌, length, slice_get, refl, sym, ap, subst, ◌∙◌, append_assoc, arith, All, Option, Some, None, IsPermutation}
 use Rattle.std.proofs.lemmas.Bool.{cases_eq, eqb-false, eqb-true}
 use Rattle.std.proofs.lemmas.List.{append-nil, length-set}
-use Rattle.std.proofs.lemmas.List.Elements.{All-cons, All-head, All-nil, All-tail, All-weaker}
+use Rattle.std.proofs.lemmas.List.Elements.{All-cons, All-head, All-nil, All-tail}
 use Rattle.std.proofs.lemmas.List.Sorted.{All-permutation, length_permutation}
 use Rattle.std.specs.Prelude.{IfSome, MatchOption}
 use Rattle.std.specs.Iterator.{count_unless, MakesProgress}
@@ -12,15 +12,14 @@ use Rattle.rsb_integer.specs.Runs.{Interval}
 use Rattle.rsb_integer.specs.declared.integer.Integer.{Ghosts as Elements}
 use Rattle.rsb_integer.proofs.ListLemmas.{true_or_false}
 use Rattle.rsb_integer.proofs.RangeLemmas.{interval_of-some}
-use Rattle.rsb_streams.specs.Lookahead.{undrawn, Ends, GivesFrom, Input, IsOneFrom, Spares, Uses}
+use Rattle.rsb_streams.specs.Lookahead.{GivesFrom, Input, IsOneFrom, Spares, Uses}
 use Rattle.rsb_streams.specs.StreamLaws.{sorted-lower}
-use Rattle.rsb_streams.specs.Stream.{◌⊆◌, just, unless, HasSortedStarts, HasSortedStartsFrom, Outcomes}
+use Rattle.rsb_streams.specs.Stream.{◌⊆◌, unless, HasSortedStarts, HasSortedStartsFrom, Outcomes}
 use Rattle.rsb_streams.specs.declared.draw.Draw.{Ghosts as Stream}
-use Rattle.rsb_streams.proofs.LookaheadLemmas.{uses-then}
 use Rattle.rsb_streams.proofs.Sources.{IsLawful}
 use Rattle.rsb_streams.proofs.UnionLemmas.{head-sorted}
 use Rattle.rsb_many.specs.Inputs.{head_of, held_at, input_at, is_over, has_ended, run_of, AreReady, DrawsAt, Inputs}
-use Rattle.rsb_many.specs.Many.{gives_of, may_give_at}
+use Rattle.rsb_many.specs.Many.{gives_of}
 use Rattle.rsb_many.specs.declared.heads.Head.{Head}
 use Rattle.rsb_many.specs.Drawn.{IsUnstarted}
 use Rattle.rsb_many.proofs.LeftLemmas.{LessBy}
@@ -35,9 +34,9 @@ gives_of-uses before now used uses rest gives = (
   uses.drawn ++ gives.0,
   uses.drew gives.0 gives.1,
   ap (λ runs. used ++ runs) gives.2
-  ∙ sym (append_assoc used now.held gives.0)
-  ∙ ap (λ runs. runs ++ gives.0) (sym uses.in_order)
-  ∙ append_assoc before.held uses.drawn gives.0,
+      ∙ sym (append_assoc used now.held gives.0)
+      ∙ ap (λ runs. runs ++ gives.0) (sym uses.in_order)
+      ∙ append_assoc before.held uses.drawn gives.0,
 )
 
 -- a place that is another by number

@@ -1,6 +1,6 @@
 -- How many ranges are left of many streams, when one is drawn from.
-use Rattle.std.proofs.Common.{◌≡◌, inl, inr, ℕ, zero, suc, ◌+◌, ◌≤◌, Bool, true, false, List, [], ◌∷◌, set, slice_get, refl, sym, ap, subst, ◌∙◌, arith, Some}
-use Rattle.std.specs.Iterator.{Count, at_most, count_add, count_unless, size, IsFinite}
+use Rattle.std.proofs.Common.{◌≡◌, inl, inr, ℕ, zero, suc, ◌+◌, ◌≤◌, Bool, List, [], ◌∷◌, set, slice_get, refl, sym, ap, subst, ◌∙◌, arith, Some}
+use Rattle.std.specs.Iterator.{Count, count_add, count_unless, size, IsFinite}
 use Rattle.rsb_integer.proofs.ListLemmas.{true_or_false}
 use Rattle.rsb_many.specs.Inputs.{left_of}
 

@@ -1,7 +1,7 @@
 -- Merges of what any number of streams may give.
-use Rattle.std.proofs.Common.{◌≡◌, ℕ, zero, suc, pred, ◌+◌, ◌<◌, ◌≤◌, List, [], ◌∷◌, ◌++◌, refl, ap, subst, arith}
+use Rattle.std.proofs.Common.{◌≡◌, ℕ, zero, suc, pred, ◌<◌, List, [], ◌∷◌, refl, ap, arith}
 use Rattle.rsb_integer.specs.Runs.{Interval}
-use Rattle.rsb_streams.specs.Stream.{◌⊆◌, just, merges, HasOutcome, HasSortedStarts, HasSortedStartsFrom, Keeps, Outcomes}
+use Rattle.rsb_streams.specs.Stream.{◌⊆◌, just, merges, HasSortedStarts, HasSortedStartsFrom, Outcomes}
 use Rattle.rsb_many.specs.ManyLaws.{merges_all-starts}
 use Rattle.rsb_streams.proofs.MergeTurns.{head-left, head-right, no-merges}
 use Rattle.rsb_many.specs.Many.{merges_all}

@@ -1,14 +1,13 @@
 -- What a merge and a sweep of many streams hold.
-use Rattle.std.specs.Prelude.{◌≡◌, ℕ, ◌+◌, ◌<◌, ◌≤◌, true, false, nat_eq, nat_le, nat_lt, ◌&&◌, Bool, List, [], ◌∷◌, ◌++◌, length, All, IsPermutation, Option, Some, None, MatchOption, IfSome}
+use Rattle.std.specs.Prelude.{◌≡◌, ℕ, ◌+◌, ◌<◌, ◌≤◌, true, false, nat_eq, nat_le, nat_lt, ◌&&◌, Bool, List, [], ◌∷◌, ◌++◌, length, All, IsPermutation, Option, Some, None, IfSome}
 use Rattle.std.specs.Iterator.{size, IsFinite}
 use Rattle.std.specs.Option.{option_len}
-use Rattle.std.specs.declared.ops.RangeInclusive.{RangeInclusive}
 use Rattle.rsb_integer.specs.declared.integer.Integer.{Ghosts as Elements}
 use Rattle.rsb_streams.specs.Lookahead.{Uses}
 use Rattle.rsb_streams.specs.Stream.{◌⊆◌}
 use Rattle.rsb_streams.specs.declared.draw.Draw.{Ghosts as Stream}
-use Rattle.rsb_many.specs.Heads.{binary_digits, HasValues, TakesLeast}
-use Rattle.rsb_many.specs.Inputs.{head_of, input_at, inputs_left, AreReady, Inputs}
+use Rattle.rsb_many.specs.Heads.{binary_digits, TakesLeast}
+use Rattle.rsb_many.specs.Inputs.{input_at, inputs_left, AreReady, Inputs}
 use Rattle.rsb_many.specs.Many.{gives_of, may_give_at, IsBegun}
 use Rattle.rsb_many.specs.declared.drawn.Drawn.{Drawn}
 use Rattle.rsb_many.specs.declared.heads.Head.{Head}

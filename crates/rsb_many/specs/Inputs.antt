@@ -1,5 +1,5 @@
 -- The streams of many inputs, and the heads that were drawn of them.
-use Rattle.std.proofs.Common.{◌≡◌, ℕ, set, IsPermutation, ◌+◌, ◌<◌, ◌≤◌, Bool, true, false, not, cond, nat_eq, List, [], ◌∷◌, ◌++◌, length, slice_get}
+use Rattle.std.proofs.Common.{◌≡◌, ℕ, set, IsPermutation, ◌+◌, ◌<◌, ◌≤◌, Bool, false, not, cond, nat_eq, List, [], ◌∷◌, length, slice_get}
 use Rattle.std.specs.Iterator.{Count, at_most, count_add, count_map, count_unless, MakesProgress}
 use Rattle.std.specs.Prelude.{zero, suc, All, IfSome, MatchOption, Option, Some}
 use Rattle.std.specs.Range.{range_inclusive_start, range_inclusive_end}

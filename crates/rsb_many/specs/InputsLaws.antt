@@ -3,10 +3,7 @@ use Rattle.std.proofs.Common.{◌≡◌, ℕ, zero, suc, Bool, true, false, List
 use Rattle.std.specs.Iterator.{Count, count_unless, IsFinite}
 use Rattle.std.specs.Prelude.{IfSome}
 use Rattle.rsb_streams.specs.MergeLaws.{both-finite}
-use Rattle.rsb_integer.specs.declared.integer.Integer.{Ghosts as Elements}
-use Rattle.rsb_streams.specs.Rows.{IsSorted}
-use Rattle.rsb_streams.specs.declared.draw.Draw.{Ghosts as Stream}
-use Rattle.rsb_many.specs.Inputs.{has_ended, inputs_left, left_of, AreReady, Inputs}
+use Rattle.rsb_many.specs.Inputs.{left_of}
 
 -- a count that ends unless it is over, ends
 finite-unless : (over : Bool) (left : Count) → (over ≡ false → IsFinite left)

@@ -1,11 +1,11 @@
 -- The law of a merge of any number of streams: it comes by starts.
-use Rattle.std.proofs.Common.{◌≡◌, ℕ, zero, suc, ◌<◌, Bool, true, false, List, [], ◌∷◌, ◌++◌, length, slice_get, refl, arith, Option, Some, None}
-use Rattle.std.specs.Iterator.{Count, IsFinite}
+use Rattle.std.proofs.Common.{◌≡◌, Bool, true, false, List, [], ◌++◌, length, slice_get, refl, Option, Some, None}
+use Rattle.std.specs.Iterator.{IsFinite}
 use Rattle.std.specs.Prelude.{IfSome, MatchOption}
 use Rattle.rsb_integer.specs.Runs.{Interval}
 use Rattle.rsb_integer.specs.declared.integer.Integer.{Ghosts as Elements}
 use Rattle.rsb_streams.specs.Rows.{IsSorted}
-use Rattle.rsb_streams.specs.Stream.{unless, HasOutcome, Outcomes}
+use Rattle.rsb_streams.specs.Stream.{unless, HasOutcome}
 use Rattle.rsb_streams.specs.declared.draw.Draw.{Ghosts as Stream}
 use Rattle.rsb_many.specs.Drawn.{inputs_of}
 use Rattle.rsb_many.specs.Inputs.{has_ended, input_at, inputs_left, AreReady, Inputs}

@@ -1,5 +1,5 @@
 -- The law of a merge of any number of streams: it comes by starts.
-use Rattle.std.proofs.Common.{ℕ, zero, suc, ◌<◌, ◌≤◌, List, [], ◌∷◌, refl, arith}
+use Rattle.std.proofs.Common.{ℕ, zero, suc, ◌<◌, [], refl, arith}
 use Rattle.std.specs.Iterator.{at_most}
 use Rattle.rsb_streams.specs.MergeLaws.{merge-starts, merges-keeps}
 use Rattle.rsb_streams.specs.Stream.{◌⊆◌, merges, HasOutcome, HasSortedStarts, HasSortedStartsFrom, Outcomes}

@@ -26,9 +26,7 @@ macro_rules! intersection_dyn {
 #[macro_export]
 macro_rules! symmetric_difference_dyn {
     ($alloc:expr $(, $stream:expr)* $(,)?) => {
-        $crate::with_all_taken!(
-            symmetric_difference, $alloc, std::vec::Vec::new($alloc) $(, $stream)*
-        )
+        $crate::with_all_taken!(symmetric_difference, $alloc, std::vec::Vec::new($alloc) $(, $stream)*)
     };
 }
 

@@ -6,6 +6,8 @@ mod integer;
 #[cfg(test)]
 mod length;
 #[cfg(test)]
+mod many;
+#[cfg(test)]
 mod run;
 #[cfg(test)]
 mod set;

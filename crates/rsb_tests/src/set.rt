@@ -17,6 +17,7 @@ mod makings;
 mod many_runs;
 mod operators;
 mod order;
+mod own_types;
 mod range;
 mod ranges;
 mod refusals;

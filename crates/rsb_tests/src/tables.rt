@@ -3,9 +3,11 @@
 ghost use Rattle.std.specs.Prelude.{◌≡◌};
 
 use range_set_blaze::RangeSetBlaze;
+use rsb_commands::outside::Slot;
 use rsb_integer::Integer;
 use rsb_streams::Draw;
 use std::alloc::{AllocError, Allocator, Global};
+use std::ops::RangeInclusive;
 
 /// The set of the ranges of a table.
 pub(crate) fn set_of(
@@ -58,4 +60,14 @@ pub(crate) fn both_give<T: Integer, I: Draw<T> + Clone>(
 {
     let copy = stream.clone()?;
     Ok(gives(stream, wanted) && gives(copy, wanted))
+}
+
+/// The slot of a number, the last of the day where there is none.
+pub(crate) fn slot(number: u8) -> Slot {
+    Slot::new(number).unwrap_or(Slot::max_value())
+}
+
+/// The slots from one number to another.
+pub(crate) fn slots(first: u8, last: u8) -> RangeInclusive<Slot> {
+    slot(first)..=slot(last)
 }

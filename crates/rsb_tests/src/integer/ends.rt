@@ -1,6 +1,6 @@
 //! Every call of `Integer` at both ends of each type.
 
-use crate::integer::own_type::Side;
+use rsb_commands::outside::{Side, Slot};
 use rsb_integer::Integer;
 use rsb_length::UIntPlusOne;
 use std::process::Abort;
@@ -70,6 +70,7 @@ fn calls_end_well<T: Integer>(rt: &impl Abort, two: T::SafeLen, whole: T::SafeLe
 #[test]
 fn calls_at_the_ends_of_each_type_end_well(rt: HostRuntime) {
     calls_end_well::<Side>(&rt, 2, 2);
+    calls_end_well::<Slot>(&rt, 2, 96);
     calls_end_well::<i8>(&rt, 2, 256);
     calls_end_well::<u8>(&rt, 2, 256);
     calls_end_well::<i16>(&rt, 2, 65_536);

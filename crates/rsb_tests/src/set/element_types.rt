@@ -1,7 +1,8 @@
 //! Sets that reach both ends of their types.
 
-use crate::integer::own_type::Side;
+use crate::set::full_heaps::filled;
 use crate::set::look_ups::lies;
+use linked_list_allocator::LocalHeap;
 use range_set_blaze::{RangeSetBlaze, UIntPlusOne};
 use std::test::*;
 
@@ -28,6 +29,19 @@ fn the_widest_set_has_one_member_past_the_greatest_number(rt: HostRuntime) -> Re
     assert!(rt; wide.len() == UIntPlusOne::UInt(u128::MAX));
     assert!(rt; wide.ranges_insert(0..=u128::MAX)?);
     assert!(rt; wide.len() == UIntPlusOne::MaxPlusOne && wide.is_universal());
+    Ok(())
+}
+
+#[test]
+fn the_widest_length_comes_and_goes_with_no_memory(rt: HostRuntime) -> Result<(), Fail> {
+    let heap = LocalHeap::new(rt.alloc(), 8192)?;
+    let mut wide = RangeSetBlaze::<u128, &LocalHeap>::from(&heap, 1..=u128::MAX)?;
+    assert!(rt; wide.insert(0)? && wide.len() == UIntPlusOne::MaxPlusOne);
+    let filler = filled(rt.alloc(), &heap)?;
+    let taken = wide.remove(u128::MAX);
+    drop(filler);
+    let length = UIntPlusOne::UInt(340282366920938463463374607431768211455);
+    assert!(rt; taken == Ok(true) && wide.len() == length);
     Ok(())
 }
 
@@ -72,13 +86,5 @@ fn all_characters_have_each_pair_of_neighbors(rt: HostRuntime) -> Result<(), Fai
         assert!(rt; universe.contains(before) && universe.contains(c), "{c:?}");
         assert!(rt; pair.len() == 2 && universe.is_superset(&pair), "{c:?}");
     }
-    Ok(())
-}
-
-#[test]
-fn an_own_type_of_two_values_is_filled_by_two(rt: HostRuntime) -> Result<(), Fail> {
-    let mut sides = RangeSetBlaze::<Side>::new(rt.alloc());
-    assert!(rt; sides.insert(Side::Lo)? && !sides.is_universal());
-    assert!(rt; sides.insert(Side::Hi)? && sides.ranges_len() == 1 && sides.is_universal());
     Ok(())
 }

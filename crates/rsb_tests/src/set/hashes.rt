@@ -1,8 +1,9 @@
 //! What sets feed a hasher.
 
-use crate::integer::own_type::Side;
 use crate::length::recorder::{fed_by, fed_by_bytes};
+use crate::tables::slots;
 use range_set_blaze::RangeSetBlaze;
+use rsb_commands::outside::{Side, Slot};
 use std::alloc::{AllocError, Global};
 use std::test::*;
 
@@ -58,12 +59,15 @@ fn unlike_sets_feed_unlike_bytes(rt: HostRuntime) -> Result<(), Fail> {
 }
 
 #[test]
-fn characters_and_an_own_type_feed_their_own(rt: HostRuntime) -> Result<(), Fail> {
+fn characters_and_own_types_feed_their_own(rt: HostRuntime) -> Result<(), Fail> {
     let letters = RangeSetBlaze::from(rt.alloc(), 'a'..='c')?;
     assert!(rt; fed_by(&letters) == fed_by_bytes(&[3, 0, 0, 0, 97, 0, 0, 0, 99, 0, 0, 0]));
     let mut sides = RangeSetBlaze::<Side>::new(rt.alloc());
     sides.insert(Side::Hi)?;
     sides.insert(Side::Lo)?;
     assert!(rt; fed_by(&sides) == fed_by(&RangeSetBlaze::<Side>::universe(rt.alloc())?));
+    let mut booked = RangeSetBlaze::<Slot>::from(rt.alloc(), slots(48, 51))?;
+    booked.ranges_insert(slots(32, 39))?;
+    assert!(rt; fed_by(&booked) == fed_by_bytes(&[12, 0, 32, 39, 48, 51]));
     Ok(())
 }

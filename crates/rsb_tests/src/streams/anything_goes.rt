@@ -1,6 +1,6 @@
 //! Any stream of ranges, by the trait that asks nothing more.
 
-use crate::streams::own_stream::Tens;
+use rsb_commands::outside::OrdinalWeekends;
 use rsb_integer::Integer;
 use rsb_streams::{AnythingGoes, Merge, RangeOnce};
 use std::ops::RangeInclusive;
@@ -15,6 +15,6 @@ fn first<T: Integer, I: AnythingGoes<T>>(stream: I) -> Option<RangeInclusive<T>>
 
 #[test]
 fn a_merge_and_a_stream_of_ones_own_go(rt: HostRuntime) {
-    assert!(rt; first(Tens { value: 5, left: 3 }) == Some(5..=5));
+    assert!(rt; first(OrdinalWeekends::new()) == Some(1..=1));
     assert!(rt; first(Merge::new(RangeOnce::new(3u8..=9), RangeOnce::new(1..=2))) == Some(1..=2));
 }

@@ -2,8 +2,8 @@
 
 ghost use Rattle.std.specs.Prelude.{◌≡◌};
 
+use crate::streams::listed::{Listed, stream_of, three_tens};
 use crate::streams::nested::{known, sorted};
-use crate::streams::own_stream::{Tens, three_tens};
 use crate::tables::both_give;
 use rsb_streams::{Draw, DrawDisjoint, Merge, UnionIter};
 use std::alloc::AllocError;
@@ -13,10 +13,10 @@ use std::test::Fail;
 const FIVE: [(u8, u8); 5] = [(5, 5), (10, 10), (15, 15), (20, 20), (25, 25)];
 
 /// The values 5, 15 and 25.
-fn fives() -> Tens
-    ensures { ⟦<Tens as Draw<u8>>⟧.can_draw result }
+fn fives() -> Listed<'static>
+    ensures { ⟦<Listed<'static> as Draw<u8>>⟧.can_draw result }
 {
-    Tens { value: 5, left: 3 }
+    stream_of(&[(5, 5), (15, 15), (25, 25)])
 }
 
 /// Whether a stream gives a range with these ends, and both it and a copy of it then give others.

@@ -1,7 +1,7 @@
 //! Streams that are known to be sorted or canonical, taken as they are.
 
+use crate::streams::listed::three_tens;
 use crate::streams::nested::{joined_again, known};
-use crate::streams::own_stream::Tens;
 use crate::tables::gives;
 use rsb_streams::{CheckSortedDisjoint, Merge, RangeOnce};
 
@@ -15,5 +15,5 @@ fn what_is_known_to_be_sorted_is_joined(rt: HostRuntime) {
 fn what_is_known_to_be_canonical_is_complemented(rt: HostRuntime) {
     let nothing: CheckSortedDisjoint<u8, RangeOnce<u8>> = CheckSortedDisjoint::default();
     assert!(rt; gives(nothing, &[]));
-    assert!(rt; gives(!known(Tens { value: 0, left: 2 }), &[(1, 9), (11, 255)]));
+    assert!(rt; gives(!known(three_tens()), &[(1, 9), (11, 19), (21, 255)]));
 }

@@ -16,7 +16,7 @@ use std::iter::FusedIterator;
 use std::ops::RangeInclusive;
 
 /// The ranges of a table, up to one that is empty or does not lie past the one before it with a gap.
-#[derive(Drop)]
+#[derive(Clone, Debug, Drop)]
 pub(crate) struct Listed<'a> {
     /// The ends of the ranges that are left.
     ends: &'a [(u8, u8)],
@@ -98,11 +98,18 @@ pub(crate) fn stream_of<'a>(ends: &'a [(u8, u8)]) -> Listed<'a>
     Listed { ends, low: 0 }
 }
 
+/// The values 0, 10 and 20.
+pub(crate) fn three_tens() -> Listed<'static>
+    ensures { ⟦<Listed<'static> as Draw<u8>>⟧.can_draw result }
+{
+    stream_of(&[(0, 0), (10, 10), (20, 20)])
+}
+
 /// The ranges of a table as a list, in whatever order they stand.
-pub(crate) fn list_of(
+pub(crate) fn list_of<T: Integer>(
     alloc: Global,
-    ends: &[(u8, u8)],
-) -> Result<Vec<RangeInclusive<u8>>, AllocError> {
+    ends: &[(T, T)],
+) -> Result<Vec<RangeInclusive<T>>, AllocError> {
     let mut ranges = Vec::new(alloc);
     for (start, end) in ends {
         ranges.push(*start..=*end)?;

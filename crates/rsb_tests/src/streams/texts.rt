@@ -1,7 +1,7 @@
 //! Texts for those who debug. What they are is left open.
 
+use crate::streams::listed::three_tens;
 use crate::streams::nested::{joined_again, known};
-use crate::streams::own_stream::three_tens;
 use rsb_streams::{DrawDisjoint, Merge};
 use std::alloc::Global;
 use std::fmt::Debug;

@@ -1,6 +1,6 @@
-use Rattle.std.proofs.Common.{◌∷◌, [], ◌∙◌, ap, sym, append_assoc, append-nil, subst}
+use Rattle.std.proofs.Common.{◌∷◌, [], ◌∙◌, ap, append_assoc}
 use Rattle.std.proofs.lemmas.List.{map-append}
-use Rattle.std.specs.Prelude.{Some, None}
+use Rattle.std.specs.Prelude.{Some}
 use Rattle.rsb_integer.specs.Rank.{interval_of, intervals_of}
 use Rattle.rsb_many.proofs.dyn_sorted_disjoint.DynSortedDisjoint.new.Goals as goal
 

@@ -1,4 +1,4 @@
-use Rattle.std.proofs.Common.{◌≡◌, refl, subst, sym, None}
+use Rattle.std.proofs.Common.{◌≡◌, refl, subst, sym}
 use Rattle.rsb_integer.specs.Rank.{interval_of}
 use Rattle.rsb_many.specs.Inputs.{run_of}
 use Rattle.rsb_many.specs.KMerge.{kmerge}

@@ -7,10 +7,10 @@ use Rattle.rsb_many.proofs.multiway.MultiwaySortedDisjoint.symmetric_difference.
 -- the sweep is over the streams that were handed in
 pub of-requires : goal.of-requires
 of-requires g c =
-    let made = c.in_ok-sweep.ensures.made in
-    (made.2.0.items, made.2.3)
+    let gave = c.in_ok-sweep.ensures.made in
+    (gave.2.0.items, gave.2.3)
 
--- so the symmetric difference is of them
+-- what it gives lies in an odd number of these
 pub returns-clause-made : goal.returns-clause-made
 returns-clause-made g c = gave-each g.Self.IntoIterator.into_iter_gives
     g.Self.IntoIter.Iterator.next_gives c.args.self

@@ -1,20 +1,22 @@
-//! An own element type.
+//! An element type of two values.
 
 ghost use Rattle.std.specs.Prelude.{◌≡◌, ◌==◌, ◌<◌, cond, zero, suc};
 ghost use Rattle.std.specs.Ordering.{nat_cmp};
 ghost use Rattle.std.specs.declared.cmp.Ordering.TheVariants.{Equal};
 ghost use Rattle.std.proofs.Common.{arith, lit<, lit≤, refl};
 ghost use Rattle.rsb_integer.specs.Room.{have_room};
-ghost use Rattle.rsb_tests.specs.declared.integer.own_type.Side.{Side};
-ghost use Rattle.rsb_tests.specs.declared.integer.own_type.Side.TheVariants.{Lo, Hi};
+ghost use Rattle.rsb_commands.specs.declared.outside.side.Side.{Side};
+ghost use Rattle.rsb_commands.specs.declared.outside.side.Side.TheVariants.{Lo, Hi};
 
-use rsb_integer::Integer;
+use range_set_blaze::Integer;
 use std::ops::RangeInclusive;
 
-/// A type of two values, as few as an element type may have.
+/// One of two sides, as few values as an element type may have. (Own.)
 #[derive(Clone, Copy, Debug, PartialEq, Eq, PartialOrd, Ord, Hash)]
-pub(crate) enum Side {
+pub enum Side {
+    /// The lower one.
     Lo,
+    /// The one after it.
     Hi,
 }
 

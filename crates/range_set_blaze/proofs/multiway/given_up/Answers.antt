@@ -1,0 +1,32 @@
+use Rattle.std.proofs.Common.{◌≡◌, All, map, subst, sym, ap, ◌∙◌}
+use Rattle.std.specs.Prelude.{List}
+use Rattle.std.specs.declared.ops.RangeInclusive.{RangeInclusive}
+use Rattle.rsb_integer.specs.Rank.{intervals_of}
+use Rattle.rsb_integer.specs.Runs.{IsCanonicalIn}
+use Rattle.range_set_blaze.proofs.MultiwayLemmas.{map-more, All-more}
+use Rattle.rsb_many.proofs.HandedInLemmas.{ended-run}
+use Rattle.range_set_blaze.proofs.multiway.given_up.Goals as goal
+
+-- the runs of one set more are kept
+pub loop-set-preserved : goal.loop-set-preserved
+loop-set-preserved g c =
+    let runs_of = intervals_of g.T.Integer.rank in
+    let can : List (RangeInclusive g.row.T.Denot) → Type 0 = λ ranges.
+    IsCanonicalIn g.T.Integer.value_count (runs_of ranges) in
+    record {
+      ready = subst (λ streams. All can streams) (sym c.in_ok-push.ensures.items)
+          (All-more can c.loop-set.streams.items c.into_ranges.result c.loop-set.invariant.ready
+          c.into_ranges.ensures.ready);
+      kept = ap (map runs_of) c.in_ok-push.ensures.items
+          ∙ map-more runs_of c.loop-set.streams.items c.into_ranges.result c.loop-set.yielded
+          c.in-Some.set c.loop-set.invariant.kept c.into_ranges.ensures.ranges;
+    }
+
+-- they are those of all sets that were given up
+pub returns-clause-kept : goal.returns-clause-kept
+returns-clause-kept g c = ended-run g.K.IntoIterator.into_iter_gives g.K.IntoIter.Iterator.next_gives
+    c.args.sets c.into_iter-set-iterator.result
+    c.into_iter-set-iterator.ensures.into_iter_gives
+    (λ items. map (intervals_of g.T.Integer.rank) c.loop-set.streams.items ≡ items)
+    c.loop-set.yielded c.loop-set.set-iterator c.next.new.self c.loop-set.yielded_by
+    c.in-None.ensures.steps c.loop-set.invariant.kept

@@ -1,0 +1,14 @@
+use Rattle.std.proofs.lemmas.Result.{IfOk-weaker}
+use Rattle.rsb_many.specs.MultiwayResults.{MakesMultiwayUnion}
+use Rattle.rsb_many.specs.MultiwayUnion.{multiway_union}
+use Rattle.range_set_blaze.proofs.MultiwayLemmas.{given-list}
+use Rattle.range_set_blaze.proofs.multiway.union_of.Goals as goal
+
+-- the union gives nothing but such runs
+pub returns : goal.returns
+returns g c =
+    let gave = c.in_ok-union.ensures.made in
+    let made = given-list c.args.streams.items gave.0
+    (λ streams. MakesMultiwayUnion g.T.Integer g.I.Draw (multiway_union g.T.Integer g.I.Draw) streams
+    c.in_ok-union.union) gave.1.0 gave.1.3 gave.2 in
+    IfOk-weaker c.from_sorted_disjoint.result _ _ made.gives c.from_sorted_disjoint.ensures.runs

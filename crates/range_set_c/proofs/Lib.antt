@@ -1,0 +1,3 @@
+mod U32Box
+mod U64Box
+mod UnboxedForm

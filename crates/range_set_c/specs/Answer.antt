@@ -1,0 +1,16 @@
+-- What answers of exports stand for.
+use Rattle.std.specs.Prelude.{ℕ, ℤ, pos, negsuc, zero, suc}
+use Rattle.std.specs.declared.cmp.Ordering.{Ordering}
+use Rattle.std.specs.declared.cmp.Ordering.TheVariants.{Less, Equal, Greater}
+use Rattle.rsb_integer.specs.Runs.{covers}
+use Rattle.rsb_integer.specs.Selection.{Selection}
+
+-- the numbers from first to last, both included
+abbrev pub between : ℕ → ℕ → Selection
+between first last rank = covers rank (record { first = first; last = last })
+
+-- the order that a negative number, 0 and a positive one stand for
+abbrev pub order_told : ℤ → Ordering
+order_told (negsuc n) = Less
+order_told (pos zero) = Equal
+order_told (pos (suc n)) = Greater

@@ -1,0 +1,21 @@
+-- What a handle to a set of `u64` owns.
+use base.Fml.{Fml, feq}
+use base.Stored.{Coded}
+use denote.RawPtr.{Ptr, block_ptr, null_ptr}
+use Rattle.std.specs.Prelude.{List, []}
+use Rattle.std.specs.Box.Ownership.{box_owns}
+use Rattle.std.specs.Global.{Global}
+use Rattle.std.specs.contracts.impls.GlobalAllocator.TheImpl.{ghosts}
+use Rattle.rsb_integer.specs.Runs.{Interval}
+use Rattle.range_set_c.specs.contracts.u64_sets.kept.Kept.{the_row}
+
+-- how a handle's ghost field stores the set
+abbrev pub kept_coded : Coded the_row.Denot
+kept_coded = the_row.coded
+
+-- a boxed set and the right to free its memory; the empty set, and no memory, where the pointer is
+-- null
+abbrev pub handle_owns : Global → Ptr → the_row.Denot → Fml
+handle_owns alloc (block_ptr b o) kept =
+    box_owns (ghosts.dealloc_token alloc) the_row (block_ptr b o) kept
+handle_owns alloc null_ptr kept = feq (List Interval) kept.set []

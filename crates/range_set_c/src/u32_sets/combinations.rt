@@ -1,0 +1,121 @@
+//! Sets made of one set or two.
+
+ghost use Rattle.std.specs.Prelude.{◌≡◌, ◌⊎◌, ◌^◌};
+ghost use Rattle.rsb_integer.specs.Runs.{members};
+ghost use Rattle.rsb_integer.specs.Selection.{difference, intersection, symmetric_difference, union};
+ghost use Rattle.range_set_blaze.specs.Algebra.{IsComplementOf};
+ghost use Rattle.range_set_blaze.specs.Set.{IsSetOf};
+
+use super::handle::Handle;
+use range_set_blaze::RangeSetBlaze;
+use std::alloc::Global;
+
+/// Makes `out` a copy of a set.
+#[unsafe(no_mangle)]
+pub extern "C" fn rsb_u32_clone(alloc: Global, out: &mut Handle, set: &mut Handle) -> u32
+    ensures answer { (result ≡ 1) ⊎ (result ≡ 2) }
+    ensures members { result ≡ 1 → out.new.kept.set ≡ set.old.kept.set }
+    ensures refused { result ≡ 2 → out.new.kept.set ≡ out.old.kept.set }
+    ensures set { set.new.kept.set ≡ set.old.kept.set }
+{
+    let empty = RangeSetBlaze::new(alloc);
+    let made = set.set_or(&empty).clone();
+    out.set_to(alloc, made)
+}
+
+/// Makes `out` the values that a set lacks.
+#[unsafe(no_mangle)]
+pub extern "C" fn rsb_u32_complement(alloc: Global, out: &mut Handle, set: &mut Handle) -> u32
+    ensures answer { (result ≡ 1) ⊎ (result ≡ 2) }
+    ensures members { result ≡ 1 → IsComplementOf (2 ^ 32) out.new.kept.set set.old.kept.set }
+    ensures refused { result ≡ 2 → out.new.kept.set ≡ out.old.kept.set }
+    ensures set { set.new.kept.set ≡ set.old.kept.set }
+{
+    let empty = RangeSetBlaze::new(alloc);
+    let made = set.set_or(&empty).not();
+    out.set_to(alloc, made)
+}
+
+/// Makes `out` what lies in either of two sets.
+#[unsafe(no_mangle)]
+pub extern "C" fn rsb_u32_union(
+    alloc: Global,
+    out: &mut Handle,
+    left: &mut Handle,
+    right: &mut Handle,
+) -> u32
+    ensures answer { (result ≡ 1) ⊎ (result ≡ 2) }
+    ensures members { result ≡ 1 → IsSetOf out.new.kept.set
+        (union (members left.old.kept.set) (members right.old.kept.set)) }
+    ensures refused { result ≡ 2 → out.new.kept.set ≡ out.old.kept.set }
+    ensures left { left.new.kept.set ≡ left.old.kept.set }
+    ensures right { right.new.kept.set ≡ right.old.kept.set }
+{
+    let none = RangeSetBlaze::new(alloc);
+    let nothing = RangeSetBlaze::new(alloc);
+    let made = left.set_or(&none).bitor(right.set_or(&nothing));
+    out.set_to(alloc, made)
+}
+
+/// Makes `out` what two sets both have.
+#[unsafe(no_mangle)]
+pub extern "C" fn rsb_u32_intersection(
+    alloc: Global,
+    out: &mut Handle,
+    left: &mut Handle,
+    right: &mut Handle,
+) -> u32
+    ensures answer { (result ≡ 1) ⊎ (result ≡ 2) }
+    ensures members { result ≡ 1 → IsSetOf out.new.kept.set
+        (intersection (members left.old.kept.set) (members right.old.kept.set)) }
+    ensures refused { result ≡ 2 → out.new.kept.set ≡ out.old.kept.set }
+    ensures left { left.new.kept.set ≡ left.old.kept.set }
+    ensures right { right.new.kept.set ≡ right.old.kept.set }
+{
+    let none = RangeSetBlaze::new(alloc);
+    let nothing = RangeSetBlaze::new(alloc);
+    let made = left.set_or(&none).bitand(right.set_or(&nothing));
+    out.set_to(alloc, made)
+}
+
+/// Makes `out` what the left set has and the right one lacks.
+#[unsafe(no_mangle)]
+pub extern "C" fn rsb_u32_difference(
+    alloc: Global,
+    out: &mut Handle,
+    left: &mut Handle,
+    right: &mut Handle,
+) -> u32
+    ensures answer { (result ≡ 1) ⊎ (result ≡ 2) }
+    ensures members { result ≡ 1 → IsSetOf out.new.kept.set
+        (difference (members left.old.kept.set) (members right.old.kept.set)) }
+    ensures refused { result ≡ 2 → out.new.kept.set ≡ out.old.kept.set }
+    ensures left { left.new.kept.set ≡ left.old.kept.set }
+    ensures right { right.new.kept.set ≡ right.old.kept.set }
+{
+    let none = RangeSetBlaze::new(alloc);
+    let nothing = RangeSetBlaze::new(alloc);
+    let made = left.set_or(&none).sub(right.set_or(&nothing));
+    out.set_to(alloc, made)
+}
+
+/// Makes `out` what lies in one of two sets alone.
+#[unsafe(no_mangle)]
+pub extern "C" fn rsb_u32_symmetric_difference(
+    alloc: Global,
+    out: &mut Handle,
+    left: &mut Handle,
+    right: &mut Handle,
+) -> u32
+    ensures answer { (result ≡ 1) ⊎ (result ≡ 2) }
+    ensures members { result ≡ 1 → IsSetOf out.new.kept.set
+        (symmetric_difference (members left.old.kept.set) (members right.old.kept.set)) }
+    ensures refused { result ≡ 2 → out.new.kept.set ≡ out.old.kept.set }
+    ensures left { left.new.kept.set ≡ left.old.kept.set }
+    ensures right { right.new.kept.set ≡ right.old.kept.set }
+{
+    let none = RangeSetBlaze::new(alloc);
+    let nothing = RangeSetBlaze::new(alloc);
+    let made = left.set_or(&none).bitxor(right.set_or(&nothing));
+    out.set_to(alloc, made)
+}

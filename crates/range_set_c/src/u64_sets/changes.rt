@@ -1,0 +1,120 @@
+//! Changes of one set.
+
+ghost use Rattle.std.specs.Prelude.{◌≡◌, ◌<◌, ◌≤◌, ◌^◌, [], IsFalse, IsTrue};
+ghost use Rattle.rsb_integer.specs.Runs.{members};
+ghost use Rattle.rsb_integer.specs.Selection.{IsSubset};
+ghost use Rattle.range_set_blaze.specs.Set.{only, Adds, LacksSomeOf, Removes};
+ghost use Rattle.range_set_c.specs.Answer.{between};
+
+use super::handle::Handle;
+use crate::status::{CHANGED, NO_MEMORY, UNCHANGED};
+use range_set_blaze::RangeSetBlaze;
+use std::alloc::Global;
+
+/// Adds the values from `first` to `last`: none where `last` is below `first`.
+#[unsafe(no_mangle)]
+pub extern "C" fn rsb_u64_insert_range(
+    alloc: Global,
+    set: &mut Handle,
+    first: u64,
+    last: u64,
+) -> u32
+    ensures answer { result ≤ 2 }
+    ensures members { result < 2 → Adds set.old.kept.set set.new.kept.set (between first last) }
+    ensures unchanged { result ≡ 0 → ¬ LacksSomeOf set.old.kept.set (between first last) }
+    ensures changed { result ≡ 1 → LacksSomeOf set.old.kept.set (between first last) }
+    ensures refused { result ≡ 2 → set.new.kept.set ≡ set.old.kept.set }
+{
+    let Ok(mut kept) = set.take_or_make(alloc) else {
+        return NO_MEMORY;
+    };
+    let answer = match kept.set.ranges_insert(first..=last) {
+        Ok(true) => CHANGED,
+        Ok(false) => UNCHANGED,
+        Err(_) => NO_MEMORY,
+    };
+    *set = Handle::of(kept);
+    answer
+}
+
+/// Adds a value.
+#[unsafe(no_mangle)]
+pub extern "C" fn rsb_u64_insert(alloc: Global, set: &mut Handle, value: u64) -> u32
+    ensures answer { result ≤ 2 }
+    ensures members { result < 2 → Adds set.old.kept.set set.new.kept.set (only value) }
+    ensures unchanged { result ≡ 0 → IsTrue (members set.old.kept.set value) }
+    ensures changed { result ≡ 1 → IsFalse (members set.old.kept.set value) }
+    ensures refused { result ≡ 2 → set.new.kept.set ≡ set.old.kept.set }
+{
+    let Ok(mut kept) = set.take_or_make(alloc) else {
+        return NO_MEMORY;
+    };
+    let answer = match kept.set.insert(value) {
+        Ok(true) => CHANGED,
+        Ok(false) => UNCHANGED,
+        Err(_) => NO_MEMORY,
+    };
+    *set = Handle::of(kept);
+    answer
+}
+
+/// Takes a value out.
+#[unsafe(no_mangle)]
+pub extern "C" fn rsb_u64_remove(set: &mut Handle, value: u64) -> u32
+    ensures answer { result ≤ 2 }
+    ensures members { result < 2 → Removes set.old.kept.set set.new.kept.set (only value) }
+    ensures unchanged { result ≡ 0 → IsFalse (members set.old.kept.set value) }
+    ensures changed { result ≡ 1 → IsTrue (members set.old.kept.set value) }
+    ensures refused { result ≡ 2 → set.new.kept.set ≡ set.old.kept.set }
+{
+    let Some(kept) = set.open() else {
+        return UNCHANGED;
+    };
+    match kept.set.remove(value) {
+        Ok(true) => CHANGED,
+        Ok(false) => UNCHANGED,
+        Err(_) => NO_MEMORY,
+    }
+}
+
+/// Adds the members of another set, or, without memory, none of them. It takes no memory where each
+/// of them is a member before.
+#[unsafe(no_mangle)]
+pub extern "C" fn rsb_u64_union_with(alloc: Global, set: &mut Handle, other: &mut Handle) -> u32
+    ensures answer { result ≤ 2 }
+    ensures unchanged { result ≡ 0 →
+        IsSubset (2 ^ 64) (members other.old.kept.set) (members set.old.kept.set) }
+    ensures kept { result ≡ 0 → set.new.kept.set ≡ set.old.kept.set }
+    ensures changed { result ≡ 1 →
+        ¬ IsSubset (2 ^ 64) (members other.old.kept.set) (members set.old.kept.set) }
+    ensures members { result ≡ 1 →
+        Adds set.old.kept.set set.new.kept.set (members other.old.kept.set) }
+    ensures refused { result ≡ 2 → set.new.kept.set ≡ set.old.kept.set }
+    ensures other { other.new.kept.set ≡ other.old.kept.set }
+{
+    let none = RangeSetBlaze::new(alloc);
+    let nothing = RangeSetBlaze::new(alloc);
+    if other.set_or(&none).is_subset(set.set_or(&nothing)) {
+        return UNCHANGED;
+    }
+    let made = set.set_or(&none).bitor(other.set_or(&nothing));
+    set.set_to(alloc, made)
+}
+
+/// Takes all members out.
+#[unsafe(no_mangle)]
+pub extern "C" fn rsb_u64_clear(set: &mut Handle)
+    ensures { set.new.kept.set ≡ [] }
+{
+    if let Some(kept) = set.open() {
+        kept.set.clear();
+    }
+}
+
+/// Gives the set's memory back. The handle is null then.
+#[unsafe(no_mangle)]
+pub extern "C" fn rsb_u64_free(alloc: Global, set: &mut Handle)
+    ensures { set.new.kept.set ≡ [] }
+{
+    *set = Handle::empty(alloc);
+}

@@ -1,0 +1,72 @@
+//! Questions about two sets. Both are as they were, and no memory is taken.
+
+ghost use Rattle.std.specs.Prelude.{◌≡◌, ◌↔◌, ◌^◌, IsTrue};
+ghost use Rattle.rsb_integer.specs.Runs.{members};
+ghost use Rattle.rsb_integer.specs.Selection.{Agree, AreDisjoint, IsSubset};
+ghost use Rattle.range_set_blaze.specs.Order.{HasOrder};
+ghost use Rattle.range_set_c.specs.Answer.{order_told};
+
+use super::handle::Handle;
+use range_set_blaze::RangeSetBlaze;
+use range_set_blaze::prelude::{cmp_counted, order_by_least_difference};
+use std::alloc::Global;
+use std::cmp::Ordering;
+
+/// Whether two sets have the same members.
+#[unsafe(no_mangle)]
+pub extern "C" fn rsb_u64_equal(alloc: Global, left: &mut Handle, right: &mut Handle) -> bool
+    ensures found { IsTrue result ↔
+        Agree (2 ^ 64) (members left.old.kept.set) (members right.old.kept.set) }
+    ensures left { left.new.kept.set ≡ left.old.kept.set }
+    ensures right { right.new.kept.set ≡ right.old.kept.set }
+{
+    let none = RangeSetBlaze::new(alloc);
+    let nothing = RangeSetBlaze::new(alloc);
+    order_by_least_difference::<u64>();
+    left.set_or(&none) == right.set_or(&nothing)
+}
+
+/// How two sets compare: -1, 0 or 1 where the left one is less, equal or greater. They compare as
+/// the ascending lists of their members do.
+#[unsafe(no_mangle)]
+pub extern "C" fn rsb_u64_order(alloc: Global, left: &mut Handle, right: &mut Handle) -> i32
+    ensures order { HasOrder (2 ^ 64) (members left.old.kept.set) (members right.old.kept.set)
+        (order_told result) }
+    ensures left { left.new.kept.set ≡ left.old.kept.set }
+    ensures right { right.new.kept.set ≡ right.old.kept.set }
+{
+    let none = RangeSetBlaze::new(alloc);
+    let nothing = RangeSetBlaze::new(alloc);
+    let (order, _) = cmp_counted(left.set_or(&none), right.set_or(&nothing));
+    match order {
+        Ordering::Less => -1,
+        Ordering::Equal => 0,
+        Ordering::Greater => 1,
+    }
+}
+
+/// Whether each member of the left set is one of the right set.
+#[unsafe(no_mangle)]
+pub extern "C" fn rsb_u64_is_subset(alloc: Global, left: &mut Handle, right: &mut Handle) -> bool
+    ensures found { IsTrue result ↔
+        IsSubset (2 ^ 64) (members left.old.kept.set) (members right.old.kept.set) }
+    ensures left { left.new.kept.set ≡ left.old.kept.set }
+    ensures right { right.new.kept.set ≡ right.old.kept.set }
+{
+    let none = RangeSetBlaze::new(alloc);
+    let nothing = RangeSetBlaze::new(alloc);
+    left.set_or(&none).is_subset(right.set_or(&nothing))
+}
+
+/// Whether no member of the left set is one of the right set.
+#[unsafe(no_mangle)]
+pub extern "C" fn rsb_u64_is_disjoint(alloc: Global, left: &mut Handle, right: &mut Handle) -> bool
+    ensures found { IsTrue result ↔
+        AreDisjoint (2 ^ 64) (members left.old.kept.set) (members right.old.kept.set) }
+    ensures left { left.new.kept.set ≡ left.old.kept.set }
+    ensures right { right.new.kept.set ≡ right.old.kept.set }
+{
+    let none = RangeSetBlaze::new(alloc);
+    let nothing = RangeSetBlaze::new(alloc);
+    left.set_or(&none).is_disjoint(right.set_or(&nothing))
+}

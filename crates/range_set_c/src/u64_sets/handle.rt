@@ -1,0 +1,126 @@
+//! The handle that C holds.
+
+ghost use Rattle.std.specs.Prelude.{◌≡◌, ◌⊎◌, ◌<◌, [], IfOk, IsOk, MatchOption, OnErr};
+ghost use Rattle.range_set_c.specs.U64Handle.{handle_owns, kept_coded};
+ghost use Rattle.range_set_c.specs.declared.u64_sets.kept.Kept.{Kept};
+
+use super::kept::Kept;
+use crate::status::{CHANGED, NO_MEMORY};
+use crate::unboxed::Unboxed;
+use range_set_blaze::RangeSetBlaze;
+use std::alloc::{AllocError, Global};
+use std::marker::Model;
+use std::mem;
+
+/// A set of `u64`. C sees a struct of one pointer; where it is null, the set is empty.
+#[repr(C)]
+pub struct Handle {
+    pub(super) at: *mut u8,
+    alloc: Global,
+    pub ghost kept: { Kept } by { kept_coded },
+}
+
+impl Model for Handle {
+    ghost also_owns = { λ handle. handle_owns handle.alloc handle.at handle.kept };
+}
+
+impl Handle {
+    /// The null handle.
+    pub(crate) fn empty(alloc: Global) -> Handle
+        ensures { result.kept.set ≡ [] }
+    {
+        Handle {
+            at: std::ptr::null_mut(),
+            alloc,
+        }
+    }
+
+    /// A handle to a set.
+    pub(crate) fn of(kept: Box<Kept>) -> Handle
+        ensures { result.kept ≡ kept.value }
+    {
+        Handle::of_parts(Unboxed::of(kept))
+    }
+
+    /// The set, which leaves a null handle. A null handle gives a new, empty one. Without memory the
+    /// handle was null and is.
+    pub(crate) fn take_or_make(&mut self, alloc: Global) -> Result<Box<Kept>, AllocError>
+        ensures taken { IfOk result (λ kept. kept.value.set ≡ self.old.kept.set) }
+        ensures left { self.new.kept.set ≡ [] }
+        ensures err { OnErr result (self.old.kept.set ≡ []) }
+    {
+        if let Some(kept) = self.take(alloc) {
+            return Ok(kept);
+        }
+        let set = RangeSetBlaze::new(alloc);
+        Ok(Box::new(alloc, Kept { set })?)
+    }
+
+    /// Makes the handle one to a set that was made, and says so. Without memory it is as it was.
+    pub(crate) fn set_to(
+        &mut self,
+        alloc: Global,
+        made: Result<RangeSetBlaze<u64, Global>, AllocError>,
+    ) -> u32
+        ensures answer { (result ≡ 1) ⊎ (result ≡ 2) }
+        ensures made { result ≡ 1 → IsOk made }
+        ensures set { result ≡ 1 → IfOk made (λ set. self.new.kept.set ≡ set) }
+        ensures refused { result ≡ 2 → self.new.kept.set ≡ self.old.kept.set }
+    {
+        let Ok(set) = made else {
+            return NO_MEMORY;
+        };
+        let Ok(kept) = Box::new(alloc, Kept { set }) else {
+            return NO_MEMORY;
+        };
+        *self = Handle::of(kept);
+        CHANGED
+    }
+
+    // The set, which leaves a null handle. It is `None` where the handle was null.
+    fn take(&mut self, alloc: Global) -> Option<Box<Kept>>
+        ensures taken { MatchOption result (self.old.kept.set ≡ [])
+            (λ kept. kept.value ≡ self.old.kept) }
+        ensures left { self.new.kept.set ≡ [] }
+    {
+        mem::replace(self, Handle::empty(alloc)).into_box()
+    }
+
+    // The set, or `None` where the handle is null.
+    fn into_box(self) -> Option<Box<Kept>>
+        ensures { MatchOption result (self.kept.set ≡ []) (λ kept. kept.value ≡ self.kept) }
+    {
+        let parts = self.into_parts()?;
+        Some(parts.into_box())
+    }
+
+    fn of_parts(parts: Unboxed<Kept, Global>) -> Handle
+        ensures { result.kept ≡ parts.value }
+    {
+        let Unboxed { at, alloc } = parts;
+        Handle {
+            at: at.cast(),
+            alloc,
+        }
+    }
+
+    fn into_parts(self) -> Option<Unboxed<Kept, Global>>
+        ensures { MatchOption result (self.kept.set ≡ []) (λ parts. parts.value ≡ self.kept) }
+    {
+        let Handle { at, alloc } = self;
+        if at.is_null() {
+            return None;
+        }
+        Some(Unboxed {
+            at: at.cast(),
+            alloc,
+        })
+    }
+}
+
+// The set and its memory go.
+impl Drop for Handle {
+    fn drop(self) {
+        drop(self.into_box());
+    }
+}

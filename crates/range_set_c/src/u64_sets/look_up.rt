@@ -1,0 +1,155 @@
+//! Questions about one set. It is as it was, and no memory is taken.
+
+ghost use Rattle.std.specs.Prelude.{◌≡◌, ℕ, ◌+◌, ◌*◌, ◌^◌, ◌<◌, ◌≤◌, [], length, IfSome, IsFalse, IsNone, IsTrue};
+ghost use Rattle.std.specs.Range.{range_inclusive_end, range_inclusive_start};
+ghost use Rattle.rsb_integer.specs.Rank.{interval_of};
+ghost use Rattle.rsb_integer.specs.Runs.{members, IsMaximalRun};
+ghost use Rattle.rsb_integer.specs.Selection.{complement, count};
+ghost use Rattle.range_set_blaze.specs.Set.{IsGreatest, IsLeast, IsRunAround};
+
+use super::handle::Handle;
+use super::run::{Count, Run};
+use range_set_blaze::RangeSetBlaze;
+use std::alloc::Global;
+use std::ops::RangeInclusive;
+
+/// Whether a value is a member.
+#[unsafe(no_mangle)]
+pub extern "C" fn rsb_u64_contains(alloc: Global, set: &mut Handle, value: u64) -> bool
+    ensures found { result ≡ members set.old.kept.set value }
+    ensures same { set.new.kept.set ≡ set.old.kept.set }
+{
+    let empty = RangeSetBlaze::new(alloc);
+    set.set_or(&empty).contains(value)
+}
+
+/// How many members there are.
+#[unsafe(no_mangle)]
+pub extern "C" fn rsb_u64_len(alloc: Global, set: &mut Handle) -> Count
+    ensures count { result.low + 2 ^ 64 * result.high ≡ count (2 ^ 64) (members set.old.kept.set) }
+    ensures same { set.new.kept.set ≡ set.old.kept.set }
+{
+    let empty = RangeSetBlaze::new(alloc);
+    let len = set.set_or(&empty).len();
+    Count {
+        low: (len % (1 << 64)) as u64,
+        high: (len / (1 << 64)) as u64,
+    }
+}
+
+/// How many runs there are.
+#[unsafe(no_mangle)]
+pub extern "C" fn rsb_u64_run_count(alloc: Global, set: &mut Handle) -> usize
+    ensures runs { result ≡ length set.old.kept.set }
+    ensures same { set.new.kept.set ≡ set.old.kept.set }
+{
+    let empty = RangeSetBlaze::new(alloc);
+    set.set_or(&empty).ranges_len()
+}
+
+/// Puts the least member into `value`, and answers whether there is one.
+#[unsafe(no_mangle)]
+pub extern "C" fn rsb_u64_first(alloc: Global, set: &mut Handle, value: &mut u64) -> bool
+    ensures none { IsFalse result → set.old.kept.set ≡ [] }
+    ensures found { IsTrue result → IsLeast (2 ^ 64) (members set.old.kept.set) value.new }
+    ensures left { IsFalse result → value.new ≡ value.old }
+    ensures same { set.new.kept.set ≡ set.old.kept.set }
+{
+    let empty = RangeSetBlaze::new(alloc);
+    let first = set.set_or(&empty).first();
+    let Some(first) = first else {
+        return false;
+    };
+    *value = first;
+    true
+}
+
+/// Puts the greatest member into `value`, and answers whether there is one.
+#[unsafe(no_mangle)]
+pub extern "C" fn rsb_u64_last(alloc: Global, set: &mut Handle, value: &mut u64) -> bool
+    ensures none { IsFalse result → set.old.kept.set ≡ [] }
+    ensures found { IsTrue result → IsGreatest (2 ^ 64) (members set.old.kept.set) value.new }
+    ensures left { IsFalse result → value.new ≡ value.old }
+    ensures same { set.new.kept.set ≡ set.old.kept.set }
+{
+    let empty = RangeSetBlaze::new(alloc);
+    let last = set.set_or(&empty).last();
+    let Some(last) = last else {
+        return false;
+    };
+    *value = last;
+    true
+}
+
+/// Puts the run that has a value into `block` and answers true, or else the gap that it lies in and
+/// answers false.
+#[unsafe(no_mangle)]
+pub extern "C" fn rsb_u64_run_or_gap(
+    alloc: Global,
+    set: &mut Handle,
+    value: u64,
+    block: &mut Run,
+) -> bool
+    ensures found { result ≡ members set.old.kept.set value }
+    ensures run { IsTrue result → IsRunAround (2 ^ 64) (members set.old.kept.set) value
+        (record { first = block.new.first; last = block.new.last }) }
+    ensures gap { IsFalse result → IsRunAround (2 ^ 64) (complement (members set.old.kept.set))
+        value (record { first = block.new.first; last = block.new.last }) }
+    ensures same { set.new.kept.set ≡ set.old.kept.set }
+{
+    let empty = RangeSetBlaze::new(alloc);
+    let (range, found) = set.set_or(&empty).range_or_gap_at(value);
+    block.first = *range.start();
+    block.last = *range.end();
+    found
+}
+
+/// Puts into `run` the run that has `from`, or else the first one past it, and answers whether there
+/// is one. So `from = run.last + 1` walks over the runs in ascending order, up to one that ends at
+/// the greatest value.
+#[unsafe(no_mangle)]
+pub extern "C" fn rsb_u64_next_run(
+    alloc: Global,
+    set: &mut Handle,
+    from: u64,
+    run: &mut Run,
+) -> bool
+    ensures none { IsFalse result → (rank : ℕ) → from ≤ rank → rank < 2 ^ 64
+        → IsFalse (members set.old.kept.set rank) }
+    ensures run { IsTrue result → IsMaximalRun (2 ^ 64) (members set.old.kept.set)
+        (record { first = run.new.first; last = run.new.last }) }
+    ensures reach { IsTrue result → from ≤ run.new.last }
+    ensures gap { IsTrue result → (rank : ℕ) → from ≤ rank → rank < run.new.first
+        → IsFalse (members set.old.kept.set rank) }
+    ensures left { IsFalse result → run.new ≡ run.old }
+    ensures same { set.new.kept.set ≡ set.old.kept.set }
+{
+    let empty = RangeSetBlaze::new(alloc);
+    let found = run_from(set.set_or(&empty), from);
+    let Some(range) = found else {
+        return false;
+    };
+    run.first = *range.start();
+    run.last = *range.end();
+    true
+}
+
+// The run that has a value, or else the first one past it.
+fn run_from(set: &RangeSetBlaze<u64, Global>, from: u64) -> Option<RangeInclusive<u64>>
+    ensures none { IsNone result → (rank : ℕ) → from ≤ rank → rank < 2 ^ 64
+        → IsFalse (members set.now rank) }
+    ensures run { IfSome result (λ range.
+        IsMaximalRun (2 ^ 64) (members set.now) (interval_of (λ x. x) range)) }
+    ensures ends { IfSome result (λ range. interval_of (λ x. x) range
+        ≡ record { first = range_inclusive_start range; last = range_inclusive_end range }) }
+    ensures reach { IfSome result (λ range. from ≤ range_inclusive_end range) }
+    ensures gap { IfSome result (λ range. (rank : ℕ) → from ≤ rank
+        → rank < range_inclusive_start range → IsFalse (members set.now rank)) }
+{
+    let (block, is_run) = set.range_or_gap_at(from);
+    if is_run {
+        return Some(block);
+    }
+    let next = block.end().checked_add(1)?;
+    set.range_at(next)
+}

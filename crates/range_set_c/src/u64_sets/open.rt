@@ -1,0 +1,39 @@
+//! The set behind a handle, where it lies.
+
+ghost use Rattle.std.specs.Prelude.{◌≡◌, [], MatchOption};
+ghost use types.Logic.{sem};
+ghost use Rattle.range_set_c.specs.U64Opened.{EndsAsItWas, EndsWithKept};
+
+use super::handle::Handle;
+use super::kept::Kept;
+use range_set_blaze::RangeSetBlaze;
+use std::alloc::Global;
+
+impl Handle {
+    /// The set, or else the empty one. Neither the handle nor the set is written.
+    pub(crate) fn set_or<'a>(
+        &'a mut self,
+        empty: &'a RangeSetBlaze<u64, Global>,
+    ) -> &'a RangeSetBlaze<u64, Global>
+        requires { empty.now ≡ [] }
+        ensures* same { sem 𝓛 (EndsAsItWas self.entry) }
+        ensures set { result.now ≡ self.old.kept.set }
+    {
+        match self.open() {
+            Some(kept) => &kept.set,
+            None => empty,
+        }
+    }
+
+    /// The set, or `None` where the handle is null.
+    pub(crate) fn open(&mut self) -> Option<&mut Kept>
+        ensures* writes_back { sem 𝓛 (EndsWithKept self.entry result) }
+        ensures kept { MatchOption result (self.old.kept.set ≡ [])
+            (λ kept. kept.now ≡ self.old.kept) }
+    {
+        if self.at.is_null() {
+            return None;
+        }
+        unsafe { Some(&mut *self.at.cast::<Kept>()) }
+    }
+}

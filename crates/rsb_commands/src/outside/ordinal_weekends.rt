@@ -1,0 +1,102 @@
+//! A stream of one's own: the weekends of a year.
+
+ghost use Rattle.std.specs.Prelude.{◌≡◌, ◌+◌, ◌-◌, ◌^◌, ◌<◌, ◌≤◌, MatchOption};
+ghost use Rattle.std.specs.Iterator.{at_most};
+ghost use Rattle.std.proofs.Common.{arith, rules};
+ghost use Rattle.rsb_integer.specs.Rank.{interval_of};
+ghost use Rattle.rsb_streams.specs.AscendingLaws.{ascending-keeps};
+ghost use Rattle.rsb_streams.specs.Calls.{gives_by};
+ghost use Rattle.rsb_streams.specs.CallsLaws.{gives_by-answers};
+ghost use Rattle.rsb_streams.specs.Stream.{◌⊆◌, just};
+ghost use Rattle.rsb_streams.specs.StreamLaws.{canonical-starts, drawn-itself};
+ghost use Rattle.rsb_commands.specs.Weekends.{weekends};
+
+use range_set_blaze::{Draw, DrawDisjoint, Integer, SortedDisjoint, SortedStarts};
+use std::iter::FusedIterator;
+use std::ops::RangeInclusive;
+
+/// The weekends of a year of 365 days that begins with a Sunday, by the numbers of its days from 1
+/// on, as a stream: 1..=1, 7..=8, and so on each seven days to 364..=365. (Own.)
+#[derive(Clone, Debug, Drop)]
+pub struct OrdinalWeekends {
+    // The Saturday of the next weekend, or the first day of the year.
+    start: u16,
+    // Its Sunday.
+    end: u16,
+}
+
+impl OrdinalWeekends {
+    /// All weekends of the year. It takes no memory. (Own.)
+    pub fn new() -> Self
+        ensures ready { ⟦<OrdinalWeekends as Draw<i32>>⟧.can_draw result }
+        ensures gives { ⟦<OrdinalWeekends as Draw<i32>>⟧.may_give result ⊆ just weekends }
+    {
+        OrdinalWeekends { start: 1, end: 1 }
+    }
+}
+
+impl Iterator for OrdinalWeekends {
+    type Item = RangeInclusive<i32>;
+
+    ghost can_next = { λ s. s.start ≤ s.end };
+
+    // The next weekend begins on the sixth day after this one's Sunday.
+    ghost next_gives = { λ s item t. MatchOption item (365 < s.end) (λ range. (s.end ≤ 365)
+        × (interval_of ⟦<i32 as Integer>⟧.rank range
+        ≡ record { first = 2 ^ 31 + s.start; last = 2 ^ 31 + s.end })
+        × (t.start ≡ s.end + 6) × (t.end ≡ s.end + 7)) };
+
+    ghost remaining = { λ s. at_most (372 - s.end) };
+
+    fn next(&mut self) -> Option<RangeInclusive<i32>> {
+        if self.end > 365 {
+            return None;
+        }
+        let weekend = i32::from(self.start)..=i32::from(self.end);
+        self.start = self.end + 6;
+        self.end += 7;
+        Some(weekend)
+    }
+}
+
+impl FusedIterator for OrdinalWeekends {}
+
+impl Draw<i32> for OrdinalWeekends {
+    ghost can_draw = { ⟦<OrdinalWeekends as Iterator>⟧.can_next };
+
+    ghost draw_gives = { ⟦<OrdinalWeekends as Iterator>⟧.next_gives };
+
+    ghost draws_left = { ⟦<OrdinalWeekends as Iterator>⟧.remaining };
+
+    // What its calls give.
+    ghost may_give = { gives_by ⟦<i32 as Integer>⟧.rank
+        ⟦<OrdinalWeekends as Iterator>⟧.next_gives };
+
+    fn draw(&mut self) -> Option<RangeInclusive<i32>> {
+        self.next()
+    }
+
+    ghost answers = { gives_by-answers ⟦<i32 as Integer>⟧.rank
+        ⟦<OrdinalWeekends as Iterator>⟧.next_gives };
+
+    // No range starts before the next weekend.
+    ghost sorted = { λ s can. canonical-starts ⟦<i32 as Integer>⟧.value_count _ _
+        (ascending-keeps ⟦<i32 as Integer>⟧.rank ⟦<i32 as Integer>⟧.value_count
+        ⟦<OrdinalWeekends as Iterator>⟧.can_next ⟦<OrdinalWeekends as Iterator>⟧.next_gives
+        ⟦<OrdinalWeekends as Iterator>⟧.remaining (λ s. 2 ^ 31 + s.start)
+        (λ s t range can call. Prim.search (rules, arith)) s can tt) };
+}
+
+impl SortedStarts<i32> for OrdinalWeekends {
+    ghost drawn = { drawn-itself };
+}
+
+impl DrawDisjoint<i32> for OrdinalWeekends {
+    ghost canonical = { λ s can.
+        (ascending-keeps ⟦<i32 as Integer>⟧.rank ⟦<i32 as Integer>⟧.value_count
+        ⟦<OrdinalWeekends as Iterator>⟧.can_next ⟦<OrdinalWeekends as Iterator>⟧.next_gives
+        ⟦<OrdinalWeekends as Iterator>⟧.remaining (λ s. 2 ^ 31 + s.start)
+        (λ s t range can call. Prim.search (rules, arith)) s can tt).all };
+}
+
+impl SortedDisjoint<i32> for OrdinalWeekends {}

@@ -1,0 +1,10 @@
+//! Any number of streams, and of sets.
+
+mod any_types;
+mod forms;
+mod lookahead;
+mod merges;
+mod refusals;
+mod sets;
+mod sweeps;
+mod thousand;

@@ -1,0 +1,97 @@
+//! What lies in some, in all and in an odd number of streams, in rows worked by hand.
+
+ghost use Rattle.std.specs.Prelude.{All, IfOk};
+
+use crate::streams::listed::{Listed, stream_of};
+use crate::tables::gives;
+use rsb_many::MultiwaySortedDisjoint;
+use rsb_streams::Draw;
+use std::alloc::{AllocError, Global};
+use std::test::Fail;
+
+/// The ends of ranges.
+type Ranges = &'static [(u8, u8)];
+
+/// The streams of tables.
+pub(crate) fn streams_of(
+    alloc: Global,
+    tables: &[Ranges],
+) -> Result<Vec<Listed<'static>>, AllocError>
+    ensures { IfOk result (λ streams. All ⟦<Listed<'static> as Draw<u8>>⟧.can_draw streams.items) }
+{
+    let mut streams = Vec::new(alloc);
+    for table in tables {
+        streams.push(stream_of(table))?;
+    }
+    Ok(streams)
+}
+
+/// Whether what lies in some, in all and in an odd number of streams are these.
+fn makes(
+    alloc: Global,
+    tables: &[Ranges],
+    some: Ranges,
+    all: Ranges,
+    odd: Ranges,
+) -> Result<bool, AllocError> {
+    let union = streams_of(alloc, tables)?.union(alloc)?;
+    let intersection = streams_of(alloc, tables)?.intersection(alloc)?;
+    let difference = streams_of(alloc, tables)?.symmetric_difference(alloc)?;
+    Ok(gives(union, some) && gives(intersection, all) && gives(difference, odd))
+}
+
+#[test]
+fn of_no_streams_nothing_everything_nothing(rt: HostRuntime) -> Result<(), Fail> {
+    assert!(rt; makes(rt.alloc(), &[], &[], &[(0, 255)], &[])?);
+    Ok(())
+}
+
+#[test]
+fn what_is_three_deep_lies_in_an_odd_number(rt: HostRuntime) -> Result<(), Fail> {
+    let tables: [Ranges; 3] = [&[(1, 5)], &[(3, 8)], &[(5, 6)]];
+    assert!(rt; makes(rt.alloc(), &tables, &[(1, 8)], &[(5, 5)], &[(1, 2), (5, 5), (7, 8)])?);
+    Ok(())
+}
+
+#[test]
+fn streams_may_end_at_the_greatest_value(rt: HostRuntime) -> Result<(), Fail> {
+    let tables: [Ranges; 3] = [&[(250, 255)], &[(255, 255)], &[(0, 255)]];
+    assert!(rt; makes(rt.alloc(), &tables, &[(0, 255)], &[(255, 255)], &[(0, 249), (255, 255)])?);
+    Ok(())
+}
+
+/// The lists of the subsets of four values: the one at a place has those whose bits the place has.
+static SUBSETS: [Ranges; 16] = [
+    &[],
+    &[(0, 0)],
+    &[(1, 1)],
+    &[(0, 1)],
+    &[(2, 2)],
+    &[(0, 0), (2, 2)],
+    &[(1, 2)],
+    &[(0, 2)],
+    &[(3, 3)],
+    &[(0, 0), (3, 3)],
+    &[(1, 1), (3, 3)],
+    &[(0, 1), (3, 3)],
+    &[(2, 3)],
+    &[(0, 0), (2, 3)],
+    &[(1, 3)],
+    &[(0, 3)],
+];
+
+#[test]
+fn three_lists_of_four_values_make_what_their_bits_make(rt: HostRuntime) -> Result<(), Fail> {
+    for one in 0..16usize {
+        for other in 0..16usize {
+            for third in 0..16usize {
+                let tables = [SUBSETS[one], SUBSETS[other], SUBSETS[third]];
+                let some = SUBSETS[one | other | third];
+                let all = SUBSETS[one & other & third];
+                let odd = SUBSETS[one ^ other ^ third];
+                assert!(rt; makes(rt.alloc(), &tables, some, all, odd)?, "of {one}, {other}, {third}");
+            }
+        }
+    }
+    Ok(())
+}

@@ -1,0 +1,67 @@
+//! Memory that is refused to what is built of many streams, growth after growth.
+
+use crate::many::forms::streams_of;
+use crate::streams::listed::stream_of;
+use linked_list_allocator::LocalHeap;
+use rsb_many::{DynSortedDisjoint, KMerge, MultiwaySortedDisjoint, MultiwaySweep};
+use std::alloc::{AllocError, Global};
+use std::test::Fail;
+
+/// What is built of many streams.
+#[derive(Clone, Copy, Drop)]
+enum Building {
+    Merge,
+    Sweep,
+    Union,
+    Intersection,
+    SymmetricDifference,
+    OneType,
+}
+
+/// All of them.
+const BUILDINGS: [Building; 6] = [
+    Building::Merge,
+    Building::Sweep,
+    Building::Union,
+    Building::Intersection,
+    Building::SymmetricDifference,
+    Building::OneType,
+];
+
+impl Building {
+    /// Builds it in a heap, and lets it go.
+    fn build(self, alloc: Global, heap: &LocalHeap) -> Result<(), AllocError> {
+        let streams = streams_of(alloc, &[&[(1, 2)], &[(3, 4)], &[(6, 7)]])?;
+        match self {
+            Building::Merge => KMerge::new(heap, streams).map(drop),
+            Building::Sweep => MultiwaySweep::new(heap, streams).map(drop),
+            Building::Union => streams.union(heap).map(drop),
+            Building::Intersection => streams.intersection(heap).map(drop),
+            Building::SymmetricDifference => streams.symmetric_difference(heap).map(drop),
+            Building::OneType => DynSortedDisjoint::new(heap, stream_of(&[(1, 2), (5, 6)])).map(drop),
+        }
+    }
+}
+
+#[test]
+fn what_is_refused_leaves_nothing_and_is_built_with_more_memory(
+    rt: HostRuntime,
+) -> Result<(), Fail> {
+    for building in BUILDINGS {
+        let mut size = 16;
+        let mut refusals = 0;
+        loop {
+            let heap = LocalHeap::new(rt.alloc(), size)?;
+            let built = building.build(rt.alloc(), &heap);
+            assert!(rt; heap.used() == 0);
+            if built.is_ok() {
+                break;
+            }
+            refusals += 1;
+            size += 16;
+            assert!(rt; size < 4096);
+        }
+        assert!(rt; refusals > 0);
+    }
+    Ok(())
+}

@@ -1,0 +1,53 @@
+//! Sets made of any number of sets.
+
+use crate::tables::{gives, set_of};
+use linked_list_allocator::LocalHeap;
+use range_set_blaze::{MultiwayRangeSetBlaze, MultiwayRangeSetBlazeRef, RangeSetBlaze};
+use std::alloc::{AllocError, Global};
+use std::test::Fail;
+
+/// Three sets.
+fn three(alloc: Global) -> Result<[RangeSetBlaze<i32>; 3], AllocError> {
+    Ok([
+        set_of(alloc, &[(1, 6), (8, 9), (11, 15)])?,
+        set_of(alloc, &[(5, 13), (18, 29)])?,
+        set_of(alloc, &[(6, 8), (12, 20)])?,
+    ])
+}
+
+#[test]
+fn sets_that_are_given_up_and_sets_that_are_lent_make_the_same(
+    rt: HostRuntime,
+) -> Result<(), Fail> {
+    let alloc = rt.alloc();
+    let some = MultiwayRangeSetBlaze::union(three(alloc)?, alloc)?;
+    let all = MultiwayRangeSetBlaze::intersection(three(alloc)?, alloc)?;
+    let odd = MultiwayRangeSetBlaze::symmetric_difference(three(alloc)?, alloc)?;
+    assert!(rt; gives(some.ranges(), &[(1, 29)]));
+    assert!(rt; gives(all.ranges(), &[(6, 6), (8, 8), (12, 13)]));
+
+    let [a, b, c] = three(alloc)?;
+    assert!(rt; some == MultiwayRangeSetBlazeRef::union([&a, &b, &c], alloc)?);
+    assert!(rt; all == MultiwayRangeSetBlazeRef::intersection([&a, &b, &c], alloc)?);
+    assert!(rt; odd == MultiwayRangeSetBlazeRef::symmetric_difference([&a, &b, &c], alloc)?);
+    assert!(rt; odd == a.bitxor(&b)?.bitxor(&c)?);
+    Ok(())
+}
+
+#[test]
+fn without_memory_no_set_is_made_of_many(rt: HostRuntime) -> Result<(), Fail> {
+    let [a, b, c] = three(rt.alloc())?;
+    let mut size = 16;
+    loop {
+        let heap = LocalHeap::new(rt.alloc(), size)?;
+        let made = MultiwayRangeSetBlazeRef::union([&a, &b, &c], &heap).map(drop);
+        assert!(rt; heap.used() == 0);
+        if made.is_ok() {
+            break;
+        }
+        size += 16;
+        assert!(rt; size < 4096);
+    }
+    assert!(rt; size > 16);
+    Ok(())
+}

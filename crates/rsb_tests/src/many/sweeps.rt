@@ -1,0 +1,42 @@
+//! Where the ranges of many streams start and end.
+
+use crate::many::forms::streams_of;
+use rsb_many::{MultiwaySweep, SweepEvent};
+use std::test::Fail;
+
+/// A range of the input starts.
+fn start(first: u8, last: u8, input: usize) -> SweepEvent<u8> {
+    SweepEvent::Start {
+        range: first..=last,
+        input,
+    }
+}
+
+/// The range of the input ends.
+fn end(at: u8, input: usize) -> SweepEvent<u8> {
+    SweepEvent::End { at, input }
+}
+
+#[test]
+fn at_one_value_starts_come_before_ends(rt: HostRuntime) -> Result<(), Fail> {
+    let streams = streams_of(rt.alloc(), &[&[(1, 5)], &[(5, 6)]])?;
+    let mut sweep = MultiwaySweep::new(rt.alloc(), streams)?;
+    let events = [start(1, 5, 0), start(5, 6, 1), end(5, 0), end(6, 1)];
+    for event in events {
+        assert!(rt; sweep.next() == Some(event));
+    }
+    assert!(rt; sweep.next().is_none() && sweep.next().is_none());
+    Ok(())
+}
+
+#[test]
+fn a_sweep_counts_its_inputs_from_first_to_last(rt: HostRuntime) -> Result<(), Fail> {
+    let streams = streams_of(rt.alloc(), &[&[(1, 2)], &[], &[(9, 9)]])?;
+    let mut sweep = MultiwaySweep::new(rt.alloc(), streams)?;
+    assert!(rt; sweep.input_count() == 3);
+    for event in [start(1, 2, 0), end(2, 0), start(9, 9, 2), end(9, 2)] {
+        assert!(rt; sweep.next() == Some(event));
+    }
+    assert!(rt; sweep.next().is_none() && sweep.input_count() == 3);
+    Ok(())
+}

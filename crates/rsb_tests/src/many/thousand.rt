@@ -1,0 +1,42 @@
+//! A thousand streams, each of one value.
+
+ghost use Rattle.std.specs.Prelude.{All, IfOk};
+
+use crate::tables::gives;
+use rsb_many::{MultiwaySortedDisjoint, MultiwaySweep, SweepEvent};
+use rsb_streams::{Draw, RangeOnce};
+use std::alloc::{AllocError, Global};
+use std::test::Fail;
+
+/// Streams of which each has its number alone.
+fn numbers(alloc: Global) -> Result<Vec<RangeOnce<i32>>, AllocError>
+    ensures { IfOk result (λ streams. All ⟦<RangeOnce<i32> as Draw<i32>>⟧.can_draw streams.items) }
+{
+    let mut streams = Vec::new(alloc);
+    for number in 0..1000i32 {
+        streams.push(RangeOnce::new(number..=number))?;
+    }
+    Ok(streams)
+}
+
+#[test]
+fn a_thousand_single_values_are_one_run(rt: HostRuntime) -> Result<(), Fail> {
+    let union = numbers(rt.alloc())?.union(rt.alloc())?;
+    let odd = numbers(rt.alloc())?.symmetric_difference(rt.alloc())?;
+    assert!(rt; gives(union, &[(0, 999)]) && gives(odd, &[(0, 999)]));
+    Ok(())
+}
+
+#[test]
+fn a_thousand_single_values_start_and_end_in_turn(rt: HostRuntime) -> Result<(), Fail> {
+    let mut sweep = MultiwaySweep::new(rt.alloc(), numbers(rt.alloc())?)?;
+    let mut value = 0i32;
+    for input in 0..1000usize {
+        let range = value..=value;
+        assert!(rt; sweep.next() == Some(SweepEvent::Start { range, input }));
+        assert!(rt; sweep.next() == Some(SweepEvent::End { at: value, input }));
+        value = value.saturating_add(1);
+    }
+    assert!(rt; sweep.next().is_none());
+    Ok(())
+}

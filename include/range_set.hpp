@@ -1,0 +1,172 @@
+// A thin C++ class over the sets of range_set.h: it owns its handle, moves, and is not copied but by clone().
+//
+// What C owes, the class sees to, but for threads: one call at a time changes a set, and none reads it meanwhile. A call
+// that memory is refused throws std::bad_alloc and leaves each set as it was.
+#ifndef RANGE_SET_HPP
+#define RANGE_SET_HPP
+
+#include "range_set.h"
+
+#include <cstdint>
+#include <new>
+#include <optional>
+#include <utility>
+
+namespace range_set {
+
+// The calls of one width, by the names of range_set.h.
+#define RANGE_SET_CALLS(number, width)                                                                                     \
+    template <> struct calls<number> {                                                                                     \
+        using handle = rsb_##width;                                                                                        \
+        using run = rsb_##width##_run;                                                                                     \
+        static constexpr auto insert_range = rsb_##width##_insert_range;                                                   \
+        static constexpr auto insert = rsb_##width##_insert;                                                               \
+        static constexpr auto remove = rsb_##width##_remove;                                                               \
+        static constexpr auto union_with = rsb_##width##_union_with;                                                       \
+        static constexpr auto clear = rsb_##width##_clear;                                                                 \
+        static constexpr auto free = rsb_##width##_free;                                                                   \
+        static constexpr auto contains = rsb_##width##_contains;                                                           \
+        static constexpr auto len = rsb_##width##_len;                                                                     \
+        static constexpr auto run_count = rsb_##width##_run_count;                                                         \
+        static constexpr auto first = rsb_##width##_first;                                                                 \
+        static constexpr auto last = rsb_##width##_last;                                                                   \
+        static constexpr auto run_or_gap = rsb_##width##_run_or_gap;                                                       \
+        static constexpr auto next_run = rsb_##width##_next_run;                                                           \
+        static constexpr auto either = rsb_##width##_union;                                                                \
+        static constexpr auto both = rsb_##width##_intersection;                                                           \
+        static constexpr auto left_alone = rsb_##width##_difference;                                                       \
+        static constexpr auto one_alone = rsb_##width##_symmetric_difference;                                              \
+        static constexpr auto complement = rsb_##width##_complement;                                                       \
+        static constexpr auto clone = rsb_##width##_clone;                                                                 \
+        static constexpr auto equal = rsb_##width##_equal;                                                                 \
+        static constexpr auto order = rsb_##width##_order;                                                                 \
+        static constexpr auto is_subset = rsb_##width##_is_subset;                                                         \
+        static constexpr auto is_disjoint = rsb_##width##_is_disjoint;                                                     \
+    }
+
+template <class Number> struct calls;
+RANGE_SET_CALLS(std::uint64_t, u64);
+RANGE_SET_CALLS(std::uint32_t, u32);
+#undef RANGE_SET_CALLS
+
+// A set of std::uint64_t or of std::uint32_t.
+template <class Number> class set {
+    using c = calls<Number>;
+
+public:
+    using run = typename c::run;
+
+    set() noexcept = default;
+    ~set() { c::free(&handle_); }
+    set(const set &) = delete;
+    set &operator=(const set &) = delete;
+    set(set &&other) noexcept : handle_(std::exchange(other.handle_, {})) {}
+
+    set &operator=(set &&other) noexcept {
+        std::swap(handle_, other.handle_);
+        return *this;
+    }
+
+    // Whether the call changed the set.
+    bool insert(Number value) { return changed(c::insert(&handle_, value)); }
+    bool insert(Number first, Number last) { return changed(c::insert_range(&handle_, first, last)); }
+    bool remove(Number value) { return changed(c::remove(&handle_, value)); }
+    void clear() noexcept { c::clear(&handle_); }
+
+    set &operator|=(const set &other) {
+        if (this != &other) {
+            changed(c::union_with(&handle_, &other.handle_));
+        }
+        return *this;
+    }
+
+    bool contains(Number value) const noexcept { return c::contains(&handle_, value); }
+    bool empty() const noexcept { return run_count() == 0; }
+    std::size_t run_count() const noexcept { return c::run_count(&handle_); }
+
+    // How many members there are: rsb_u64_count, or std::uint64_t.
+    auto len() const noexcept { return c::len(&handle_); }
+
+    std::optional<Number> first() const noexcept {
+        Number value = 0;
+        return c::first(&handle_, &value) ? std::optional<Number>(value) : std::nullopt;
+    }
+
+    std::optional<Number> last() const noexcept {
+        Number value = 0;
+        return c::last(&handle_, &value) ? std::optional<Number>(value) : std::nullopt;
+    }
+
+    // The run that has the value and true, or the gap that it lies in and false.
+    std::pair<run, bool> run_or_gap(Number value) const noexcept {
+        run block{};
+        bool member = c::run_or_gap(&handle_, value, &block);
+        return {block, member};
+    }
+
+    // Hands each run to `each`, in ascending order.
+    template <class Each> void runs(Each each) const {
+        run at{};
+        Number from = 0;
+        while (c::next_run(&handle_, from, &at)) {
+            each(static_cast<const run &>(at));
+            from = at.last + 1;
+            if (from == 0) {
+                break;
+            }
+        }
+    }
+
+    set clone() const { return made(c::clone); }
+    set operator~() const { return made(c::complement); }
+    friend set operator|(const set &left, const set &right) { return combined(c::either, left, right); }
+    friend set operator&(const set &left, const set &right) { return combined(c::both, left, right); }
+    friend set operator-(const set &left, const set &right) { return combined(c::left_alone, left, right); }
+    friend set operator^(const set &left, const set &right) { return combined(c::one_alone, left, right); }
+
+    bool is_subset(const set &other) const noexcept { return this == &other || c::is_subset(&handle_, &other.handle_); }
+
+    bool is_disjoint(const set &other) const noexcept {
+        return this == &other ? empty() : c::is_disjoint(&handle_, &other.handle_);
+    }
+
+    // Negative, 0 or positive, as the ascending lists of members compare.
+    int order(const set &other) const noexcept { return this == &other ? 0 : c::order(&handle_, &other.handle_); }
+
+    friend bool operator==(const set &left, const set &right) noexcept {
+        return &left == &right || c::equal(&left.handle_, &right.handle_);
+    }
+
+    friend bool operator!=(const set &left, const set &right) noexcept { return !(left == right); }
+    friend bool operator<(const set &left, const set &right) noexcept { return left.order(right) < 0; }
+
+private:
+    static bool changed(std::uint32_t answer) {
+        if (answer == RSB_NO_MEMORY) {
+            throw std::bad_alloc();
+        }
+        return answer == RSB_CHANGED;
+    }
+
+    template <class Call> set made(Call call) const {
+        set out;
+        changed(call(&out.handle_, &handle_));
+        return out;
+    }
+
+    // No call takes one set twice, so a set beside itself is cloned.
+    template <class Call> static set combined(Call call, const set &left, const set &right) {
+        if (&left == &right) {
+            return combined(call, left, right.clone());
+        }
+        set out;
+        changed(call(&out.handle_, &left.handle_, &right.handle_));
+        return out;
+    }
+
+    typename c::handle handle_ = RSB_EMPTY;
+};
+
+} // namespace range_set
+
+#endif
