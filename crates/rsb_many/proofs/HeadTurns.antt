@@ -294,9 +294,11 @@ module _ {T N I A : Type 0} (integer : Elements T N) (stream : Stream I T N) (m 
       -- it might have given nothing
       pub none-might : (place : ℕ) → gives_of (earlier place) []
       none-might place = gives_of-uses (earlier place)
-          (input_at integer stream (inputs_of t) place) [] (none-uses place) []
-          ([], rw (none-over place) refl,
-          sym (append-nil (held_at rank t.heads.heads place) ∙ (none-ended place).held))
+          (input_at integer stream (inputs_of t) place) [] (none-uses place) [] (
+            [],
+            rw (none-over place) refl,
+            sym (append-nil (held_at rank t.heads.heads place) ∙ (none-ended place).held),
+          )
 
     -- the inputs are ready again, and there is room for their heads
     pub none-ready : DrawnReady integer stream t

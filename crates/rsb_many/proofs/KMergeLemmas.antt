@@ -170,8 +170,7 @@ module _ {T N I A : Type 0} (integer : Elements T N) (stream : Stream I T N)
     head-less finite =
         let refilled = filled.left finite in
         let same = taken-left integer stream m filled.ready filled.none t.inputs head takes in
-        let fewer = taken-fewer integer stream m filled.ready filled.none t.inputs head takes in
-        (
+        let fewer = taken-fewer integer stream m filled.ready filled.none t.inputs head takes in (
           subst (λ each. IsFinite each) (sym same) refilled.0,
           omega (arith, refilled.1, fewer, ap (λ each. size each) same),
         )
