@@ -3,20 +3,29 @@
 ghost use Rattle.std.specs.Prelude.{All, IfOk};
 
 use crate::tables::gives;
+use rsb_integer::Integer;
 use rsb_many::{MultiwaySortedDisjoint, MultiwaySweep, SweepEvent};
 use rsb_streams::{Draw, RangeOnce};
 use std::alloc::{AllocError, Global};
 use std::test::Fail;
 
+/// Each value as a stream.
+fn singles<T: Integer>(alloc: Global, values: &[T]) -> Result<Vec<RangeOnce<T>>, AllocError>
+    ensures { IfOk result (λ streams. All ⟦<RangeOnce<T> as Draw<T>>⟧.can_draw streams.items) }
+{
+    let mut streams = Vec::new(alloc);
+    for value in values {
+        streams.push(RangeOnce::new(*value..=*value))?;
+    }
+    Ok(streams)
+}
+
 /// Streams of which each has its number alone.
 fn numbers(alloc: Global) -> Result<Vec<RangeOnce<i32>>, AllocError>
     ensures { IfOk result (λ streams. All ⟦<RangeOnce<i32> as Draw<i32>>⟧.can_draw streams.items) }
 {
-    let mut streams = Vec::new(alloc);
-    for number in 0..1000i32 {
-        streams.push(RangeOnce::new(number..=number))?;
-    }
-    Ok(streams)
+    let values = (0..1000i32).collect::<Vec<i32>>(alloc)?;
+    singles(alloc, &values)
 }
 
 #[test]
