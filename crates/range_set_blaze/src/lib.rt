@@ -16,8 +16,8 @@ pub use crate::prelude::{
     AnythingGoes, AssumeSortedStarts, CheckSortedDisjoint, Difference, Draw, DrawDisjoint,
     DynSortedDisjoint, FillGapsIter, Integer, Intersection, IntoIter, IntoRangeSetBlaze,
     IntoRangesIter, Iter, KMerge, Merge, MultiwayIntersection, MultiwayRangeSetBlaze,
-    MultiwayRangeSetBlazeRef, MultiwaySortedDisjoint, MultiwaySweep,
-    MultiwaySymmetricDifference, MultiwayUnion, NotIter, NotSortedDisjoint, RangeOnce, RangeSetBlaze, RangesIter, SafeLength, SortedDisjoint,
-    SortedStarts, SortedStartsInVec, SweepEvent, SymDiffIter, SymmetricDifference, UInt,
-    UIntPlusOne, Union, UnionIter,
+    MultiwayRangeSetBlazeRef, MultiwaySortedDisjoint, MultiwaySweep, MultiwaySymmetricDifference,
+    MultiwayUnion, NotIter, NotSortedDisjoint, RangeOnce, RangeSetBlaze, RangesIter, SafeLength,
+    SortedDisjoint, SortedStarts, SortedStartsInVec, SweepEvent, SymDiffIter, SymmetricDifference,
+    UInt, UIntPlusOne, Union, UnionIter,
 };

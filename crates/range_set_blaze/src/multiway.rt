@@ -17,12 +17,11 @@ use std::alloc::{AllocError, Allocator};
 
 /// Set algebra over any number of sets, which are given up. Without memory nothing is made, and the
 /// sets are dropped. (`MultiwayRangeSetBlaze` of the Rust crate.)
-pub trait MultiwayRangeSetBlaze<T: Integer, S: Allocator>: IntoIterator<Item = RangeSetBlaze<T, S>> {
+pub trait MultiwayRangeSetBlaze<T: Integer, S: Allocator>: IntoIterator<
+    Item = RangeSetBlaze<T, S>,
+> {
     /// What lies in some of the sets: nothing, of none. (`MultiwayRangeSetBlaze::union`.)
-    final fn union<A: Allocator + Copy>(
-        self,
-        alloc: A,
-    ) -> Result<RangeSetBlaze<T, A>, AllocError>
+    final fn union<A: Allocator + Copy>(self, alloc: A) -> Result<RangeSetBlaze<T, A>, AllocError>
     where
         Self: Sized,
         requires { IsEnding Self.into_iter_gives Self.IntoIter.can_next Self.IntoIter.remaining self }
@@ -68,18 +67,18 @@ pub trait MultiwayRangeSetBlaze<T: Integer, S: Allocator>: IntoIterator<Item = R
     }
 }
 
-impl<T: Integer, S: Allocator, K: IntoIterator<Item = RangeSetBlaze<T, S>>> MultiwayRangeSetBlaze<T, S> for K {}
+impl<T: Integer, S: Allocator, K: IntoIterator<Item = RangeSetBlaze<T, S>>> MultiwayRangeSetBlaze<
+    T,
+    S,
+> for K {}
 
 /// Set algebra over any number of sets, which stay as they are. Without memory nothing is made.
 /// (`MultiwayRangeSetBlazeRef` of the Rust crate.)
-pub trait MultiwayRangeSetBlazeRef<'a, T: Integer + 'a, S: Allocator + 'a>:
-    IntoIterator<Item = &'a RangeSetBlaze<T, S>>
-{
+pub trait MultiwayRangeSetBlazeRef<'a, T: Integer + 'a, S: Allocator + 'a>: IntoIterator<
+    Item = &'a RangeSetBlaze<T, S>,
+> {
     /// What lies in some of the sets: nothing, of none. (`MultiwayRangeSetBlazeRef::union`.)
-    final fn union<A: Allocator + Copy>(
-        self,
-        alloc: A,
-    ) -> Result<RangeSetBlaze<T, A>, AllocError>
+    final fn union<A: Allocator + Copy>(self, alloc: A) -> Result<RangeSetBlaze<T, A>, AllocError>
     where
         Self: Sized,
         requires { IsEnding Self.into_iter_gives Self.IntoIter.can_next Self.IntoIter.remaining self }
@@ -126,8 +125,12 @@ pub trait MultiwayRangeSetBlazeRef<'a, T: Integer + 'a, S: Allocator + 'a>:
     }
 }
 
-impl<'a, T: Integer + 'a, S: Allocator + 'a, K: IntoIterator<Item = &'a RangeSetBlaze<T, S>>>
-    MultiwayRangeSetBlazeRef<'a, T, S> for K {}
+impl<
+    'a,
+    T: Integer + 'a,
+    S: Allocator + 'a,
+    K: IntoIterator<Item = &'a RangeSetBlaze<T, S>>,
+> MultiwayRangeSetBlazeRef<'a, T, S> for K {}
 
 // The ranges of sets that are given up.
 fn given_up<T: Integer, S: Allocator, A: Allocator, K: IntoIterator<Item = RangeSetBlaze<T, S>>>(
@@ -155,10 +158,7 @@ fn lent_ranges<
     S: Allocator + 'a,
     A: Allocator,
     K: IntoIterator<Item = &'a RangeSetBlaze<T, S>>,
->(
-    alloc: A,
-    sets: K,
-) -> Result<Vec<RangesIter<'a, T>, A>, AllocError>
+>(alloc: A, sets: K) -> Result<Vec<RangesIter<'a, T>, A>, AllocError>
     requires { IsEnding K.into_iter_gives K.IntoIter.can_next K.IntoIter.remaining sets }
     ensures ready { IfOk result (λ streams.
         All ⟦<RangesIter<'a, T> as Draw<T>>⟧.can_draw streams.items) }

@@ -4,6 +4,7 @@ mod any_types;
 mod forms;
 mod lookahead;
 mod merges;
+mod nested;
 mod refusals;
 mod sets;
 mod sweeps;

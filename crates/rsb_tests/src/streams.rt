@@ -7,7 +7,7 @@ mod deep_five_operations;
 mod deep_nests;
 pub(crate) mod fill_gaps;
 mod known_streams;
-mod listed;
+pub(crate) mod listed;
 mod lists;
 mod lookahead;
 mod merge;

@@ -10,7 +10,7 @@ use std::alloc::{AllocError, Global};
 use std::test::Fail;
 
 /// The ends of ranges.
-type Ranges = &'static [(u8, u8)];
+pub(crate) type Ranges = &'static [(u8, u8)];
 
 /// The streams of tables.
 pub(crate) fn streams_of(

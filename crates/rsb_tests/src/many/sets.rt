@@ -6,13 +6,14 @@ use range_set_blaze::{MultiwayRangeSetBlaze, MultiwayRangeSetBlazeRef, RangeSetB
 use std::alloc::{AllocError, Global};
 use std::test::Fail;
 
-/// Three sets.
+/// The runs of three sets.
+const ONE: &[(i32, i32)] = &[(1, 6), (8, 9), (11, 15)];
+const OTHER: &[(i32, i32)] = &[(5, 13), (18, 29)];
+const THIRD: &[(i32, i32)] = &[(6, 8), (12, 20)];
+
+/// The three sets.
 fn three(alloc: Global) -> Result<[RangeSetBlaze<i32>; 3], AllocError> {
-    Ok([
-        set_of(alloc, &[(1, 6), (8, 9), (11, 15)])?,
-        set_of(alloc, &[(5, 13), (18, 29)])?,
-        set_of(alloc, &[(6, 8), (12, 20)])?,
-    ])
+    Ok([set_of(alloc, ONE)?, set_of(alloc, OTHER)?, set_of(alloc, THIRD)?])
 }
 
 #[test]
@@ -26,7 +27,9 @@ fn sets_that_are_given_up_and_sets_that_are_lent_make_the_same(
     assert!(rt; gives(some.ranges(), &[(1, 29)]));
     assert!(rt; gives(all.ranges(), &[(6, 6), (8, 8), (12, 13)]));
 
-    let [a, b, c] = three(alloc)?;
+    let a = set_of(alloc, ONE)?;
+    let b = set_of(alloc, OTHER)?;
+    let c = set_of(alloc, THIRD)?;
     assert!(rt; some == MultiwayRangeSetBlazeRef::union([&a, &b, &c], alloc)?);
     assert!(rt; all == MultiwayRangeSetBlazeRef::intersection([&a, &b, &c], alloc)?);
     assert!(rt; odd == MultiwayRangeSetBlazeRef::symmetric_difference([&a, &b, &c], alloc)?);
@@ -36,11 +39,12 @@ fn sets_that_are_given_up_and_sets_that_are_lent_make_the_same(
 
 #[test]
 fn without_memory_no_set_is_made_of_many(rt: HostRuntime) -> Result<(), Fail> {
-    let [a, b, c] = three(rt.alloc())?;
+    let a = set_of(rt.alloc(), ONE)?;
+    let b = set_of(rt.alloc(), OTHER)?;
     let mut size = 16;
     loop {
         let heap = LocalHeap::new(rt.alloc(), size)?;
-        let made = MultiwayRangeSetBlazeRef::union([&a, &b, &c], &heap).map(drop);
+        let made = MultiwayRangeSetBlazeRef::union([&a, &b], &heap).map(drop);
         assert!(rt; heap.used() == 0);
         if made.is_ok() {
             break;

@@ -1,6 +1,6 @@
 //! Where the ranges of many streams start and end.
 
-use crate::many::forms::streams_of;
+use crate::many::forms::{Ranges, streams_of};
 use rsb_many::{MultiwaySweep, SweepEvent};
 use std::test::Fail;
 
@@ -31,8 +31,8 @@ fn at_one_value_starts_come_before_ends(rt: HostRuntime) -> Result<(), Fail> {
 
 #[test]
 fn a_sweep_counts_its_inputs_from_first_to_last(rt: HostRuntime) -> Result<(), Fail> {
-    let streams = streams_of(rt.alloc(), &[&[(1, 2)], &[], &[(9, 9)]])?;
-    let mut sweep = MultiwaySweep::new(rt.alloc(), streams)?;
+    let tables: [Ranges; 3] = [&[(1, 2)], &[], &[(9, 9)]];
+    let mut sweep = MultiwaySweep::new(rt.alloc(), streams_of(rt.alloc(), &tables)?)?;
     assert!(rt; sweep.input_count() == 3);
     for event in [start(1, 2, 0), end(2, 0), start(9, 9, 2), end(9, 2)] {
         assert!(rt; sweep.next() == Some(event));

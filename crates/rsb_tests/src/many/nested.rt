@@ -1,0 +1,75 @@
+//! Operations on many streams in and over those on one and on two, at every element type.
+
+ghost use Rattle.std.specs.Prelude.{length, All, IfOk};
+ghost use Rattle.rsb_integer.specs.Selection.{any_of, complement};
+ghost use Rattle.rsb_many.specs.Many.{may_give_at, runs_by_all};
+ghost use Rattle.rsb_streams.specs.Stream.{◌⊆◌, runs_by};
+
+use crate::many::forms::{Ranges, streams_of};
+use crate::streams::listed::{Listed, stream_of};
+use crate::tables::gives;
+use rsb_integer::Integer;
+use rsb_many::{MultiwayIntersection, MultiwaySortedDisjoint, MultiwayUnion};
+use rsb_streams::{Difference, Draw, DrawDisjoint, NotIter, SymmetricDifference};
+use std::alloc::{AllocError, Allocator, Global};
+use std::test::Fail;
+
+/// What lies in none of the streams of a list.
+fn none_of<T: Integer, I: DrawDisjoint<T>, A: Allocator + Copy>(
+    alloc: A,
+    streams: Vec<I, A>,
+) -> Result<NotIter<T, MultiwayUnion<T, I, A>>, AllocError>
+    requires { All I.can_draw streams.items }
+    ensures ready { IfOk result ⟦<NotIter<T, MultiwayUnion<T, I, A>> as Draw<T>>⟧.can_draw }
+    ensures gives { IfOk result (λ none. ⟦<NotIter<T, MultiwayUnion<T, I, A>> as Draw<T>>⟧.may_give none
+        ⊆ runs_by T.value_count complement (runs_by_all T.value_count any_of (length streams.items)
+        (may_give_at I.may_give streams.items))) }
+{
+    let union = streams.union(alloc)?;
+    Ok(union.complement())
+}
+
+/// What lies in some and not in all of the streams of two lists, or in another stream, and not in
+/// both.
+fn some_not_all_or<T: Integer, I: DrawDisjoint<T>, A: Allocator + Copy>(
+    alloc: A,
+    some: Vec<I, A>,
+    all: Vec<I, A>,
+    other: I,
+) -> Result<
+    SymmetricDifference<T, Difference<T, MultiwayUnion<T, I, A>, MultiwayIntersection<T, I, A>>, I>,
+    AllocError,
+>
+    requires some { All I.can_draw some.items }
+    requires all { All I.can_draw all.items }
+    requires other { I.can_draw other }
+    ensures { IfOk result ⟦<SymmetricDifference<T, Difference<T, MultiwayUnion<T, I, A>, MultiwayIntersection<T, I, A>>, I> as Draw<T>>⟧.can_draw }
+{
+    let union = some.union(alloc)?;
+    let intersection = all.intersection(alloc)?;
+    Ok((union - intersection) ^ other)
+}
+
+/// The complements of the streams of tables.
+fn gaps_of(alloc: Global, tables: &[Ranges]) -> Result<Vec<NotIter<u8, Listed<'static>>>, AllocError>
+    ensures { IfOk result (λ gaps. All ⟦<NotIter<u8, Listed<'static>> as Draw<u8>>⟧.can_draw gaps.items) }
+{
+    let mut gaps = Vec::new(alloc);
+    for table in tables {
+        gaps.push(stream_of(table).complement())?;
+    }
+    Ok(gaps)
+}
+
+#[test]
+fn what_lies_in_none_of_the_complements_lies_in_all(rt: HostRuntime) -> Result<(), Fail> {
+    let tables: [Ranges; 3] = [&[(0, 9), (20, 255)], &[(5, 30)], &[(7, 8), (25, 255)]];
+    let all = none_of(rt.alloc(), gaps_of(rt.alloc(), &tables)?)?;
+    assert!(rt; gives(all, &[(7, 8), (25, 30)]));
+
+    let some = streams_of(rt.alloc(), &tables)?;
+    let each = streams_of(rt.alloc(), &tables)?;
+    let mixed = some_not_all_or(rt.alloc(), some, each, stream_of(&[(10, 12)]))?;
+    assert!(rt; gives(mixed, &[(0, 6), (9, 9), (13, 24), (31, 255)]));
+    Ok(())
+}
