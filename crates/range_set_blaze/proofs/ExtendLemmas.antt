@@ -1,7 +1,6 @@
 -- Ranges and values that are added one after the other.
 use Rattle.std.proofs.Common.{◌≡◌, ◌↔◌, ℕ, Bool, true, false, ◌&&◌, ◌||◌, nat_le, nat_lt, ◌+◌, List, [], ◌∷◌, ◌++◌, append-nil, refl, sym, ◌∙◌, ap, subst, inl, inr, arith}
 use Rattle.std.proofs.Math.Bool.{or-false, or_assoc, or_comm}
-use Rattle.std.proofs.iter.runs.Made.{run, to_end}
 use Rattle.std.proofs.lemmas.Bool.{cases_lt}
 use Rattle.std.proofs.lemmas.Bool.Decides.{nat_tests}
 use Rattle.std.proofs.lemmas.List.{map-append}
@@ -14,7 +13,6 @@ use Rattle.rsb_integer.specs.Runs.{Interval, covers, members, IsNonEmpty}
 use Rattle.rsb_integer.specs.Selection.{Selection}
 use Rattle.rsb_integer.proofs.MembersLemmas.{covers-outside, members-append, members-cons}
 use Rattle.rsb_integer.proofs.RangeLemmas.{interval_of-some}
-use Rattle.rsb_streams.specs.Items.{GaveAll, GaveRun}
 use Rattle.range_set_blaze.specs.Algebra.{ranks_of, AddsFrontOf, AddsItems, AddsValues}
 use Rattle.range_set_blaze.specs.Set.{only, Adds}
 use Rattle.range_set_blaze.proofs.KeptLemmas.{le-fails}
@@ -161,26 +159,6 @@ module _ {T E : Type 0} (rank : T → ℕ) (given : List (RangeInclusive T)) (ru
     };
     adds = extends.3.adds;
   }
-
--- ---- what was given is a run of calls
-
-module _ {J I X : Type 0} (becomes : J → I → Type 0) (steps : I → Option X → I → Type 0)
-    (value : J) where
-  -- items that came up to `None` are a whole run
-  pub ended-run : (Fact : List X → Type 0) (iter last next : I) (items : List X)
-      → becomes value iter → Yields steps iter items last → steps last None next → Fact items
-      → GaveRun becomes steps value Fact
-  ended-run Fact iter last next items is came ended fact = (
-    iter,
-    is,
-    (run steps iter items true (to_end steps iter items (next, (last, came, ended))), refl, refl, fact),
-  )
-
-  -- so are all items that a value gave
-  pub gave-run : (Fact : List X → Type 0) → GaveAll becomes steps value Fact
-      → GaveRun becomes steps value Fact
-  gave-run Fact gave = ended-run Fact gave.0 gave.3.1.0 gave.3.0 gave.1 gave.2 gave.3.1.1 gave.3.1.2
-      gave.4
 
 -- a fact that holds stands after a refusal too
 pub on_err-holds : {T E P : Type 0} (result : Result T E) → P → OnErr result P

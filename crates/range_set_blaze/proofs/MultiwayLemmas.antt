@@ -9,33 +9,26 @@ use Rattle.rsb_integer.specs.Runs.{Interval, members}
 use Rattle.rsb_integer.specs.Selection.{Selection}
 use Rattle.rsb_integer.proofs.RunsLemmas.{runs-members}
 use Rattle.rsb_streams.specs.Stream.{◌⊆◌, just, Outcomes}
-use Rattle.rsb_streams.proofs.CallerLemmas.{settled-same}
-use Rattle.rsb_many.specs.Many.{may_give_at, runs_by_all, OneOfEach}
+use Rattle.rsb_many.specs.Many.{may_give_at, runs_by_all}
+use Rattle.rsb_many.proofs.ManyCallers.{runs_by_all-these, GiveThese}
 use Rattle.range_set_blaze.specs.Multiway.{IsMadeOf}
 
 module _ {S : Type 0} (may_give : S → Outcomes) (runs_of : S → List Interval)
     (known : (s : S) → may_give s ⊆ just (runs_of s)) where
-  -- lists that streams of known lists give are these lists
-  one_of_each-known : (streams : List S) (lists : List (List Interval))
-      → OneOfEach (length streams) (may_give_at may_give streams) lists → lists ≡ map runs_of streams
-  one_of_each-known [] [] each = refl
-  one_of_each-known [] (runs ∷ lists) each = absurd each
-  one_of_each-known (s ∷ streams) [] each = absurd each
-  one_of_each-known (s ∷ streams) (runs ∷ lists) each =
-      ap (λ first. first ∷ lists) (known s runs each.0)
-      ∙ ap (λ others. runs_of s ∷ others) (one_of_each-known streams lists each.1)
+  -- so many streams give these lists
+  give-these : (streams : List S) → GiveThese may_give streams (map runs_of streams)
+  give-these [] = tt
+  give-these (s ∷ streams) = (known s, give-these streams)
 
-  -- so the set of an operation on them is made of these lists
+  -- and the set of an operation on them is made of these
   pub known-made : (n : ℕ) (operation : List Selection → Selection) (streams : List S)
       (sets : List (List Interval)) (set : List Interval) → map runs_of streams ≡ sets
       → runs_by_all n operation (length streams) (may_give_at may_give streams) set
       → IsMadeOf n operation sets set
-  known-made n operation streams sets set same may rank below =
-      settled-same (members set rank) (operation (map members sets) rank) (λ fails.
-      may (λ lists each all. fails
-      (runs-members n (operation (map members lists)) set all rank below
-      ∙ ap (λ these. operation (map members these) rank)
-      (one_of_each-known streams lists each ∙ same))))
+  known-made n operation streams sets set same may =
+      runs-members n (operation (map members sets)) set
+      (runs_by_all-these n operation may_give streams sets
+      (subst (GiveThese may_give streams) same (give-these streams)) set may)
 
 -- with the runs of one set more, streams have the runs of one set more
 pub map-more : {X Y : Type 0} (f : X → Y) (values : List X) (value : X) (results : List Y) (result : Y)

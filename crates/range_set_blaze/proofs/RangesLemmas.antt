@@ -6,7 +6,7 @@ use Rattle.std.specs.Iterator.{MakesProgress, item_count}
 use Rattle.std.specs.declared.ops.RangeInclusive.{RangeInclusive}
 use Rattle.rsb_integer.specs.Rank.{interval_of, intervals_of}
 use Rattle.rsb_integer.specs.Runs.{IsCanonicalIn}
-use Rattle.rsb_integer.proofs.CanonicalLemmas.{canonical-front, canonical-tail}
+use Rattle.rsb_integer.proofs.CanonicalLemmas.{canonical-front}
 use Rattle.range_set_blaze.specs.Kept.{range_of, ranges_of, runs_of}
 
 module _ {T : Type 0} (rank : T → ℕ) where
@@ -14,21 +14,6 @@ module _ {T : Type 0} (rank : T → ℕ) where
   pub intervals_of-ranges : (runs : List (T × T)) → intervals_of rank (ranges_of runs)
       ≡ runs_of rank runs
   intervals_of-ranges = map-map (interval_of rank) range_of
-
-  -- a call that takes the first of canonical ranges makes progress
-  pub canonical-goes : (n : ℕ) (before after : List (RangeInclusive T))
-      (first item : RangeInclusive T)
-      → before ≡ first ∷ after → IsCanonicalIn n (intervals_of rank before)
-      → MakesProgress (λ ranges. IsCanonicalIn n (intervals_of rank ranges))
-      (item_count (λ (ranges : List (RangeInclusive T)). ranges)) before (Some item) after
-  canonical-goes n before after first item is canonical =
-      let rest = canonical-tail n (interval_of rank first) (intervals_of rank after)
-      (subst (λ ranges. IsCanonicalIn n (intervals_of rank ranges)) is canonical) in
-      record {
-        on = λ finite. (rest, tt, rw is (omega arith));
-        keeps = rest;
-        rests = λ finite. tt;
-      }
 
   -- what is left when the last of canonical ranges is taken is canonical
   pub canonical-others : (n : ℕ) (ranges : List (RangeInclusive T)) (range : RangeInclusive T)

@@ -34,7 +34,7 @@ joined-merges_all n count may_give runs may = λ nothing. may (λ given at all.
 -- ---- less given gives less
 
 -- lists that may be given where more may be given
-of_each-wider : (count : ℕ) (less more : ℕ → Outcomes)
+pub of_each-wider : (count : ℕ) (less more : ℕ → Outcomes)
     → ((place : ℕ) → place < count → less place ⊆ more place) → (lists : List (List Interval))
     → OneOfEach count less lists → OneOfEach count more lists
 of_each-wider zero less more wider [] each = tt

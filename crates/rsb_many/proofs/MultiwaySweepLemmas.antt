@@ -30,7 +30,8 @@ use Rattle.rsb_many.specs.declared.sweep_event.SweepEvent.TheVariants as events
 use Rattle.rsb_many.proofs.BegunHeads.{events-came, has_begun-came, has_begun-nothing, has_begun-only, has_begun-other, has_begun-permutation, has_begun-unstarted, held-not_before, key-started, key-unstarted}
 use Rattle.rsb_many.proofs.HeadTurns.{back-due, back-held, back-left, back-long, back-many, back-ready, back-uses, few-compared, none-ends, none-long, none-might, none-nothing, none-ready, taken-dues, taken-gives, taken-held, taken-left, taken-less, taken-long, taken-none, taken-others, taken-ready, taken-spares}
 use Rattle.rsb_many.proofs.InputsLemmas.{gives_of-uses}
-use Rattle.rsb_many.proofs.RestsLemmas.{events-end_only, events-may_end, events-told, has_events, not_before-nothing, one_of_each-wider, rests_by-none}
+use Rattle.rsb_many.proofs.ManyLemmas.{of_each-wider}
+use Rattle.rsb_many.proofs.RestsLemmas.{events-end_only, events-may_end, events-told, has_events, not_before-nothing, rests_by-none}
 use Rattle.rsb_many.proofs.StepLemmas.{IsNotBefore}
 use Rattle.rsb_many.proofs.SweepLemmas.{events-from_rests, touching-canonical, touching-lower}
 
@@ -102,9 +103,10 @@ module _ {T N I A : Type 0} (integer : Elements T N) (stream : Stream I T N)
     gives = λ events may nothing. may (λ lists each given.
         nothing lists
         (subst (λ count. OneOfEach count (may_give_at stream.may_give streams) lists) begun.count
-        (one_of_each-wider (stream_count s) (may_give_at stream.may_give streams)
-        (λ place. gives_of (sweep_inputs integer stream s place)) lists
-        (λ place less. (begun.begun place).gives) each))
+        (of_each-wider (stream_count s)
+        (λ place. gives_of (sweep_inputs integer stream s place))
+        (may_give_at stream.may_give streams)
+        (λ place less. (begun.begun place).gives) lists each))
         (events-from_rests lists events
         (subst (λ rests. AreEventsOf rests events)
         (rests_by-none (has_begun s.inputs.heads.heads) lists

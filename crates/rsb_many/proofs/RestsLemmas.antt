@@ -9,6 +9,7 @@ use Rattle.rsb_streams.specs.Stream.{◌⊆◌, just, HasOutcome, Outcomes}
 use Rattle.rsb_many.specs.Many.{OneOfEach, SomeOfEach}
 use Rattle.rsb_many.specs.MultiwaySweep.{HasEvents}
 use Rattle.rsb_many.specs.Sweep.{events_of_rest, not_begun, nothing_left, rest_by, rest_events_from, rests_by, AreEventsOf, Event, IsTouching, IsTouchingRest, Rest}
+use Rattle.rsb_many.proofs.ManyLemmas.{of_each-wider}
 use Rattle.rsb_many.proofs.StepLemmas.{events-next, events-none, nothing-left, IsNotBefore}
 use Rattle.rsb_many.proofs.SweepLemmas.{rests-some}
 
@@ -62,15 +63,6 @@ one_of_each-set count before now lists place runs each less here elsewhere =
           (elsewhere other within differs (get_or lists other [])
           (one_of_each-at count now lists other each within))
     ])
-
--- each list is one that may be given there too
-pub one_of_each-wider : (count : ℕ) (before now : ℕ → Outcomes) (lists : List (List Interval))
-    → ((place : ℕ) → place < count → now place ⊆ before place) → OneOfEach count now lists
-    → OneOfEach count before lists
-one_of_each-wider count before now lists wider each =
-    one_of_each-from count before lists (one_of_each-long count now lists each)
-    (λ place less. wider place less (get_or lists place [])
-    (one_of_each-at count now lists place each less))
 
 -- what holds of what may be given at each place holds of each list
 pub one_of_each-all : (count : ℕ) (may_give : ℕ → Outcomes) (Fact : List Interval → Type 0)
@@ -215,8 +207,8 @@ pub events-may_end : (count : ℕ) (may_give : ℕ → Outcomes) (begun : ℕ �
 events-may_end count may_give begun ends = λ nothing.
     one_of_each-some count (λ place. just []) (λ place less never. never [] refl)
     (λ lists each. nothing lists
-    (one_of_each-wider count may_give (λ place. just []) lists
-    (λ place less runs is. subst (may_give place) (sym is) (ends place less)) each)
+    (of_each-wider count (λ place. just []) may_give
+    (λ place less runs is. subst (may_give place) (sym is) (ends place less)) lists each)
     (events-none (rests_by begun lists)
     (rests-nothing count (λ place. just []) begun lists (λ place less runs is. is) each)))
 

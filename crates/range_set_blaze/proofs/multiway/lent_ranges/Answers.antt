@@ -28,9 +28,8 @@ loop-set-preserved g c =
 -- they are those of all sets that were lent
 pub returns-clause-kept : goal.returns-clause-kept
 returns-clause-kept g c = ended-run g.K.IntoIterator.into_iter_gives g.K.IntoIter.Iterator.next_gives
-    c.args.sets c.into_iter-set-iterator.result
-    c.into_iter-set-iterator.ensures.into_iter_gives
-    (λ items. map (intervals_of g.T.Integer.rank) c.loop-set.streams.items
-    ≡ map (λ lent. lent.now) items)
-    c.loop-set.yielded c.loop-set.set-iterator c.next.new.self c.loop-set.yielded_by
-    c.in-None.ensures.steps c.loop-set.invariant.kept
+    c.args.sets
+    (λ items. map (intervals_of g.T.Integer.rank) c.loop-set.streams.items ≡ map (λ lent. lent.now) items)
+    c.into_iter-set-iterator.result c.loop-set.set-iterator c.next.new.self c.loop-set.yielded
+    c.into_iter-set-iterator.ensures.into_iter_gives c.loop-set.yielded_by c.in-None.ensures.steps
+    c.loop-set.invariant.kept

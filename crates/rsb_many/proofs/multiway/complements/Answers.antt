@@ -24,8 +24,7 @@ loop-stream-preserved g c =
 -- they are those of what was handed in
 pub returns-clause-made : goal.returns-clause-made
 returns-clause-made g c = ended-run g.K.IntoIterator.into_iter_gives g.K.IntoIter.Iterator.next_gives
-    c.args.streams c.into_iter-stream-iterator.result
-    c.into_iter-stream-iterator.ensures.into_iter_gives
-    (λ items. AreComplements g.T.Integer g.I.Draw items c.loop-stream.gaps.items)
-    c.loop-stream.yielded c.loop-stream.stream-iterator c.next.new.self c.loop-stream.yielded_by
-    c.in-None.ensures.steps c.loop-stream.invariant.made
+    c.args.streams (λ items. AreComplements g.T.Integer g.I.Draw items c.loop-stream.gaps.items)
+    c.into_iter-stream-iterator.result c.loop-stream.stream-iterator c.next.new.self
+    c.loop-stream.yielded c.into_iter-stream-iterator.ensures.into_iter_gives
+    c.loop-stream.yielded_by c.in-None.ensures.steps c.loop-stream.invariant.made

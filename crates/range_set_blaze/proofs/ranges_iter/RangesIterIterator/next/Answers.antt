@@ -1,6 +1,6 @@
 use Rattle.std.proofs.Common.{◌∙◌, ap, sym}
 use Rattle.range_set_blaze.specs.Kept.{range_of, ranges_of}
-use Rattle.range_set_blaze.proofs.RangesLemmas.{canonical-goes}
+use Rattle.rsb_many.proofs.ListedLemmas.{canonical-goes}
 use Rattle.range_set_blaze.proofs.ranges_iter.RangesIterIterator.next.Goals as goal
 
 -- what is left of canonical ranges is canonical

@@ -5,7 +5,7 @@ use Rattle.rsb_integer.specs.Rank.{intervals_of}
 use Rattle.rsb_integer.specs.Runs.{members}
 use Rattle.range_set_blaze.specs.Algebra.{ranks_of}
 use Rattle.range_set_blaze.specs.Set.{IsSetOf}
-use Rattle.range_set_blaze.proofs.ExtendLemmas.{gave-run}
+use Rattle.rsb_many.proofs.HandedInLemmas.{gave-run}
 use Rattle.range_set_blaze.proofs.SinglesLemmas.{members-singles, singles-drain}
 use Rattle.range_set_blaze.proofs.set.RangeSetBlaze.from_iter_values.Goals as goal
 

@@ -10,7 +10,7 @@ over-requires g c =
     let ran = c.in_ok-streams.ensures.ran in
     subst (All g.I.Draw.can_draw) (sym ran.4.0)
     (collected-each g.K.IntoIterator.into_iter_gives g.K.IntoIter.Iterator.next_gives c.args.inputs
-    ran.0 ran.2 ran.1 ran.3 (All g.I.Draw.can_draw) c.requires.can)
+    ran.0 ran.1 ran.2 ran.3 (All g.I.Draw.can_draw) c.requires.can)
 
 -- the merge is of what was handed in
 pub returns : goal.returns
@@ -20,7 +20,7 @@ returns g c =
       ready = c.over.ensures.ready;
       made = IfOk-weaker c.over.result _ _ (λ merge made.
           collected-run g.K.IntoIterator.into_iter_gives g.K.IntoIter.Iterator.next_gives
-          c.args.inputs ran.0 ran.2 ran.1 ran.3
+          c.args.inputs ran.0 ran.1 ran.2 ran.3
           (λ streams. MakesKMerge g.T.Integer g.I.Draw streams merge)
           (subst (λ streams. MakesKMerge g.T.Integer g.I.Draw streams merge) ran.4.0 made))
           c.over.ensures.made;
