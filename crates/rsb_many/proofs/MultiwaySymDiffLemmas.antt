@@ -5,17 +5,17 @@ use Rattle.std.specs.Prelude.{MatchBool, MatchOption}
 use Rattle.std.specs.declared.ops.RangeInclusive.{RangeInclusive}
 use Rattle.rsb_integer.specs.declared.integer.Integer.{Ghosts as Elements}
 use Rattle.rsb_streams.specs.Fused.{fused, Fused}
-use Rattle.rsb_streams.specs.Lookahead.{undrawn, Input}
+use Rattle.rsb_streams.specs.Lookahead.{Input}
 use Rattle.rsb_streams.specs.PutBack.{fused_of, IsFresh}
-use Rattle.rsb_streams.specs.Stream.{◌⊆◌, joined, just}
+use Rattle.rsb_streams.specs.Stream.{◌⊆◌, joined}
 use Rattle.rsb_streams.specs.UnionIter.{unless_ended}
 use Rattle.rsb_streams.specs.declared.draw.Draw.{Ghosts as Stream}
 use Rattle.rsb_streams.specs.declared.union_iter.UnionIter.{UnionIter}
 use Rattle.rsb_many.specs.Many.{may_give_at, HoldOneAtMost, IsBegun}
 use Rattle.rsb_many.specs.MultiwayResults.{MakesMultiwaySymmetricDifference}
 use Rattle.rsb_many.specs.MultiwaySweep.{sweep_inputs, sweep_may_give, SweepsOver}
-use Rattle.rsb_many.specs.MultiwaySymmetricDifference.{joined_pieces, multiway_symmetric_difference, odd_inputs, OddReady}
-use Rattle.rsb_many.specs.SweepPieces.{pieces_inputs, pieces_may_give, sweep_pieces, PassesSome, TellsPieces}
+use Rattle.rsb_many.specs.MultiwaySymmetricDifference.{joined_pieces, multiway_symmetric_difference, odd_inputs, odd_telling, OddReady}
+use Rattle.rsb_many.specs.SweepPieces.{pieces_inputs, pieces_may_give, sweep_pieces, told_all, PassesSome, Telling, TellsPieces}
 use Rattle.rsb_many.specs.declared.multiway_sweep.MultiwaySweep.{MultiwaySweep}
 use Rattle.rsb_many.specs.declared.multiway_sym_diff_set.MultiwaySymmetricDifference.{MultiwaySymmetricDifference}
 use Rattle.rsb_many.specs.declared.sweep_pieces.SweepPieces.{SweepPieces}
@@ -27,22 +27,28 @@ module _ {T N I A : Type 0} (integer : Elements T N) (stream : Stream I T N) whe
 
   -- ---- one answer
 
-  -- the inputs of the pieces, and nothing once those have ended
-  abbrev inputs_now : Fused (SweepPieces T I A N) → ℕ → Input
-  inputs_now s place = unless_ended s.done (pieces_inputs integer stream s.iter place)
+  -- the inputs of the pieces and the events that may come, and nothing once those have ended
+  abbrev telling_by : Bool → SweepPieces T I A N → Telling
+  telling_by done s = record {
+    inputs = λ place. unless_ended done (pieces_inputs integer stream s place);
+    events = λ events. MatchBool done (events ≡ [])
+        (sweep_may_give integer stream s.sweep events);
+  }
+
+  -- those of pieces that may have ended
+  abbrev telling_now : Fused (SweepPieces T I A N) → Telling
+  telling_now s = telling_by s.done s.iter
 
   -- a draw passes some events, by whether the pieces had ended, and have now
   passes-by : (done after : Bool) (s t : SweepPieces T I A N) (item : Option (RangeInclusive T))
       → MatchBool done (item ≡ None)
       ((sweep_pieces {A = A} integer stream).draw_gives s item t)
       → MatchOption item (after ≡ true) (λ _. after ≡ false)
-      → PassesSome (λ place. unless_ended done (pieces_inputs integer stream s place))
-      (λ place. unless_ended after (pieces_inputs integer stream t place))
-  passes-by true true s t None call over =
-      passes-none (λ place. undrawn (just [])) (λ place. omega arith)
+      → PassesSome (telling_by done s) (telling_by after t)
+  passes-by true true s t None call over = passes-none told_all (λ place. omega arith)
   passes-by true false s t None call over = absurd (cc)
   passes-by true after s t (Some range) call over = absurd (cc)
-  passes-by false true s t None call over = call.asks.passed
+  passes-by false true s t None call over = call.asks.passes
   passes-by false false s t None call over = absurd (cc)
   passes-by false true s t (Some range) call over = absurd (cc)
   passes-by false false s t (Some range) call over = call.asks
@@ -50,35 +56,36 @@ module _ {T N I A : Type 0} (integer : Elements T N) (stream : Stream I T N) whe
   -- a draw passes some events
   passes-call : (s t : Fused (SweepPieces T I A N)) (item : Option (RangeInclusive T))
       → (fused (sweep_pieces {A = A} integer stream)).draw_gives s item t
-      → PassesSome (inputs_now s) (inputs_now t)
+      → PassesSome (telling_now s) (telling_now t)
   passes-call s t item call = passes-by s.done t.done s.iter t.iter item call.0 call.1
 
   -- so do several
   passes-yields : (s : Fused (SweepPieces T I A N)) (ranges : List (RangeInclusive T))
-      (t : Fused (SweepPieces T I A N)) → HoldOneAtMost (inputs_now s)
+      (t : Fused (SweepPieces T I A N)) → HoldOneAtMost (telling_now s).inputs
       → Yields (fused (sweep_pieces {A = A} integer stream)).draw_gives s ranges t
-      → PassesSome (inputs_now s) (inputs_now t)
+      → PassesSome (telling_now s) (telling_now t)
   passes-yields s [] t holds same =
-      subst (λ each. PassesSome (inputs_now s) (inputs_now each)) same
-      (passes-none (inputs_now s) holds)
+      subst (λ each. PassesSome (telling_now s) (telling_now each)) same
+      (passes-none (telling_now s) holds)
   passes-yields s (range ∷ ranges) t holds draws =
       let first = passes-call s draws.0 (Some range) draws.1 in
-      passes-then (inputs_now s) (inputs_now draws.0) (inputs_now t) first
+      passes-then (telling_now s) (telling_now draws.0) (telling_now t) first
       (passes-yields draws.0 ranges t first.holds draws.2)
 
   module _ (s t : MultiwaySymmetricDifference T I A N) (ready : OddReady integer stream s) where
     -- an answer passes some events
     odd-passes : (item : Option (RangeInclusive T))
         → (joined_pieces {A = A} integer stream).draw_gives s.iter item t.iter
-        → PassesSome (odd_inputs integer stream s) (odd_inputs integer stream t)
+        → PassesSome (odd_telling integer stream s) (odd_telling integer stream t)
     odd-passes None call =
         passes-call (fused_of s.iter.iter) (fused_of t.iter.iter) None call.asks.draw
     odd-passes (Some range) call =
         let draws = call.asks.draws in
         let first = passes-yields (fused_of s.iter.iter) call.asks.drawn draws.0 ready.holds draws.1
         in
-        passes-then (odd_inputs integer stream s) (inputs_now draws.0) (odd_inputs integer stream t)
-        first (passes-call draws.0 (fused_of t.iter.iter) t.iter.iter.held draws.2)
+        passes-then (odd_telling integer stream s) (telling_now draws.0)
+        (odd_telling integer stream t) first
+        (passes-call draws.0 (fused_of t.iter.iter) t.iter.iter.held draws.2)
 
     -- all that is known of an answer
     pub odd-known : (item : Option (RangeInclusive T))

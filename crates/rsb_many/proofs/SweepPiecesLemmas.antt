@@ -1,5 +1,5 @@
 -- The pieces of a sweep, event by event.
-use Rattle.std.proofs.Common.{◌≡◌, inl, inr, ℕ, ◌<◌, ◌≤◌, nat_eq, List, [], ◌∷◌, ◌++◌, map, refl, sym, ap, subst, ◌∙◌, arith, Option, Some, None}
+use Rattle.std.proofs.Common.{◌≡◌, inl, inr, ℕ, ◌<◌, ◌≤◌, nat_eq, List, [], ◌∷◌, ◌++◌, map, append_assoc, refl, sym, ap, subst, ◌∙◌, arith, Option, Some, None}
 use Rattle.std.proofs.lemmas.Bool.{cases_eq}
 use Rattle.std.proofs.lemmas.List.{append-nil, map-append}
 use Rattle.std.specs.Iterator.{size, MakesProgress}
@@ -19,7 +19,7 @@ use Rattle.rsb_streams.proofs.OddLemmas.{no-pieces, only-none}
 use Rattle.rsb_many.specs.Many.{HoldOneAtMost}
 use Rattle.rsb_many.specs.MultiwaySweep.{events_left, sweep_may_give, AsksAt, SweepReady, Sweeps}
 use Rattle.rsb_many.specs.Sweep.{event_of, End, Event, Start}
-use Rattle.rsb_many.specs.SweepPieces.{edge_of, edges_of, ends_at, odd_past, pieces_inputs, pieces_may_give, sweep_pieces, IsEventIn, IsWhole, PassesAll, PassesEdge, PassesSome, TellsPieces, UsesTo}
+use Rattle.rsb_many.specs.SweepPieces.{edge_of, edges_of, ends_at, odd_past, pieces_may_give, pieces_telling, sweep_pieces, IsEventIn, IsWhole, PassesAll, PassesEdge, PassesSome, Telling, TellsPieces, UsesTo}
 use Rattle.rsb_many.specs.declared.multiway_sweep.MultiwaySweep.{MultiwaySweep}
 use Rattle.rsb_many.specs.declared.sweep_event.SweepEvent.{SweepEvent}
 use Rattle.rsb_many.specs.declared.sweep_pieces.SweepPieces.{SweepPieces}
@@ -71,50 +71,62 @@ asks-uses before now (End last input) asks place = elim (cases_eq place input) [
 ]
 
 -- some events were passed, and one more
-passes-more : (first second third : ℕ → Input) (event : Event) → PassesSome first second
-    → AsksAt second event third → HoldOneAtMost third → PassesSome first third
-passes-more first second third event passed asks holds = record {
-  events = passed.events ++ event ∷ [];
-  uses = λ place. subst (λ ends. UsesTo ends (first place) (third place))
-      (sym (ends_at-append place passed.events (event ∷ [])))
-      (uses_to-then (first place) (second place) (third place) (ends_at place passed.events)
-      (ends_at place (event ∷ [])) (passed.uses place) (asks-uses second third event asks place));
+passes-more : (first second third : Telling) (event : Event) → PassesSome first second
+    → ((rest : List Event) → third.events rest → second.events (event ∷ rest))
+    → AsksAt second.inputs event third.inputs → HoldOneAtMost third.inputs
+    → PassesSome first third
+passes-more first second third event before told asks holds = record {
+  passed = before.passed ++ event ∷ [];
+  come = λ rest may. subst first.events (sym (append_assoc before.passed (event ∷ []) rest))
+      (before.come (event ∷ rest) (told rest may));
+  uses = λ place. subst (λ ends. UsesTo ends (first.inputs place) (third.inputs place))
+      (sym (ends_at-append place before.passed (event ∷ [])))
+      (uses_to-then (first.inputs place) (second.inputs place) (third.inputs place)
+      (ends_at place before.passed) (ends_at place (event ∷ [])) (before.uses place)
+      (asks-uses second.inputs third.inputs event asks place));
   holds = holds;
 }
 
 -- some events were passed, and the sweep ended
-passes-end : (first second third : ℕ → Input) → PassesSome first second
-    → ((place : ℕ) → Ends (second place) (third place)) → PassesAll first third
-passes-end first second third passed ends = record {
-  passed = record {
-    events = passed.events;
-    uses = λ place. subst (λ lasts. UsesTo lasts (first place) (undrawn (just [])))
-        (append-nil (ends_at place passed.events))
-        (uses_to-then (first place) (second place) (undrawn (just []))
-        (ends_at place passed.events) [] (passed.uses place)
-        (uses_to-none (second place) (undrawn (just [])) (ends place).uses));
+passes-end : (first second third : Telling) → PassesSome first second → second.events []
+    → ((place : ℕ) → Ends (second.inputs place) (third.inputs place)) → PassesAll first third
+passes-end first second third before none ends = record {
+  passes = record {
+    passed = before.passed;
+    come = λ rest is. subst (λ each. first.events (before.passed ++ each)) (sym is)
+        (before.come [] none);
+    uses = λ place. subst (λ lasts. UsesTo lasts (first.inputs place) (undrawn (just [])))
+        (append-nil (ends_at place before.passed))
+        (uses_to-then (first.inputs place) (second.inputs place) (undrawn (just []))
+        (ends_at place before.passed) [] (before.uses place)
+        (uses_to-none (second.inputs place) (undrawn (just [])) (ends place).uses));
     holds = λ place. omega arith;
   };
   over = λ place. (ends place).over;
 }
 
 -- no events were passed
-pub passes-none : (inputs : ℕ → Input) → HoldOneAtMost inputs → PassesSome inputs inputs
-passes-none inputs holds = record {
-  events = [];
-  uses = λ place. uses_to-none (inputs place) (inputs place) (uses-nothing (inputs place));
+pub passes-none : (telling : Telling) → HoldOneAtMost telling.inputs → PassesSome telling telling
+passes-none telling holds = record {
+  passed = [];
+  come = λ rest may. may;
+  uses = λ place. uses_to-none (telling.inputs place) (telling.inputs place)
+      (uses-nothing (telling.inputs place));
   holds = holds;
 }
 
 -- some events were passed, and then others
-pub passes-then : (first second third : ℕ → Input) → PassesSome first second
+pub passes-then : (first second third : Telling) → PassesSome first second
     → PassesSome second third → PassesSome first third
 passes-then first second third before after = record {
-  events = before.events ++ after.events;
-  uses = λ place. subst (λ ends. UsesTo ends (first place) (third place))
-      (sym (ends_at-append place before.events after.events))
-      (uses_to-then (first place) (second place) (third place) (ends_at place before.events)
-      (ends_at place after.events) (before.uses place) (after.uses place));
+  passed = before.passed ++ after.passed;
+  come = λ rest may. subst first.events (sym (append_assoc before.passed after.passed rest))
+      (before.come (after.passed ++ rest) (after.come rest may));
+  uses = λ place. subst (λ ends. UsesTo ends (first.inputs place) (third.inputs place))
+      (sym (ends_at-append place before.passed after.passed))
+      (uses_to-then (first.inputs place) (second.inputs place) (third.inputs place)
+      (ends_at place before.passed) (ends_at place after.passed) (before.uses place)
+      (after.uses place));
   holds = after.holds;
 }
 
@@ -127,7 +139,8 @@ module _ {T N I A : Type 0} (integer : Elements T N) (stream : Stream I T N) whe
   pub record PiecesSoFar (entry now : SweepPieces T I A N) : Type 0 where
     pub tells : TellsPieces integer stream now
     pub same : pieces_may_give integer stream now ⊆ pieces_may_give integer stream entry
-    pub passed : PassesSome (pieces_inputs integer stream entry) (pieces_inputs integer stream now)
+    pub passed : PassesSome (pieces_telling integer stream entry)
+        (pieces_telling integer stream now)
     pub nearer : size (events_left integer stream now.sweep)
         ≤ size (events_left integer stream entry.sweep)
 
@@ -137,7 +150,7 @@ module _ {T N I A : Type 0} (integer : Elements T N) (stream : Stream I T N) whe
   so_far-nothing entry tells = record {
     tells = tells;
     same = λ pieces may. may;
-    passed = passes-none (pieces_inputs integer stream entry)
+    passed = passes-none (pieces_telling integer stream entry)
         (λ place. let one = tells.sweep.drawn.inputs.one place in omega (arith, one));
     nearer = omega arith;
   }
@@ -189,10 +202,11 @@ module _ {T N I A : Type 0} (integer : Elements T N) (stream : Stream I T N) whe
       }
 
       -- the events that were passed
-      event-passed : PassesSome (pieces_inputs integer stream entry) (pieces_inputs integer stream now)
-      event-passed = passes-more (pieces_inputs integer stream entry)
-          (pieces_inputs integer stream was) (pieces_inputs integer stream now) told so.passed
-          call.asks call.holds
+      event-passed : PassesSome (pieces_telling integer stream entry)
+          (pieces_telling integer stream now)
+      event-passed = passes-more (pieces_telling integer stream entry)
+          (pieces_telling integer stream was) (pieces_telling integer stream now) told so.passed
+          call.answers call.asks call.holds
 
       -- the piece that ends, and then what may come, might come before
       event-gives : (pieces : List Interval) → pieces_may_give integer stream now pieces
@@ -275,6 +289,6 @@ module _ {T N I A : Type 0} (integer : Elements T N) (stream : Stream I T N) whe
         },
         nothing-comes,
       );
-      asks = passes-end (pieces_inputs integer stream entry) (pieces_inputs integer stream was)
-          (pieces_inputs integer stream ended) so.passed call.asks;
+      asks = passes-end (pieces_telling integer stream entry) (pieces_telling integer stream was)
+          (pieces_telling integer stream ended) so.passed call.answers call.asks;
     }

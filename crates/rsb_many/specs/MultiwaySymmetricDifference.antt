@@ -1,5 +1,5 @@
 -- What lies in an odd number of streams.
-use Rattle.std.specs.Prelude.{ℕ}
+use Rattle.std.specs.Prelude.{◌≡◌, ℕ, [], MatchBool}
 use Rattle.rsb_integer.specs.declared.integer.Integer.{Ghosts as Elements}
 use Rattle.rsb_streams.specs.Lookahead.{Input}
 use Rattle.rsb_streams.specs.Rows.{asking}
@@ -7,7 +7,8 @@ use Rattle.rsb_streams.specs.UnionIter.{unless_ended, union_iter}
 use Rattle.rsb_streams.specs.declared.draw.Draw.{Ghosts as Stream}
 use Rattle.rsb_streams.specs.declared.union_iter.UnionIter.{UnionIter}
 use Rattle.rsb_many.specs.Many.{HoldOneAtMost}
-use Rattle.rsb_many.specs.SweepPieces.{pieces_inputs, sweep_pieces, PassesSome}
+use Rattle.rsb_many.specs.MultiwaySweep.{sweep_may_give}
+use Rattle.rsb_many.specs.SweepPieces.{pieces_inputs, sweep_pieces, PassesSome, Telling}
 use Rattle.rsb_many.specs.declared.multiway_sym_diff_set.MultiwaySymmetricDifference.{MultiwaySymmetricDifference}
 use Rattle.rsb_many.specs.declared.sweep_pieces.SweepPieces.{SweepPieces}
 
@@ -21,6 +22,14 @@ module _ {T N I A : Type 0} (integer : Elements T N) (stream : Stream I T N) whe
   odd_inputs s place =
       unless_ended s.iter.iter.done (pieces_inputs integer stream s.iter.iter.iter place)
 
+  -- they, and the events that the sweep may still give: none once it has ended
+  abbrev pub odd_telling : MultiwaySymmetricDifference T I A N → Telling
+  odd_telling s = record {
+    inputs = odd_inputs s;
+    events = λ events. MatchBool s.iter.iter.done (events ≡ [])
+        (sweep_may_give integer stream s.iter.iter.iter.sweep events);
+  }
+
   -- the joined pieces may be drawn from, and one range of each input is held at most
   pub record OddReady (s : MultiwaySymmetricDifference T I A N) : Type 0 where
     pub joined : joined_pieces.can_draw s.iter
@@ -29,5 +38,5 @@ module _ {T N I A : Type 0} (integer : Elements T N) (stream : Stream I T N) whe
   -- the symmetric difference: a draw passes some events
   abbrev pub multiway_symmetric_difference : Stream (MultiwaySymmetricDifference T I A N) T N
   multiway_symmetric_difference = asking integer
-      (λ s item t. PassesSome (odd_inputs s) (odd_inputs t))
+      (λ s item t. PassesSome (odd_telling s) (odd_telling t))
       OddReady (λ s. joined_pieces.draws_left s.iter) (λ s. joined_pieces.may_give s.iter)

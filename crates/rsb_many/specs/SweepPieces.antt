@@ -101,21 +101,30 @@ pub record UsesTo (lasts : List ℕ) (before now : Input) : Type 0 where
   pub uses : Uses before used now
   pub ends : map (λ (run : Interval). run.last) used ≡ lasts
 
--- some events are passed: each input uses the ranges of which the end is passed, and one range of
--- each is held at most then
-pub record PassesSome (before now : ℕ → Input) : Type 0 where
-  pub events : List Event
-  pub uses : (place : ℕ) → UsesTo (ends_at place events) (before place) (now place)
-  pub holds : HoldOneAtMost now
+-- the inputs of a sweep, and the events that may come of them
+pub record Telling : Type 1 where
+  pub inputs : ℕ → Input
+  pub events : EventOutcomes
 
--- the inputs end: each uses the ranges of which the end was passed before, and gives nothing more
-pub record PassesAll (before now : ℕ → Input) : Type 0 where
-  pub passed : PassesSome before (λ place. undrawn (just []))
-  pub over : (place : ℕ) → HasEnded (now place)
+-- all inputs have ended, and no events come
+abbrev pub told_all : Telling
+told_all = record { inputs = λ place. undrawn (just []); events = λ events. events ≡ [] }
+
+-- some events were passed: they come before those that may come then, each input used the ranges of
+-- which the end was passed, and one range of each is held at most
+pub record PassesSome (before now : Telling) : Type 0 where
+  pub passed : List Event
+  pub come : (rest : List Event) → now.events rest → before.events (passed ++ rest)
+  pub uses : (place : ℕ) → UsesTo (ends_at place passed) (before.inputs place) (now.inputs place)
+  pub holds : HoldOneAtMost now.inputs
+
+-- all events were passed, and the inputs have ended
+pub record PassesAll (before now : Telling) : Type 0 where
+  pub passes : PassesSome before told_all
+  pub over : (place : ℕ) → HasEnded (now.inputs place)
 
 -- a call passes some events, and all that are left where it answers `None`
-abbrev pub AsksToPass : {T : Type 0} → (before : ℕ → Input) → Option (RangeInclusive T)
-    → (now : ℕ → Input) → Type 0
+abbrev pub AsksToPass : {T : Type 0} → Telling → Option (RangeInclusive T) → Telling → Type 0
 AsksToPass before item now =
     MatchOption item (PassesAll before now) (λ _. PassesSome before now)
 
@@ -127,6 +136,13 @@ module _ {T N I A : Type 0} (integer : Elements T N) (stream : Stream I T N) whe
   -- the inputs of the sweep, at places from 0 on
   abbrev pub pieces_inputs : SweepPieces T I A N → ℕ → Input
   pieces_inputs s = sweep_inputs integer stream s.sweep
+
+  -- they, and the events that the sweep may still give
+  abbrev pub pieces_telling : SweepPieces T I A N → Telling
+  pieces_telling s = record {
+    inputs = pieces_inputs s;
+    events = sweep_may_give integer stream s.sweep;
+  }
 
   -- the sweep may be called, a piece that has begun starts at a value, and each has an end
   pub record TellsPieces (s : SweepPieces T I A N) : Type 0 where
@@ -142,5 +158,5 @@ module _ {T N I A : Type 0} (integer : Elements T N) (stream : Stream I T N) whe
 
   -- the pieces: a draw passes some events
   abbrev pub sweep_pieces : Stream (SweepPieces T I A N) T N
-  sweep_pieces = asking integer (λ s item t. AsksToPass (pieces_inputs s) item (pieces_inputs t))
+  sweep_pieces = asking integer (λ s item t. AsksToPass (pieces_telling s) item (pieces_telling t))
       TellsPieces (λ s. events_left integer stream s.sweep) pieces_may_give
