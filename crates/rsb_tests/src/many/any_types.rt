@@ -44,7 +44,12 @@ fn what_lies_in_an_odd_number_of_streams_of_unlike_types(rt: HostRuntime) -> Res
     let one = stream_of(&[(1, 6), (8, 9), (11, 15)]);
     let other = stream_of(&[(5, 13), (18, 29)]);
     let odd = odd_of_three(rt.alloc(), one, other, RangeOnce::new(38..=42))?;
-    assert!(rt; gives(odd, &[(1, 4), (7, 7), (10, 10), (14, 15), (18, 29), (38, 42)]));
+    assert!(rt;
+        gives(
+            odd,
+            &[(1, 4), (7, 7), (10, 10), (14, 15), (18, 29), (38, 42)]
+        )
+    );
     Ok(())
 }
 

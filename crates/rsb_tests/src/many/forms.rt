@@ -49,14 +49,30 @@ fn of_no_streams_nothing_everything_nothing(rt: HostRuntime) -> Result<(), Fail>
 #[test]
 fn what_is_three_deep_lies_in_an_odd_number(rt: HostRuntime) -> Result<(), Fail> {
     let tables: [Ranges; 3] = [&[(1, 5)], &[(3, 8)], &[(5, 6)]];
-    assert!(rt; makes(rt.alloc(), &tables, &[(1, 8)], &[(5, 5)], &[(1, 2), (5, 5), (7, 8)])?);
+    assert!(rt;
+        makes(
+            rt.alloc(),
+            &tables,
+            &[(1, 8)],
+            &[(5, 5)],
+            &[(1, 2), (5, 5), (7, 8)]
+        )?
+    );
     Ok(())
 }
 
 #[test]
 fn streams_may_end_at_the_greatest_value(rt: HostRuntime) -> Result<(), Fail> {
     let tables: [Ranges; 3] = [&[(250, 255)], &[(255, 255)], &[(0, 255)]];
-    assert!(rt; makes(rt.alloc(), &tables, &[(0, 255)], &[(255, 255)], &[(0, 249), (255, 255)])?);
+    assert!(rt;
+        makes(
+            rt.alloc(),
+            &tables,
+            &[(0, 255)],
+            &[(255, 255)],
+            &[(0, 249), (255, 255)]
+        )?
+    );
     Ok(())
 }
 
@@ -94,7 +110,10 @@ fn three_lists_of_four_values_make_what_their_bits_make(rt: HostRuntime) -> Resu
                 let some = subset(one | other | third);
                 let all = subset(one & other & third);
                 let odd = subset(one ^ other ^ third);
-                assert!(rt; makes(rt.alloc(), &tables, some, all, odd)?, "of {one}, {other}, {third}");
+                assert!(rt;
+                    makes(rt.alloc(), &tables, some, all, odd)?,
+                    "of {one}, {other}, {third}"
+                );
             }
         }
     }

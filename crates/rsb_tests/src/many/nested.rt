@@ -51,7 +51,10 @@ fn some_not_all_or<T: Integer, I: DrawDisjoint<T>, A: Allocator + Copy>(
 }
 
 /// The complements of the streams of tables.
-fn gaps_of(alloc: Global, tables: &[Ranges]) -> Result<Vec<NotIter<u8, Listed<'static>>>, AllocError>
+fn gaps_of(
+    alloc: Global,
+    tables: &[Ranges],
+) -> Result<Vec<NotIter<u8, Listed<'static>>>, AllocError>
     ensures { IfOk result (λ gaps. All ⟦<NotIter<u8, Listed<'static>> as Draw<u8>>⟧.can_draw gaps.items) }
 {
     let mut gaps = Vec::new(alloc);

@@ -38,7 +38,9 @@ impl Building {
             Building::Union => streams.union(heap).map(drop),
             Building::Intersection => streams.intersection(heap).map(drop),
             Building::SymmetricDifference => streams.symmetric_difference(heap).map(drop),
-            Building::OneType => DynSortedDisjoint::new(heap, stream_of(&[(1, 2), (5, 6)])).map(drop),
+            Building::OneType => DynSortedDisjoint::new(heap, stream_of(&[(1, 2), (5, 6)])).map(
+                drop,
+            ),
         }
     }
 }
@@ -48,20 +50,19 @@ fn what_is_refused_leaves_nothing_and_is_built_with_more_memory(
     rt: HostRuntime,
 ) -> Result<(), Fail> {
     for building in BUILDINGS {
-        let mut size = 16;
-        let mut refusals = 0;
-        loop {
-            let heap = LocalHeap::new(rt.alloc(), size)?;
+        let mut refusals = 0usize;
+        let mut passed = false;
+        for step in 1..=64usize {
+            let heap = LocalHeap::new(rt.alloc(), 16 * step)?;
             let built = building.build(rt.alloc(), &heap);
             assert!(rt; heap.used() == 0);
             if built.is_ok() {
-                break;
+                passed = true;
+            } else {
+                refusals = refusals.saturating_add(1);
             }
-            refusals += 1;
-            size += 16;
-            assert!(rt; size < 4096);
         }
-        assert!(rt; refusals > 0);
+        assert!(rt; passed && refusals > 0);
     }
     Ok(())
 }

@@ -8,12 +8,18 @@ use std::test::Fail;
 
 /// The runs of three sets.
 const ONE: &[(i32, i32)] = &[(1, 6), (8, 9), (11, 15)];
+
 const OTHER: &[(i32, i32)] = &[(5, 13), (18, 29)];
+
 const THIRD: &[(i32, i32)] = &[(6, 8), (12, 20)];
 
 /// The three sets.
 fn three(alloc: Global) -> Result<[RangeSetBlaze<i32>; 3], AllocError> {
-    Ok([set_of(alloc, ONE)?, set_of(alloc, OTHER)?, set_of(alloc, THIRD)?])
+    Ok([
+        set_of(alloc, ONE)?,
+        set_of(alloc, OTHER)?,
+        set_of(alloc, THIRD)?,
+    ])
 }
 
 #[test]
@@ -41,17 +47,17 @@ fn sets_that_are_given_up_and_sets_that_are_lent_make_the_same(
 fn without_memory_no_set_is_made_of_many(rt: HostRuntime) -> Result<(), Fail> {
     let a = set_of(rt.alloc(), ONE)?;
     let b = set_of(rt.alloc(), OTHER)?;
-    let mut size = 16;
-    loop {
-        let heap = LocalHeap::new(rt.alloc(), size)?;
+    let (mut refusals, mut passed) = (0usize, false);
+    for step in 1..=64usize {
+        let heap = LocalHeap::new(rt.alloc(), 16 * step)?;
         let made = MultiwayRangeSetBlazeRef::union([&a, &b], &heap).map(drop);
         assert!(rt; heap.used() == 0);
         if made.is_ok() {
-            break;
+            passed = true;
+        } else {
+            refusals = refusals.saturating_add(1);
         }
-        size += 16;
-        assert!(rt; size < 4096);
     }
-    assert!(rt; size > 16);
+    assert!(rt; passed && refusals > 0);
     Ok(())
 }

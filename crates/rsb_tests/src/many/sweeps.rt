@@ -1,6 +1,7 @@
 //! Where the ranges of many streams start and end.
 
 use crate::many::forms::{Ranges, streams_of};
+use rsb_integer::Integer;
 use rsb_many::{MultiwaySweep, SweepEvent};
 use rsb_streams::Draw;
 use std::test::Fail;
@@ -19,8 +20,11 @@ fn end(at: u8, input: usize) -> SweepEvent<u8> {
 }
 
 /// Whether a sweep tells these events, and then none.
-fn tells<I: Draw<u8>>(sweep: MultiwaySweep<u8, I>, events: &[SweepEvent<u8>]) -> bool
-    requires { ⟦<MultiwaySweep<u8, I> as Iterator>⟧.can_next sweep }
+pub(crate) fn tells<T: Integer, I: Draw<T>>(
+    sweep: MultiwaySweep<T, I>,
+    events: &[SweepEvent<T>],
+) -> bool
+    requires { ⟦<MultiwaySweep<T, I> as Iterator>⟧.can_next sweep }
 {
     let mut sweep = sweep;
     for event in events {

@@ -2,6 +2,7 @@
 
 ghost use Rattle.std.specs.Prelude.{All, IfOk};
 
+use crate::many::sweeps::tells;
 use crate::tables::gives;
 use rsb_integer::Integer;
 use rsb_many::{MultiwaySortedDisjoint, MultiwaySweep, SweepEvent};
@@ -38,14 +39,15 @@ fn a_thousand_single_values_are_one_run(rt: HostRuntime) -> Result<(), Fail> {
 
 #[test]
 fn a_thousand_single_values_start_and_end_in_turn(rt: HostRuntime) -> Result<(), Fail> {
-    let mut sweep = MultiwaySweep::new(rt.alloc(), numbers(rt.alloc())?)?;
+    let mut events = Vec::new(rt.alloc());
     let mut value = 0i32;
     for input in 0..1000usize {
         let range = value..=value;
-        assert!(rt; sweep.next() == Some(SweepEvent::Start { range, input }));
-        assert!(rt; sweep.next() == Some(SweepEvent::End { at: value, input }));
+        events.push(SweepEvent::Start { range, input })?;
+        events.push(SweepEvent::End { at: value, input })?;
         value = value.saturating_add(1);
     }
-    assert!(rt; sweep.next().is_none());
+    let sweep = MultiwaySweep::new(rt.alloc(), numbers(rt.alloc())?)?;
+    assert!(rt; tells(sweep, &events));
     Ok(())
 }
