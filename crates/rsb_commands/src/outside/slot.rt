@@ -6,13 +6,13 @@ ghost use Rattle.std.proofs.lemmas.Map.Lookups.{exact_unsigned};
 ghost use Rattle.rsb_integer.specs.Room.{have_room};
 
 use range_set_blaze::Integer;
-use std::fmt::{self, Display, Formatter, Write};
+use std::fmt::{self, Debug, Display, Formatter, Write};
 use std::marker::Model;
 use std::ops::RangeInclusive;
 
 /// A quarter hour of a day, by its number: from 0, which begins at midnight, to 95. Contracts see it
 /// as that number. (Own.)
-#[derive(Clone, Copy, Debug, PartialEq, Eq, PartialOrd, Ord, Hash)]
+#[derive(Clone, Copy, PartialEq, Eq, PartialOrd, Ord, Hash)]
 pub struct Slot {
     number: u8,
 }
@@ -54,7 +54,16 @@ impl Display for Slot {
     ghost output = { ⟦<u8 as Display>⟧.output };
 
     fn fmt<W: Write>(&self, f: &mut Formatter<W>) -> fmt::Result {
-        self.number.fmt(f)
+        Display::fmt(&self.number, f)
+    }
+}
+
+/// The number too, since a set is written by the texts for debugging of its values.
+impl Debug for Slot {
+    ghost debug_output = { ⟦<u8 as Display>⟧.output };
+
+    fn fmt<W: Write>(&self, f: &mut Formatter<W>) -> fmt::Result {
+        Display::fmt(self, f)
     }
 }
 
