@@ -6,12 +6,12 @@ ghost use Rattle.rsb_many.specs.Many.{may_give_at, runs_by_all};
 ghost use Rattle.rsb_streams.specs.Stream.{◌⊆◌, runs_by};
 
 use crate::many::forms::{Ranges, streams_of};
-use crate::streams::listed::{Listed, stream_of};
+use crate::streams::listed::stream_of;
 use crate::tables::gives;
 use rsb_integer::Integer;
 use rsb_many::{MultiwayIntersection, MultiwaySortedDisjoint, MultiwayUnion};
 use rsb_streams::{Difference, Draw, DrawDisjoint, NotIter, SymmetricDifference};
-use std::alloc::{AllocError, Allocator, Global};
+use std::alloc::{AllocError, Allocator};
 use std::test::Fail;
 
 /// What lies in none of the streams of a list.
@@ -50,26 +50,13 @@ fn some_not_all_or<T: Integer, I: DrawDisjoint<T>, A: Allocator + Copy>(
     Ok((union - intersection) ^ other)
 }
 
-/// The complements of the streams of tables.
-fn gaps_of(
-    alloc: Global,
-    tables: &[Ranges],
-) -> Result<Vec<NotIter<u8, Listed<'static>>>, AllocError>
-    ensures { IfOk result (λ gaps. All ⟦<NotIter<u8, Listed<'static>> as Draw<u8>>⟧.can_draw gaps.items) }
-{
-    let mut gaps = Vec::new(alloc);
-    for table in tables {
-        gaps.push(stream_of(table).complement())?;
-    }
-    Ok(gaps)
-}
-
 #[test]
-fn what_lies_in_none_of_the_complements_lies_in_all(rt: HostRuntime) -> Result<(), Fail> {
-    let tables: [Ranges; 3] = [&[(0, 9), (20, 255)], &[(5, 30)], &[(7, 8), (25, 255)]];
-    let all = none_of(rt.alloc(), gaps_of(rt.alloc(), &tables)?)?;
-    assert!(rt; gives(all, &[(7, 8), (25, 30)]));
+fn many_streams_in_operations_on_one_and_on_two(rt: HostRuntime) -> Result<(), Fail> {
+    let tables: [Ranges; 3] = [&[(1, 2)], &[(5, 6)], &[(2, 3), (200, 255)]];
+    let none = none_of(rt.alloc(), streams_of(rt.alloc(), &tables)?)?;
+    assert!(rt; gives(none, &[(0, 0), (4, 4), (7, 199)]));
 
+    let tables: [Ranges; 3] = [&[(0, 9), (20, 255)], &[(5, 30)], &[(7, 8), (25, 255)]];
     let some = streams_of(rt.alloc(), &tables)?;
     let each = streams_of(rt.alloc(), &tables)?;
     let mixed = some_not_all_or(rt.alloc(), some, each, stream_of(&[(10, 12)]))?;
