@@ -52,7 +52,7 @@ fn what_is_refused_leaves_nothing_and_is_built_with_more_memory(
     for building in BUILDINGS {
         let mut refusals = 0usize;
         let mut passed = false;
-        for step in 1..=64usize {
+        for step in 1..=256usize {
             let heap = LocalHeap::new(rt.alloc(), 16 * step)?;
             let built = building.build(rt.alloc(), &heap);
             assert!(rt; heap.used() == 0);

@@ -48,7 +48,7 @@ fn without_memory_no_set_is_made_of_many(rt: HostRuntime) -> Result<(), Fail> {
     let a = set_of(rt.alloc(), ONE)?;
     let b = set_of(rt.alloc(), OTHER)?;
     let (mut refusals, mut passed) = (0usize, false);
-    for step in 1..=64usize {
+    for step in 1..=256usize {
         let heap = LocalHeap::new(rt.alloc(), 16 * step)?;
         let made = MultiwayRangeSetBlazeRef::union([&a, &b], &heap).map(drop);
         assert!(rt; heap.used() == 0);
