@@ -34,15 +34,15 @@ module _ {J I X : Type 0} (becomes : J → I → Type 0) (steps : I → Option X
       gave.4
 
   module _ (iter : I) (items : List X) (is : becomes value iter) (drains : DrainsIf steps ⊤ iter items)
-      where
-    -- what holds of each run holds of all that was collected
-    pub collected-each : (Fact : List X → Type 0) → EachGaveRun becomes steps value Fact → Fact items
-    collected-each Fact each = each iter is
-        (run steps iter items true
-        (to_end steps iter items ((drains.2 tt).0, (drains.0, drains.1, (drains.2 tt).1))))
-        (seen (length items)) refl
+    where
+      -- what holds of each run holds of all that was collected
+      pub collected-each : (Fact : List X → Type 0) → EachGaveRun becomes steps value Fact → Fact items
+      collected-each Fact each = each iter is
+          (run steps iter items true
+          (to_end steps iter items ((drains.2 tt).0, (drains.0, drains.1, (drains.2 tt).1))))
+          (seen (length items)) refl
 
-    -- all that was collected is a whole run
-    pub collected-run : (Fact : List X → Type 0) → Fact items → GaveRun becomes steps value Fact
-    collected-run Fact fact =
-        ended-run Fact iter drains.0 (drains.2 tt).0 items is drains.1 (drains.2 tt).1 fact
+      -- all that was collected is a whole run
+      pub collected-run : (Fact : List X → Type 0) → Fact items → GaveRun becomes steps value Fact
+      collected-run Fact fact =
+          ended-run Fact iter drains.0 (drains.2 tt).0 items is drains.1 (drains.2 tt).1 fact
