@@ -28,6 +28,19 @@ const BUILDINGS: [Building; 6] = [
     Building::OneType,
 ];
 
+/// Nine ranges, for which a list grows more than once.
+const NINE: &[(u8, u8)] = &[
+    (1, 2),
+    (5, 6),
+    (9, 10),
+    (13, 14),
+    (17, 18),
+    (21, 22),
+    (25, 26),
+    (29, 30),
+    (33, 34),
+];
+
 impl Building {
     /// Builds it in a heap, and lets it go.
     fn build(self, alloc: Global, heap: &LocalHeap) -> Result<(), AllocError> {
@@ -38,9 +51,7 @@ impl Building {
             Building::Union => streams.union(heap).map(drop),
             Building::Intersection => streams.intersection(heap).map(drop),
             Building::SymmetricDifference => streams.symmetric_difference(heap).map(drop),
-            Building::OneType => DynSortedDisjoint::new(heap, stream_of(&[(1, 2), (5, 6)])).map(
-                drop,
-            ),
+            Building::OneType => DynSortedDisjoint::new(heap, stream_of(NINE)).map(drop),
         }
     }
 }
