@@ -1,4 +1,5 @@
-//! All public names of this crate and of those below it, but `UnsortedDisjoint`.
+//! All public names of this crate and of those below it, but `UnsortedDisjoint`, the laws of events of
+//! `rsb_many`, and what its macros call.
 
 pub use crate::into_iter::IntoIter;
 pub use crate::into_range_set_blaze::IntoRangeSetBlaze;
