@@ -1,7 +1,6 @@
 -- Sets made of any number of sets, by the streams of their ranges.
-use Rattle.std.proofs.Common.{◌≡◌, ℕ, ◌<◌, List, [], ◌∷◌, ◌++◌, ◌∙◌, length, map, refl, sym, ap, subst, All}
+use Rattle.std.proofs.Common.{◌≡◌, ℕ, ◌<◌, List, [], ◌∷◌, ◌++◌, ◌∙◌, length, map, refl, sym, ap, subst}
 use Rattle.std.proofs.lemmas.List.{map-append}
-use Rattle.std.proofs.lemmas.List.Elements.{All-append, All-cons, All-nil}
 use Rattle.std.specs.Iterator.Runs.{EveryRun, ItemsAre, WholeRun}
 use Rattle.std.specs.Vec.Iter.{into_iter_items, into_iter_steps}
 use Rattle.std.specs.declared.vec.IntoIter.{IntoIter}
@@ -37,12 +36,6 @@ pub map-more : {X Y : Type 0} (f : X → Y) (values : List X) (value : X) (resul
 map-more f values value results result kept same =
     map-append f values (value ∷ []) ∙ ap (λ first. first ++ f value ∷ []) kept
     ∙ ap (λ last. results ++ last ∷ []) same
-
--- what holds of all and of one more holds of all with it
-pub All-more : {X : Type 0} (P : X → Type 0) (values : List X) (value : X) → All P values → P value
-    → All P (values ++ value ∷ [])
-All-more P values value all holds =
-    All-append P values (value ∷ []) all (All-cons P value [] holds (All-nil P))
 
 module _ {X Z : Type 0} where
   -- what a list became gives the list

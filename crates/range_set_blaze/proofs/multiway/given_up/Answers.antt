@@ -1,9 +1,10 @@
 use Rattle.std.proofs.Common.{◌≡◌, All, map, subst, sym, ap, ◌∙◌}
 use Rattle.std.specs.Prelude.{List}
+use Rattle.std.proofs.lemmas.List.Elements.{All-push}
 use Rattle.std.specs.declared.ops.RangeInclusive.{RangeInclusive}
 use Rattle.rsb_integer.specs.Rank.{intervals_of}
 use Rattle.rsb_integer.specs.Runs.{IsCanonicalIn}
-use Rattle.range_set_blaze.proofs.MultiwayLemmas.{map-more, All-more}
+use Rattle.range_set_blaze.proofs.MultiwayLemmas.{map-more}
 use Rattle.rsb_many.proofs.HandedInLemmas.{ended-run}
 use Rattle.range_set_blaze.proofs.multiway.given_up.Goals as goal
 
@@ -15,7 +16,7 @@ loop-set-preserved g c =
     IsCanonicalIn g.T.Integer.value_count (runs_of ranges) in
     record {
       ready = subst (λ streams. All can streams) (sym c.in_ok-push.ensures.items)
-          (All-more can c.loop-set.streams.items c.into_ranges.result c.loop-set.invariant.ready
+          (All-push can c.loop-set.streams.items c.into_ranges.result c.loop-set.invariant.ready
           c.into_ranges.ensures.ready);
       kept = ap (map runs_of) c.in_ok-push.ensures.items
           ∙ map-more runs_of c.loop-set.streams.items c.into_ranges.result c.loop-set.yielded
