@@ -59,13 +59,14 @@ typedef struct rsb_u64_count {
 } rsb_u64_count;
 
 /* Adds the values from first to last, both included: none where last is below first. RSB_UNCHANGED where each of them was
-   a member. */
+   a member. No memory is taken where there is none to add, nor where first or the value before it is a member. */
 uint32_t rsb_u64_insert_range(rsb_u64 *set, uint64_t first, uint64_t last);
 
-/* Adds a value. RSB_UNCHANGED where it was a member. */
+/* Adds a value. RSB_UNCHANGED, and no memory taken, where it was a member. */
 uint32_t rsb_u64_insert(rsb_u64 *set, uint64_t value);
 
-/* Takes a value out, which may part a run in two and so take memory. RSB_UNCHANGED where it was no member. */
+/* Takes a value out, which may part a run in two and so take memory. RSB_UNCHANGED, and no memory taken, where it was no
+   member. */
 uint32_t rsb_u64_remove(rsb_u64 *set, uint64_t value);
 
 /* Adds the members of another set: all, or none where memory is refused. RSB_UNCHANGED, and no memory taken, where each of

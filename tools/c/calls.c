@@ -1,6 +1,6 @@
 /* Calls each function of one width, and compares what it answers with a table of bits. Each allocation is refused in turn.
  *
- * Compiled once for each width: -DWIDTH=64 or -DWIDTH=32, with -Wl,--wrap=malloc -Wl,--wrap=realloc. */
+ * Compiled once for each width: -DWIDTH=64 or -DWIDTH=32, with -Wl,--wrap=malloc -Wl,--wrap=realloc -Wl,--wrap=free. */
 #include "range_set.h"
 
 #include <stdio.h>
@@ -40,9 +40,11 @@ static unsigned long long refusals;
 
 void *__real_malloc(size_t size);
 void *__real_realloc(void *at, size_t size);
+void __real_free(void *at);
 
 static long refused_at; /* the allocation that is refused, from 1 on, or 0 */
 static long asked;
+static long held; /* blocks that were given and not given back */
 
 static bool is_refused(void) {
     asked++;
@@ -54,11 +56,29 @@ static bool is_refused(void) {
 }
 
 void *__wrap_malloc(size_t size) {
-    return is_refused() ? NULL : __real_malloc(size);
+    void *at = is_refused() ? NULL : __real_malloc(size);
+    held += at != NULL;
+    return at;
 }
 
 void *__wrap_realloc(void *at, size_t size) {
-    return is_refused() ? NULL : __real_realloc(at, size);
+    void *next = is_refused() ? NULL : __real_realloc(at, size);
+    held += at == NULL && next != NULL;
+    return next;
+}
+
+void __wrap_free(void *at) {
+    held -= at != NULL;
+    __real_free(at);
+}
+
+/* What a call answers: RSB_NO_MEMORY exactly where an allocation of its own was refused, and RSB_UNCHANGED only where it
+ * asked for none. */
+static uint32_t told(uint32_t answer, long before) {
+    CHECK(answer <= RSB_NO_MEMORY);
+    CHECK((answer == RSB_NO_MEMORY) == (refused_at > before && refused_at <= asked));
+    CHECK(answer != RSB_UNCHANGED || asked == before);
+    return answer;
 }
 
 /* ---- Tables of bits. */
@@ -169,6 +189,7 @@ static void same(const set_t *set, const table *bits) {
 static void change(set_t *set, table *bits) {
     size_t first = drawn(TABLE), last = first + drawn(12);
     last = last < TABLE ? last : TABLE - 1;
+    long before = asked;
     uint32_t answer;
     table next = *bits;
     switch (drawn(8)) {
@@ -191,10 +212,7 @@ static void change(set_t *set, table *bits) {
         memset(next.has + first, true, last - first + 1);
         break;
     }
-    CHECK(answer <= RSB_NO_MEMORY);
-    if (answer == RSB_NO_MEMORY) {
-        CHECK(refused_at && asked >= refused_at);
-    } else {
+    if (told(answer, before) != RSB_NO_MEMORY) {
         CHECK(answer == (memcmp(&next, bits, sizeof next) ? RSB_CHANGED : RSB_UNCHANGED));
         *bits = next;
     }
@@ -239,8 +257,9 @@ static const struct {
 
 static void combined(set_t *out, table *made, const set_t *left, const table *l, const set_t *right, const table *r) {
     for (size_t kind = 0; kind < sizeof combinations / sizeof *combinations; kind++) {
-        uint32_t answer = combinations[kind].call(out, left, right);
-        CHECK(answer == RSB_CHANGED || answer == RSB_NO_MEMORY);
+        long before = asked;
+        uint32_t answer = told(combinations[kind].call(out, left, right), before);
+        CHECK(answer != RSB_UNCHANGED);
         for (size_t place = 0; answer == RSB_CHANGED && place < TABLE; place++) {
             made->has[place] = combinations[kind].has(l->has[place], r->has[place]);
         }
@@ -268,7 +287,8 @@ static void compared_with(const set_t *left, const table *l, const set_t *right,
 
 /* A complement reaches to the ends of the type, so it is asked value by value, and complemented again. */
 static void complemented(set_t *out, set_t *again, const set_t *set, const table *bits) {
-    uint32_t answer = CALL(complement)(out, set);
+    long before = asked;
+    uint32_t answer = told(CALL(complement)(out, set), before);
     same(set, bits);
     if (answer == RSB_NO_MEMORY) {
         return;
@@ -278,7 +298,8 @@ static void complemented(set_t *out, set_t *again, const set_t *set, const table
         CHECK(CALL(contains)(out, at(place)) == !bits->has[place]);
     }
     CHECK(CALL(is_disjoint)(out, set));
-    if (CALL(complement)(again, out) == RSB_CHANGED) {
+    before = asked;
+    if (told(CALL(complement)(again, out), before) == RSB_CHANGED) {
         same(again, bits);
     }
 }
@@ -298,15 +319,17 @@ static long round_of(unsigned long long start, long refused) {
     combined(&c, &tc, &a, &ta, &b, &tb);
     compared_with(&c, &tc, &a, &ta);
 
-    uint32_t answer = CALL(clone)(&c, &a);
-    CHECK(answer == RSB_CHANGED || answer == RSB_NO_MEMORY);
+    long before = asked;
+    uint32_t answer = told(CALL(clone)(&c, &a), before);
+    CHECK(answer != RSB_UNCHANGED);
     tc = answer == RSB_CHANGED ? ta : tc;
     same(&c, &tc);
     compared_with(&a, &ta, &c, &tc);
     filled(&c, &tc, 3);
     same(&a, &ta);
 
-    answer = CALL(union_with)(&c, &b);
+    before = asked;
+    answer = told(CALL(union_with)(&c, &b), before);
     bool is_new = false;
     for (size_t place = 0; place < TABLE; place++) {
         is_new = is_new || (tb.has[place] && !tc.has[place]);
@@ -328,6 +351,7 @@ static long round_of(unsigned long long start, long refused) {
     CALL(free)(&b);
     CALL(free)(&c);
     CALL(free)(&d);
+    CHECK(held == 0);
     return asked;
 }
 

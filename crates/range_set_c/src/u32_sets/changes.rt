@@ -3,7 +3,7 @@
 ghost use Rattle.std.specs.Prelude.{◌≡◌, ◌<◌, ◌≤◌, ◌^◌, [], IsFalse, IsTrue};
 ghost use Rattle.rsb_integer.specs.Runs.{members};
 ghost use Rattle.rsb_integer.specs.Selection.{IsSubset};
-ghost use Rattle.range_set_blaze.specs.Set.{only, Adds, LacksSomeOf, Removes};
+ghost use Rattle.range_set_blaze.specs.Set.{only, Adds, IsReached, LacksSomeOf, Removes};
 ghost use Rattle.range_set_c.specs.Answer.{between};
 
 use super::handle::Handle;
@@ -24,7 +24,12 @@ pub extern "C" fn rsb_u32_insert_range(
     ensures unchanged { result ≡ 0 → ¬ LacksSomeOf set.old.kept.set (between first last) }
     ensures changed { result ≡ 1 → LacksSomeOf set.old.kept.set (between first last) }
     ensures refused { result ≡ 2 → set.new.kept.set ≡ set.old.kept.set }
+    ensures nothing { last < first → result ≡ 0 }
+    ensures spared { IsReached set.old.kept.set first → result < 2 }
 {
+    if last < first {
+        return UNCHANGED;
+    }
     let Ok(mut kept) = set.take_or_make(alloc) else {
         return NO_MEMORY;
     };
@@ -45,6 +50,7 @@ pub extern "C" fn rsb_u32_insert(alloc: Global, set: &mut Handle, value: u32) ->
     ensures unchanged { result ≡ 0 → IsTrue (members set.old.kept.set value) }
     ensures changed { result ≡ 1 → IsFalse (members set.old.kept.set value) }
     ensures refused { result ≡ 2 → set.new.kept.set ≡ set.old.kept.set }
+    ensures spared { IsTrue (members set.old.kept.set value) → result ≡ 0 }
 {
     let Ok(mut kept) = set.take_or_make(alloc) else {
         return NO_MEMORY;
@@ -66,6 +72,7 @@ pub extern "C" fn rsb_u32_remove(set: &mut Handle, value: u32) -> u32
     ensures unchanged { result ≡ 0 → IsFalse (members set.old.kept.set value) }
     ensures changed { result ≡ 1 → IsTrue (members set.old.kept.set value) }
     ensures refused { result ≡ 2 → set.new.kept.set ≡ set.old.kept.set }
+    ensures spared { IsFalse (members set.old.kept.set value) → result ≡ 0 }
 {
     let Some(kept) = set.open() else {
         return UNCHANGED;
@@ -90,6 +97,8 @@ pub extern "C" fn rsb_u32_union_with(alloc: Global, set: &mut Handle, other: &mu
     ensures members { result ≡ 1 →
         Adds set.old.kept.set set.new.kept.set (members other.old.kept.set) }
     ensures refused { result ≡ 2 → set.new.kept.set ≡ set.old.kept.set }
+    ensures spared { IsSubset (2 ^ 32) (members other.old.kept.set) (members set.old.kept.set)
+        → result ≡ 0 }
     ensures other { other.new.kept.set ≡ other.old.kept.set }
 {
     let none = RangeSetBlaze::new(alloc);
