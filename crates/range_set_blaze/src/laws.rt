@@ -8,4 +8,5 @@ pub use rsb_integer::laws::{
     canonical_lists_are_runs, complement_twice, de_morgan, difference_by_complement,
     equal_members_equal_lists, offsets_undo_length, symmetric_by_union,
 };
+pub use rsb_many::laws::{one_list_of_events, some_list_of_events};
 pub use rsb_streams::laws::one_filled_list;
