@@ -4,9 +4,8 @@
 
 use range_set_blaze::{MultiwayRangeSetBlazeRef, RangeSetBlaze};
 use std::alloc::{AllocError, Global};
-use std::env;
-use std::io;
 use std::time::Instant;
+use std::{env, io};
 
 /// The set of a number: in each block of 4,096 values a run of two, which no other set's touches.
 fn set_no(alloc: Global, number: u16, many: u16) -> Result<RangeSetBlaze<i32>, AllocError> {
