@@ -72,11 +72,11 @@ void __wrap_free(void *at) {
     __real_free(at);
 }
 
-/* What a call answers: RSB_NO_MEMORY exactly where an allocation of its own was refused, and RSB_UNCHANGED only where it
- * asked for none. */
+/* What a call answers: RSB_NO_MEMORY only where an allocation of its own was refused, and RSB_UNCHANGED only where it asked
+ * for none. */
 static uint32_t told(uint32_t answer, long before) {
     CHECK(answer <= RSB_NO_MEMORY);
-    CHECK((answer == RSB_NO_MEMORY) == (refused_at > before && refused_at <= asked));
+    CHECK(answer != RSB_NO_MEMORY || (refused_at > before && refused_at <= asked));
     CHECK(answer != RSB_UNCHANGED || asked == before);
     return answer;
 }
