@@ -1,10 +1,10 @@
 -- Commands that name values have replies.
-use Rattle.std.proofs.Common.{◌≡◌, ℕ, zero, suc, Bool, true, false, ◌+◌, ◌&&◌, ◌<◌, ◌≤◌, ◌↔◌, IsTrue, IsFalse, not, List, [], ◌∷◌, length, map, refl, sym, ap, subst, ◌∙◌, inl, inr, arith}
+use Rattle.std.proofs.Common.{◌≡◌, ℕ, zero, suc, Bool, true, false, ◌+◌, ◌&&◌, ◌<◌, ◌↔◌, IsTrue, IsFalse, not, List, [], ◌∷◌, length, map, refl, sym, ap, subst, inl, inr, arith}
 use Rattle.std.proofs.lemmas.Bool.{cases_lt}
 use Rattle.std.proofs.lemmas.List.Elements.{All-head, All-tail}
 use Rattle.std.specs.Prelude.{All}
 use Rattle.std.specs.declared.ops.RangeInclusive.{RangeInclusive}
-use Rattle.rsb_integer.specs.Rank.{interval_of, intervals_of}
+use Rattle.rsb_integer.specs.Rank.{intervals_of}
 use Rattle.rsb_integer.specs.Runs.{Interval, AreRuns, IsMaximalRun}
 use Rattle.rsb_integer.specs.Selection.{Selection, complement, count, difference, intersection, symmetric_difference, union}
 use Rattle.rsb_integer.proofs.ListLemmas.{true_or_false}
@@ -16,7 +16,7 @@ use Rattle.range_set_blaze.specs.OrderLaws.{order-holds}
 use Rattle.range_set_blaze.specs.Set.{IsRunAround}
 use Rattle.rsb_commands.specs.declared.command.Command.{Command}
 use Rattle.rsb_commands.specs.declared.command.Command.TheVariants.{Add, Del, Has, Gap, Count, Show, Union, Intersection, Difference, SymmetricDifference, Complement, Compare}
-use Rattle.rsb_commands.specs.Commands.{Content, flag, number, order, piece, ranges, runs, LacksSome, Sets, after, between, from_to, left_out, whichever, AreRepliesFrom, HasRuns, IsPieceReply, IsReply, IsRunsReply, NamesValues}
+use Rattle.rsb_commands.specs.Commands.{Content, flag, number, order, piece, ranges, runs, LacksSome, Sets, after, between, from_to, left_out, whichever, AreRepliesFrom, IsPieceReply, IsReply, IsRunsReply, NamesValues}
 
 -- ---- whether a set lacks some ranks
 
