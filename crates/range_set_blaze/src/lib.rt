@@ -13,11 +13,12 @@ pub mod ranges_iter;
 pub mod set;
 
 pub use crate::prelude::{
-    AnythingGoes, AssumeSortedStarts, CheckSortedDisjoint, Difference, Draw, DrawDisjoint,
-    DynSortedDisjoint, FillGapsIter, Integer, Intersection, IntoIter, IntoRangeSetBlaze,
-    IntoRangesIter, Iter, KMerge, Merge, MultiwayIntersection, MultiwayRangeSetBlaze,
-    MultiwayRangeSetBlazeRef, MultiwaySortedDisjoint, MultiwaySweep, MultiwaySymmetricDifference,
-    MultiwayUnion, NotIter, NotSortedDisjoint, RangeOnce, RangeSetBlaze, RangesIter, SafeLength,
-    SortedDisjoint, SortedStarts, SortedStartsInVec, SweepEvent, SymDiffIter, SymmetricDifference,
-    UInt, UIntPlusOne, Union, UnionIter,
+    AnythingGoes, AssumeSortedStarts, CheckSortedDisjoint, CheckSortedTouching, Difference, Draw,
+    DrawDisjoint, DynSortedDisjoint, FillGapsIter, Integer, Intersection, IntoIter,
+    IntoRangeSetBlaze, IntoRangesIter, Iter, KMerge, Merge, MultiwayIntersection,
+    MultiwayRangeSetBlaze, MultiwayRangeSetBlazeRef, MultiwaySortedDisjoint, MultiwaySweep,
+    MultiwaySymmetricDifference, MultiwayUnion, NotIter, NotSortedDisjoint, NotSortedTouching,
+    RangeOnce, RangeSetBlaze, RangesIter, SafeLength, SortedDisjoint, SortedStarts,
+    SortedStartsInVec, SortedTouching, SweepEvent, SymDiffIter, SymmetricDifference, UInt,
+    UIntPlusOne, Union, UnionIter,
 };

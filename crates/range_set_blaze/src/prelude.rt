@@ -20,7 +20,8 @@ pub use rsb_many::{
     MultiwaySymmetricDifference, MultiwayUnion, SweepEvent,
 };
 pub use rsb_streams::{
-    AnythingGoes, AssumeSortedStarts, CheckSortedDisjoint, Difference, Draw, DrawDisjoint,
-    FillGapsIter, Intersection, Merge, NotIter, NotSortedDisjoint, RangeOnce, SortedDisjoint,
-    SortedStarts, SortedStartsInVec, SymDiffIter, SymmetricDifference, Union, UnionIter,
+    AnythingGoes, AssumeSortedStarts, CheckSortedDisjoint, CheckSortedTouching, Difference, Draw,
+    DrawDisjoint, FillGapsIter, Intersection, Merge, NotIter, NotSortedDisjoint, NotSortedTouching,
+    RangeOnce, SortedDisjoint, SortedStarts, SortedStartsInVec, SortedTouching, SymDiffIter,
+    SymmetricDifference, Union, UnionIter,
 };

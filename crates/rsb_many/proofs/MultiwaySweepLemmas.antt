@@ -11,6 +11,8 @@ use Rattle.rsb_integer.specs.Runs.{Interval, IsCanonicalIn}
 use Rattle.rsb_integer.specs.declared.integer.Integer.{Ghosts as Elements}
 use Rattle.rsb_streams.specs.Lookahead.{Uses}
 use Rattle.rsb_streams.specs.Stream.{◌⊆◌, HasOutcome, Outcomes}
+use Rattle.rsb_streams.specs.Touching.{IsTouching, IsTouchingFrom, IsTouchingIn}
+use Rattle.rsb_streams.specs.TouchingLaws.{touching-canonical, touching-lower}
 use Rattle.rsb_streams.specs.declared.draw.Draw.{Ghosts as Stream}
 use Rattle.rsb_streams.proofs.LookaheadLemmas.{uses-then}
 use Rattle.rsb_streams.proofs.Sources.{IsLawful}
@@ -22,7 +24,7 @@ use Rattle.rsb_many.specs.KMergeLaws.{inputs-finite, some-by}
 use Rattle.rsb_many.specs.Keys.{comes_before}
 use Rattle.rsb_many.specs.Many.{gives_of, may_give_at, OneOfEach}
 use Rattle.rsb_many.specs.MultiwaySweep.{events_left, events_of_head, has_begun, stream_count, sweep_inputs, sweep_may_give, SweepReady, Sweeps, SweepsOver}
-use Rattle.rsb_many.specs.Sweep.{events_of_rest, key_of_event, rest_by, AreEventsOf, End, Event, IsTouching, IsTouchingFrom, IsTouchingIn, Start}
+use Rattle.rsb_many.specs.Sweep.{events_of_rest, key_of_event, rest_by, AreEventsOf, End, Event, Start}
 use Rattle.rsb_many.specs.declared.drawn.Drawn.{Drawn}
 use Rattle.rsb_many.specs.declared.heads.Head.{Head}
 use Rattle.rsb_many.specs.declared.multiway_sweep.MultiwaySweep.{MultiwaySweep}
@@ -33,7 +35,7 @@ use Rattle.rsb_many.proofs.InputsLemmas.{gives_of-uses}
 use Rattle.rsb_many.proofs.ManyLemmas.{of_each-wider}
 use Rattle.rsb_many.proofs.RestsLemmas.{events-end_only, events-may_end, events-told, has_events, not_before-nothing, rests_by-none}
 use Rattle.rsb_many.proofs.StepLemmas.{IsNotBefore}
-use Rattle.rsb_many.proofs.SweepLemmas.{events-from_rests, touching-canonical, touching-lower}
+use Rattle.rsb_many.proofs.SweepLemmas.{events-from_rests}
 
 -- ---- ranges that may touch
 
@@ -56,16 +58,23 @@ at-touching n may_give (stream ∷ streams) all (suc place) runs may =
     at-touching n may_give streams
     (All-tail (λ each. may_give each ⊆ IsTouchingIn n) stream streams all) place runs may
 
--- streams that give canonical lists give lists that may touch
+-- streams that give lists that may touch do so by their places
+pub places-touching : {S : Type 0} (n : ℕ) (can : S → Type 0) (may_give : S → Outcomes)
+    (streams : List S)
+    → ((stream : S) → can stream → may_give stream ⊆ IsTouchingIn n) → All can streams
+    → (place : ℕ) → may_give_at may_give streams place ⊆ IsTouchingIn n
+places-touching n can may_give streams touching all = at-touching n may_give streams
+    (All-weaker can (λ stream. may_give stream ⊆ IsTouchingIn n) touching streams all)
+
+-- so do streams that give canonical lists
 pub canonical-touching : {S : Type 0} (n : ℕ) (can : S → Type 0) (may_give : S → Outcomes)
     (streams : List S)
     → ((stream : S) → can stream → may_give stream ⊆ IsCanonicalIn n) → All can streams
     → (place : ℕ) → may_give_at may_give streams place ⊆ IsTouchingIn n
-canonical-touching n can may_give streams canonical all = at-touching n may_give streams
-    (All-weaker can (λ stream. may_give stream ⊆ IsTouchingIn n)
-    (λ stream ready runs may.
+canonical-touching n can may_give streams canonical =
+    places-touching n can may_give streams (λ stream ready runs may.
     let lawful = canonical stream ready runs may in
-    (touching-canonical 0 runs lawful.0, lawful.1)) streams all)
+    (touching-canonical 0 runs lawful.0, lawful.1))
 
 module _ {T N I A : Type 0} (integer : Elements T N) (stream : Stream I T N)
     (laws : IsLawful integer stream) where

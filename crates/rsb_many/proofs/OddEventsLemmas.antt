@@ -11,11 +11,12 @@ use Rattle.rsb_integer.proofs.ListLemmas.{AllPairs-tail}
 use Rattle.rsb_integer.proofs.MembersLemmas.{members-cons, members-end}
 use Rattle.rsb_integer.proofs.RunsLemmas.{runs-along}
 use Rattle.rsb_streams.specs.Stream.{◌⊆◌, joined, Outcomes}
+use Rattle.rsb_streams.specs.Touching.{IsTouchingFrom, IsTouchingIn}
 use Rattle.rsb_streams.proofs.CallerLemmas.{settled-same}
 use Rattle.rsb_streams.specs.OddPieces.{ArePieces}
 use Rattle.rsb_many.specs.Many.{runs_by_all, OneOfEach, SomeOfEach}
 use Rattle.rsb_many.specs.MultiwaySweep.{EventOutcomes}
-use Rattle.rsb_many.specs.Sweep.{all_events, events_from, events_of, AreEvents, End, Event, IsTouchingFrom, IsTouchingIn, Precedes, Start}
+use Rattle.rsb_many.specs.Sweep.{all_events, events_from, events_of, AreEvents, End, Event, Precedes, Start}
 use Rattle.rsb_many.specs.SweepPieces.{edge_of, odd_past, HasEdgesFrom, IsEventIn, IsWhole, SomeEvents}
 use Rattle.rsb_many.proofs.AscendingLemmas.{AllPairs-head}
 use Rattle.rsb_many.proofs.EdgeLemmas.{between-edges, odd-before, settled-edges}

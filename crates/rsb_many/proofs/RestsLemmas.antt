@@ -6,9 +6,10 @@ use Rattle.std.proofs.lemmas.List.Elements.{All-from_get_or}
 use Rattle.std.proofs.lemmas.List.Sorted.{length_permutation}
 use Rattle.rsb_integer.specs.Runs.{Interval}
 use Rattle.rsb_streams.specs.Stream.{◌⊆◌, just, HasOutcome, Outcomes}
+use Rattle.rsb_streams.specs.Touching.{IsTouching}
 use Rattle.rsb_many.specs.Many.{OneOfEach, SomeOfEach}
 use Rattle.rsb_many.specs.MultiwaySweep.{HasEvents}
-use Rattle.rsb_many.specs.Sweep.{events_of_rest, not_begun, nothing_left, rest_by, rest_events_from, rests_by, AreEventsOf, Event, IsTouching, IsTouchingRest, Rest}
+use Rattle.rsb_many.specs.Sweep.{events_of_rest, not_begun, nothing_left, rest_by, rest_events_from, rests_by, AreEventsOf, Event, IsTouchingRest, Rest}
 use Rattle.rsb_many.proofs.ManyLemmas.{of_each-wider}
 use Rattle.rsb_many.proofs.StepLemmas.{events-next, events-none, nothing-left, IsNotBefore}
 use Rattle.rsb_many.proofs.SweepLemmas.{rests-some}

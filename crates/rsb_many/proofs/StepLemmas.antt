@@ -5,11 +5,12 @@ use Rattle.std.proofs.lemmas.List.Sorted.{All-permutation, IsPermutation-append_
 use Rattle.rsb_integer.proofs.ListLemmas.{AllPairs-cons}
 use Rattle.rsb_integer.specs.Runs.{Interval}
 use Rattle.std.proofs.lemmas.Bool.{cases_eq}
+use Rattle.rsb_streams.specs.TouchingLaws.{touching-lower}
 use Rattle.rsb_many.specs.Keys.{comes_before}
 use Rattle.rsb_many.specs.Sweep.{begun_to, events_of_rest, key_of_event, not_begun, nothing_left, rest_events_from, AreEventsOf, End, Event, IsTouchingRest, Precedes, Rest, Start}
 use Rattle.rsb_many.proofs.AscendingLemmas.{before-all, AllPairs-head, AllPairs-nil}
 use Rattle.rsb_many.proofs.KeyLemmas.{comes_before-other}
-use Rattle.rsb_many.proofs.SweepLemmas.{end_then-ascending, end_then-input, precedes-through, touching-lower}
+use Rattle.rsb_many.proofs.SweepLemmas.{end_then-ascending, end_then-input, precedes-through}
 
 -- ---- what comes first
 

@@ -4,31 +4,12 @@ use Rattle.std.proofs.lemmas.Bool.Decides.{nat_tests}
 use Rattle.std.proofs.lemmas.List.Elements.{All-append, All-cons, All-contains_itself, All-head, All-map, All-nil, All-tail, All-weaker}
 use Rattle.std.proofs.lemmas.List.Sorted.{All-permutation, IsPermutation-sym, IsPermutation-trans}
 use Rattle.rsb_integer.proofs.ListLemmas.{not_both, true_or_false, AllPairs-cons}
-use Rattle.rsb_integer.specs.Runs.{Interval, IsCanonicalFrom}
+use Rattle.rsb_integer.specs.Runs.{Interval}
+use Rattle.rsb_streams.specs.Touching.{IsTouching, IsTouchingFrom, IsTouchingIn}
 use Rattle.rsb_many.specs.Keys.{comes_before}
-use Rattle.rsb_many.specs.Sweep.{end_then, events_from, events_of, events_of_rest, key_of_event, next_low, not_begun, rest_events_from, AreEvents, AreEventsOf, AreInOrder, End, Event, IsTouching, IsTouchingFrom, IsTouchingIn, IsTouchingRest, Precedes, Rest, Start}
+use Rattle.rsb_many.specs.Sweep.{end_then, events_from, events_of, events_of_rest, key_of_event, next_low, not_begun, rest_events_from, AreEvents, AreEventsOf, AreInOrder, End, Event, IsTouchingRest, Precedes, Rest, Start}
 use Rattle.rsb_many.proofs.AscendingLemmas.{ascending-cons, ascending-same, ascending-some, AllPairs-append, AllPairs-nil, Apart}
 use Rattle.rsb_many.proofs.KeyLemmas.{comes_before-one_way, comes_before-other, comes_before-through}
-
--- ---- lists whose intervals may touch
-
--- a list whose intervals may touch may be asked to start earlier
-pub touching-lower : (low lower : ℕ) (runs : List Interval) → lower ≤ low → IsTouchingFrom low runs
-    → IsTouchingFrom lower runs
-touching-lower low lower [] less touching = tt
-touching-lower low lower (run ∷ runs) less touching =
-    let starts = touching.0 in (omega arith, touching.1, touching.2)
-
--- in a canonical list no two intervals touch or overlap, so none overlap
-pub touching-canonical : (low : ℕ) (runs : List Interval) → IsCanonicalFrom low runs
-    → IsTouchingFrom low runs
-touching-canonical low [] canonical = tt
-touching-canonical low (run ∷ runs) canonical = (
-  canonical.0,
-  canonical.1,
-  touching-lower (run.last + 2) (run.last + 1) runs (omega arith)
-      (touching-canonical (run.last + 2) runs canonical.2),
-)
 
 -- ---- events
 

@@ -5,12 +5,13 @@ use Rattle.rsb_integer.specs.Runs.{Interval}
 use Rattle.rsb_integer.specs.declared.integer.Integer.{Ghosts as Elements}
 use Rattle.rsb_streams.specs.Lookahead.{Ends, GivesFrom, Input, Uses}
 use Rattle.rsb_streams.specs.Stream.{◌⊆◌}
+use Rattle.rsb_streams.specs.Touching.{IsTouching, IsTouchingIn}
 use Rattle.rsb_streams.specs.declared.draw.Draw.{Ghosts as Stream}
 use Rattle.rsb_many.specs.Drawn.{inputs_of, DrawnReady}
 use Rattle.rsb_many.specs.Inputs.{has_ended, input_at, left_of}
 use Rattle.rsb_many.specs.KMerge.{comparison_bound}
 use Rattle.rsb_many.specs.Many.{gives_of, may_give_at, HoldOneAtMost, IsBegun, SomeOfEach}
-use Rattle.rsb_many.specs.Sweep.{event_of, rests_by, AreEvents, AreEventsOf, End, Event, IsTouching, IsTouchingIn, Start}
+use Rattle.rsb_many.specs.Sweep.{event_of, rests_by, AreEvents, AreEventsOf, End, Event, Start}
 use Rattle.rsb_many.specs.declared.heads.Head.{Head}
 use Rattle.rsb_many.specs.declared.multiway_sweep.MultiwaySweep.{MultiwaySweep}
 use Rattle.rsb_many.specs.declared.sweep_event.SweepEvent.{SweepEvent}

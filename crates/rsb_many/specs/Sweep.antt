@@ -1,7 +1,8 @@
 -- Where the ranges of many inputs start and end, in the order in which a sweep tells it.
-use Rattle.std.specs.Prelude.{ℕ, zero, suc, Bool, true, false, ◌+◌, ◌≤◌, List, [], ◌∷◌, ◌++◌, AllPairs, IsPermutation, IsTrue, Option, Some, None}
+use Rattle.std.specs.Prelude.{ℕ, zero, suc, Bool, true, false, ◌+◌, List, [], ◌∷◌, ◌++◌, AllPairs, IsPermutation, IsTrue, Option, Some, None}
 use Rattle.rsb_integer.specs.Rank.{interval_of}
-use Rattle.rsb_integer.specs.Runs.{Interval, AllEndBelow}
+use Rattle.rsb_integer.specs.Runs.{Interval}
+use Rattle.rsb_streams.specs.Touching.{IsTouchingFrom}
 use Rattle.rsb_many.specs.Keys.{comes_before, Key}
 use Rattle.rsb_many.specs.declared.sweep_event.SweepEvent.{SweepEvent}
 use Rattle.rsb_many.specs.declared.sweep_event.SweepEvent.TheVariants as events
@@ -52,21 +53,6 @@ all_events inputs = events_from 0 inputs
 -- the list has the events of the inputs, each once, and ascends
 abbrev pub AreEvents : List (List Interval) → List Event → Type 0
 AreEvents inputs events = AreInOrder (all_events inputs) events
-
--- the intervals are non-empty, the first starts at `low` or past it, and each other one starts past
--- the end of the one before
-abbrev pub IsTouchingFrom : ℕ → List Interval → Type 0
-IsTouchingFrom low [] = Unit {0}
-IsTouchingFrom low (run ∷ runs) =
-    (low ≤ run.first) × (run.first ≤ run.last) × IsTouchingFrom (run.last + 1) runs
-
--- the intervals are non-empty and ascend, and no two overlap: they may touch
-abbrev pub IsTouching : List Interval → Type 0
-IsTouching runs = IsTouchingFrom 0 runs
-
--- such a list lies in a type of n values
-abbrev pub IsTouchingIn : ℕ → List Interval → Type 0
-IsTouchingIn n runs = IsTouching runs × AllEndBelow n runs
 
 -- ---- what is left of inputs
 

@@ -2,7 +2,8 @@
 
 ghost use Rattle.std.specs.Prelude.{◌≡◌, All, List};
 ghost use Rattle.rsb_integer.specs.Runs.{Interval};
-ghost use Rattle.rsb_many.specs.Sweep.{AreEvents, Event, IsTouchingIn};
+ghost use Rattle.rsb_many.specs.Sweep.{AreEvents, Event};
+ghost use Rattle.rsb_streams.specs.Touching.{IsTouchingIn};
 
 use rsb_integer::Integer;
 

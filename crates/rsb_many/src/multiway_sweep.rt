@@ -1,7 +1,8 @@
 //! Where the ranges of any number of streams start and end.
 
-ghost use Rattle.std.specs.Prelude.{◌≡◌, All, IfOk};
+ghost use Rattle.std.specs.Prelude.{◌≡◌, ℕ, All, IfOk};
 ghost use Rattle.rsb_many.specs.HandedIn.{EachGaveRun};
+ghost use Rattle.rsb_many.specs.Many.{may_give_at};
 ghost use Rattle.rsb_many.specs.MultiwaySweep.{
   events_left,
   stream_count,
@@ -10,11 +11,13 @@ ghost use Rattle.rsb_many.specs.MultiwaySweep.{
   SweepsOver,
 };
 ghost use Rattle.rsb_streams.specs.Items.{GaveRun, IsEnding};
+ghost use Rattle.rsb_streams.specs.Stream.{◌⊆◌};
+ghost use Rattle.rsb_streams.specs.Touching.{IsTouchingIn};
 
 use crate::drawn::Drawn;
 use crate::sweep_event::SweepEvent;
 use rsb_integer::Integer;
-use rsb_streams::{Draw, DrawDisjoint};
+use rsb_streams::{Draw, DrawDisjoint, SortedTouching};
 use std::alloc::{AllocError, Allocator, Global};
 use std::iter::FusedIterator;
 
@@ -44,10 +47,30 @@ impl<T: Integer, I: DrawDisjoint<T>, A: Allocator + Copy> MultiwaySweep<T, I, A>
     }
 }
 
-impl<T: Integer, I: DrawDisjoint<T>, A: Allocator> MultiwaySweep<T, I, A> {
-    /// The sweep over the streams of a list, which may be drawn from.
+impl<T: Integer, I: SortedTouching<T>, A: Allocator + Copy> MultiwaySweep<T, I, A> {
+    /// The sweep over any number of streams that may be drawn from, the ranges of each of which may
+    /// touch. Room is taken for all of them, and the first range of each is drawn. Without memory
+    /// nothing is made, and the streams are dropped. (Own.)
+    pub fn new_touching<K: IntoIterator<Item = I>>(alloc: A, inputs: K) -> Result<Self, AllocError>
+        requires ends { IsEnding K.into_iter_gives K.IntoIter.can_next K.IntoIter.remaining inputs }
+        requires can { EachGaveRun K.into_iter_gives K.IntoIter.next_gives inputs (All I.can_draw) }
+        ensures ready { IfOk result ⟦<MultiwaySweep<T, I, A> as Iterator>⟧.can_next }
+        ensures made { IfOk result (λ sweep.
+            GaveRun K.into_iter_gives K.IntoIter.next_gives inputs
+            (λ streams. SweepsOver T.Integer.own I.Draw streams sweep)) }
+    {
+        let touching = Vec::from_iter(alloc, inputs)?;
+        MultiwaySweep::over(alloc, touching)
+    }
+}
+
+impl<T: Integer, I: Draw<T>, A: Allocator> MultiwaySweep<T, I, A> {
+    /// The sweep over the streams of a list, which may be drawn from. The ranges of each may touch,
+    /// and do not overlap.
     pub(crate) fn over(alloc: A, streams: Vec<I, A>) -> Result<Self, AllocError>
-        requires { All I.can_draw streams.items }
+        requires can { All I.can_draw streams.items }
+        requires touching { (place : ℕ)
+            → may_give_at I.may_give streams.items place ⊆ IsTouchingIn T.value_count }
         ensures { IfOk result (SweepsOver T.Integer.own I.Draw streams.items) }
     {
         Ok(MultiwaySweep {

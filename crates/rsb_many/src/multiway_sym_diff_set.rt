@@ -1,7 +1,9 @@
 //! What lies in an odd number of streams.
 
-ghost use Rattle.std.specs.Prelude.{List};
+ghost use Rattle.std.specs.Prelude.{All, IfOk, List};
+ghost use Rattle.rsb_streams.specs.Items.{GaveRun, IsEnding};
 ghost use Rattle.rsb_streams.specs.StreamLaws.{canonical-starts, drawn-itself};
+ghost use Rattle.rsb_many.specs.HandedIn.{EachGaveRun};
 ghost use Rattle.rsb_many.specs.MultiwayLaws.{multiway_symmetric_difference-disjoint};
 ghost use Rattle.rsb_many.specs.MultiwayResults.{MakesMultiwaySymmetricDifference};
 ghost use Rattle.rsb_many.specs.MultiwaySweep.{SweepsOver};
@@ -10,8 +12,8 @@ ghost use Rattle.rsb_many.specs.MultiwaySymmetricDifference.{multiway_symmetric_
 use crate::multiway_sweep::MultiwaySweep;
 use crate::sweep_pieces::SweepPieces;
 use rsb_integer::Integer;
-use rsb_streams::{Draw, DrawDisjoint, SortedDisjoint, SortedStarts, UnionIter};
-use std::alloc::{Allocator, Global};
+use rsb_streams::{Draw, DrawDisjoint, SortedDisjoint, SortedStarts, SortedTouching, UnionIter};
+use std::alloc::{AllocError, Allocator, Global};
 use std::iter::FusedIterator;
 use std::ops::RangeInclusive;
 
@@ -21,6 +23,24 @@ use std::ops::RangeInclusive;
 #[derive(Debug, Drop)]
 pub struct MultiwaySymmetricDifference<T: Integer, I, A: Allocator = Global> {
     iter: UnionIter<T, SweepPieces<T, I, A>>,
+}
+
+impl<T: Integer, I: SortedTouching<T>, A: Allocator + Copy> MultiwaySymmetricDifference<T, I, A> {
+    /// What lies in an odd number of streams that may be drawn from, the ranges of each of which may
+    /// touch: nothing, of none. Room is taken for all of them, and the first range of each is drawn.
+    /// Without memory nothing is made, and the streams are dropped. (Own.)
+    pub fn new_touching<K: IntoIterator<Item = I>>(alloc: A, inputs: K) -> Result<Self, AllocError>
+        requires ends { IsEnding K.into_iter_gives K.IntoIter.can_next K.IntoIter.remaining inputs }
+        requires can { EachGaveRun K.into_iter_gives K.IntoIter.next_gives inputs (All I.can_draw) }
+        ensures ready { IfOk result ⟦<MultiwaySymmetricDifference<T, I, A> as Draw<T>>⟧.can_draw }
+        ensures made { IfOk result (λ difference.
+            GaveRun K.into_iter_gives K.IntoIter.next_gives inputs
+            (λ streams. MakesMultiwaySymmetricDifference T.Integer.own I.Draw
+            ⟦<MultiwaySymmetricDifference<T, I, A> as Draw<T>>⟧ streams difference)) }
+    {
+        let sweep = MultiwaySweep::new_touching(alloc, inputs)?;
+        Ok(MultiwaySymmetricDifference::of(sweep))
+    }
 }
 
 impl<T: Integer, I: Draw<T>, A: Allocator> MultiwaySymmetricDifference<T, I, A> {

@@ -22,6 +22,7 @@ pub mod OddStates
 pub mod OddTurns
 pub mod OperationLemmas
 pub mod PieceLemmas
+pub mod PlacedLemmas
 pub mod PutBackLemmas
 pub mod RunCountLemmas
 pub mod SortLemmas

@@ -1,5 +1,5 @@
--- The first place where a list of ranges is not canonical.
-use Rattle.std.proofs.Common.{◌≡◌, ℕ, suc, ◌+◌, ◌<◌, ◌≤◌, true, false, nat_lt, List, [], ◌∷◌, ◌++◌, length, take, drop, get_or, refl, sym, ap, ◌∙◌, subst, arith}
+-- The first place where a list of ranges does not ascend, with a gap between or without.
+use Rattle.std.proofs.Common.{◌≡◌, ℕ, suc, Bool, ◌+◌, ◌<◌, ◌≤◌, true, false, nat_lt, List, [], ◌∷◌, ◌++◌, length, take, drop, get_or, refl, sym, ap, ◌∙◌, subst, arith}
 use Rattle.std.proofs.lemmas.List.{length-map, take-append-drop, take_all}
 use Rattle.std.proofs.lemmas.List.Elements.{All-nil, All-push}
 use Rattle.std.proofs.Math.ListN.{get_or-map}
@@ -8,10 +8,10 @@ use Rattle.std.specs.Range.{range_inclusive_end}
 use Rattle.std.specs.Prelude.{Option, Some, None}
 use Rattle.std.specs.declared.ops.RangeInclusive.{RangeInclusive}
 use Rattle.rsb_integer.specs.Rank.{interval_of, intervals_of}
-use Rattle.rsb_integer.specs.Runs.{Interval, IsCanonicalFrom, IsCanonicalIn}
-use Rattle.rsb_integer.proofs.CanonicalLemmas.{canonical-append, canonical-front, canonical-parts, next_start, next_start-push}
+use Rattle.rsb_integer.specs.Runs.{Interval}
 use Rattle.rsb_streams.proofs.Sources.{range-end}
-use Rattle.rsb_streams.specs.NotSortedDisjoint.{IsFirstBad, start_after}
+use Rattle.rsb_streams.specs.OutOfPlace.{past_end, start_after, IsFirstBad, IsPlacedFrom, IsPlacedIn}
+use Rattle.rsb_streams.proofs.PlacedLemmas.{placed-append, placed-front, placed-parts, placed_next, placed_next-push}
 use borrow.Author.Tests.{ltb-false, ltb-true}
 
 -- a position that passed the test lies in a list
@@ -22,16 +22,17 @@ place-within position n is = ltb-true position n (sym is)
 pub place-past : (position n : ℕ) → false ≡ nat_lt position n → n ≤ position
 place-past position n is = ltb-false position n (sym is)
 
-module _ {T : Type 0} (rank : T → ℕ) (n : ℕ) (ranges : List (RangeInclusive T)) where
+module _ {T : Type 0} (rank : T → ℕ) (may_touch : Bool) (n : ℕ)
+    (ranges : List (RangeInclusive T)) where
   -- the ranks of each range
   abbrev runs : List Interval
   runs = intervals_of rank ranges
 
-  -- the ranges before the position are canonical, and `previous` is the end of the last of them
+  -- the ranges before the position ascend, and `previous` is the end of the last of them
   pub record IsChecked (position : ℕ) (previous : Option T) : Type 0 where
     pub within : position ≤ length ranges
-    pub before : IsCanonicalIn n (take position runs)
-    pub next : next_start 0 (take position runs) ≡ start_after rank previous
+    pub before : IsPlacedIn may_touch n (take position runs)
+    pub next : placed_next may_touch 0 (take position runs) ≡ start_after rank may_touch previous
 
   -- before the first range nothing is to be checked
   pub checked-none : IsChecked 0 None
@@ -59,50 +60,52 @@ module _ {T : Type 0} (rank : T → ℕ) (n : ℕ) (ranges : List (RangeInclusiv
         ∙ ap (λ each. take position runs ++ each ∷ [])
         (get_or-map (interval_of rank) ranges position range ∙ sym (ap (interval_of rank) item)))
 
-    -- where the list is canonical with it, it follows the ones before
-    pub follows-after : IsCanonicalIn n (take (position + 1) runs)
-        → IsCanonicalFrom (start_after rank previous) (run ∷ [])
-    follows-after canonical =
-        subst (λ low. IsCanonicalFrom low (run ∷ [])) checked.next
-        (canonical-parts 0 (take position runs) (run ∷ [])
-        (subst (IsCanonicalFrom 0) one-more canonical.0)).1
+    -- where the list ascends with it, it follows the ones before
+    pub follows-after : IsPlacedIn may_touch n (take (position + 1) runs)
+        → IsPlacedFrom may_touch (start_after rank may_touch previous) (run ∷ [])
+    follows-after placed =
+        subst (λ low. IsPlacedFrom may_touch low (run ∷ [])) checked.next
+        (placed-parts may_touch 0 (take position runs) (run ∷ [])
+        (subst (IsPlacedFrom may_touch 0) one-more placed.0)).1
 
     -- the range does not follow the ones before
-    pub bad-here : ¬ (IsCanonicalFrom (start_after rank previous) (run ∷ []))
-        → IsFirstBad n runs position
+    pub bad-here : ¬ (IsPlacedFrom may_touch (start_after rank may_touch previous) (run ∷ []))
+        → IsFirstBad (IsPlacedIn may_touch n) runs position
     bad-here broken = record {
       within = omega (arith, within, length-map ranges (interval_of rank));
       before = checked.before;
-      broken = λ canonical. broken (follows-after canonical);
+      broken = λ placed. broken (follows-after placed);
     }
 
     -- it does
-    pub checked-one : IsCanonicalFrom (start_after rank previous) (run ∷ []) → run.last < n
+    pub checked-one : IsPlacedFrom may_touch (start_after rank may_touch previous) (run ∷ [])
+        → run.last < n
         → (end : T) → end ≡ range_inclusive_end range → IsChecked (position + 1) (Some end)
-    checked-one canonical below end is =
-        let low = subst (λ low. IsCanonicalFrom low (run ∷ [])) (sym checked.next) canonical in
+    checked-one placed below end is =
+        let low = subst (λ low. IsPlacedFrom may_touch low (run ∷ [])) (sym checked.next) placed in
         record {
           within = omega (arith, within);
           before = rw one-more (
-            canonical-append 0 (take position runs) (run ∷ []) checked.before.0 low,
+            placed-append may_touch 0 (take position runs) (run ∷ []) checked.before.0 low,
             All-push (λ (each : Interval). each.last < n) (take position runs) run checked.before.1
                 below,
           );
-          next = rw one-more (next_start-push 0 (take position runs) run
-              ∙ ap (λ last. last + 2) (range-end rank range canonical.1 ∙ sym (ap rank is)));
+          next = rw one-more (placed_next-push may_touch 0 (take position runs) run
+              ∙ ap (past_end may_touch) (range-end rank range placed.1 ∙ sym (ap rank is)));
         }
 
-  -- a canonical list is canonical up to each position
-  pub canonical-take : (position : ℕ) → IsCanonicalIn n runs → IsCanonicalIn n (take position runs)
-  canonical-take position canonical =
-      canonical-front n (take position runs) (drop position runs)
-      (subst (IsCanonicalIn n) (sym (take-append-drop position runs)) canonical)
+  -- a list that ascends does so up to each position
+  pub placed-take : (position : ℕ) → IsPlacedIn may_touch n runs
+      → IsPlacedIn may_touch n (take position runs)
+  placed-take position placed =
+      placed-front may_touch n (take position runs) (drop position runs)
+      (subst (IsPlacedIn may_touch n) (sym (take-append-drop position runs)) placed)
 
-  -- where the position is past the last range, the whole list is canonical
+  -- where the position is past the last range, the whole list ascends
   pub checked-all : (position : ℕ) (previous : Option T) → IsChecked position previous
       → length ranges ≤ position
-      → IsCanonicalIn n runs
+      → IsPlacedIn may_touch n runs
   checked-all position previous checked past =
-      subst (IsCanonicalIn n) (take_all position runs
+      subst (IsPlacedIn may_touch n) (take_all position runs
       (omega (arith, past, length-map ranges (interval_of rank))))
       checked.before

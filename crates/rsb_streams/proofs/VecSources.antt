@@ -14,8 +14,10 @@ use Rattle.rsb_integer.proofs.CanonicalLemmas.{canonical-front}
 use Rattle.rsb_streams.specs.Calls.{Call, IsSource, calls_give}
 use Rattle.rsb_streams.specs.CallsLaws.{calls-steps}
 use Rattle.rsb_streams.specs.Stream.{◌⊆◌, just, HasSortedStarts}
+use Rattle.rsb_streams.specs.Touching.{IsTouchingIn}
 use Rattle.rsb_streams.proofs.LawfulSources.{sorted-front}
 use Rattle.rsb_streams.proofs.ListedSources.{listed-calls, listed-yields}
+use Rattle.rsb_streams.proofs.PlacedLemmas.{touching-front}
 
 -- what a `Vec` of ranges becomes
 abbrev Items : Type 0 → Type 0 → Type 0
@@ -108,3 +110,8 @@ module _ {T Z : Type 0} (rank : T → ℕ) (n : ℕ) where
   pub vec-sorted : (s : Items T Z) → HasSortedStarts n (intervals_of rank (into_iter_items s))
       → IsSource rank items (HasSortedStarts n) s
   vec-sorted = vec-source_of (HasSortedStarts n) (sorted-front n 0)
+
+  -- and where they may touch
+  pub vec-touching : (s : Items T Z) → IsTouchingIn n (intervals_of rank (into_iter_items s))
+      → IsSource rank items (IsTouchingIn n) s
+  vec-touching = vec-source_of (IsTouchingIn n) (touching-front n)

@@ -14,3 +14,11 @@ module _ {S T : Type 0} (rank : T → ℕ) (n : ℕ) (can_next : S → Type 0) (
     pub in_type : (interval_of rank range).last < n
     pub apart : (interval_of rank range).last + 2 ≤ low t
     pub nearer : IsNearerEnd can_next remaining s t
+
+  -- the same, where what comes after it starts past its end, and may touch it
+  pub record AscendsTouching (s : S) (range : RangeInclusive T) (t : S) : Type 0 where
+    pub from_low : low s ≤ (interval_of rank range).first
+    pub in_order : (interval_of rank range).first ≤ (interval_of rank range).last
+    pub in_type : (interval_of rank range).last < n
+    pub past : (interval_of rank range).last + 1 ≤ low t
+    pub nearer : IsNearerEnd can_next remaining s t

@@ -13,6 +13,7 @@ use Rattle.rsb_streams.specs.Fused.{fuse}
 use Rattle.rsb_streams.specs.FusedLaws.{fuse-answered, fuse-keeps}
 use Rattle.rsb_streams.specs.Rows.{IsAnswered, IsDisjoint, IsSorted, KeepsLaw}
 use Rattle.rsb_streams.specs.Stream.{Answers, HasOutcome, HasSortedStarts}
+use Rattle.rsb_streams.specs.Touching.{IsTouchingIn}
 
 module _ {S T : Type 0} (rank : T → ℕ) (call : S → Option (RangeInclusive T) → S → Type 0) where
   -- what a call answered comes first, and then what the calls after it give
@@ -110,3 +111,12 @@ module _ {I T N : Type 0} (integer : Elements T N) (iterator : Iteration I (Rang
       IsSorted integer (fuse (calls integer iterator (HasSortedStarts integer.value_count)))
   known-sorted = fuse-keeps (calls integer iterator (HasSortedStarts integer.value_count))
       (HasSortedStarts integer.value_count) tt (calls-keeps (HasSortedStarts integer.value_count))
+
+  -- and what is known to be ranges that may touch
+  pub known-touching :
+      KeepsLaw (IsTouchingIn integer.value_count)
+      (fuse (calls integer iterator (IsTouchingIn integer.value_count)))
+  known-touching = fuse-keeps (calls integer iterator (IsTouchingIn integer.value_count))
+      (IsTouchingIn integer.value_count)
+      (tt, All-nil (λ (run : Interval). run.last < integer.value_count))
+      (calls-keeps (IsTouchingIn integer.value_count))

@@ -7,6 +7,7 @@ pub mod AssumeSortedStarts
 pub mod Calls
 pub mod CallsLaws
 pub mod CheckSortedDisjoint
+pub mod CheckSortedTouching
 pub mod Difference
 pub mod FillGaps
 pub mod FillGapsIter
@@ -21,9 +22,9 @@ pub mod Merge
 pub mod MergeLaws
 pub mod NotIter
 pub mod NotIterLaws
-pub mod NotSortedDisjoint
 pub mod OddPieces
 pub mod OddPiecesLaws
+pub mod OutOfPlace
 pub mod PartLaws
 pub mod PutBack
 pub mod PutBackLaws
@@ -37,6 +38,8 @@ pub mod StreamLaws
 pub mod Sublists
 pub mod SublistsLaws
 pub mod SymDiffIter
+pub mod Touching
+pub mod TouchingLaws
 pub mod Union
 pub mod UnionIter
 pub mod UnionIterLaws

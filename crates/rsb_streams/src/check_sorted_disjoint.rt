@@ -6,12 +6,13 @@ ghost use Rattle.rsb_integer.specs.Runs.{IsCanonicalIn};
 ghost use Rattle.rsb_streams.specs.Calls.{gives_as, GivesOnly};
 ghost use Rattle.rsb_streams.specs.CallsLaws.{known-answered, known-disjoint};
 ghost use Rattle.rsb_streams.specs.CheckSortedDisjoint.{check_sorted_disjoint};
-ghost use Rattle.rsb_streams.specs.NotSortedDisjoint.{IsFirstBad};
+ghost use Rattle.rsb_streams.specs.OutOfPlace.{IsFirstBad};
 ghost use Rattle.rsb_streams.specs.Stream.{◌⊆◌, just, IsReadyAnd};
 ghost use Rattle.rsb_streams.specs.StreamLaws.{canonical-starts, drawn-itself};
 
 use crate::draw::Draw;
-use crate::not_sorted_disjoint::{NotSortedDisjoint, first_bad};
+use crate::not_sorted_disjoint::NotSortedDisjoint;
+use crate::out_of_place::first_bad;
 use crate::range_once::RangeOnce;
 use crate::sorted_disjoint::{DrawDisjoint, SortedDisjoint, SortedStarts};
 use rsb_integer::Integer;
@@ -57,10 +58,10 @@ impl<T: Integer, A: Allocator> CheckSortedDisjoint<T, IntoIter<RangeInclusive<T>
             ⟦<CheckSortedDisjoint<T, IntoIter<RangeInclusive<T>, A>> as Draw<T>>⟧.may_give stream
             ⊆ just (intervals_of T.rank ranges.items)) }
         ensures ranges { IfErr result (λ refused. refused.ranges ≡ ranges) }
-        ensures position { IfErr result (λ refused.
-            IsFirstBad T.value_count (intervals_of T.rank ranges.items) refused.position) }
+        ensures position { IfErr result (λ refused. IsFirstBad (IsCanonicalIn T.value_count)
+            (intervals_of T.rank ranges.items) refused.position) }
     {
-        if let Some(position) = first_bad(&ranges) {
+        if let Some(position) = first_bad(false, &ranges) {
             return Err(NotSortedDisjoint { position, ranges });
         }
         Ok(Self::new(ranges))

@@ -1,16 +1,23 @@
 use Rattle.std.proofs.Common.{subst, sym, All}
 use Rattle.std.proofs.lemmas.Result.{IfOk-weaker}
 use Rattle.rsb_many.proofs.HandedInLemmas.{collected-each, collected-run}
+use Rattle.rsb_many.proofs.MultiwaySweepLemmas.{canonical-touching}
 use Rattle.rsb_many.specs.MultiwaySweep.{SweepsOver}
 use Rattle.rsb_many.proofs.multiway_sweep.MultiwaySweep.new.Goals as goal
 
--- what holds of all that is handed in holds of the list
+-- what holds of all that is handed in holds of the list, whose ranges may touch, since they
+-- are canonical
 pub over-requires : goal.over-requires
 over-requires g c =
     let ran = c.in_ok-streams.ensures.ran in
-    subst (All g.I.Draw.can_draw) (sym ran.4.0)
+    let can = subst (All g.I.Draw.can_draw) (sym ran.4.0)
     (collected-each g.K.IntoIterator.into_iter_gives g.K.IntoIter.Iterator.next_gives c.args.inputs
-    ran.0 ran.1 ran.2 ran.3 (All g.I.Draw.can_draw) c.requires.can)
+    ran.0 ran.1 ran.2 ran.3 (All g.I.Draw.can_draw) c.requires.can) in
+    record {
+      can = can;
+      touching = canonical-touching g.T.Integer.value_count g.I.Draw.can_draw g.I.Draw.may_give
+          c.in_ok-streams.streams.items g.met.I.DrawDisjoint.canonical can;
+    }
 
 -- the sweep is over what was handed in
 pub returns : goal.returns

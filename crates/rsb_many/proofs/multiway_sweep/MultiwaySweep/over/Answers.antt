@@ -1,5 +1,5 @@
 use Rattle.rsb_streams.proofs.Sources.{IsLawful}
-use Rattle.rsb_many.proofs.MultiwaySweepLemmas.{canonical-touching, sweeps-over}
+use Rattle.rsb_many.proofs.MultiwaySweepLemmas.{sweeps-over}
 use Rattle.rsb_many.proofs.multiway_sweep.MultiwaySweep.over.Given.{Over}
 use Rattle.rsb_many.proofs.multiway_sweep.MultiwaySweep.over.Goals as goal
 
@@ -9,9 +9,7 @@ laws g = record {
   sorted = g.met.I.Draw.sorted;
 }
 
--- the ranges of each stream may touch, since they are canonical
+-- the ranges of each stream may touch
 pub returns : goal.returns
 returns g c = sweeps-over g.T.Integer g.I.Draw (laws g) c.args.streams.items
-    (record { inputs = c.in_ok-over.field-0 }) c.in_ok-over.ensures
-    (canonical-touching g.T.Integer.value_count g.I.Draw.can_draw g.I.Draw.may_give
-    c.args.streams.items g.met.I.DrawDisjoint.canonical c.requires)
+    (record { inputs = c.in_ok-over.field-0 }) c.in_ok-over.ensures c.requires.touching

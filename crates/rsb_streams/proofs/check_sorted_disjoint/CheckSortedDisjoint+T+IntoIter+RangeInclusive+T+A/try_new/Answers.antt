@@ -1,7 +1,7 @@
-use Rattle.std.proofs.Common.{refl, sym, ap, ◌∙◌, subst}
+use Rattle.std.proofs.Common.{false, refl, sym, ap, ◌∙◌, subst}
 use Rattle.rsb_integer.specs.Rank.{intervals_of}
-use Rattle.rsb_integer.specs.Runs.{IsCanonicalIn}
-use Rattle.rsb_streams.specs.NotSortedDisjoint.{IsFirstBad}
+use Rattle.rsb_streams.specs.OutOfPlace.{IsFirstBad, IsPlacedIn}
+use Rattle.rsb_streams.proofs.PlacedLemmas.{placed-canonical}
 use Rattle.rsb_streams.proofs.VecSources.{vec-calls, vec-source}
 use Rattle.rsb_streams.proofs.check_sorted_disjoint.CheckSortedDisjoint+T+IntoIter+RangeInclusive+T+A.try_new.Goals as goal
 
@@ -10,28 +10,41 @@ pub returns-in-Some-clause-ok : goal.returns-in-Some-clause-ok
 returns-in-Some-clause-ok g c = (
   (λ no. absurd (cc)),
   (λ canonical.
+      let rank = g.T.Integer.rank in
+      let n = g.T.Integer.value_count in
       let none = c.in-Some.ensures.none.1
-      (subst (λ items. IsCanonicalIn g.T.Integer.value_count (intervals_of g.T.Integer.rank items))
-      (sym c.deref.ensures.value) canonical) in
+      (subst (λ items. IsPlacedIn false n (intervals_of rank items)) (sym c.deref.ensures.value)
+      (subst (λ law. law (intervals_of rank c.args.ranges.items)) (sym (placed-canonical n)) canonical)) in
       absurd (cc)),
 )
 
 pub returns-in-Some-clause-position : goal.returns-in-Some-clause-position
 returns-in-Some-clause-position g c =
-    subst (λ items. IsFirstBad g.T.Integer.value_count (intervals_of g.T.Integer.rank items)
-    c.in-Some.position) c.deref.ensures.value c.in-Some.ensures.bad
+    let rank = g.T.Integer.rank in
+    let n = g.T.Integer.value_count in
+    subst (λ law. IsFirstBad law (intervals_of rank c.args.ranges.items) c.in-Some.position)
+    (placed-canonical n)
+    (subst (λ items. IsFirstBad (IsPlacedIn false n) (intervals_of rank items) c.in-Some.position)
+    c.deref.ensures.value c.in-Some.ensures.bad)
 
 -- the list is canonical, since no position is bad
 pub new-requires : goal.new-requires
 new-requires g c = λ source becomes.
-    vec-source g.T.Integer.rank g.T.Integer.value_count source
-    (subst (λ items. IsCanonicalIn g.T.Integer.value_count (intervals_of g.T.Integer.rank items))
-    (c.deref.ensures.value ∙ sym becomes.0) (c.in_default.ensures.none.0 refl))
+    let rank = g.T.Integer.rank in
+    let n = g.T.Integer.value_count in
+    vec-source rank n source
+    (subst (λ law. law (intervals_of rank source.rest.items)) (placed-canonical n)
+    (subst (λ items. IsPlacedIn false n (intervals_of rank items))
+    (c.deref.ensures.value ∙ sym becomes.0) (c.in_default.ensures.none.0 refl)))
 
 pub returns-clause-ok : goal.returns-clause-ok
 returns-clause-ok g c = (
-  (λ _. subst (λ items. IsCanonicalIn g.T.Integer.value_count (intervals_of g.T.Integer.rank items))
-      c.deref.ensures.value (c.in_default.ensures.none.0 refl)),
+  (λ _.
+      let rank = g.T.Integer.rank in
+      let n = g.T.Integer.value_count in
+      subst (λ law. law (intervals_of rank c.args.ranges.items)) (placed-canonical n)
+      (subst (λ items. IsPlacedIn false n (intervals_of rank items)) c.deref.ensures.value
+      (c.in_default.ensures.none.0 refl))),
   (λ _. refl),
 )
 

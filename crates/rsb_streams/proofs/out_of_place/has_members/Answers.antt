@@ -3,9 +3,9 @@ use Rattle.std.specs.Range.{range_inclusive_start, range_inclusive_end}
 use Rattle.rsb_integer.specs.Rank.{interval_of}
 use Rattle.rsb_streams.proofs.Compare.{IsRanked, ends-below, some-test}
 use Rattle.rsb_streams.proofs.Sources.{range-start}
-use Rattle.rsb_streams.proofs.not_sorted_disjoint.has_members.Given.{Over}
-use Rattle.rsb_streams.proofs.not_sorted_disjoint.has_members.Goals as goal
-use Rattle.rsb_streams.proofs.not_sorted_disjoint.has_members.Goals.{After-is_empty}
+use Rattle.rsb_streams.proofs.out_of_place.has_members.Given.{Over}
+use Rattle.rsb_streams.proofs.out_of_place.has_members.Goals as goal
+use Rattle.rsb_streams.proofs.out_of_place.has_members.Goals.{After-is_empty}
 use borrow.Author.Tests.{le-leb, leb-true}
 
 ranked : (g : Over) → IsRanked g.T.Integer.rank g.T.Integer.value_count g.T.PartialOrd.partial_cmp

@@ -1,10 +1,11 @@
 use Rattle.std.proofs.Common.{◌-◌, length}
 use Rattle.rsb_streams.proofs.TryNewLemmas.{IsChecked}
-use Rattle.rsb_streams.proofs.not_sorted_disjoint.first_bad.Given as goal
+use Rattle.rsb_streams.proofs.out_of_place.first_bad.Given as goal
 
 abbrev pub invariant-loop-range : goal.invariant-loop-range
 invariant-loop-range g l =
-    IsChecked g.T.Integer.rank g.T.Integer.value_count l.fn.ranges l.position l.previous
+    IsChecked g.T.Integer.rank l.fn.may_touch g.T.Integer.value_count l.fn.ranges l.position
+    l.previous
 
 abbrev pub decreases-loop-range : goal.decreases-loop-range
 decreases-loop-range g l = length l.fn.ranges - l.position

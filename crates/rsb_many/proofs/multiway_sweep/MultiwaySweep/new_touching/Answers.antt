@@ -1,0 +1,34 @@
+use Rattle.std.proofs.Common.{subst, sym, All}
+use Rattle.std.proofs.lemmas.Result.{IfOk-weaker}
+use Rattle.rsb_many.proofs.HandedInLemmas.{collected-each, collected-run}
+use Rattle.rsb_many.proofs.MultiwaySweepLemmas.{places-touching}
+use Rattle.rsb_many.specs.MultiwaySweep.{SweepsOver}
+use Rattle.rsb_many.proofs.multiway_sweep.MultiwaySweep.new_touching.Goals as goal
+
+-- what holds of all that is handed in holds of the list, whose ranges may touch by the law
+-- of the streams
+pub over-requires : goal.over-requires
+over-requires g c =
+    let ran = c.in_ok-touching.ensures.ran in
+    let can = subst (All g.I.Draw.can_draw) (sym ran.4.0)
+    (collected-each g.K.IntoIterator.into_iter_gives g.K.IntoIter.Iterator.next_gives c.args.inputs
+    ran.0 ran.1 ran.2 ran.3 (All g.I.Draw.can_draw) c.requires.can) in
+    record {
+      can = can;
+      touching = places-touching g.T.Integer.value_count g.I.Draw.can_draw g.I.Draw.may_give
+          c.in_ok-touching.touching.items g.met.I.SortedTouching.touching can;
+    }
+
+-- the sweep is over what was handed in
+pub returns : goal.returns
+returns g c =
+    let ran = c.in_ok-touching.ensures.ran in
+    record {
+      ready = IfOk-weaker c.over.result _ _ (λ sweep over. over.ready) c.over.ensures;
+      made = IfOk-weaker c.over.result _ _ (λ sweep over.
+          collected-run g.K.IntoIterator.into_iter_gives g.K.IntoIter.Iterator.next_gives
+          c.args.inputs ran.0 ran.1 ran.2 ran.3
+          (λ streams. SweepsOver g.T.Integer g.I.Draw streams sweep)
+          (subst (λ streams. SweepsOver g.T.Integer g.I.Draw streams sweep) ran.4.0 over))
+          c.over.ensures;
+    }

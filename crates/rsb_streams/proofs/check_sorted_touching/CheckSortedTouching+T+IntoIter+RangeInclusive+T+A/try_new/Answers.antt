@@ -1,0 +1,59 @@
+use Rattle.std.proofs.Common.{true, refl, sym, ap, ◌∙◌, subst}
+use Rattle.rsb_integer.specs.Rank.{intervals_of}
+use Rattle.rsb_streams.specs.OutOfPlace.{IsFirstBad, IsPlacedIn}
+use Rattle.rsb_streams.proofs.PlacedLemmas.{placed-touching}
+use Rattle.rsb_streams.proofs.VecSources.{vec-calls, vec-touching}
+use Rattle.rsb_streams.proofs.check_sorted_touching.CheckSortedTouching+T+IntoIter+RangeInclusive+T+A.try_new.Goals as goal
+
+-- a position is bad, so the list is not one that may touch
+pub returns-in-Some-clause-ok : goal.returns-in-Some-clause-ok
+returns-in-Some-clause-ok g c = (
+  (λ no. absurd (cc)),
+  (λ touching.
+      let rank = g.T.Integer.rank in
+      let n = g.T.Integer.value_count in
+      let none = c.in-Some.ensures.none.1
+      (subst (λ items. IsPlacedIn true n (intervals_of rank items)) (sym c.deref.ensures.value)
+      (subst (λ law. law (intervals_of rank c.args.ranges.items)) (sym (placed-touching n)) touching)) in
+      absurd (cc)),
+)
+
+pub returns-in-Some-clause-position : goal.returns-in-Some-clause-position
+returns-in-Some-clause-position g c =
+    let rank = g.T.Integer.rank in
+    let n = g.T.Integer.value_count in
+    subst (λ law. IsFirstBad law (intervals_of rank c.args.ranges.items) c.in-Some.position)
+    (placed-touching n)
+    (subst (λ items. IsFirstBad (IsPlacedIn true n) (intervals_of rank items) c.in-Some.position)
+    c.deref.ensures.value c.in-Some.ensures.bad)
+
+-- the list is one that may touch, since no position is bad
+pub new-requires : goal.new-requires
+new-requires g c = λ source becomes.
+    let rank = g.T.Integer.rank in
+    let n = g.T.Integer.value_count in
+    vec-touching rank n source
+    (subst (λ law. law (intervals_of rank source.rest.items)) (placed-touching n)
+    (subst (λ items. IsPlacedIn true n (intervals_of rank items))
+    (c.deref.ensures.value ∙ sym becomes.0) (c.in_default.ensures.none.0 refl)))
+
+pub returns-clause-ok : goal.returns-clause-ok
+returns-clause-ok g c = (
+  (λ _.
+      let rank = g.T.Integer.rank in
+      let n = g.T.Integer.value_count in
+      subst (λ law. law (intervals_of rank c.args.ranges.items)) (placed-touching n)
+      (subst (λ items. IsPlacedIn true n (intervals_of rank items)) c.deref.ensures.value
+      (c.in_default.ensures.none.0 refl))),
+  (λ _. refl),
+)
+
+pub returns-clause-ready : goal.returns-clause-ready
+returns-clause-ready g c = c.new.ensures.ready
+
+-- the stream gives the items of the list
+pub returns-clause-runs : goal.returns-clause-runs
+returns-clause-runs g c = λ runs may.
+    let given = c.new.ensures.gives runs may in
+    vec-calls g.T.Integer.rank g.T.Integer.value_count given.0 runs given.2
+    ∙ ap (intervals_of g.T.Integer.rank) given.1.0

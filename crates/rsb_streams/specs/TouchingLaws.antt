@@ -1,0 +1,52 @@
+-- The laws of lists that may touch.
+use Rattle.std.proofs.Common.{ℕ, ◌+◌, ◌<◌, ◌≤◌, List, [], ◌∷◌, arith}
+use Rattle.std.proofs.lemmas.List.Elements.{All-head, All-tail}
+use Rattle.std.specs.Iterator.{Count}
+use Rattle.rsb_integer.specs.Runs.{Interval, AllEndBelow, IsCanonicalFrom}
+use Rattle.rsb_streams.specs.Stream.{HasSortedStarts, HasSortedStartsFrom, Keeps, Outcomes}
+use Rattle.rsb_streams.specs.StreamLaws.{sorted-lower}
+use Rattle.rsb_streams.specs.Touching.{IsTouchingFrom, IsTouchingIn}
+
+-- a list whose intervals may touch may be asked to start earlier
+pub touching-lower : (low lower : ℕ) (runs : List Interval) → lower ≤ low → IsTouchingFrom low runs
+    → IsTouchingFrom lower runs
+touching-lower low lower [] less touching = tt
+touching-lower low lower (run ∷ runs) less touching =
+    let starts = touching.0 in (omega arith, touching.1, touching.2)
+
+-- in a canonical list no two intervals touch or overlap, so none overlap
+pub touching-canonical : (low : ℕ) (runs : List Interval) → IsCanonicalFrom low runs
+    → IsTouchingFrom low runs
+touching-canonical low [] canonical = tt
+touching-canonical low (run ∷ runs) canonical = (
+  canonical.0,
+  canonical.1,
+  touching-lower (run.last + 2) (run.last + 1) runs (omega arith)
+      (touching-canonical (run.last + 2) runs canonical.2),
+)
+
+-- a list whose intervals may touch has sorted starts
+pub touching-sorted : (n low : ℕ) (runs : List Interval) → IsTouchingFrom low runs
+    → AllEndBelow n runs → HasSortedStartsFrom n low runs
+touching-sorted n low [] touching below = tt
+touching-sorted n low (run ∷ runs) touching below =
+    let P : Interval → Type 0 = λ each. each.last < n in
+    let ordered = touching.1 in (
+      touching.0,
+      ordered,
+      All-head P run runs below,
+      sorted-lower n (run.last + 1) run.first runs (omega arith)
+          (touching-sorted n (run.last + 1) runs touching.2 (All-tail P run runs below)),
+    )
+
+-- so have the lists that a stream of such ones gives
+pub touching-starts : (n : ℕ) (P : Outcomes) (remaining : Count)
+    → Keeps (IsTouchingIn n) P remaining
+    → Keeps (HasSortedStarts n) P remaining
+touching-starts n P remaining kept = record {
+  some = kept.some;
+  all = λ runs may.
+      let touching = kept.all runs may in
+      touching-sorted n 0 runs touching.0 touching.1;
+  ends = kept.ends;
+}
