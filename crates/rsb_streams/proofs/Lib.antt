@@ -5,6 +5,7 @@ pub mod CallerLemmas
 pub mod CheckLemmas
 pub mod CollectLemmas
 pub mod Compare
+pub mod CountTurns
 pub mod EqualTurns
 pub mod FillLemmas
 pub mod FillTurns
@@ -12,6 +13,7 @@ pub mod FirstItems
 pub mod LawfulSources
 pub mod ListedSources
 pub mod LookaheadLemmas
+pub mod LoopLemmas
 pub mod MergeTurns
 pub mod NestedLemmas
 pub mod NotLemmas

@@ -1,13 +1,14 @@
 //! The traits of streams, and the operations on them.
 
-ghost use Rattle.std.specs.Prelude.{◌↔◌, IsTrue};
-ghost use Rattle.rsb_integer.specs.Runs.{members, IsCanonicalIn};
+ghost use Rattle.std.specs.Prelude.{◌≡◌, ◌↔◌, List, IsTrue};
+ghost use Rattle.rsb_integer.specs.Runs.{members, Interval, IsCanonicalIn};
 ghost use Rattle.rsb_integer.specs.Selection.{
   Agree,
   AreDisjoint,
   IsEverything,
   IsNothing,
   IsSubset,
+  count,
   difference,
   symmetric_difference,
   union,
@@ -36,6 +37,7 @@ use crate::draw::Draw;
 use crate::fill_gaps_iter::FillGapsIter;
 use crate::not_iter::NotIter;
 use crate::operation_results::{Difference, Intersection, SymmetricDifference, Union};
+use num_traits::Zero;
 use rsb_integer::Integer;
 use std::iter::FusedIterator;
 use std::ops::RangeInclusive;
@@ -146,6 +148,23 @@ pub trait DrawDisjoint<T: Integer>: Draw<T> {
             (fill_may_give T.Integer.own Self.Draw result) }
     {
         FillGapsIter::over(self, T::min_value())
+    }
+
+    /// How many members a stream that may be drawn from has: those of a list that it may give. It
+    /// draws to the end, and takes no memory. (Own: `len` and `count` are taken, by iterators.)
+    final fn members_len(self) -> T::SafeLen
+    where
+        Self: Sized,
+        requires { Self.can_draw self }
+        ensures { (runs : List Interval) × Self.may_give self runs
+            × (T.SafeLen.number result ≡ count T.value_count (members runs)) }
+    {
+        let mut stream = self;
+        let mut length = T::SafeLen::zero();
+        while let Some(range) = stream.draw() {
+            length += T::safe_len(&range);
+        }
+        length
     }
 
     /// Whether a stream that may be drawn from has no member. It draws one range, and takes no

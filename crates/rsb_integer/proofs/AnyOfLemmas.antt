@@ -1,0 +1,23 @@
+-- What lies in some of many sets, as one more of them is taken up: the step of a loop.
+use Rattle.std.proofs.Common.{◌≡◌, ℕ, ◌||◌, ◌+◌, ◌<◌, List, [], ◌∷◌, ◌++◌, length, get_or, map, take, sym, ap, ◌∙◌}
+use Rattle.std.proofs.Math.Bool.{or_assoc, or-false}
+use Rattle.std.proofs.lemmas.List.{take_more}
+use Rattle.rsb_integer.specs.Selection.{Selection, any_of}
+
+-- one more at the end of a list
+pub any_of-one_more : {X : Type 0} (selection : X → Selection) (front : List X) (last : X)
+    (rank : ℕ) → any_of (map selection (front ++ last ∷ [])) rank
+    ≡ (any_of (map selection front) rank || selection last rank)
+any_of-one_more selection [] last rank = or-false (selection last rank)
+any_of-one_more selection (first ∷ front) last rank =
+    ap (λ test. selection first rank || test) (any_of-one_more selection front last rank)
+    ∙ sym (or_assoc (selection first rank) (any_of (map selection front) rank)
+    (selection last rank))
+
+-- the next of a list of which so many were taken up, as a loop over a slice does
+pub any_of-next : {X : Type 0} (selection : X → Selection) (all : List X) (place : ℕ) (other : X)
+    → place < length all → (rank : ℕ) → any_of (map selection (take (place + 1) all)) rank
+    ≡ (any_of (map selection (take place all)) rank || selection (get_or all place other) rank)
+any_of-next selection all place other below rank =
+    ap (λ list. any_of (map selection list) rank) (take_more all place other below)
+    ∙ any_of-one_more selection (take place all) (get_or all place other) rank
