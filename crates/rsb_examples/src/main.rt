@@ -7,6 +7,7 @@ pub mod character_classes;
 pub mod first_steps;
 pub mod free_space;
 pub mod packets;
+pub mod shifts;
 
 use std::io;
 
@@ -22,5 +23,7 @@ fn main(rt: HostRuntime) -> io::Result<()> {
     println!(rt; "# packets")?;
     packets::show(rt.alloc(), &rt)?;
     println!(rt; "# calendar")?;
-    calendar::show(rt.alloc(), &rt)
+    calendar::show(rt.alloc(), &rt)?;
+    println!(rt; "# shifts")?;
+    shifts::show(rt.alloc(), &rt)
 }

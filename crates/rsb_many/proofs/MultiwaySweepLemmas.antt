@@ -12,7 +12,7 @@ use Rattle.rsb_integer.specs.declared.integer.Integer.{Ghosts as Elements}
 use Rattle.rsb_streams.specs.Lookahead.{Uses}
 use Rattle.rsb_streams.specs.Stream.{◌⊆◌, HasOutcome, Outcomes}
 use Rattle.rsb_streams.specs.Touching.{IsTouching, IsTouchingFrom, IsTouchingIn}
-use Rattle.rsb_streams.specs.TouchingLaws.{touching-canonical, touching-lower}
+use Rattle.rsb_streams.specs.TouchingLaws.{touching-canonical_in, touching-lower}
 use Rattle.rsb_streams.specs.declared.draw.Draw.{Ghosts as Stream}
 use Rattle.rsb_streams.proofs.LookaheadLemmas.{uses-then}
 use Rattle.rsb_streams.proofs.Sources.{IsLawful}
@@ -73,8 +73,7 @@ pub canonical-touching : {S : Type 0} (n : ℕ) (can : S → Type 0) (may_give :
     → (place : ℕ) → may_give_at may_give streams place ⊆ IsTouchingIn n
 canonical-touching n can may_give streams canonical =
     places-touching n can may_give streams (λ stream ready runs may.
-    let lawful = canonical stream ready runs may in
-    (touching-canonical 0 runs lawful.0, lawful.1))
+    touching-canonical_in n runs (canonical stream ready runs may))
 
 module _ {T N I A : Type 0} (integer : Elements T N) (stream : Stream I T N)
     (laws : IsLawful integer stream) where

@@ -14,6 +14,8 @@ use Rattle.rsb_streams.specs.Calls.{Call, IsSource}
 use Rattle.rsb_streams.specs.CallsLaws.{calls-steps}
 use Rattle.rsb_streams.specs.StreamLaws.{settled_canonical_in, settled_sorted}
 use Rattle.rsb_streams.specs.Stream.{◌⊆◌, HasSortedStarts, HasSortedStartsFrom}
+use Rattle.rsb_streams.specs.Touching.{IsTouchingIn}
+use Rattle.rsb_streams.proofs.PlacedLemmas.{settled_touching_in, touching-front}
 use Rattle.rsb_streams.proofs.Sources.{IsLawful}
 
 -- a front of a list by starts is such a list
@@ -78,3 +80,9 @@ module _ {S T N : Type 0} (integer : Elements T N) (source : Stream S T N)
       → IsSource rank next (IsCanonicalIn n) s
   canonical-source =
       lawful-source (IsCanonicalIn n) (canonical-front n) (settled_canonical_in n)
+
+  -- and every stream whose ranges may touch of such a one
+  pub touching-source : (s : S) → next.can_next s → source.may_give s ⊆ IsTouchingIn n
+      → IsSource rank next (IsTouchingIn n) s
+  touching-source =
+      lawful-source (IsTouchingIn n) (touching-front n) (settled_touching_in n)

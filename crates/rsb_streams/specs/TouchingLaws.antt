@@ -2,7 +2,7 @@
 use Rattle.std.proofs.Common.{ℕ, ◌+◌, ◌<◌, ◌≤◌, List, [], ◌∷◌, arith}
 use Rattle.std.proofs.lemmas.List.Elements.{All-head, All-tail}
 use Rattle.std.specs.Iterator.{Count}
-use Rattle.rsb_integer.specs.Runs.{Interval, AllEndBelow, IsCanonicalFrom}
+use Rattle.rsb_integer.specs.Runs.{Interval, AllEndBelow, IsCanonicalFrom, IsCanonicalIn}
 use Rattle.rsb_streams.specs.Stream.{HasSortedStarts, HasSortedStartsFrom, Keeps, Outcomes}
 use Rattle.rsb_streams.specs.StreamLaws.{sorted-lower}
 use Rattle.rsb_streams.specs.Touching.{IsTouchingFrom, IsTouchingIn}
@@ -24,6 +24,10 @@ touching-canonical low (run ∷ runs) canonical = (
   touching-lower (run.last + 2) (run.last + 1) runs (omega arith)
       (touching-canonical (run.last + 2) runs canonical.2),
 )
+
+-- so a canonical list is one whose intervals may touch
+pub touching-canonical_in : (n : ℕ) (runs : List Interval) → IsCanonicalIn n runs → IsTouchingIn n runs
+touching-canonical_in n runs canonical = (touching-canonical 0 runs canonical.0, canonical.1)
 
 -- a list whose intervals may touch has sorted starts
 pub touching-sorted : (n low : ℕ) (runs : List Interval) → IsTouchingFrom low runs

@@ -9,3 +9,4 @@ mod refusals;
 mod sets;
 mod sweeps;
 mod thousand;
+mod touching;

@@ -2,8 +2,11 @@
 
 use crate::many::forms::streams_of;
 use crate::streams::listed::stream_of;
+use crate::streams::neighbors::neighbors_of;
 use linked_list_allocator::LocalHeap;
-use rsb_many::{DynSortedDisjoint, KMerge, MultiwaySortedDisjoint, MultiwaySweep};
+use rsb_many::{
+    DynSortedDisjoint, KMerge, MultiwaySortedDisjoint, MultiwaySweep, MultiwaySymmetricDifference,
+};
 use std::alloc::{AllocError, Global};
 use std::test::Fail;
 
@@ -15,16 +18,20 @@ enum Building {
     Union,
     Intersection,
     SymmetricDifference,
+    TouchingSweep,
+    TouchingDifference,
     OneType,
 }
 
 /// All of them.
-const BUILDINGS: [Building; 6] = [
+const BUILDINGS: [Building; 8] = [
     Building::Merge,
     Building::Sweep,
     Building::Union,
     Building::Intersection,
     Building::SymmetricDifference,
+    Building::TouchingSweep,
+    Building::TouchingDifference,
     Building::OneType,
 ];
 
@@ -45,12 +52,17 @@ impl Building {
     /// Builds it in a heap, and lets it go.
     fn build(self, alloc: Global, heap: &LocalHeap) -> Result<(), AllocError> {
         let streams = streams_of(alloc, &[&[(1, 2)], &[(3, 4)], &[(6, 7)]])?;
+        let touching = [neighbors_of(&[(1, 2), (3, 4)]), neighbors_of(&[(2, 3)])];
         match self {
             Building::Merge => KMerge::new(heap, streams).map(drop),
             Building::Sweep => MultiwaySweep::new(heap, streams).map(drop),
             Building::Union => streams.union(heap).map(drop),
             Building::Intersection => streams.intersection(heap).map(drop),
             Building::SymmetricDifference => streams.symmetric_difference(heap).map(drop),
+            Building::TouchingSweep => MultiwaySweep::new_touching(heap, touching).map(drop),
+            Building::TouchingDifference => {
+                MultiwaySymmetricDifference::new_touching(heap, touching).map(drop)
+            }
             Building::OneType => DynSortedDisjoint::new(heap, stream_of(NINE)).map(drop),
         }
     }

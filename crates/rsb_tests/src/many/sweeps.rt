@@ -7,7 +7,7 @@ use rsb_streams::Draw;
 use std::test::Fail;
 
 /// A range of the input starts.
-fn start(first: u8, last: u8, input: usize) -> SweepEvent<u8> {
+pub(crate) fn start(first: u8, last: u8, input: usize) -> SweepEvent<u8> {
     SweepEvent::Start {
         range: first..=last,
         input,
@@ -15,7 +15,7 @@ fn start(first: u8, last: u8, input: usize) -> SweepEvent<u8> {
 }
 
 /// The range of the input ends.
-fn end(at: u8, input: usize) -> SweepEvent<u8> {
+pub(crate) fn end(at: u8, input: usize) -> SweepEvent<u8> {
     SweepEvent::End { at, input }
 }
 

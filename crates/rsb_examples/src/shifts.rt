@@ -1,0 +1,124 @@
+//! Who is on duty: two rotas of shifts with names, in which one shift may begin where another ends.
+
+ghost use Rattle.std.specs.Prelude.{[], ◌∷◌, map, IfOk};
+ghost use Rattle.rsb_many.specs.MultiwaySweep.{sweep_may_give};
+ghost use Rattle.rsb_many.specs.Sweep.{event_of, AreEvents};
+ghost use Rattle.rsb_streams.specs.Stream.{SomeOutcomes};
+
+use range_set_blaze::{
+    CheckSortedTouching, Draw, Integer, MultiwaySweep, SortedTouching, SweepEvent,
+};
+use std::alloc::{AllocError, Global};
+use std::io;
+use std::ops::RangeInclusive;
+
+/// Some hours, and who is on duty then.
+#[derive(Clone, Copy)]
+struct Shift {
+    first: u8,
+    last: u8,
+    name: &'static str,
+}
+
+/// The shifts at a desk, of which the second begins where the first ends.
+static DESK: [Shift; 2] = [
+    Shift {
+        first: 8,
+        last: 11,
+        name: "Ada",
+    },
+    Shift {
+        first: 12,
+        last: 15,
+        name: "Ben",
+    },
+];
+
+/// The shift at a door.
+static DOOR: [Shift; 1] = [Shift {
+    first: 10,
+    last: 13,
+    name: "Cleo",
+}];
+
+/// Who comes and who goes, hour by hour, and when the desk is taken.
+pub fn show(alloc: Global, rt: &impl Print) -> io::Result<()> {
+    let desk = CheckSortedTouching::try_new(hours(alloc, &DESK)?);
+    let door = CheckSortedTouching::try_new(hours(alloc, &DOOR)?);
+    let (Ok(desk), Ok(door)) = (desk, door) else {
+        return println!(rt; "two shifts overlap");
+    };
+    for event in &timeline(alloc, desk, door)? {
+        show_event(event, rt)?;
+    }
+    if let Ok(desk) = CheckSortedTouching::try_new(hours(alloc, &DESK)?) {
+        for run in desk.joined() {
+            println!(rt; "the desk is taken from {} to {}", run.start(), run.end())?;
+        }
+    }
+    Ok(())
+}
+
+// The hours of shifts.
+fn hours(alloc: Global, shifts: &[Shift]) -> Result<Vec<RangeInclusive<u8>>, AllocError> {
+    let mut hours = Vec::new(alloc);
+    for shift in shifts {
+        hours.push(shift.first..=shift.last)?;
+    }
+    Ok(hours)
+}
+
+// Writes who comes, or who goes.
+fn show_event(event: &SweepEvent<u8>, rt: &impl Print) -> io::Result<()> {
+    match event {
+        SweepEvent::Start { range, input } => {
+            let (first, last) = (*range.start(), *range.end());
+            println!(rt; "{first}: {} comes, until {last}", name_at(*input, first))
+        }
+        SweepEvent::End { at, input } => println!(rt; "{at}: {} goes", name_at(*input, *at)),
+    }
+}
+
+// Who is on duty at an hour, by the number of the rota.
+fn name_at(rota: usize, hour: u8) -> &'static str {
+    let shifts: &[Shift] = if rota == 0 { &DESK } else { &DOOR };
+    for shift in shifts {
+        if shift.first <= hour && hour <= shift.last {
+            return shift.name;
+        }
+    }
+    "nobody"
+}
+
+/// Where the ranges of two streams start and end: each range of each of them, once, in order. Ranges
+/// that touch stay apart. Without memory nothing is told.
+pub fn timeline<T: Integer, I: SortedTouching<T>>(
+    alloc: Global,
+    one: I,
+    other: I,
+) -> Result<Vec<SweepEvent<T>>, AllocError>
+    requires one { I.can_draw one }
+    requires other { I.can_draw other }
+    ensures { IfOk result (λ told. SomeOutcomes (I.may_give one) (I.may_give other)
+        (λ first second. AreEvents (first ∷ second ∷ []) (map (event_of T.rank) told.items))) }
+{
+    let inputs = vec![in alloc; one, other]?;
+    all_of(alloc, MultiwaySweep::new_touching(alloc, inputs)?)
+}
+
+// All events of a sweep.
+fn all_of<T: Integer, I: Draw<T>>(
+    alloc: Global,
+    sweep: MultiwaySweep<T, I>,
+) -> Result<Vec<SweepEvent<T>>, AllocError>
+    requires { ⟦<MultiwaySweep<T, I> as Iterator>⟧.can_next sweep }
+    ensures { IfOk result (λ told. sweep_may_give T.Integer.own I.Draw sweep
+        (map (event_of T.rank) told.items)) }
+{
+    let mut sweep = sweep;
+    let mut told = Vec::new(alloc);
+    while let Some(event) = sweep.next() {
+        told.push(event)?;
+    }
+    Ok(told)
+}

@@ -1,0 +1,38 @@
+//! Many streams, of each of which the ranges may touch.
+
+use crate::many::forms::Ranges;
+use crate::many::sweeps::{end, start, tells};
+use crate::streams::neighbors::neighbors_of;
+use crate::tables::gives;
+use rsb_many::{MultiwaySweep, MultiwaySymmetricDifference};
+use std::test::Fail;
+
+/// Two inputs: the ranges of the first touch, and the other lies across the place where they do.
+const TWO: [Ranges; 2] = [&[(1, 2), (3, 4)], &[(2, 3)]];
+
+#[test]
+fn ranges_that_touch_are_told_apart(rt: HostRuntime) -> Result<(), Fail> {
+    let inputs = [neighbors_of(TWO[0]), neighbors_of(TWO[1])];
+    let events = [
+        start(1, 2, 0),
+        start(2, 3, 1),
+        end(2, 0),
+        start(3, 4, 0),
+        end(3, 1),
+        end(4, 0),
+    ];
+    assert!(rt; tells(MultiwaySweep::new_touching(rt.alloc(), inputs)?, &events));
+    Ok(())
+}
+
+#[test]
+fn ranges_that_touch_are_joined_in_a_symmetric_difference(rt: HostRuntime) -> Result<(), Fail> {
+    let both = [neighbors_of(TWO[0]), neighbors_of(TWO[1])];
+    let odd = MultiwaySymmetricDifference::new_touching(rt.alloc(), both)?;
+    assert!(rt; gives(odd, &[(1, 1), (4, 4)]));
+
+    let first = [neighbors_of(TWO[0])];
+    let odd = MultiwaySymmetricDifference::new_touching(rt.alloc(), first)?;
+    assert!(rt; gives(odd, &[(1, 4)]));
+    Ok(())
+}
