@@ -1,3 +1,4 @@
+pub mod AtLeastLemmas
 pub mod CanonicalLemmas
 pub mod CountLemmas
 pub mod Examples
