@@ -1,12 +1,12 @@
 -- What lies in at least so many lists has an odd number of the crossing edges of their events at or
 -- before it.
-use Rattle.std.proofs.Common.{◌≡◌, ℕ, zero, suc, ◌+◌, ◌-◌, ◌<◌, ◌≤◌, Bool, true, false, not, cond, ◌&&◌, ◌||◌, nat_eq, nat_le, List, [], ◌∷◌, ◌++◌, map, refl, sym, ap, ◌∙◌, inl, inr, arith, All, sum_by, IsPermutation, Option, None}
+use Rattle.std.proofs.Common.{◌≡◌, ℕ, zero, suc, ◌+◌, ◌-◌, ◌<◌, ◌≤◌, Bool, true, false, not, cond, ◌&&◌, ◌||◌, nat_eq, nat_le, List, [], ◌∷◌, ◌++◌, map, refl, sym, ap, ◌∙◌, inl, inr, arith, All, sum_by}
 use Rattle.std.proofs.lemmas.Bool.{cases_lt}
 use Rattle.std.proofs.lemmas.Bool.Decides.{nat_tests}
 use Rattle.std.proofs.lemmas.List.Elements.{All-head, All-tail}
 use Rattle.std.proofs.lemmas.List.Sorted.{sum_by-IsPermutation}
 use Rattle.std.proofs.lemmas.List.Sums.{sum_by-append, sum_by-cons}
-use Rattle.rsb_integer.specs.Runs.{Interval, covers, members, AllEndBelow}
+use Rattle.rsb_integer.specs.Runs.{Interval, members, AllEndBelow}
 use Rattle.rsb_integer.specs.Selection.{at_least, exclusive_or, how_many}
 use Rattle.rsb_integer.proofs.ListLemmas.{true_or_false}
 use Rattle.rsb_integer.proofs.MembersLemmas.{members-cons}
@@ -190,7 +190,7 @@ crossed-start least depth range input events rank past after =
     let left : least + ends_by rank events ≡ least + ends_by rank (Start range input ∷ events) =
     omega arith in
     let right : depth + 1 + starts_by rank events
-        ≡ depth + starts_by rank (Start range input ∷ events) = omega arith in
+    ≡ depth + starts_by rank (Start range input ∷ events) = omega arith in
     let rest = after ∙ (λ i. nat_le (left i) (right i)) in
     elim (true_or_false (nat_eq least (depth + 1))) [
       | inl edge ↦ rw edge (turned-start least depth (nat_le range.first rank) others
@@ -214,7 +214,7 @@ crossed-end least depth last input events rank past after =
     let left : least + 1 + ends_by rank events ≡ least + ends_by rank (End last input ∷ events) =
     omega arith in
     let right : depth + starts_by rank events
-        ≡ depth + starts_by rank (End last input ∷ events) = omega arith in
+    ≡ depth + starts_by rank (End last input ∷ events) = omega arith in
     let rest = after ∙ (λ i. nat_le (left i) (right i)) in
     elim (true_or_false (nat_eq least depth)) [
       | inl edge ↦ rw edge (turned-end least depth (nat_le (last + 1) rank) others
@@ -296,7 +296,7 @@ deep-members n low input (run ∷ runs) rank touching below =
           let has : members (run ∷ runs) rank ≡ members runs rank =
           members-cons run runs rank ∙ (rw (from, under) refl) in
           let same : ◌≡◌ {A = ℕ} (cond (members (run ∷ runs) rank) 1 0)
-              (cond (members runs rank) 1 0) = ap (λ test. cond test 1 0) has in
+          (cond (members runs rank) 1 0) = ap (λ test. cond test 1 0) has in
           omega arith
     ]
   where

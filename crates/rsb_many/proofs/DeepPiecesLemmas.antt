@@ -1,5 +1,5 @@
 -- The pieces of what lies deep in a sweep, event by event.
-use Rattle.std.proofs.Common.{◌≡◌, inl, inr, ℕ, zero, suc, ◌+◌, ◌-◌, ◌<◌, ◌≤◌, Bool, true, false, cond, ◌&&◌, ◌||◌, ◌^◌, nat_eq, nat_le, nat_lt, List, [], ◌∷◌, ◌++◌, map, refl, sym, ap, subst, ◌∙◌, arith, Option, Some, None}
+use Rattle.std.proofs.Common.{◌≡◌, inl, inr, ℕ, ◌+◌, ◌<◌, ◌≤◌, Bool, true, false, ◌&&◌, ◌||◌, ◌^◌, nat_le, nat_lt, List, [], ◌∷◌, ◌++◌, map, refl, sym, ap, subst, ◌∙◌, arith, Option, Some, None}
 use Rattle.std.proofs.lemmas.Bool.Decides.{nat_tests}
 use Rattle.std.proofs.lemmas.List.Sums.{sum_by-cons}
 use Rattle.std.specs.Iterator.{size, count_map, count_unless, Count, IsFinite, MakesProgress}
@@ -12,22 +12,21 @@ use Rattle.rsb_integer.specs.Selection.{exclusive_or}
 use Rattle.rsb_integer.specs.declared.integer.Integer.{Ghosts as Elements}
 use Rattle.rsb_integer.proofs.ListLemmas.{true_or_false}
 use Rattle.rsb_integer.proofs.MembersLemmas.{members-cons}
-use Rattle.rsb_streams.specs.Lookahead.{undrawn, Ends, Input}
 use Rattle.rsb_streams.specs.OddPieces.{ArePieces}
 use Rattle.rsb_streams.specs.PutBack.{held_list}
-use Rattle.rsb_streams.specs.Stream.{◌⊆◌, just, unless, Outcomes}
+use Rattle.rsb_streams.specs.Stream.{◌⊆◌, unless, Outcomes}
 use Rattle.rsb_streams.specs.StreamLaws.{settled_le, settled_lt}
 use Rattle.rsb_streams.specs.declared.draw.Draw.{Ghosts as Stream}
 use Rattle.rsb_streams.proofs.OddLemmas.{no-pieces}
 use Rattle.rsb_many.specs.DeepPieces.{crosses, crossing, deep_left, deep_may_give, deep_pieces, deep_telling, depth_after, end_count, start_count, unless_told, CanPass, DeepReady, IsDepth, PassesDepth}
 use Rattle.rsb_many.specs.MultiwaySweep.{events_left, stream_count, sweep_inputs, sweep_may_give, SweepReady, Sweeps}
 use Rattle.rsb_many.specs.Sweep.{event_of, End, Event, Start}
-use Rattle.rsb_many.specs.SweepPieces.{edge_in, edge_of, edges_of, low_of, odd_past, told_all, AsksToPass, HasEdgesFrom, IsEventIn, PassesAll, PassesEdge, PassesSome, SomeEvents, Telling}
+use Rattle.rsb_many.specs.SweepPieces.{edge_in, edge_of, edges_of, low_of, odd_past, told_all, HasEdgesFrom, IsEventIn, PassesAll, PassesEdge, PassesSome, SomeEvents, Telling}
 use Rattle.rsb_many.specs.declared.deep_pieces.DeepPieces.{DeepPieces}
 use Rattle.rsb_many.specs.declared.multiway_sweep.MultiwaySweep.{MultiwaySweep}
 use Rattle.rsb_many.specs.declared.sweep_event.SweepEvent.{SweepEvent}
 use Rattle.rsb_many.proofs.CrossingLemmas.{crossing-edges, crossing-next}
-use Rattle.rsb_many.proofs.DepthLemmas.{ends_in, some-depth, starts_in, EndsOneMore}
+use Rattle.rsb_many.proofs.DepthLemmas.{some-depth, EndsOneMore}
 use Rattle.rsb_many.proofs.EdgeLemmas.{edges-lower, pieces-begin, pieces-end, settled-event, start-next}
 use Rattle.rsb_many.proofs.SweepPiecesLemmas.{passes-end, passes-more, passes-none}
 
@@ -137,8 +136,11 @@ module _ {T : Type 0} (rank : T → ℕ) (n least depth : ℕ) (event : Event) (
       (held_list rank piece ++ pieces)) (sym next)
       (elim (true_or_false (crosses least depth event)) [
         | inl edge ↦ rw edge (edge-pieces rank n event later old piece new pieces
-            (passes-edge true edge) (edges.0, edges.1,
-            crossing-edges n (edge_of event) least (depth_after depth event) events edges.2) now)
+            (passes-edge true edge) (
+              edges.0,
+              edges.1,
+              crossing-edges n (edge_of event) least (depth_after depth event) events edges.2,
+            ) now)
         | inr none ↦
             let still = passes-edge false none in
             rw (none, still.0) (subst (λ each. ArePieces n

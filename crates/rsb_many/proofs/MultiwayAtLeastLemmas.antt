@@ -1,17 +1,17 @@
 -- What lies in at least so many streams: one answer, and how it is made.
-use Rattle.std.proofs.Common.{◌≡◌, inl, inr, ℕ, ◌+◌, ◌<◌, ◌≤◌, Bool, true, false, nat_eq, List, [], ◌∷◌, ◌++◌, length, map, refl, sym, ap, subst, ◌∙◌, arith, All, sum_by, Option, Some, None}
-use Rattle.std.proofs.lemmas.List.Elements.{All-cons, All-head, All-nil, All-tail, All-weaker}
+use Rattle.std.proofs.Common.{◌≡◌, inl, inr, ℕ, ◌+◌, ◌<◌, ◌≤◌, false, nat_eq, List, [], ◌∷◌, ◌++◌, length, map, refl, sym, ap, subst, ◌∙◌, arith, All, sum_by, Option, Some, None}
+use Rattle.std.proofs.lemmas.List.Elements.{All-cons, All-nil, All-weaker}
 use Rattle.std.specs.Iterator.{MakesProgress}
-use Rattle.std.specs.Prelude.{IfSome, MatchOption}
+use Rattle.std.specs.Prelude.{IfSome}
 use Rattle.std.specs.declared.ops.RangeInclusive.{RangeInclusive}
-use Rattle.rsb_integer.specs.Runs.{Interval, members, AllEndBelow, AreRuns, IsNonEmpty}
+use Rattle.rsb_integer.specs.Runs.{Interval, members, AreRuns, IsNonEmpty}
 use Rattle.rsb_integer.specs.Selection.{at_least}
 use Rattle.rsb_integer.specs.declared.integer.Integer.{Ghosts as Elements}
 use Rattle.rsb_integer.proofs.ListLemmas.{true_or_false}
 use Rattle.rsb_integer.proofs.RunCountLemmas.{runs-at_least, HaveRanks}
 use Rattle.rsb_integer.proofs.RunsLemmas.{runs-along}
 use Rattle.rsb_streams.specs.Lookahead.{Input}
-use Rattle.rsb_streams.specs.PutBack.{fused_of, IsFresh}
+use Rattle.rsb_streams.specs.PutBack.{IsFresh}
 use Rattle.rsb_streams.specs.Stream.{◌⊆◌, joined, just, Outcomes}
 use Rattle.rsb_streams.specs.StreamLaws.{settled_le}
 use Rattle.rsb_streams.specs.OddPieces.{ArePieces}
@@ -19,17 +19,16 @@ use Rattle.rsb_streams.specs.UnionIter.{unless_ended}
 use Rattle.rsb_streams.specs.declared.draw.Draw.{Ghosts as Stream}
 use Rattle.rsb_streams.specs.declared.union_iter.UnionIter.{UnionIter}
 use Rattle.rsb_many.specs.DeepPieces.{crossing, deep_may_give, deep_pieces, deep_telling, first_edge, DeepReady, IsDepth}
-use Rattle.rsb_many.specs.Many.{may_give_at, runs_by_all, HoldOneAtMost, IsBegun, OneOfEach, SomeOfEach}
+use Rattle.rsb_many.specs.Many.{may_give_at, runs_by_all, IsBegun, OneOfEach, SomeOfEach}
 use Rattle.rsb_many.specs.MultiwayAtLeast.{at_least_inputs, at_least_telling, joined_deep, multiway_at_least, AtLeastReady, GivesRunsOfAllAtMost, MakesMultiwayAtLeast}
 use Rattle.rsb_many.specs.MultiwaySweep.{sweep_inputs, sweep_may_give, EventOutcomes, SweepsOver}
-use Rattle.rsb_many.specs.Sweep.{all_events, AreEvents, Event, IsTouchingFrom, IsTouchingIn}
+use Rattle.rsb_many.specs.Sweep.{AreEvents, Event, IsTouchingFrom, IsTouchingIn}
 use Rattle.rsb_many.specs.SweepPieces.{edge_of, edges_of, low_of, odd_past, HasEdgesFrom, PassesSome, SomeEvents}
 use Rattle.rsb_many.specs.declared.deep_pieces.DeepPieces.{DeepPieces}
 use Rattle.rsb_many.specs.declared.multiway_at_least.MultiwayAtLeast.{MultiwayAtLeast}
 use Rattle.rsb_many.specs.declared.multiway_sweep.MultiwaySweep.{MultiwaySweep}
 use Rattle.rsb_many.proofs.CrossingLemmas.{deep-events, first-odd}
 use Rattle.rsb_many.proofs.DepthLemmas.{ends_in, none-deep, starts_in}
-use Rattle.rsb_many.proofs.EdgeLemmas.{edges-lower}
 use Rattle.rsb_many.proofs.ManyCallers.{these-given, GiveThese}
 use Rattle.rsb_many.proofs.OddEventsLemmas.{all-touching, whole-events}
 use Rattle.rsb_many.proofs.PassesLemmas.{union-passes}
@@ -92,10 +91,13 @@ module _ (n count : ℕ) (may_give : ℕ → Outcomes)
       AreRuns n (at_least least (map members lists)) runs
       × (length runs ≤ sum_by (λ (each : List Interval). length each) lists)))
   few-runs least positive given gives runs may = λ nothing. gives runs may (λ lists each are.
-      nothing lists each (are, runs-at_least n least lists runs positive
-      (All-weaker (IsTouchingIn n) (HaveRanks n)
-      (λ own lies. (have-ranks n 0 own lies.0, lies.1)) lists
-      (all-touching n count may_give touching lists each)) are))
+      nothing lists each (
+        are,
+        runs-at_least n least lists runs positive
+            (All-weaker (IsTouchingIn n) (HaveRanks n)
+            (λ own lies. (have-ranks n 0 own lies.0, lies.1)) lists
+            (all-touching n count may_give touching lists each)) are,
+      ))
 
 module _ {T N I A : Type 0} (integer : Elements T N) (stream : Stream I T N) where
   open integer use {rank, value_count as n}

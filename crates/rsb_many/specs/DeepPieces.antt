@@ -1,10 +1,9 @@
 -- The pieces of what lies in at least so many inputs of a sweep.
-use Rattle.std.specs.Prelude.{◌≡◌, ℕ, ◌+◌, ◌-◌, ◌^◌, ◌<◌, ◌≤◌, Bool, true, false, cond, nat_eq, List, [], ◌∷◌, ◌++◌, map, sum_by, Option, None, IfSome, MatchBool}
+use Rattle.std.specs.Prelude.{◌≡◌, ℕ, ◌+◌, ◌-◌, ◌^◌, ◌<◌, ◌≤◌, Bool, false, cond, nat_eq, List, [], ◌∷◌, ◌++◌, map, sum_by, Option, None, IfSome, MatchBool}
 use Rattle.std.specs.Iterator.{Count, count_map, count_unless}
 use Rattle.std.specs.Option.{option_len}
 use Rattle.std.specs.declared.ops.RangeInclusive.{RangeInclusive}
 use Rattle.rsb_integer.specs.declared.integer.Integer.{Ghosts as Elements}
-use Rattle.rsb_streams.specs.Lookahead.{Input}
 use Rattle.rsb_streams.specs.OddPieces.{ArePieces}
 use Rattle.rsb_streams.specs.Rows.{asking}
 use Rattle.rsb_streams.specs.Stream.{unless, Outcomes}

@@ -1,6 +1,5 @@
 -- The law of the pieces of what lies deep in a sweep: they come by starts.
-use Rattle.std.proofs.Common.{◌≡◌, Bool, true, false, ◌++◌, map, refl, [], arith}
-use Rattle.std.specs.Iterator.{IsFinite}
+use Rattle.std.proofs.Common.{◌≡◌, Bool, true, false, ◌++◌, map, refl, []}
 use Rattle.rsb_integer.specs.declared.integer.Integer.{Ghosts as Elements}
 use Rattle.rsb_integer.proofs.RunsLemmas.{runs-canonical, runs-members}
 use Rattle.rsb_streams.specs.Rows.{IsSorted}

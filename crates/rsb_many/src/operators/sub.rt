@@ -51,8 +51,7 @@ impl<T: Integer, I: Draw<T>, A: Allocator, R: DrawDisjoint<T>> Sub<R>
     }
 }
 
-impl<T: Integer, I: Draw<T>, A: Allocator, R: DrawDisjoint<T>> Sub<R>
-    for MultiwayAtLeast<T, I, A> {
+impl<T: Integer, I: Draw<T>, A: Allocator, R: DrawDisjoint<T>> Sub<R> for MultiwayAtLeast<T, I, A> {
     type Output = Difference<T, MultiwayAtLeast<T, I, A>, R>;
 
     ghost can_sub = { CanDrawBoth ⟦<MultiwayAtLeast<T, I, A> as Draw<T>>⟧ R.Draw };

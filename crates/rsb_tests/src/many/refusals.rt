@@ -15,16 +15,18 @@ enum Building {
     Union,
     Intersection,
     SymmetricDifference,
+    AtLeast,
     OneType,
 }
 
 /// All of them.
-const BUILDINGS: [Building; 6] = [
+const BUILDINGS: [Building; 7] = [
     Building::Merge,
     Building::Sweep,
     Building::Union,
     Building::Intersection,
     Building::SymmetricDifference,
+    Building::AtLeast,
     Building::OneType,
 ];
 
@@ -51,6 +53,7 @@ impl Building {
             Building::Union => streams.union(heap).map(drop),
             Building::Intersection => streams.intersection(heap).map(drop),
             Building::SymmetricDifference => streams.symmetric_difference(heap).map(drop),
+            Building::AtLeast => streams.at_least(heap, 2).map(drop),
             Building::OneType => DynSortedDisjoint::new(heap, stream_of(NINE)).map(drop),
         }
     }
