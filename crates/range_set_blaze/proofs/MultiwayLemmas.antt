@@ -9,8 +9,10 @@ use Rattle.rsb_integer.specs.Selection.{Selection}
 use Rattle.rsb_integer.proofs.RunsLemmas.{runs-members}
 use Rattle.rsb_streams.specs.Stream.{◌⊆◌, just, Outcomes}
 use Rattle.rsb_many.specs.Many.{may_give_at, runs_by_all}
+use Rattle.rsb_many.specs.MultiwayAtLeast.{GivesRunsOfAllAtMost}
+use Rattle.rsb_many.proofs.MultiwayAtLeastLemmas.{few-these}
 use Rattle.rsb_many.proofs.ManyCallers.{runs_by_all-these, GiveThese}
-use Rattle.range_set_blaze.specs.Multiway.{IsMadeOf}
+use Rattle.range_set_blaze.specs.Multiway.{HasRunsOfAllAtMost, IsMadeOf}
 
 module _ {S : Type 0} (may_give : S → Outcomes) (runs_of : S → List Interval)
     (known : (s : S) → may_give s ⊆ just (runs_of s)) where
@@ -28,6 +30,14 @@ module _ {S : Type 0} (may_give : S → Outcomes) (runs_of : S → List Interval
       runs-members n (operation (map members sets)) set
       (runs_by_all-these n operation may_give streams sets
       (subst (GiveThese may_give streams) same (give-these streams)) set may)
+
+  -- with at most as many runs as they have, where an operation is bounded so
+  pub known-few : (n least : ℕ) (streams : List S) (sets : List (List Interval))
+      (set : List Interval) → map runs_of streams ≡ sets
+      → GivesRunsOfAllAtMost least n may_give streams (just set) → HasRunsOfAllAtMost sets set
+  known-few n least streams sets set same may =
+      few-these n least may_give streams sets set
+      (subst (GiveThese may_give streams) same (give-these streams)) may
 
 -- with the runs of one set more, streams have the runs of one set more
 pub map-more : {X Y : Type 0} (f : X → Y) (values : List X) (value : X) (results : List Y) (result : Y)

@@ -1,5 +1,5 @@
 -- Sets made of any number of sets.
-use Rattle.std.specs.Prelude.{ℕ, List, map}
+use Rattle.std.specs.Prelude.{ℕ, ◌≤◌, List, length, map, sum_by}
 use Rattle.rsb_integer.specs.Runs.{Interval, members}
 use Rattle.rsb_integer.specs.Selection.{Agree, Selection}
 
@@ -7,3 +7,8 @@ use Rattle.rsb_integer.specs.Selection.{Agree, Selection}
 abbrev pub IsMadeOf : ℕ → (List Selection → Selection) → List (List Interval) → List Interval
     → Type 0
 IsMadeOf n operation sets set = Agree n (members set) (operation (map members sets))
+
+-- the set has at most as many runs as the others together
+abbrev pub HasRunsOfAllAtMost : List (List Interval) → List Interval → Type 0
+HasRunsOfAllAtMost sets set =
+    length set ≤ sum_by (λ (runs : List Interval). length runs) sets

@@ -1,11 +1,13 @@
 //! Set algebra over any number of sets.
 
-ghost use Rattle.std.specs.Prelude.{◌≡◌, length, map, All, IfOk};
+ghost use Rattle.std.specs.Prelude.{◌≡◌, ◌<◌, length, map, All, IfOk};
 ghost use Rattle.rsb_integer.specs.Rank.{intervals_of};
-ghost use Rattle.rsb_integer.specs.Selection.{all_of, any_of, odd_of};
+ghost use Rattle.rsb_integer.specs.Selection.{all_of, any_of, at_least, odd_of};
 ghost use Rattle.rsb_many.specs.Many.{may_give_at, runs_by_all};
+ghost use Rattle.rsb_many.specs.MultiwayAtLeast.{GivesRunsOfAllAtMost};
 ghost use Rattle.rsb_streams.specs.Items.{GaveRun, IsEnding};
-ghost use Rattle.range_set_blaze.specs.Multiway.{IsMadeOf};
+ghost use Rattle.rsb_streams.specs.Stream.{just};
+ghost use Rattle.range_set_blaze.specs.Multiway.{HasRunsOfAllAtMost, IsMadeOf};
 
 use crate::into_ranges_iter::IntoRangesIter;
 use crate::ranges_iter::RangesIter;
@@ -65,6 +67,28 @@ pub trait MultiwayRangeSetBlaze<T: Integer, S: Allocator>: IntoIterator<
         let streams = given_up(alloc, self)?;
         symmetric_difference_of(alloc, streams)
     }
+
+    /// What lies in at least `k` of the sets: every value for `k` of 0, and nothing where there are
+    /// fewer sets. A set that is handed in twice counts twice. For `k` of at least 1 it has at most as
+    /// many runs as all sets together. (Own.)
+    final fn at_least<A: Allocator + Copy>(
+        self,
+        alloc: A,
+        k: usize,
+    ) -> Result<RangeSetBlaze<T, A>, AllocError>
+    where
+        Self: Sized,
+        requires { IsEnding Self.into_iter_gives Self.IntoIter.can_next Self.IntoIter.remaining self }
+        ensures members { IfOk result (λ set.
+            GaveRun Self.into_iter_gives Self.IntoIter.next_gives self
+            (λ sets. IsMadeOf T.value_count (at_least k) sets set)) }
+        ensures run_count { 0 < k → IfOk result (λ set.
+            GaveRun Self.into_iter_gives Self.IntoIter.next_gives self
+            (λ sets. HasRunsOfAllAtMost sets set)) }
+    {
+        let streams = given_up(alloc, self)?;
+        at_least_of(alloc, streams, k)
+    }
 }
 
 impl<T: Integer, S: Allocator, K: IntoIterator<Item = RangeSetBlaze<T, S>>> MultiwayRangeSetBlaze<
@@ -122,6 +146,28 @@ pub trait MultiwayRangeSetBlazeRef<'a, T: Integer + 'a, S: Allocator + 'a>: Into
     {
         let streams = lent_ranges(alloc, self)?;
         symmetric_difference_of(alloc, streams)
+    }
+
+    /// What lies in at least `k` of the sets: every value for `k` of 0, and nothing where there are
+    /// fewer sets. A set that is handed in twice counts twice. For `k` of at least 1 it has at most as
+    /// many runs as all sets together. (Own.)
+    final fn at_least<A: Allocator + Copy>(
+        self,
+        alloc: A,
+        k: usize,
+    ) -> Result<RangeSetBlaze<T, A>, AllocError>
+    where
+        Self: Sized,
+        requires { IsEnding Self.into_iter_gives Self.IntoIter.can_next Self.IntoIter.remaining self }
+        ensures members { IfOk result (λ set.
+            GaveRun Self.into_iter_gives Self.IntoIter.next_gives self
+            (λ sets. IsMadeOf T.value_count (at_least k) (map (λ lent. lent.now) sets) set)) }
+        ensures run_count { 0 < k → IfOk result (λ set.
+            GaveRun Self.into_iter_gives Self.IntoIter.next_gives self
+            (λ sets. HasRunsOfAllAtMost (map (λ lent. lent.now) sets) set)) }
+    {
+        let streams = lent_ranges(alloc, self)?;
+        at_least_of(alloc, streams, k)
     }
 }
 
@@ -210,4 +256,20 @@ fn symmetric_difference_of<T: Integer, I: DrawDisjoint<T>, A: Allocator + Copy>(
 {
     let difference = streams.symmetric_difference(alloc)?;
     RangeSetBlaze::from_sorted_disjoint(alloc, difference)
+}
+
+// The set of what lies in at least `k` of the streams, which may be drawn from.
+fn at_least_of<T: Integer, I: DrawDisjoint<T>, A: Allocator + Copy>(
+    alloc: A,
+    streams: Vec<I, A>,
+    k: usize,
+) -> Result<RangeSetBlaze<T, A>, AllocError>
+    requires { All I.can_draw streams.items }
+    ensures members { IfOk result (runs_by_all T.value_count (at_least k) (length streams.items)
+        (may_give_at I.may_give streams.items)) }
+    ensures run_count { 0 < k → IfOk result (λ set.
+        GivesRunsOfAllAtMost k T.value_count I.may_give streams.items (just set)) }
+{
+    let deep = streams.at_least(alloc, k)?;
+    RangeSetBlaze::from_sorted_disjoint(alloc, deep)
 }

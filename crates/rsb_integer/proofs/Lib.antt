@@ -1,4 +1,5 @@
 pub mod AnyOfLemmas
+pub mod AtLeastLemmas
 pub mod CanonicalLemmas
 pub mod CountLemmas
 pub mod Examples

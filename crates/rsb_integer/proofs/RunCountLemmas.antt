@@ -1,12 +1,14 @@
 -- How many runs a set has, by where it changes along the ranks.
-use Rattle.std.proofs.Common.{◌≡◌, ◌⊎◌, ℕ, zero, suc, Bool, true, false, not, ◌&&◌, ◌||◌, cond, ◌+◌, ◌*◌, ◌<◌, ◌≤◌, List, [], ◌∷◌, length, map, refl, sym, ap, ◌∙◌, inl, inr, arith}
+use Rattle.std.proofs.Common.{◌≡◌, ◌⊎◌, ℕ, zero, suc, Bool, true, false, not, ◌&&◌, ◌||◌, cond, ◌+◌, ◌*◌, ◌<◌, ◌≤◌, nat_le, List, [], ◌∷◌, length, map, refl, sym, ap, ◌∙◌, inl, inr, arith}
 use Rattle.std.proofs.Math.Bool.{and-false, or-false}
 use Rattle.std.proofs.lemmas.Bool.{cases_lt}
+use Rattle.std.proofs.lemmas.Bool.Decides.{nat_tests}
+use Rattle.std.specs.Prelude.{All}
 use Rattle.std.proofs.lemmas.List.Elements.{All-cons, All-head, All-nil, All-tail}
 use Rattle.std.proofs.lemmas.List.Sums.{sum_by-cons}
 use Rattle.std.specs.List.{sum_by}
-use Rattle.rsb_integer.specs.Runs.{Interval, covers, length_of, members, AllEndBelow, AreRuns, IsCanonicalFrom, IsMaximalRun}
-use Rattle.rsb_integer.specs.Selection.{Selection, Agree, complement, count, difference, exclusive_or, intersection, symmetric_difference, union}
+use Rattle.rsb_integer.specs.Runs.{Interval, covers, length_of, members, AllEndBelow, AreRuns, IsCanonicalFrom, IsMaximalRun, IsNonEmpty}
+use Rattle.rsb_integer.specs.Selection.{Selection, Agree, at_least, complement, count, difference, exclusive_or, how_many, intersection, symmetric_difference, union}
 use Rattle.rsb_integer.proofs.CountLemmas.{count-agree, count-less, count-members}
 use Rattle.rsb_integer.proofs.ListLemmas.{true_or_false}
 use Rattle.rsb_integer.proofs.MembersLemmas.{covers-inside, members-below, members-cons, members-head, members-tail}
@@ -491,4 +493,129 @@ runs-complement n selected runs gaps are left_out =
     let most = runs-symmetric n (λ rank. true) selected (everything n) runs gaps
     (runs-of_everything n) are left_out in
     let one = everything-length n in
+    omega arith
+
+-- ---- what lies in at least so many of many sets
+
+-- at how many ranks sets begin, all together
+abbrev begin_together : ℕ → List Selection → ℕ
+begin_together n sets = sum_by (λ set. count n (begins set)) sets
+
+-- how many sets begin at the first rank have it
+how_many-first : (sets : List Selection) → how_many (map begins sets) 0 ≡ how_many sets 0
+how_many-first [] = refl
+how_many-first (set ∷ sets) = ap (λ many. once (set 0) + many) (how_many-first sets)
+
+-- a rank that has more of two tests begins one of them
+once-more : (here before : Bool) → once here ≤ once before + once (here && not before)
+once-more true true = omega arith
+once-more true false = omega arith
+once-more false before = omega arith
+
+-- more sets have a rank than the one before by those that begin there at most
+how_many-next : (sets : List Selection) (rank : ℕ)
+    → how_many sets (suc rank) ≤ how_many sets rank + how_many (map begins sets) (suc rank)
+how_many-next [] rank = omega arith
+how_many-next (set ∷ sets) rank =
+    let others = how_many-next sets rank in
+    let own = once-more (set (suc rank)) (set rank) in
+    omega arith
+
+-- so what lies in at least so many begins where one of the sets does
+more-by : (least many before begun : ℕ) → many ≤ before + begun
+    → once (nat_le least many && not (nat_le least before)) ≤ begun
+more-by least many before begun most = grind (arith, nat_tests)
+
+-- at the first rank too
+some-by : (least many : ℕ) → 0 < least → once (nat_le least many) ≤ many
+some-by least many positive = grind (arith, nat_tests)
+
+-- rank by rank
+begins-at_least : (least : ℕ) (sets : List Selection) (rank : ℕ) → 0 < least
+    → once (begins (at_least least sets) rank) ≤ how_many (map begins sets) rank
+begins-at_least least sets zero positive =
+    let first = how_many-first sets in
+    let most = some-by least (how_many sets 0) positive in
+    omega (arith, first, most)
+begins-at_least least sets (suc rank) positive =
+    more-by least (how_many sets (suc rank)) (how_many sets rank)
+    (how_many (map begins sets) (suc rank)) (how_many-next sets rank)
+
+-- no rank has no set that begins
+begin_together-zero : (sets : List Selection) → begin_together 0 sets ≡ 0
+unfolding count
+begin_together-zero [] = refl
+begin_together-zero (set ∷ sets) =
+    let others = begin_together-zero sets in
+    let sum = sum_by-cons (λ each. count 0 (begins each)) set sets in
+    omega arith
+
+-- and one rank more has those that begin there
+begin_together-next : (n : ℕ) (sets : List Selection)
+    → begin_together (suc n) sets ≡ begin_together n sets + how_many (map begins sets) n
+unfolding count
+begin_together-next n [] = refl
+begin_together-next n (set ∷ sets) =
+    let others = begin_together-next n sets in
+    let sum = sum_by-cons (λ each. count (suc n) (begins each)) set sets in
+    let before = sum_by-cons (λ each. count n (begins each)) set sets in
+    omega arith
+
+-- so it begins no more often than all sets together
+at_least-begins : (n least : ℕ) (sets : List Selection) → 0 < least
+    → count n (begins (at_least least sets)) ≤ begin_together n sets
+unfolding count
+at_least-begins zero least sets positive = omega arith
+at_least-begins (suc n) least sets positive =
+    let before = at_least-begins n least sets positive in
+    let here = begins-at_least least sets n positive in
+    let more = begin_together-next n sets in
+    omega arith
+
+-- intervals that have a rank, and end below n
+abbrev pub HaveRanks : ℕ → List Interval → Type 0
+HaveRanks n runs = All IsNonEmpty runs × AllEndBelow n runs
+
+-- what lies in some intervals begins at no more ranks than there are
+begins-members_most : (n : ℕ) (runs : List Interval) → HaveRanks n runs
+    → count n (begins (members runs)) ≤ length runs
+begins-members_most n [] have =
+    let none = runs-begin n (λ rank. false) [] (runs-of_nothing n) in
+    let same : count n (begins (members [])) ≡ count n (begins (λ rank. false)) = refl in
+    omega arith
+begins-members_most n (run ∷ runs) have =
+    let Below : Interval → Type 0 = λ each. each.last < n in
+    let ordered = All-head IsNonEmpty run runs have.0 in
+    let below = All-head Below run runs have.1 in
+    let others = begins-members_most n runs
+    (All-tail IsNonEmpty run runs have.0, All-tail Below run runs have.1) in
+    let own = runs-begin n (λ rank. covers rank run) (run ∷ [])
+    (runs-of_interval n run ordered below) in
+    let both = union (λ rank. covers rank run) (members runs) in
+    let same = count-agree n (begins (members (run ∷ runs))) (begins both)
+    (begins-agree n (members (run ∷ runs)) both (λ rank within. members-cons run runs rank)) in
+    let most = begins-two (λ left right. left || right) nothing
+    (fewer-of_one (λ left right. left || right) refl)
+    (last-of_one (λ left right. left || right) refl) (λ rank. covers rank run) (members runs) n in
+    omega arith
+
+-- nor lists of them, all together
+lists-begin : (n : ℕ) (lists : List (List Interval)) → All (HaveRanks n) lists
+    → begin_together n (map members lists) ≤ sum_by (λ (runs : List Interval). length runs) lists
+lists-begin n [] have = omega arith
+lists-begin n (runs ∷ lists) have =
+    let own = begins-members_most n runs (All-head (HaveRanks n) runs lists have) in
+    let others = lists-begin n lists (All-tail (HaveRanks n) runs lists have) in
+    let sum = sum_by-cons (λ set. count n (begins set)) (members runs) (map members lists) in
+    let lengths = sum_by-cons (λ (each : List Interval). length each) runs lists in
+    omega arith
+
+-- what lies in at least so many of some lists, one or more, has no more runs than they together
+pub runs-at_least : (n least : ℕ) (lists : List (List Interval)) (made : List Interval)
+    → 0 < least → All (HaveRanks n) lists → AreRuns n (at_least least (map members lists)) made
+    → length made ≤ sum_by (λ (runs : List Interval). length runs) lists
+runs-at_least n least lists made positive have are =
+    let from = runs-begin n (at_least least (map members lists)) made are in
+    let most = at_least-begins n least (map members lists) positive in
+    let together = lists-begin n lists have in
     omega arith

@@ -1,5 +1,5 @@
 -- Sets of ranks and their algebra. A rank is the place of a value in its type, from 0 on.
-use Rattle.std.specs.Prelude.{◌≡◌, ℕ, zero, suc, Bool, true, false, not, ◌&&◌, ◌||◌, cond, ◌+◌, ◌<◌, List, [], ◌∷◌, IsTrue, IsFalse}
+use Rattle.std.specs.Prelude.{◌≡◌, ℕ, zero, suc, Bool, true, false, not, ◌&&◌, ◌||◌, cond, ◌+◌, ◌<◌, nat_le, List, [], ◌∷◌, IsTrue, IsFalse}
 
 -- a set of ranks: it selects those that it is true of
 abbrev pub Selection : Type 0
@@ -48,6 +48,15 @@ all_of (set ∷ sets) rank = set rank && all_of sets rank
 abbrev pub odd_of : List Selection → Selection
 odd_of [] rank = false
 odd_of (set ∷ sets) rank = exclusive_or (set rank) (odd_of sets rank)
+
+-- how many of the sets have the rank: a set that stands there twice counts twice
+abbrev pub how_many : List Selection → ℕ → ℕ
+how_many [] rank = 0
+how_many (set ∷ sets) rank = cond (set rank) 1 0 + how_many sets rank
+
+-- what lies in at least k of the sets: everything where k is 0, and nothing where there are fewer
+abbrev pub at_least : ℕ → List Selection → Selection
+at_least k sets rank = nat_le k (how_many sets rank)
 
 -- ---- what a type of n values tells of sets
 

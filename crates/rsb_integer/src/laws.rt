@@ -1,10 +1,10 @@
 //! Laws that callers rely on. The clause of each function is the law; the function does nothing.
 
-ghost use Rattle.std.specs.Prelude.{◌≡◌, ◌↔◌, ℕ, ◌+◌, ◌<◌, ◌≤◌, List};
+ghost use Rattle.std.specs.Prelude.{◌≡◌, ◌↔◌, ℕ, ◌+◌, ◌<◌, ◌≤◌, IsTrue, List, length};
 ghost use Rattle.std.specs.declared.ops.RangeInclusive.{RangeInclusive};
 ghost use Rattle.rsb_integer.specs.Rank.{intervals_of};
 ghost use Rattle.rsb_integer.specs.Runs.{Interval, length_of, members, AllEndBelow, AreRuns, IsCanonical, IsCanonicalIn};
-ghost use Rattle.rsb_integer.specs.Selection.{Agree, Selection, complement, difference, intersection, symmetric_difference, union};
+ghost use Rattle.rsb_integer.specs.Selection.{Agree, Selection, all_of, any_of, at_least, complement, difference, intersection, symmetric_difference, union};
 
 use crate::integer::Integer;
 
@@ -66,4 +66,21 @@ pub fn difference_by_complement<T: Integer>()
 pub fn symmetric_by_union<T: Integer>()
     ensures { (left right : Selection) (rank : ℕ) → symmetric_difference left right rank
         ≡ difference (union left right) (intersection left right) rank }
+{}
+
+/// What lies in at least one of some sets is what lies in some of them. (Own.)
+pub fn at_least_one<T: Integer>()
+    ensures { (sets : List Selection) (rank : ℕ) → at_least 1 sets rank ≡ any_of sets rank }
+{}
+
+/// What lies in at least as many sets as there are is what lies in all of them. (Own.)
+pub fn at_least_all<T: Integer>()
+    ensures { (sets : List Selection) (rank : ℕ)
+        → at_least (length sets) sets rank ≡ all_of sets rank }
+{}
+
+/// What lies in at least one set more lies in at least as many. (Own.)
+pub fn at_least_falls<T: Integer>()
+    ensures { (k : ℕ) (sets : List Selection) (rank : ℕ)
+        → IsTrue (at_least (k + 1) sets rank) → IsTrue (at_least k sets rank) }
 {}

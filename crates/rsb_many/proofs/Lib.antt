@@ -1,6 +1,9 @@
 pub mod AscendingLemmas
 pub mod BegunHeads
 pub mod BegunLemmas
+pub mod CrossingLemmas
+pub mod DeepPiecesLemmas
+pub mod DepthLemmas
 pub mod DigitLemmas
 pub mod DrawnLemmas
 pub mod EdgeLemmas
@@ -19,10 +22,12 @@ pub mod ManyCallers
 pub mod ManyExamples
 pub mod ManyLemmas
 pub mod MergeAllLemmas
+pub mod MultiwayAtLeastLemmas
 pub mod MultiwayLemmas
 pub mod MultiwaySweepLemmas
 pub mod MultiwaySymDiffLemmas
 pub mod OddEventsLemmas
+pub mod PassesLemmas
 pub mod RestsLemmas
 pub mod StepLemmas
 pub mod SweepExamples

@@ -42,7 +42,7 @@ GiveThese may_give (stream ∷ streams) (runs ∷ lists) =
     (may_give stream ⊆ just runs) × GiveThese may_give streams lists
 
 -- so these lists are what they give
-these-given : {S : Type 0} (may_give : S → Outcomes) (streams : List S)
+pub these-given : {S : Type 0} (may_give : S → Outcomes) (streams : List S)
     (lists others : List (List Interval)) → GiveThese may_give streams lists
     → OneOfEach (length streams) (may_give_at may_give streams) others → others ≡ lists
 these-given may_give [] [] [] these each = refl

@@ -73,7 +73,7 @@ odd-append (edge ∷ edges) others rank =
     ∙ sym (three (nat_le edge rank) (odd_past edges rank) (odd_past others rank))
 
 -- the events of ranges that may touch have their edges in order
-edges-events : (n low input : ℕ) (runs : List Interval) → IsTouchingFrom low runs
+pub edges-events : (n low input : ℕ) (runs : List Interval) → IsTouchingFrom low runs
     → AllEndBelow n runs → HasEdgesFrom n low (events_of input runs)
 edges-events n low input [] touching below = tt
 edges-events n low input (run ∷ runs) touching below =
@@ -91,7 +91,7 @@ edges-events n low input (run ∷ runs) touching below =
     )
 
 -- an odd number of the edges of such ranges lies at or before their members
-odd-members : (n low input : ℕ) (runs : List Interval) (rank : ℕ) → IsTouchingFrom low runs
+pub odd-members : (n low input : ℕ) (runs : List Interval) (rank : ℕ) → IsTouchingFrom low runs
     → AllEndBelow n runs → odd_past (map edge_of (events_of input runs)) rank ≡ members runs rank
 odd-members n low input [] rank touching below = refl
 odd-members n low input (run ∷ runs) rank touching below =
@@ -160,7 +160,7 @@ events-in n low input (run ∷ runs) touching below =
     (All-tail (λ (each : Interval). each.last < n) run runs below)))
 
 -- and those of lists
-lists-in : (n input : ℕ) (lists : List (List Interval)) → All (IsTouchingIn n) lists
+pub lists-in : (n input : ℕ) (lists : List (List Interval)) → All (IsTouchingIn n) lists
     → All (IsEventIn n) (events_from input lists)
 lists-in n input [] all = All-nil (IsEventIn n)
 lists-in n input (runs ∷ lists) all =
@@ -170,14 +170,14 @@ lists-in n input (runs ∷ lists) all =
     (lists-in n (input + 1) lists (All-tail (IsTouchingIn n) runs lists all))
 
 -- an event that comes before another has no greater edge
-precedes-edge : (one other : Event) → Precedes one other → edge_of one ≤ edge_of other
+pub precedes-edge : (one other : Event) → Precedes one other → edge_of one ≤ edge_of other
 precedes-edge (Start run input) (Start next place) before = grind (arith, nat_tests)
 precedes-edge (Start run input) (End last place) before = grind (arith, nat_tests)
 precedes-edge (End last input) (Start next place) before = grind (arith, nat_tests)
 precedes-edge (End last input) (End next place) before = grind (arith, nat_tests)
 
 -- events that ascend have their edges in order
-ascending-edges : (n low : ℕ) (events : List Event) → All (λ event. low ≤ edge_of event) events
+pub ascending-edges : (n low : ℕ) (events : List Event) → All (λ event. low ≤ edge_of event) events
     → All (IsEventIn n) events → AllPairs Precedes events → HasEdgesFrom n low events
 ascending-edges n low [] past all pairs = tt
 ascending-edges n low (event ∷ events) past all pairs = (
@@ -190,7 +190,7 @@ ascending-edges n low (event ∷ events) past all pairs = (
 )
 
 -- from the first rank on
-edges-any : (events : List Event) → All (λ event. 0 ≤ edge_of event) events
+pub edges-any : (events : List Event) → All (λ event. 0 ≤ edge_of event) events
 edges-any [] = All-nil (λ event. 0 ≤ edge_of event)
 edges-any (event ∷ events) =
     All-cons (λ each. 0 ≤ edge_of each) event events (omega arith) (edges-any events)
@@ -200,7 +200,7 @@ edges-any (event ∷ events) =
 module _ (n count : ℕ) (may_give : ℕ → Outcomes)
     (touching : (place : ℕ) → may_give place ⊆ IsTouchingIn n) where
   -- each list may touch, and lies in the type
-  all-touching : (lists : List (List Interval)) → OneOfEach count may_give lists
+  pub all-touching : (lists : List (List Interval)) → OneOfEach count may_give lists
       → All (IsTouchingIn n) lists
   all-touching lists each = one_of_each-all count may_give (IsTouchingIn n) lists
       (λ place less. touching place) each

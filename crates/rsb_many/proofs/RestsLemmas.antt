@@ -108,7 +108,7 @@ rests_by-none begun (runs ∷ lists) none =
     λ i. first i ∷ others i
 
 -- as many rests are there
-length-rests_by : (begun : ℕ → Bool) (lists : List (List Interval))
+pub length-rests_by : (begun : ℕ → Bool) (lists : List (List Interval))
     → length (rests_by begun lists) ≡ length lists
 length-rests_by begun [] = refl
 length-rests_by begun (runs ∷ lists) =

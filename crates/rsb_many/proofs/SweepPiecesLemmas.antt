@@ -71,7 +71,7 @@ asks-uses before now (End last input) asks place = elim (cases_eq place input) [
 ]
 
 -- some events were passed, and one more
-passes-more : (first second third : Telling) (event : Event) → PassesSome first second
+pub passes-more : (first second third : Telling) (event : Event) → PassesSome first second
     → ((rest : List Event) → third.events rest → second.events (event ∷ rest))
     → AsksAt second.inputs event third.inputs → HoldOneAtMost third.inputs
     → PassesSome first third
@@ -88,7 +88,7 @@ passes-more first second third event before told asks holds = record {
 }
 
 -- some events were passed, and the sweep ended
-passes-end : (first second third : Telling) → PassesSome first second → second.events []
+pub passes-end : (first second third : Telling) → PassesSome first second → second.events []
     → ((place : ℕ) → Ends (second.inputs place) (third.inputs place)) → PassesAll first third
 passes-end first second third before none ends = record {
   passes = record {

@@ -1,3 +1,5 @@
+pub mod DeepPieces
+pub mod DeepPiecesLaws
 pub mod Drawn
 pub mod DynSortedDisjoint
 pub mod HandedIn
@@ -10,6 +12,7 @@ pub mod KMergeLaws
 pub mod Keys
 pub mod Many
 pub mod ManyLaws
+pub mod MultiwayAtLeast
 pub mod MultiwayIntersection
 pub mod MultiwayLaws
 pub mod MultiwayResults

@@ -6,8 +6,11 @@ use Rattle.rsb_streams.specs.Rows.{IsDisjoint, IsSorted}
 use Rattle.rsb_streams.specs.StreamLaws.{disjoint-sorted}
 use Rattle.rsb_streams.specs.UnionIterLaws.{union_iter-disjoint}
 use Rattle.rsb_streams.specs.declared.draw.Draw.{Ghosts as Stream}
+use Rattle.rsb_many.specs.DeepPieces.{deep_pieces}
+use Rattle.rsb_many.specs.DeepPiecesLaws.{deep_pieces-sorted}
 use Rattle.rsb_many.specs.KMerge.{kmerge}
 use Rattle.rsb_many.specs.KMergeLaws.{kmerge-sorted}
+use Rattle.rsb_many.specs.MultiwayAtLeast.{multiway_at_least}
 use Rattle.rsb_many.specs.MultiwayIntersection.{left_out, multiway_intersection}
 use Rattle.rsb_many.specs.MultiwaySymmetricDifference.{multiway_symmetric_difference}
 use Rattle.rsb_many.specs.MultiwayUnion.{multiway_union}
@@ -38,3 +41,10 @@ pub multiway_symmetric_difference-disjoint : {T N I A : Type 0} (integer : Eleme
 multiway_symmetric_difference-disjoint integer stream s ready =
     union_iter-disjoint integer (sweep_pieces integer stream)
     (sweep_pieces-sorted integer stream) s.iter ready.joined
+
+-- what lies in at least so many of them
+pub multiway_at_least-disjoint : {T N I A : Type 0} (integer : Elements T N) (stream : Stream I T N)
+    → IsDisjoint integer (multiway_at_least {A = A} integer stream)
+multiway_at_least-disjoint integer stream s ready =
+    union_iter-disjoint integer (deep_pieces integer stream) (deep_pieces-sorted integer stream) s.iter
+    ready.joined

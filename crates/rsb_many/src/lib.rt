@@ -2,6 +2,7 @@
 #![tactic(auto)]
 
 pub(crate) mod comparisons;
+pub(crate) mod deep_pieces;
 pub(crate) mod drawn;
 pub mod dyn_sorted_disjoint;
 pub(crate) mod heads;
@@ -9,6 +10,7 @@ pub mod kmerge;
 pub mod laws;
 mod macros;
 pub mod multiway;
+pub mod multiway_at_least;
 pub mod multiway_sweep;
 pub mod multiway_sym_diff_set;
 pub mod operation_results;
@@ -19,6 +21,7 @@ pub(crate) mod sweep_pieces;
 pub use dyn_sorted_disjoint::DynSortedDisjoint;
 pub use kmerge::KMerge;
 pub use multiway::MultiwaySortedDisjoint;
+pub use multiway_at_least::MultiwayAtLeast;
 pub use multiway_sweep::MultiwaySweep;
 pub use multiway_sym_diff_set::MultiwaySymmetricDifference;
 pub use operation_results::{MultiwayIntersection, MultiwayUnion};

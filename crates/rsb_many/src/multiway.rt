@@ -1,7 +1,8 @@
 //! Set algebra over any number of streams of one type.
 
-ghost use Rattle.std.specs.Prelude.{All, IfOk};
+ghost use Rattle.std.specs.Prelude.{◌<◌, All, IfOk};
 ghost use Rattle.rsb_many.specs.HandedIn.{EachGaveRun};
+ghost use Rattle.rsb_many.specs.MultiwayAtLeast.{GivesRunsOfAllAtMost, MakesMultiwayAtLeast};
 ghost use Rattle.rsb_many.specs.MultiwayResults.{
   AreComplements,
   MakesMultiwayIntersection,
@@ -11,6 +12,7 @@ ghost use Rattle.rsb_many.specs.MultiwayResults.{
 ghost use Rattle.rsb_streams.specs.Items.{GaveRun, IsEnding};
 
 use crate::kmerge::KMerge;
+use crate::multiway_at_least::MultiwayAtLeast;
 use crate::multiway_sweep::MultiwaySweep;
 use crate::multiway_sym_diff_set::MultiwaySymmetricDifference;
 use crate::operation_results::{MultiwayIntersection, MultiwayUnion};
@@ -81,6 +83,32 @@ pub trait MultiwaySortedDisjoint<T: Integer, I: DrawDisjoint<T>>: IntoIterator<I
     {
         let sweep = MultiwaySweep::new(alloc, self)?;
         Ok(MultiwaySymmetricDifference::of(sweep))
+    }
+
+    /// What lies in at least `k` of the streams: every value for `k` of 0, and nothing where there are
+    /// fewer streams. It holds one range of each at most, and gives at most as many ranges as all
+    /// streams together, for `k` of at least 1. (Own.)
+    final fn at_least<A: Allocator + Copy>(
+        self,
+        alloc: A,
+        k: usize,
+    ) -> Result<MultiwayAtLeast<T, I, A>, AllocError>
+    where
+        Self: Sized,
+        requires ends { IsEnding Self.into_iter_gives Self.IntoIter.can_next Self.IntoIter.remaining self }
+        requires can { EachGaveRun Self.into_iter_gives Self.IntoIter.next_gives self (All I.can_draw) }
+        ensures ready { IfOk result ⟦<MultiwayAtLeast<T, I, A> as Draw<T>>⟧.can_draw }
+        ensures made { IfOk result (λ deep.
+            GaveRun Self.into_iter_gives Self.IntoIter.next_gives self
+            (λ streams. MakesMultiwayAtLeast T.Integer.own I.Draw k
+            ⟦<MultiwayAtLeast<T, I, A> as Draw<T>>⟧ streams deep)) }
+        ensures run_count { 0 < k → IfOk result (λ deep.
+            GaveRun Self.into_iter_gives Self.IntoIter.next_gives self
+            (λ streams. GivesRunsOfAllAtMost k T.value_count I.may_give streams
+            (⟦<MultiwayAtLeast<T, I, A> as Draw<T>>⟧.may_give deep))) }
+    {
+        let sweep = MultiwaySweep::new(alloc, self)?;
+        Ok(MultiwayAtLeast::of(sweep, k))
     }
 }
 

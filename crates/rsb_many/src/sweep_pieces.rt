@@ -66,7 +66,10 @@ fn pass_end<T: Integer>(start: &mut Option<T>, last: T) -> Option<RangeInclusive
 }
 
 /// Passes an event, and answers the piece that ends there, if one does.
-fn pass<T: Integer>(start: &mut Option<T>, event: SweepEvent<T>) -> Option<RangeInclusive<T>>
+pub(crate) fn pass<T: Integer>(
+    start: &mut Option<T>,
+    event: SweepEvent<T>,
+) -> Option<RangeInclusive<T>>
     requires start { IfSome start.old (λ value. T.rank value < T.value_count) }
     requires event { IsEventIn T.value_count (event_of T.rank event) }
     ensures { PassesEdge T.rank T.value_count (edge_of (event_of T.rank event)) start.old result

@@ -1,6 +1,7 @@
 //! Any number of streams, and of sets.
 
 mod any_types;
+mod at_least;
 mod forms;
 mod lookahead;
 mod merges;

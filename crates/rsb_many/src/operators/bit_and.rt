@@ -2,6 +2,7 @@
 
 ghost use Rattle.rsb_streams.specs.Results.{CanDrawBoth, MakesIntersection};
 
+use crate::multiway_at_least::MultiwayAtLeast;
 use crate::multiway_sym_diff_set::MultiwaySymmetricDifference;
 use crate::operation_results::{MultiwayIntersection, MultiwayUnion};
 use rsb_integer::Integer;
@@ -45,6 +46,20 @@ impl<T: Integer, I: Draw<T>, A: Allocator, R: DrawDisjoint<T>> BitAnd<R>
 
     ghost bitand_gives = { MakesIntersection T.Integer.own ⟦<MultiwaySymmetricDifference<T, I, A> as Draw<T>>⟧ R.Draw
         ⟦<Intersection<T, MultiwaySymmetricDifference<T, I, A>, R> as Draw<T>>⟧ };
+
+    fn bitand(self, other: R) -> Self::Output {
+        Intersection::from((self, other))
+    }
+}
+
+impl<T: Integer, I: Draw<T>, A: Allocator, R: DrawDisjoint<T>> BitAnd<R>
+    for MultiwayAtLeast<T, I, A> {
+    type Output = Intersection<T, MultiwayAtLeast<T, I, A>, R>;
+
+    ghost can_bitand = { CanDrawBoth ⟦<MultiwayAtLeast<T, I, A> as Draw<T>>⟧ R.Draw };
+
+    ghost bitand_gives = { MakesIntersection T.Integer.own ⟦<MultiwayAtLeast<T, I, A> as Draw<T>>⟧ R.Draw
+        ⟦<Intersection<T, MultiwayAtLeast<T, I, A>, R> as Draw<T>>⟧ };
 
     fn bitand(self, other: R) -> Self::Output {
         Intersection::from((self, other))

@@ -2,6 +2,7 @@
 
 ghost use Rattle.rsb_streams.specs.Results.{CanDrawBoth, MakesUnion};
 
+use crate::multiway_at_least::MultiwayAtLeast;
 use crate::multiway_sym_diff_set::MultiwaySymmetricDifference;
 use crate::operation_results::{MultiwayIntersection, MultiwayUnion};
 use rsb_integer::Integer;
@@ -44,6 +45,20 @@ impl<T: Integer, I: Draw<T>, A: Allocator, R: DrawDisjoint<T>> BitOr<R>
 
     ghost bitor_gives = { MakesUnion T.Integer.own ⟦<MultiwaySymmetricDifference<T, I, A> as Draw<T>>⟧ R.Draw
         ⟦<Union<T, MultiwaySymmetricDifference<T, I, A>, R> as Draw<T>>⟧ };
+
+    fn bitor(self, other: R) -> Self::Output {
+        Union::from((self, other))
+    }
+}
+
+impl<T: Integer, I: Draw<T>, A: Allocator, R: DrawDisjoint<T>> BitOr<R>
+    for MultiwayAtLeast<T, I, A> {
+    type Output = Union<T, MultiwayAtLeast<T, I, A>, R>;
+
+    ghost can_bitor = { CanDrawBoth ⟦<MultiwayAtLeast<T, I, A> as Draw<T>>⟧ R.Draw };
+
+    ghost bitor_gives = { MakesUnion T.Integer.own ⟦<MultiwayAtLeast<T, I, A> as Draw<T>>⟧ R.Draw
+        ⟦<Union<T, MultiwayAtLeast<T, I, A>, R> as Draw<T>>⟧ };
 
     fn bitor(self, other: R) -> Self::Output {
         Union::from((self, other))

@@ -2,6 +2,7 @@
 
 ghost use Rattle.rsb_streams.specs.Results.{CanDrawBoth, MakesSymmetricDifference};
 
+use crate::multiway_at_least::MultiwayAtLeast;
 use crate::multiway_sym_diff_set::MultiwaySymmetricDifference;
 use crate::operation_results::{MultiwayIntersection, MultiwayUnion};
 use rsb_integer::Integer;
@@ -45,6 +46,20 @@ impl<T: Integer, I: Draw<T>, A: Allocator, R: DrawDisjoint<T>> BitXor<R>
 
     ghost bitxor_gives = { MakesSymmetricDifference T.Integer.own ⟦<MultiwaySymmetricDifference<T, I, A> as Draw<T>>⟧ R.Draw
         ⟦<SymmetricDifference<T, MultiwaySymmetricDifference<T, I, A>, R> as Draw<T>>⟧ };
+
+    fn bitxor(self, other: R) -> Self::Output {
+        SymmetricDifference::from((self, other))
+    }
+}
+
+impl<T: Integer, I: Draw<T>, A: Allocator, R: DrawDisjoint<T>> BitXor<R>
+    for MultiwayAtLeast<T, I, A> {
+    type Output = SymmetricDifference<T, MultiwayAtLeast<T, I, A>, R>;
+
+    ghost can_bitxor = { CanDrawBoth ⟦<MultiwayAtLeast<T, I, A> as Draw<T>>⟧ R.Draw };
+
+    ghost bitxor_gives = { MakesSymmetricDifference T.Integer.own ⟦<MultiwayAtLeast<T, I, A> as Draw<T>>⟧ R.Draw
+        ⟦<SymmetricDifference<T, MultiwayAtLeast<T, I, A>, R> as Draw<T>>⟧ };
 
     fn bitxor(self, other: R) -> Self::Output {
         SymmetricDifference::from((self, other))

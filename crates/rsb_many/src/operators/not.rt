@@ -2,6 +2,7 @@
 
 ghost use Rattle.rsb_streams.specs.Results.{MakesComplement};
 
+use crate::multiway_at_least::MultiwayAtLeast;
 use crate::multiway_sym_diff_set::MultiwaySymmetricDifference;
 use crate::operation_results::{MultiwayIntersection, MultiwayUnion};
 use rsb_integer::Integer;
@@ -42,6 +43,19 @@ impl<T: Integer, I: Draw<T>, A: Allocator> Not for MultiwaySymmetricDifference<T
 
     ghost not_gives = { MakesComplement T.Integer.own ⟦<MultiwaySymmetricDifference<T, I, A> as Draw<T>>⟧
         ⟦<NotIter<T, MultiwaySymmetricDifference<T, I, A>> as Draw<T>>⟧ };
+
+    fn not(self) -> Self::Output {
+        NotIter::from(self)
+    }
+}
+
+impl<T: Integer, I: Draw<T>, A: Allocator> Not for MultiwayAtLeast<T, I, A> {
+    type Output = NotIter<T, MultiwayAtLeast<T, I, A>>;
+
+    ghost can_not = { ⟦<MultiwayAtLeast<T, I, A> as Draw<T>>⟧.can_draw };
+
+    ghost not_gives = { MakesComplement T.Integer.own ⟦<MultiwayAtLeast<T, I, A> as Draw<T>>⟧
+        ⟦<NotIter<T, MultiwayAtLeast<T, I, A>> as Draw<T>>⟧ };
 
     fn not(self) -> Self::Output {
         NotIter::from(self)

@@ -2,6 +2,7 @@
 
 ghost use Rattle.rsb_streams.specs.Results.{CanDrawBoth, MakesDifference};
 
+use crate::multiway_at_least::MultiwayAtLeast;
 use crate::multiway_sym_diff_set::MultiwaySymmetricDifference;
 use crate::operation_results::{MultiwayIntersection, MultiwayUnion};
 use rsb_integer::Integer;
@@ -44,6 +45,19 @@ impl<T: Integer, I: Draw<T>, A: Allocator, R: DrawDisjoint<T>> Sub<R>
 
     ghost sub_gives = { MakesDifference T.Integer.own ⟦<MultiwaySymmetricDifference<T, I, A> as Draw<T>>⟧ R.Draw
         ⟦<Difference<T, MultiwaySymmetricDifference<T, I, A>, R> as Draw<T>>⟧ };
+
+    fn sub(self, other: R) -> Self::Output {
+        Difference::from((self, other))
+    }
+}
+
+impl<T: Integer, I: Draw<T>, A: Allocator, R: DrawDisjoint<T>> Sub<R> for MultiwayAtLeast<T, I, A> {
+    type Output = Difference<T, MultiwayAtLeast<T, I, A>, R>;
+
+    ghost can_sub = { CanDrawBoth ⟦<MultiwayAtLeast<T, I, A> as Draw<T>>⟧ R.Draw };
+
+    ghost sub_gives = { MakesDifference T.Integer.own ⟦<MultiwayAtLeast<T, I, A> as Draw<T>>⟧ R.Draw
+        ⟦<Difference<T, MultiwayAtLeast<T, I, A>, R> as Draw<T>>⟧ };
 
     fn sub(self, other: R) -> Self::Output {
         Difference::from((self, other))

@@ -97,7 +97,7 @@ static SUBSETS: [Ranges; 16] = [
 ];
 
 /// The list of the values whose bits are set.
-fn subset(bits: usize) -> Ranges {
+pub(crate) fn subset(bits: usize) -> Ranges {
     SUBSETS[bits % 16]
 }
 

@@ -20,11 +20,12 @@ enum Building {
     SymmetricDifference,
     TouchingSweep,
     TouchingDifference,
+    AtLeast,
     OneType,
 }
 
 /// All of them.
-const BUILDINGS: [Building; 8] = [
+const BUILDINGS: [Building; 9] = [
     Building::Merge,
     Building::Sweep,
     Building::Union,
@@ -32,6 +33,7 @@ const BUILDINGS: [Building; 8] = [
     Building::SymmetricDifference,
     Building::TouchingSweep,
     Building::TouchingDifference,
+    Building::AtLeast,
     Building::OneType,
 ];
 
@@ -63,6 +65,7 @@ impl Building {
             Building::TouchingDifference => {
                 MultiwaySymmetricDifference::new_touching(heap, touching).map(drop)
             }
+            Building::AtLeast => streams.at_least(heap, 2).map(drop),
             Building::OneType => DynSortedDisjoint::new(heap, stream_of(NINE)).map(drop),
         }
     }

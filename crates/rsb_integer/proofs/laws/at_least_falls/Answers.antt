@@ -1,0 +1,5 @@
+use Rattle.rsb_integer.proofs.AtLeastLemmas.{at_least-falls}
+use Rattle.rsb_integer.proofs.laws.at_least_falls.Goals as goal
+
+pub returns : goal.returns
+returns g c = at_least-falls

@@ -1,0 +1,42 @@
+-- The law of the pieces of what lies deep in a sweep: they come by starts.
+use Rattle.std.proofs.Common.{◌≡◌, Bool, true, false, ◌++◌, map, refl, []}
+use Rattle.rsb_integer.specs.declared.integer.Integer.{Ghosts as Elements}
+use Rattle.rsb_integer.proofs.RunsLemmas.{runs-canonical, runs-members}
+use Rattle.rsb_streams.specs.Rows.{IsSorted}
+use Rattle.rsb_streams.specs.Stream.{HasSortedStarts, Keeps}
+use Rattle.rsb_streams.specs.StreamLaws.{canonical-sorted, runs-exist, settled_sorted}
+use Rattle.rsb_streams.specs.declared.draw.Draw.{Ghosts as Stream}
+use Rattle.rsb_many.specs.DeepPieces.{crossing, deep_left, deep_may_give, deep_pieces, DeepReady}
+use Rattle.rsb_many.specs.SweepPieces.{edge_of, edges_of, odd_past}
+use Rattle.rsb_many.specs.declared.deep_pieces.DeepPieces.{DeepPieces}
+
+module _ {T N I A : Type 0} (integer : Elements T N) (stream : Stream I T N) where
+  open integer use {rank, value_count as n}
+
+  -- by whether all was told
+  deep_pieces-keeps : (s : DeepPieces T I A N) (done : Bool) → s.done ≡ done
+      → (s.done ≡ false → DeepReady integer stream s)
+      → Keeps (HasSortedStarts n) (deep_may_give integer stream s) (deep_left integer stream s)
+  deep_pieces-keeps s true is ready = rw is (record {
+    some = λ never. never [] refl;
+    all = λ pieces none. rw none tt;
+    ends = tt;
+  })
+  deep_pieces-keeps s false is ready = rw is (record {
+    some = λ never. (ready is).sweep.some (λ events may.
+        let selected = odd_past (edges_of rank s.start
+        ++ map edge_of (crossing s.least s.depth events)) in
+        let runs = runs-exist n selected in
+        let canonical = runs-canonical n selected runs.0 runs.1 in
+        never runs.0 (λ nothing. nothing events may (record {
+          sorted = canonical-sorted n 0 runs.0 canonical.0 canonical.1;
+          same = runs-members n selected runs.0 runs.1;
+        })));
+    all = λ pieces may. settled_sorted n 0 pieces
+        (λ fails. may (λ events at all. fails all.sorted));
+    ends = (ready is).sweep.ends;
+  })
+
+  -- the pieces come by their starts, there are some lists of them, and they end
+  pub deep_pieces-sorted : IsSorted integer (deep_pieces {A = A} integer stream)
+  deep_pieces-sorted s ready = deep_pieces-keeps s s.done refl ready
