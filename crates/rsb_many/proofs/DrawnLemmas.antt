@@ -1,5 +1,5 @@
 -- What a merge and a sweep of many streams hold, when a range is drawn and when one leaves.
-use Rattle.std.proofs.Common.{◌≡◌, ℕ, ◌+◌, ◌<◌, ◌≤◌, true, false, List, [], ◌∷◌, length, refl, sym, ap, subst, ◌∙◌, arith, Option, Some, None, IsPermutation}
+use Rattle.std.proofs.Common.{◌≡◌, inl, inr, ℕ, ◌+◌, ◌*◌, ◌<◌, ◌≤◌, true, false, List, [], ◌∷◌, length, refl, sym, ap, subst, ◌∙◌, arith, Option, Some, None, IsPermutation}
 use Rattle.std.proofs.lemmas.List.{length-set}
 use Rattle.std.proofs.lemmas.List.Elements.{All-cons, All-nil}
 use Rattle.std.proofs.lemmas.List.Sorted.{IsPermutation-refl}
@@ -8,19 +8,30 @@ use Rattle.std.specs.Prelude.{MatchOption}
 use Rattle.std.specs.declared.ops.RangeInclusive.{RangeInclusive}
 use Rattle.rsb_integer.specs.Rank.{interval_of}
 use Rattle.rsb_integer.specs.declared.integer.Integer.{Ghosts as Elements}
+use Rattle.rsb_integer.proofs.ListLemmas.{true_or_false}
 use Rattle.rsb_integer.proofs.RangeLemmas.{interval_of-some}
 use Rattle.rsb_streams.specs.declared.draw.Draw.{Ghosts as Stream}
 use Rattle.rsb_streams.proofs.LookaheadLemmas.{uses-nothing}
 use Rattle.rsb_streams.proofs.Sources.{IsLawful}
 use Rattle.rsb_streams.proofs.UnionLemmas.{head-sorted}
 use Rattle.rsb_many.specs.Drawn.{inputs_of, is_at, AddsUnstarted, DrawnReady, IsUnstarted, Refills}
-use Rattle.rsb_many.specs.Heads.{binary_digits, HasValues}
+use Rattle.rsb_many.specs.Heads.{binary_digits, closing, HasValues, Kept}
 use Rattle.rsb_many.specs.Inputs.{has_ended, head_of, input_at, inputs_left, DrawsAt}
 use Rattle.rsb_many.specs.declared.drawn.Drawn.{Drawn}
 use Rattle.rsb_many.specs.declared.heads.Head.{Head}
 use Rattle.rsb_many.proofs.DigitLemmas.{binary_digits-more}
 use Rattle.rsb_many.proofs.InputsLemmas.{draws-ended, draws-less, draws-more, draws-ready, draws-unstarted, draws-uses, drawn_count, nat_eq-differs, nat_eq-itself}
 use Rattle.rsb_many.proofs.LeftLemmas.{left_of-set}
+
+-- two comparisons for each digit of a number that is as great close a place
+pub few-closing : {T : Type 0} (kept : Kept T) (count : ℕ) → length kept.heads ≤ count
+    → kept.comparisons + closing kept ≤ kept.comparisons + 2 * binary_digits count
+few-closing kept count few =
+    let digits = binary_digits-more (length kept.heads) count few in
+    elim (true_or_false kept.is_open) [
+      | inl is_so ↦ rw is_so (omega (arith, digits))
+      | inr not_so ↦ rw not_so (omega arith)
+    ]
 
 -- heads that stay
 nothing-came : {T : Type 0} (old new : List (Head T)) → new ≡ old → AddsUnstarted old new
@@ -70,7 +81,8 @@ module _ {T N I : Type 0} (integer : Elements T N) (stream : Stream I T N)
         unstarted = λ all. all;
         came = nothing-came s.heads.heads s.heads.heads refl;
         left = λ finite. (finite, omega arith);
-        compared = omega arith;
+        compared = few-closing s.heads (length s.streams.items)
+            (omega (arith, ready.room.few));
       })
 
   -- the range that was due was drawn
@@ -79,7 +91,8 @@ module _ {T N I : Type 0} (integer : Elements T N) (stream : Stream I T N)
       (room : s.heads.room ≤ t.heads.room)
       (draws : DrawsAt integer stream place s.streams.items s.heads.heads t.streams.items
       t.heads.heads)
-      (compared : t.heads.comparisons ≤ s.heads.comparisons + binary_digits (length t.heads.heads))
+      (compared : t.heads.comparisons + closing t.heads
+      ≤ s.heads.comparisons + 2 * binary_digits (length t.heads.heads))
     where
       -- it was due
       due : is_at s.used place ≡ true

@@ -1,8 +1,8 @@
 -- Heaps of heads: what the calls on their lists keep.
-use Rattle.std.proofs.Common.{◌≡◌, ℕ, Bool, ◌+◌, ◌*◌, ◌<◌, ◌≤◌, List, [], ◌∷◌, ◌++◌, length, All, sym, ap, subst, ◌∙◌, arith, slice_index_or, IsPermutation}
-use Rattle.std.proofs.lemmas.List.{get_or_append_left, get_or_default, length-append}
+use Rattle.std.proofs.Common.{◌≡◌, ℕ, suc, Bool, ◌+◌, ◌-◌, ◌*◌, ◌<◌, ◌≤◌, List, [], ◌∷◌, ◌++◌, length, drop, set, take, All, refl, sym, ap, subst, ◌∙◌, arith, slice_index_or, slice_set, IsPermutation}
+use Rattle.std.proofs.lemmas.List.{get_or_append_left, get_or_default, get_or-set_other, length-append, length-set}
 use Rattle.std.proofs.lemmas.List.Elements.{All-from_get_or, All-get_or, All-tail}
-use Rattle.std.proofs.lemmas.List.Sorted.{All-permutation, IsPermutation-cons, IsPermutation-swap_remove, IsPermutation-sym, IsPermutation-to_front, IsPermutation-trans}
+use Rattle.std.proofs.lemmas.List.Sorted.{All-permutation, IsPermutation-refl, IsPermutation-sym, IsPermutation-to_front, IsPermutation-trans}
 use Rattle.std.specs.List.{swap_remove, SwappedAt}
 use Rattle.std.specs.Prelude.{◌≢◌, IsFalse, IsTrue}
 use Rattle.rsb_many.specs.Heads.{key_of, IsLeastOf}
@@ -132,10 +132,53 @@ module _ {T : Type 0} (rank : T → ℕ) where
       IsPermutation-trans _ _ _ (IsPermutation-sym _ _ (IsPermutation-to_front old head))
       (subst (λ heads. IsPermutation heads new) is kept)
 
-  -- a list without its first head, moved about, has those before but for that head
-  pub popped-kept : (old less new : List (Head T)) (head : Head T) → 0 < length old
-      → head ≡ slice_index_or old 0 head → less ≡ swap_remove old 0 head → IsPermutation less new
-      → IsPermutation old (head ∷ new)
-  popped-kept old less new head some first is kept =
-      IsPermutation-trans _ _ _ (IsPermutation-swap_remove old 0 head some first)
-      (IsPermutation-cons head _ _ (subst (λ heads. IsPermutation heads new) is kept))
+  -- a list whose first head gave way to another, moved about, has that head and those behind it
+  pub filled-kept : (old more new : List (Head T)) (head : Head T) → 0 < length old
+      → more ≡ set old 0 head → IsPermutation more new → IsPermutation (head ∷ drop 1 old) new
+  filled-kept [] more new head some is kept = absurd (omega (arith, some))
+  filled-kept (first ∷ old) more new head some is kept =
+      subst (λ heads. IsPermutation heads new) is kept
+
+  -- the head that gave way is told by no other place
+  pub filled-heap : (old more : List (Head T)) (head : Head T) → more ≡ set old 0 head
+      → IsHeap rank old → IsHeapButFirst rank more
+  filled-heap old more head is heap =
+      let long : length more ≡ length old = ap (λ heads. length heads) is ∙ length-set old 0 head in
+      agreed-heap old more heap (omega (arith, long)) (λ place other not within.
+      ap (λ heads. slice_index_or heads place other) is ∙ get_or-set_other old 0 place head other not)
+
+  -- a list behind whose first head the others stand
+  pub first-drop : (heads : List (Head T)) (head : Head T) → 0 < length heads
+      → head ≡ slice_index_or heads 0 head → heads ≡ head ∷ drop 1 heads
+  first-drop [] head some is = absurd (omega (arith, some))
+  first-drop (first ∷ heads) head some is = ap (λ each. each ∷ heads) (sym is)
+
+  -- the last head of a list, and those before it
+  last-behind : (first : Head T) (heads : List (Head T)) (other : Head T)
+      → take (length heads) (first ∷ heads)
+      ++ slice_index_or (first ∷ heads) (length heads) other ∷ [] ≡ first ∷ heads
+  last-behind first [] other = refl
+  last-behind first (next ∷ heads) other =
+      ap (λ each. first ∷ each) (last-behind next heads other)
+
+  -- a list in which the last head took the place of the first has those behind that one
+  closed-same : (old : List (Head T)) (other : Head T)
+      → IsPermutation (drop 1 old) (swap_remove old 0 other)
+  closed-same [] other = IsPermutation-refl []
+  closed-same (first ∷ []) other = IsPermutation-refl []
+  closed-same (first ∷ next ∷ heads) other =
+      let all = first ∷ next ∷ heads in
+      let last = slice_index_or (next ∷ heads) (length heads) other in
+      let front = take (length heads) (next ∷ heads) in
+      let count : suc (length heads) ≡ length all - 1 = omega arith in
+      subst (λ most. IsPermutation (next ∷ heads)
+      (take most (slice_set all 0 (slice_index_or all most other)))) count
+      (subst (λ each. IsPermutation each (last ∷ front)) (last-behind next heads other)
+      (IsPermutation-to_front front last))
+
+  -- and so when it is moved about
+  pub closed-kept : (old less new : List (Head T)) (other : Head T) → less ≡ swap_remove old 0 other
+      → IsPermutation less new → IsPermutation (drop 1 old) new
+  closed-kept old less new other is kept =
+      IsPermutation-trans _ _ _ (closed-same old other)
+      (subst (λ heads. IsPermutation heads new) is kept)

@@ -23,9 +23,9 @@ use Rattle.rsb_many.proofs.HeldLemmas.{held_at-permutation}
 use Rattle.rsb_many.proofs.InputsLemmas.{can-same, gives_of-uses, held-head, leaves-gives, leaves-goes, leaves-none, leaves-others, leaves-ready, leaves-spares, nat_eq-differs, nat_eq-itself, uses-same}
 use Rattle.rsb_many.proofs.LeftLemmas.{left_of-same}
 
--- so many comparisons for each digit of a number of heads are few
+-- two comparisons for each digit of a number of heads, and two again, are few
 pub few-compared : (count heads before middle made : ℕ) → heads ≤ count
-    → middle ≤ before + binary_digits count → made ≤ middle + 3 * binary_digits heads
+    → middle ≤ before + 2 * binary_digits count → made ≤ middle + 2 * binary_digits heads
     → made ≤ before + comparison_bound count
 few-compared count heads before middle made short first second =
     let few = binary_digits-more heads count short in

@@ -14,7 +14,7 @@ use Rattle.rsb_streams.specs.declared.draw.Draw.{Ghosts as Stream}
 use Rattle.rsb_streams.proofs.LookaheadLemmas.{uses-then}
 use Rattle.rsb_streams.proofs.Sources.{IsLawful}
 use Rattle.rsb_many.specs.Drawn.{inputs_of, is_at, HasNoHead, IsBegunOf, IsUnstarted, Refills, TakesHead}
-use Rattle.rsb_many.specs.Heads.{binary_digits, key_of}
+use Rattle.rsb_many.specs.Heads.{closing, key_of}
 use Rattle.rsb_many.specs.Inputs.{input_at, inputs_left, inputs_merge, run_of, Inputs}
 use Rattle.rsb_many.specs.KMerge.{comparison_bound, kmerge, kmerge_inputs, KMergeReady, MakesKMerge}
 use Rattle.rsb_many.specs.Keys.{comes_before}
@@ -48,10 +48,10 @@ module _ {T N I A : Type 0} (integer : Elements T N) (stream : Stream I T N)
   none-due place = rw filled.none refl
 
   -- few comparisons were made
-  few-made : (made : ℕ) → made ≤ m.heads.comparisons + 2 * binary_digits (length m.heads.heads)
+  few-made : (made : ℕ) → made ≤ m.heads.comparisons + closing m.heads
       → made ≤ s.inputs.heads.comparisons + comparison_bound (length s.inputs.streams.items)
   few-made made most = few-compared (length s.inputs.streams.items) (length m.heads.heads)
-      s.inputs.heads.comparisons m.heads.comparisons made
+      s.inputs.heads.comparisons (m.heads.comparisons + closing m.heads) made
       (omega (arith, filled.ready.room.few, filled.count)) filled.compared (omega (arith, most))
 
   -- ---- a head left
@@ -177,8 +177,7 @@ module _ {T N I A : Type 0} (integer : Elements T N) (stream : Stream I T N)
 
     -- all that is known of such an answer
     pub head-known : (range : RangeInclusive T) → interval_of rank range ≡ run
-        → t.inputs.heads.comparisons
-        ≤ m.heads.comparisons + 2 * binary_digits (length m.heads.heads)
+        → t.inputs.heads.comparisons ≤ m.heads.comparisons + closing m.heads
         → (kmerge {A = A} integer stream).draw_gives s (Some range) t
     head-known range is compared = record {
       answers = λ rest may. subst (λ each. inputs_merge integer stream before (each ∷ rest)) (sym is)
@@ -212,8 +211,7 @@ module _ {T N I A : Type 0} (integer : Elements T N) (stream : Stream I T N)
     }
 
     -- all that is known of such an answer
-    pub none-known : t.inputs.heads.comparisons
-        ≤ m.heads.comparisons + 2 * binary_digits (length m.heads.heads)
+    pub none-known : t.inputs.heads.comparisons ≤ m.heads.comparisons + closing m.heads
         → (kmerge {A = A} integer stream).draw_gives s None t
     none-known compared = record {
       answers = merges_all-empty n (length before.streams)

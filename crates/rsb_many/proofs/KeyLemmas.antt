@@ -1,8 +1,9 @@
 -- Keys come in one order.
 use Rattle.std.proofs.Common.{◌≡◌, ◌≢◌, ap, ◌∙◌, arith}
 use Rattle.std.proofs.lemmas.Bool.Decides.{nat_tests}
-use Rattle.std.specs.Ordering.{bool_cmp, is_lt, nat_cmp, ordering_then}
-use Rattle.std.specs.Prelude.{IsFalse, IsTrue}
+use Rattle.std.proofs.Math.Bool.{beq}
+use Rattle.std.specs.Ordering.{is_eq, is_lt, nat_cmp}
+use Rattle.std.specs.Prelude.{nat_lt, not, ◌&&◌, ◌||◌, IsFalse, IsTrue}
 use Rattle.rsb_many.specs.Keys.{comes_before, Key}
 
 -- of two keys not both come before the other
@@ -25,13 +26,13 @@ pub comes_before-as : {one other first second : Key} → one ≡ first → other
 comes_before-as {other = other} {first = first} one_is other_is =
     ap (λ key. comes_before key other) one_is ∙ ap (comes_before first) other_is
 
--- it is a comparison of the ranks, then of which are ends, and then of the inputs
-pub comes_before-is_lt : (one other : Key)
-    → is_lt (ordering_then
-    (ordering_then (nat_cmp one.at other.at) (bool_cmp one.is_end other.is_end))
-    (nat_cmp one.input other.input))
+-- it is a comparison of the ranks, and where they are the same of which are ends and of the inputs
+pub comes_before-parts : (one other : Key)
+    → (is_lt (nat_cmp one.at other.at) || (is_eq (nat_cmp one.at other.at)
+    && ((beq one.is_end other.is_end && nat_lt one.input other.input)
+    || (not one.is_end && other.is_end))))
     ≡ comes_before one other
-comes_before-is_lt one other = grind (arith, nat_tests)
+comes_before-parts one other = grind (arith, nat_tests)
 
 -- of two keys neither of which comes before the other the parts are the same
 pub comes_before-neither : (one other : Key) → IsFalse (comes_before one other)

@@ -17,7 +17,7 @@ use Rattle.rsb_streams.specs.declared.draw.Draw.{Ghosts as Stream}
 use Rattle.rsb_streams.proofs.LookaheadLemmas.{uses-then}
 use Rattle.rsb_streams.proofs.Sources.{IsLawful}
 use Rattle.rsb_many.specs.Drawn.{inputs_of, is_at, started, DrawnReady, HasNoHead, IsBegunOf, PutsBack, Refills, TakesHead}
-use Rattle.rsb_many.specs.Heads.{binary_digits, key_of}
+use Rattle.rsb_many.specs.Heads.{binary_digits, closing, key_of}
 use Rattle.rsb_many.specs.Inputs.{has_ended, held_at, input_at, run_of}
 use Rattle.rsb_many.specs.KMerge.{comparison_bound}
 use Rattle.rsb_many.specs.KMergeLaws.{inputs-finite, some-by}
@@ -148,10 +148,11 @@ module _ {T N I A : Type 0} (integer : Elements T N) (stream : Stream I T N)
     none-due place = rw filled.none refl
 
     -- few comparisons were made
-    few-made : (made : ℕ) → made ≤ m.heads.comparisons + 3 * binary_digits (length m.heads.heads)
+    few-made : (made : ℕ)
+        → made ≤ m.heads.comparisons + closing m.heads + 2 * binary_digits (length m.heads.heads)
         → made ≤ s.inputs.heads.comparisons + comparison_bound (stream_count s)
     few-made made most = few-compared (stream_count s) (length m.heads.heads)
-        s.inputs.heads.comparisons m.heads.comparisons made
+        s.inputs.heads.comparisons (m.heads.comparisons + closing m.heads) made
         (omega (arith, filled.ready.room.few, filled.count)) filled.compared most
 
     -- ---- the least head left
@@ -300,8 +301,7 @@ module _ {T N I A : Type 0} (integer : Elements T N) (stream : Stream I T N)
           omega (arith, refilled.1, came.0, came.1, taken, one, same)
 
       -- all that is known of such an answer
-      pub end-known : t.inputs.heads.comparisons
-          ≤ m.heads.comparisons + 2 * binary_digits (length m.heads.heads)
+      pub end-known : t.inputs.heads.comparisons ≤ m.heads.comparisons + closing m.heads
           → Sweeps integer stream s (Some (events.End head.end head.input)) t
       end-known compared = record {
         answers = end-told;
@@ -437,10 +437,9 @@ module _ {T N I A : Type 0} (integer : Elements T N) (stream : Stream I T N)
 
       -- all that is known of such an answer
       pub start-known : (range : RangeInclusive T) → interval_of rank range ≡ run_of rank head
-          → u.heads.comparisons
-          ≤ m.heads.comparisons + 2 * binary_digits (length m.heads.heads)
+          → u.heads.comparisons ≤ m.heads.comparisons + closing m.heads
           → t.inputs.heads.comparisons
-          ≤ u.heads.comparisons + binary_digits (length t.inputs.heads.heads)
+          ≤ u.heads.comparisons + 2 * binary_digits (length t.inputs.heads.heads)
           → Sweeps integer stream s (Some (events.Start range head.input)) t
       start-known range is first second = record {
         answers = λ told may. subst (λ each. sweep_may_give integer stream s
@@ -475,8 +474,7 @@ module _ {T N I A : Type 0} (integer : Elements T N) (stream : Stream I T N)
           empty place runs gives) tt)
 
       -- all that is known of such an answer
-      pub none-known : t.inputs.heads.comparisons
-          ≤ m.heads.comparisons + 2 * binary_digits (length m.heads.heads)
+      pub none-known : t.inputs.heads.comparisons ≤ m.heads.comparisons + closing m.heads
           → Sweeps integer stream s None t
       none-known compared = record {
         answers = events-may_end (stream_count s)

@@ -1,12 +1,12 @@
 -- What a merge and a sweep of many streams hold.
-use Rattle.std.specs.Prelude.{◌≡◌, ℕ, ◌+◌, ◌<◌, ◌≤◌, true, false, nat_eq, nat_le, nat_lt, ◌&&◌, Bool, List, [], ◌∷◌, ◌++◌, length, All, IsPermutation, Option, Some, None, IfSome}
+use Rattle.std.specs.Prelude.{◌≡◌, ℕ, ◌+◌, ◌*◌, ◌<◌, ◌≤◌, true, false, nat_eq, nat_le, nat_lt, ◌&&◌, Bool, List, [], ◌∷◌, ◌++◌, length, All, IsPermutation, Option, Some, None, IfSome}
 use Rattle.std.specs.Iterator.{size, IsFinite}
 use Rattle.std.specs.Option.{option_len}
 use Rattle.rsb_integer.specs.declared.integer.Integer.{Ghosts as Elements}
 use Rattle.rsb_streams.specs.Lookahead.{Uses}
 use Rattle.rsb_streams.specs.Stream.{◌⊆◌}
 use Rattle.rsb_streams.specs.declared.draw.Draw.{Ghosts as Stream}
-use Rattle.rsb_many.specs.Heads.{binary_digits, TakesLeast}
+use Rattle.rsb_many.specs.Heads.{binary_digits, closing, TakesLeast}
 use Rattle.rsb_many.specs.Inputs.{input_at, inputs_left, AreReady, Inputs}
 use Rattle.rsb_many.specs.Many.{gives_of, may_give_at, IsBegun}
 use Rattle.rsb_many.specs.declared.drawn.Drawn.{Drawn}
@@ -61,7 +61,8 @@ module _ {T N I A : Type 0} (integer : Elements T N) (stream : Stream I T N) whe
     pub inputs : AreReady integer stream (inputs_of s)
     pub room : HasRoomForAll s
 
-  -- the range that is due is drawn, if one is: no input uses anything
+  -- the range that is due is drawn, if one is: no input uses anything. Few comparisons are made, of
+  -- which those that are left close the place of the head that came out last
   pub record Refills (s t : Drawn T I A N) : Type 0 where
     pub ready : DrawnReady t
     pub none : t.used ≡ None
@@ -74,8 +75,8 @@ module _ {T N I A : Type 0} (integer : Elements T N) (stream : Stream I T N) whe
         → IsFinite (inputs_left integer stream (inputs_of t))
         × (size (inputs_left integer stream (inputs_of t))
         ≤ size (inputs_left integer stream (inputs_of s)))
-    pub compared : t.heads.comparisons
-        ≤ s.heads.comparisons + binary_digits (length s.streams.items)
+    pub compared : t.heads.comparisons + closing t.heads
+        ≤ s.heads.comparisons + 2 * binary_digits (length s.streams.items)
 
   -- the least head leaves, and a range of its input is due
   pub record TakesHead (s : Drawn T I A N) (head : Head T) (t : Drawn T I A N) : Type 0 where

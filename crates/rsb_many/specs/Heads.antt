@@ -1,14 +1,20 @@
 -- The heads of inputs, of which the least comes out first.
-use Rattle.std.specs.Prelude.{ℕ, zero, suc, cond, nat_lt, ◌/◌, ◌<◌, List, ◌∷◌, All, IsFalse, IsPermutation}
+use Rattle.std.specs.Prelude.{ℕ, zero, suc, Bool, cond, nat_lt, ◌*◌, ◌/◌, ◌<◌, List, ◌∷◌, drop, length, All, IsFalse, IsPermutation}
 use Rattle.rsb_many.specs.Keys.{comes_before, Key}
 use Rattle.rsb_many.specs.declared.heads.Head.{Head}
 
--- what stands in a heap of heads, in no order that is told; for how many there is room at least;
--- and how many comparisons of keys were made so far
+-- what stands in a heap of heads, in no order that is told; whether the place of the one that came
+-- out last is open; for how many there is room at least; and how many comparisons of keys were made
+-- so far
 pub record Kept (T : Type 0) : Type 0 where
   pub heads : List (Head T)
+  pub is_open : Bool
   pub room : ℕ
   pub comparisons : ℕ
+
+-- the heads of a list, but for the first where its place is open
+abbrev pub standing : {T : Type 0} → Bool → List (Head T) → List (Head T)
+standing is_open heads = drop (cond is_open 1 0) heads
 
 -- a head stands at the start of its range, or, once that was given, at its end
 abbrev pub key_of : {T : Type 0} → (T → ℕ) → Head T → Key
@@ -42,3 +48,7 @@ digits_within (suc most) n = cond (nat_lt 0 n) (suc (digits_within most (n / 2))
 -- how many binary digits a number has: none of 0
 unfoldable pub binary_digits : ℕ → ℕ
 binary_digits n = digits_within n n
+
+-- how many comparisons it takes at most to close the place that is open
+abbrev pub closing : {T : Type 0} → Kept T → ℕ
+closing kept = cond kept.is_open (2 * binary_digits (length kept.heads)) 0

@@ -1,5 +1,5 @@
 -- The order of a binary heap: the place above a place j is (j - 1) / 2.
-use Rattle.std.specs.Prelude.{ℕ, ◌-◌, ◌/◌, ◌<◌, ◌≡◌, ◌≢◌, List, length, slice_index_or, All, IsFalse}
+use Rattle.std.specs.Prelude.{ℕ, ◌-◌, ◌/◌, ◌<◌, ◌≡◌, ◌≢◌, Bool, List, length, slice_index_or, All, IsFalse, IsTrue}
 use Rattle.rsb_many.specs.Heads.{key_of, HasValues}
 use Rattle.rsb_many.specs.Keys.{comes_before, Key}
 use Rattle.rsb_many.specs.declared.heads.Head.{Head}
@@ -59,8 +59,10 @@ module _ {T : Type 0} (rank : T → ℕ) (heads : List (Head T)) where
     pub lesser : (other : Head T) (next : ℕ) → 0 < next → next < length heads → parent next ≡ place
         → IsFalse (comes_before (key_at other next) (key_at other child))
 
--- what a heap keeps: heads with values, of which none comes before the one above it
-pub record AreKept {T : Type 0} (rank : T → ℕ) (value_count : ℕ) (heads : List (Head T))
-    : Type 0 where
+-- what a heap keeps: heads with values, of which none comes before the one above it. The head that
+-- came out last lies at the top as long as its place is open
+pub record AreKept {T : Type 0} (rank : T → ℕ) (value_count : ℕ) (is_open : Bool)
+    (heads : List (Head T)) : Type 0 where
   pub values : All (HasValues rank value_count) heads
   pub order : IsHeap rank heads
+  pub some : IsTrue is_open → 0 < length heads

@@ -2,7 +2,7 @@
 
 ghost use Rattle.std.specs.Prelude.{◌≡◌, ◌+◌, ◌*◌, ◌<◌, ◌≤◌, [], length, slice_get, All, IfOk, IfSome, MatchOption, None};
 ghost use Rattle.rsb_many.specs.Drawn.{DrawnReady, HasNoHead, IsBegunOf, PutsBack, Refills, TakesHead};
-ghost use Rattle.rsb_many.specs.Heads.{binary_digits, HasValues};
+ghost use Rattle.rsb_many.specs.Heads.{binary_digits, closing, HasValues};
 ghost use Rattle.rsb_many.specs.Inputs.{DrawsAt};
 
 use crate::heads::{Head, Heads};
@@ -59,8 +59,8 @@ impl<T: Integer, I: Draw<T>, A: Allocator> Drawn<T, I, A> {
             self.old.heads.heads self.new.streams.items self.new.heads.heads }
         ensures used { self.new.used ≡ self.old.used }
         ensures room { self.old.heads.room ≤ self.new.heads.room }
-        ensures compared { self.new.heads.comparisons
-            ≤ self.old.heads.comparisons + binary_digits (length self.new.heads.heads) }
+        ensures compared { self.new.heads.comparisons + closing self.new.heads
+            ≤ self.old.heads.comparisons + 2 * binary_digits (length self.new.heads.heads) }
     {
         if let Some(range) = self.streams[place].draw() {
             let (start, end) = range.into_inner();
@@ -90,7 +90,7 @@ impl<T: Integer, I: Draw<T>, A: Allocator> Drawn<T, I, A> {
             (λ head. TakesHead T.Integer.own I.Draw self.old head self.new) }
         ensures values { IfSome result (HasValues T.rank T.value_count) }
         ensures compared { self.new.heads.comparisons
-            ≤ self.old.heads.comparisons + 2 * binary_digits (length self.old.heads.heads) }
+            ≤ self.old.heads.comparisons + closing self.old.heads }
     {
         let head = self.heads.pop()?;
         self.used = Some(head.input);
@@ -103,7 +103,7 @@ impl<T: Integer, I: Draw<T>, A: Allocator> Drawn<T, I, A> {
         requires room { length self.old.heads.heads < self.old.heads.room }
         ensures back { PutsBack self.old head self.new }
         ensures compared { self.new.heads.comparisons
-            ≤ self.old.heads.comparisons + binary_digits (length self.new.heads.heads) }
+            ≤ self.old.heads.comparisons + 2 * binary_digits (length self.new.heads.heads) }
     {
         self.heads.push(Head {
             started: true,

@@ -2,7 +2,7 @@
 
 ghost use Rattle.std.specs.Prelude.{◌≡◌, ◌+◌, ◌*◌, ◌<◌, ◌≤◌, [], ◌∷◌, length, All, IfOk, IfSome, IsFalse, IsPermutation, MatchOption};
 ghost use Rattle.std.specs.Vec.{vec_capacity};
-ghost use Rattle.rsb_many.specs.Heads.{binary_digits, key_of, HasValues, TakesLeast};
+ghost use Rattle.rsb_many.specs.Heads.{binary_digits, closing, key_of, HasValues, TakesLeast};
 ghost use Rattle.rsb_many.specs.HeapOrder.{IsHeap, IsHeapButFirst, IsHeapButLast, IsLesserChild};
 ghost use Rattle.rsb_many.specs.Keys.{comes_before};
 
@@ -39,11 +39,10 @@ fn comes_first<T: Integer>(one: &Head<T>, other: &Head<T>, comparisons: &mut Com
     ensures compared { comparisons.new.made ≡ comparisons.old.made + 1 }
 {
     comparisons.count();
-    one.at()
-        .cmp(&other.at())
-        .then(one.started.cmp(&other.started))
-        .then(one.input.cmp(&other.input))
-        .is_lt()
+    let order = one.at().cmp(&other.at());
+    let is_tied = one.started == other.started;
+    let wins_tie = (is_tied & (one.input < other.input)) | (!one.started & other.started);
+    order.is_lt() | (order.is_eq() & wins_tie)
 }
 
 /// The one of the heads under a place that the other does not come before.
@@ -109,26 +108,29 @@ fn sift_down<T: Integer, A: Allocator>(heads: &mut Vec<Head<T>, A>, comparisons:
 }
 
 /// Heads of inputs, of which the least comes out first. The room for them is made when it is built.
+/// Where the place at the top is open, the head that lies there came out, and is none of them.
 #[derive(Debug, Drop)]
 pub(crate) struct Heads<T: Integer, A: Allocator = Global> {
     heads: Vec<Head<T>, A>,
+    is_open: bool,
     comparisons: Comparisons,
 }
 
 impl<T: Integer, A: Allocator> Model for Heads<T, A> {
     ghost use Rattle.std.specs.Vec.{vec_capacity};
-    ghost use Rattle.rsb_many.specs.Heads.{Kept};
+    ghost use Rattle.rsb_many.specs.Heads.{standing, Kept};
     ghost use Rattle.rsb_many.specs.HeapOrder.{AreKept};
 
     ghost Value = { Kept T };
 
     ghost view = { λ s. record {
-      heads = s.heads.items;
+      heads = standing s.is_open s.heads.items;
+      is_open = s.is_open;
       room = vec_capacity s.heads;
       comparisons = s.comparisons.made;
     } };
 
-    ghost invariant = { λ s. AreKept T.rank T.value_count s.heads.items };
+    ghost invariant = { λ s. AreKept T.rank T.value_count s.is_open s.heads.items };
 }
 
 impl<T: Integer, A: Allocator> Heads<T, A> {
@@ -140,37 +142,59 @@ impl<T: Integer, A: Allocator> Heads<T, A> {
     {
         Ok(Heads {
             heads: Vec::with_capacity(alloc, room)?,
+            is_open: false,
             comparisons: Comparisons::none(),
         })
     }
 
-    /// Adds a head, for which there is room.
+    /// Adds a head, for which there is room: at the top, if the place there is open.
     pub(crate) fn push(&mut self, head: Head<T>)
         requires room { length self.old.heads < self.old.room }
         requires values { HasValues T.rank T.value_count head }
         ensures kept { IsPermutation (head ∷ self.old.heads) self.new.heads }
+        ensures closed { IsFalse self.new.is_open }
         ensures room { self.old.room ≤ self.new.room }
         ensures compared { self.new.comparisons
-            ≤ self.old.comparisons + binary_digits (length self.new.heads) }
+            ≤ self.old.comparisons + 2 * binary_digits (length self.new.heads) }
     {
-        self.heads.push_reserved(head);
-        sift_up(&mut self.heads, &mut self.comparisons);
+        if self.is_open {
+            self.is_open = false;
+            self.heads[0] = head;
+            sift_down(&mut self.heads, &mut self.comparisons);
+        } else {
+            self.heads.push_reserved(head);
+            sift_up(&mut self.heads, &mut self.comparisons);
+        }
     }
 
-    /// Takes the least head out, or says that there is none.
+    /// Takes the least head out, or says that there is none. Its place stays open, so that the next
+    /// head that is added goes there.
     pub(crate) fn pop(&mut self) -> Option<Head<T>>
         ensures taken { MatchOption result ((self.old.heads ≡ []) × (self.new.heads ≡ []))
             (λ head. TakesLeast T.rank self.old head self.new) }
         ensures values { IfSome result (HasValues T.rank T.value_count) }
         ensures room { self.old.room ≤ self.new.room }
-        ensures compared { self.new.comparisons
-            ≤ self.old.comparisons + 2 * binary_digits (length self.old.heads) }
+        ensures compared { self.new.comparisons ≤ self.old.comparisons + closing self.old }
     {
+        self.close();
         if self.heads.is_empty() {
             return None;
         }
-        let head = self.heads.swap_remove(0);
-        sift_down(&mut self.heads, &mut self.comparisons);
-        Some(head)
+        self.is_open = true;
+        Some(self.heads[0])
+    }
+
+    // Puts the last head in the place at the top, if that is open, and moves it to where it belongs.
+    fn close(&mut self)
+        ensures kept { IsPermutation self.old.heads self.new.heads }
+        ensures closed { IsFalse self.new.is_open }
+        ensures room { self.old.room ≤ self.new.room }
+        ensures compared { self.new.comparisons ≤ self.old.comparisons + closing self.old }
+    {
+        if self.is_open {
+            self.is_open = false;
+            self.heads.swap_remove(0);
+            sift_down(&mut self.heads, &mut self.comparisons);
+        }
     }
 }

@@ -1,83 +1,78 @@
-use Rattle.std.proofs.Common.{◌≡◌, ◌<◌, ◌+◌, ◌*◌, ◌≤◌, ◌∷◌, length, subst, arith, IsPermutation}
-use Rattle.std.proofs.lemmas.List.Elements.{All-tail}
-use Rattle.std.proofs.lemmas.List.Sorted.{IsPermutation-refl, length_permutation, All-permutation}
-use Rattle.rsb_many.specs.Heads.{binary_digits, HasValues}
-use Rattle.rsb_many.proofs.DigitLemmas.{binary_digits-more}
-use Rattle.rsb_many.proofs.HeadLemmas.{agreed-heap, first-least_of, popped-kept}
+use Rattle.std.proofs.Common.{◌≡◌, ◌+◌, ◌<◌, ◌≤◌, false, [], ◌∷◌, drop, length, sym, ap, subst, ◌∙◌, arith, slice_index_or, IsPermutation}
+use Rattle.std.proofs.lemmas.Bool.{eqb-false, eqb-true}
+use Rattle.std.proofs.lemmas.List.{nil_from_length}
+use Rattle.std.proofs.lemmas.List.Sorted.{length_permutation, IsPermutation-refl}
+use Rattle.std.specs.Prelude.{IsFalse}
+use Rattle.std.specs.Vec.{vec_len}
+use Rattle.rsb_many.specs.Heads.{closing, standing, HasValues}
+use Rattle.rsb_many.proofs.HeadLemmas.{fact-at, first-drop, first-least_of}
+use Rattle.rsb_many.proofs.heads.Heads.pop.Given.{Over}
 use Rattle.rsb_many.proofs.heads.Heads.pop.Goals as goal
 
--- the heads but the first have values
-pub sift_down-requires-clause-values : goal.sift_down-requires-clause-values
-sift_down-requires-clause-values g c =
-    let Fact = HasValues g.T.Integer.rank g.T.Integer.value_count in
-    let old = c.self.inside.heads.items in
-    let less = c.swap_remove-head.new.self.items in
-    let head = c.swap_remove-head.result in
-    let some : 0 < length old =
-    omega (arith, c.swap_remove-head.ensures.len, c.self.inside.heads.ok.0) in
-    let kept = popped-kept g.T.Integer.rank old less less head some
-    c.swap_remove-head.ensures.value c.swap_remove-head.ensures.items (IsPermutation-refl less) in
-    All-tail Fact head less (All-permutation Fact old (head ∷ less) kept c.self.invariant.values)
+-- no head was there
+pub returns-then-is_empty-clause-taken : goal.returns-then-is_empty-clause-taken
+returns-then-is_empty-clause-taken g c =
+    let items = c.self.inside.heads.items in
+    let none = eqb-true (vec_len c.self.inside.heads) 0
+    (sym c.is_empty.ensures ∙ c.if-is_empty.true) in
+    let nothing : items ≡ [] = nil_from_length items (omega (arith, none, c.self.inside.heads.ok.0)) in
+    let closed : c.self.inside.is_open ≡ false =
+    subst (λ kept. IsFalse kept.is_open) (sym c.self.view_is) c.close.ensures.closed in
+    let now : c.close.new.self.heads ≡ [] = sym (ap (λ kept. kept.heads) c.self.view_is)
+    ∙ ap (λ is_open. standing is_open items) closed ∙ nothing in
+    let long = length_permutation c.args.self.now.heads c.close.new.self.heads c.close.ensures.kept in
+    let same = ap (λ heads. length heads) now in
+    (nil_from_length c.args.self.now.heads (omega (arith, long, same)), now)
 
--- the last head stands first, and the others where they did
-pub sift_down-requires-clause-order : goal.sift_down-requires-clause-order
-sift_down-requires-clause-order g c =
-    let old = c.self.inside.heads.items in
-    let less = c.swap_remove-head.new.self.items in
-    let same = c.swap_remove-head.ensures.len in
-    let short : length less + 1 ≡ length old =
-    omega (arith, same, c.self.inside.heads.ok.0, c.swap_remove-head.new.self.ok.0) in
-    agreed-heap g.T.Integer.rank old less c.self.invariant.order (omega (arith, short))
-    (λ place other some within. c.swap_remove-head.ensures.by_index.1 place other some
-    (omega (arith, within, short, c.self.inside.heads.ok.0)))
+-- a head is there
+some-there : (g : Over) (c : goal.After-result-1 g) → 0 < length c.self.inside.heads.items
+some-there g c =
+    let none = eqb-false (vec_len c.self.inside.heads) 0
+    (sym c.is_empty.ensures ∙ c.if-is_empty.false) in
+    omega (arith, none, c.self.inside.heads.ok.0)
 
--- the heads that stay have values, and the sift puts them in order
+-- it stands before the others
+first-there : (g : Over) (c : goal.After-result-1 g)
+    → c.self.inside.heads.items ≡ c.index.result.now ∷ drop 1 c.self.inside.heads.items
+first-there g c = first-drop g.T.Integer.rank c.self.inside.heads.items c.index.result.now
+    (some-there g c) c.index.ensures
+
+-- it stays where it is
 pub invariant_of-self : goal.invariant_of-self
-invariant_of-self g c =
-    let Fact = HasValues g.T.Integer.rank g.T.Integer.value_count in
-    let old = c.self.inside.heads.items in
-    let new = c.sift_down.new.heads.items in
-    let head = c.swap_remove-head.result in
-    let some : 0 < length old =
-    omega (arith, c.swap_remove-head.ensures.len, c.self.inside.heads.ok.0) in
-    let kept = popped-kept g.T.Integer.rank old c.swap_remove-head.new.self.items new head some
-    c.swap_remove-head.ensures.value c.swap_remove-head.ensures.items c.sift_down.ensures.kept in
-    record {
-      values = All-tail Fact head new
-          (All-permutation Fact old (head ∷ new) kept c.self.invariant.values);
-      order = c.sift_down.ensures.order;
-    }
+invariant_of-self g c = record {
+  values = c.self.invariant.values;
+  order = c.self.invariant.order;
+  some = λ yes. some-there g c;
+}
 
 -- the first head of a heap came out
 pub returns-clause-taken : goal.returns-clause-taken
 returns-clause-taken g c =
     let rank = g.T.Integer.rank in
-    let old = c.self.inside.heads.items in
-    let new = c.sift_down.new.heads.items in
-    let head = c.swap_remove-head.result in
-    let some : 0 < length old =
-    omega (arith, c.swap_remove-head.ensures.len, c.self.inside.heads.ok.0) in
-    let kept = popped-kept rank old c.swap_remove-head.new.self.items new head some
-    c.swap_remove-head.ensures.value c.swap_remove-head.ensures.items c.sift_down.ensures.kept in
+    let items = c.self.inside.heads.items in
+    let head = c.index.result.now in
+    let closed : c.self.inside.is_open ≡ false =
+    subst (λ kept. IsFalse kept.is_open) (sym c.self.view_is) c.close.ensures.closed in
+    let now : c.close.new.self.heads ≡ items = sym (ap (λ kept. kept.heads) c.self.view_is)
+    ∙ ap (λ is_open. standing is_open items) closed in
     record {
-      kept = subst (λ before. IsPermutation before.heads (head ∷ new)) c.self.view_is kept;
-      least = first-least_of rank old new head c.self.invariant.order some
-          c.swap_remove-head.ensures.value kept;
+      kept = subst (IsPermutation c.args.self.now.heads) (now ∙ first-there g c)
+          c.close.ensures.kept;
+      least = first-least_of rank items (drop 1 items) head c.self.invariant.order
+          (some-there g c) c.index.ensures
+          (subst (IsPermutation items) (first-there g c) (IsPermutation-refl items));
     }
 
--- one head fewer was compared
+-- it has values
+pub returns-clause-values : goal.returns-clause-values
+returns-clause-values g c =
+    let items = c.self.inside.heads.items in
+    fact-at g.T.Integer.rank (HasValues g.T.Integer.rank g.T.Integer.value_count) items items
+    c.self.invariant.values (IsPermutation-refl items) 0 c.index.result.now (some-there g c)
+    c.index.ensures
+
+-- nothing was compared but to close the place
 pub returns-clause-compared : goal.returns-clause-compared
 returns-clause-compared g c =
-    let old = c.self.inside.heads.items in
-    let new = c.sift_down.new.heads.items in
-    let head = c.swap_remove-head.result in
-    let some : 0 < length old =
-    omega (arith, c.swap_remove-head.ensures.len, c.self.inside.heads.ok.0) in
-    let kept = popped-kept g.T.Integer.rank old c.swap_remove-head.new.self.items new head some
-    c.swap_remove-head.ensures.value c.swap_remove-head.ensures.items c.sift_down.ensures.kept in
-    let long = length_permutation old (head ∷ new) kept in
-    let fewer : length new ≤ length old = omega (arith, long) in
-    let digits = binary_digits-more (length new) (length old) fewer in
-    subst (λ before. c.sift_down.new.comparisons.made
-    ≤ before.comparisons + 2 * binary_digits (length before.heads)) c.self.view_is
-    (omega (arith, c.sift_down.ensures.compared, digits))
+    subst (λ kept. kept.comparisons ≤ c.args.self.now.comparisons + closing c.args.self.now)
+    (sym c.self.view_is) c.close.ensures.compared
