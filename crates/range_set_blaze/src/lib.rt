@@ -15,7 +15,7 @@ pub mod set;
 pub use crate::prelude::{
     AnythingGoes, AssumeSortedStarts, CheckSortedDisjoint, CheckSortedTouching, Difference, Draw,
     DrawDisjoint, DynSortedDisjoint, FillGapsIter, Integer, Intersection, IntoIter,
-    IntoRangeSetBlaze, IntoRangesIter, Iter, KMerge, Merge, MultiwayIntersection,
+    IntoRangeSetBlaze, IntoRangesIter, Iter, KMerge, Merge, MultiwayAtLeast, MultiwayIntersection,
     MultiwayRangeSetBlaze, MultiwayRangeSetBlazeRef, MultiwaySortedDisjoint, MultiwaySweep,
     MultiwaySymmetricDifference, MultiwayUnion, NotIter, NotSortedDisjoint, NotSortedTouching,
     RangeOnce, RangeSetBlaze, RangesIter, SafeLength, SortedDisjoint, SortedStarts,

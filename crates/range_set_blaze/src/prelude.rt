@@ -6,9 +6,10 @@ pub use crate::into_range_set_blaze::IntoRangeSetBlaze;
 pub use crate::into_ranges_iter::IntoRangesIter;
 pub use crate::iter::Iter;
 pub use crate::laws::{
-    canonical_lists_are_runs, cmp_counted, complement_twice, de_morgan, difference_by_complement,
-    equal_members_equal_lists, offsets_undo_length, one_filled_list, order_by_least_difference,
-    run_bounds_are_ends, symmetric_by_union,
+    at_least_all, at_least_falls, at_least_one, canonical_lists_are_runs, cmp_counted,
+    complement_twice, de_morgan, difference_by_complement, equal_members_equal_lists,
+    offsets_undo_length, one_filled_list, order_by_least_difference, run_bounds_are_ends,
+    symmetric_by_union,
 };
 pub use crate::multiway::{MultiwayRangeSetBlaze, MultiwayRangeSetBlazeRef};
 pub use crate::ranges_iter::RangesIter;
@@ -16,8 +17,8 @@ pub use crate::set::RangeSetBlaze;
 pub use rsb_integer::Integer;
 pub use rsb_length::{SafeLength, UInt, UIntPlusOne};
 pub use rsb_many::{
-    DynSortedDisjoint, KMerge, MultiwayIntersection, MultiwaySortedDisjoint, MultiwaySweep,
-    MultiwaySymmetricDifference, MultiwayUnion, SweepEvent,
+    DynSortedDisjoint, KMerge, MultiwayAtLeast, MultiwayIntersection, MultiwaySortedDisjoint,
+    MultiwaySweep, MultiwaySymmetricDifference, MultiwayUnion, SweepEvent,
 };
 pub use rsb_streams::{
     AnythingGoes, AssumeSortedStarts, CheckSortedDisjoint, CheckSortedTouching, Difference, Draw,
