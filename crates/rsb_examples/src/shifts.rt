@@ -1,9 +1,9 @@
 //! Who is on duty: two rotas of shifts with names, in which one shift may begin where another ends.
 
-ghost use Rattle.std.specs.Prelude.{[], ◌∷◌, map, IfOk};
+ghost use Rattle.std.specs.Prelude.{length, map, All, IfOk};
+ghost use Rattle.rsb_many.specs.Many.{may_give_at, SomeOfEach};
 ghost use Rattle.rsb_many.specs.MultiwaySweep.{sweep_may_give};
 ghost use Rattle.rsb_many.specs.Sweep.{event_of, AreEvents};
-ghost use Rattle.rsb_streams.specs.Stream.{SomeOutcomes};
 
 use range_set_blaze::{
     CheckSortedTouching, Draw, Integer, MultiwaySweep, SortedTouching, SweepEvent,
@@ -48,7 +48,7 @@ pub fn show(alloc: Global, rt: &impl Print) -> io::Result<()> {
     let (Ok(desk), Ok(door)) = (desk, door) else {
         return println!(rt; "two shifts overlap");
     };
-    for event in &timeline(alloc, desk, door)? {
+    for event in &timeline(alloc, vec![in alloc; desk, door]?)? {
         show_event(event, rt)?;
     }
     if let Ok(desk) = CheckSortedTouching::try_new(hours(alloc, &DESK)?) {
@@ -90,19 +90,17 @@ fn name_at(rota: usize, hour: u8) -> &'static str {
     "nobody"
 }
 
-/// Where the ranges of two streams start and end: each range of each of them, once, in order. Ranges
+/// Where the ranges of some streams start and end: each range of each of them, once, in order. Ranges
 /// that touch stay apart. Without memory nothing is told.
 pub fn timeline<T: Integer, I: SortedTouching<T>>(
     alloc: Global,
-    one: I,
-    other: I,
+    inputs: Vec<I>,
 ) -> Result<Vec<SweepEvent<T>>, AllocError>
-    requires one { I.can_draw one }
-    requires other { I.can_draw other }
-    ensures { IfOk result (λ told. SomeOutcomes (I.may_give one) (I.may_give other)
-        (λ first second. AreEvents (first ∷ second ∷ []) (map (event_of T.rank) told.items))) }
+    requires { All I.can_draw inputs.items }
+    ensures { IfOk result (λ told.
+        SomeOfEach (length inputs.items) (may_give_at I.may_give inputs.items)
+        (λ lists. AreEvents lists (map (event_of T.rank) told.items))) }
 {
-    let inputs = vec![in alloc; one, other]?;
     all_of(alloc, MultiwaySweep::new_touching(alloc, inputs)?)
 }
 

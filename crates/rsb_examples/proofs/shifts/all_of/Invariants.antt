@@ -1,0 +1,10 @@
+use Rattle.std.proofs.Common.{List, ◌++◌, map}
+use Rattle.rsb_many.specs.MultiwaySweep.{sweep_may_give}
+use Rattle.rsb_many.specs.Sweep.{event_of, Event}
+use Rattle.rsb_examples.proofs.shifts.all_of.Given as goal
+
+-- what was told, and then what may come, might come of the sweep as it was
+abbrev pub invariant-loop-event : goal.invariant-loop-event
+invariant-loop-event g l = (rest : List Event) → sweep_may_give g.T.Integer g.I.Draw l.sweep rest
+    → sweep_may_give g.T.Integer g.I.Draw l.fn.sweep
+    (map (event_of g.T.Integer.rank) l.told.items ++ rest)

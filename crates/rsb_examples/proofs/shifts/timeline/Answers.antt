@@ -1,0 +1,16 @@
+use Rattle.std.proofs.Common.{map}
+use Rattle.std.proofs.lemmas.Result.{IfOk-weaker}
+use Rattle.rsb_many.specs.MultiwaySweep.{SweepsOver}
+use Rattle.rsb_many.specs.Sweep.{event_of}
+use Rattle.range_set_blaze.proofs.MultiwayLemmas.{given-list}
+use Rattle.rsb_examples.proofs.shifts.timeline.Goals as goal
+
+-- what comes of the sweep over a list are the events of what its streams give
+pub returns : goal.returns
+returns g c =
+    let sweep = c.in_ok-new_touching.field-0 in
+    let gave = c.in_ok-new_touching.ensures.made in
+    let over = given-list c.args.inputs.items gave.0
+    (λ streams. SweepsOver g.T.Integer g.I.Draw streams sweep) gave.1.0 gave.1.3 gave.2 in
+    IfOk-weaker c.all_of.result _ _ (λ told may. over.gives (map (event_of g.T.Integer.rank)
+    told.items) may) c.all_of.ensures
