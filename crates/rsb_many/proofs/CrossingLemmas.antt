@@ -11,7 +11,8 @@ use Rattle.rsb_integer.specs.Selection.{at_least, exclusive_or, how_many}
 use Rattle.rsb_integer.proofs.ListLemmas.{true_or_false}
 use Rattle.rsb_integer.proofs.MembersLemmas.{members-cons}
 use Rattle.rsb_many.specs.DeepPieces.{crosses, crossing, depth_after, first_edge, CanPass}
-use Rattle.rsb_many.specs.Sweep.{all_events, events_from, events_of, AreEvents, End, Event, IsTouchingFrom, IsTouchingIn, Start}
+use Rattle.rsb_many.specs.Sweep.{all_events, events_from, events_of, AreEvents, End, Event, Start}
+use Rattle.rsb_streams.specs.Touching.{IsTouchingFrom, IsTouchingIn}
 use Rattle.rsb_many.specs.SweepPieces.{edge_of, odd_past, HasEdgesFrom}
 use Rattle.rsb_many.proofs.EdgeLemmas.{edges-lower, odd-before}
 use Rattle.rsb_many.proofs.OddEventsLemmas.{edges-events, odd-members}

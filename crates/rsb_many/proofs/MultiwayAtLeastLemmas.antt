@@ -22,7 +22,8 @@ use Rattle.rsb_many.specs.DeepPieces.{crossing, deep_may_give, deep_pieces, deep
 use Rattle.rsb_many.specs.Many.{may_give_at, runs_by_all, IsBegun, OneOfEach, SomeOfEach}
 use Rattle.rsb_many.specs.MultiwayAtLeast.{at_least_inputs, at_least_telling, joined_deep, multiway_at_least, AtLeastReady, GivesRunsOfAllAtMost, MakesMultiwayAtLeast}
 use Rattle.rsb_many.specs.MultiwaySweep.{sweep_inputs, sweep_may_give, EventOutcomes, SweepsOver}
-use Rattle.rsb_many.specs.Sweep.{AreEvents, Event, IsTouchingFrom, IsTouchingIn}
+use Rattle.rsb_many.specs.Sweep.{AreEvents, Event}
+use Rattle.rsb_streams.specs.Touching.{IsTouchingFrom, IsTouchingIn}
 use Rattle.rsb_many.specs.SweepPieces.{edge_of, edges_of, low_of, odd_past, HasEdgesFrom, PassesSome, SomeEvents}
 use Rattle.rsb_many.specs.declared.deep_pieces.DeepPieces.{DeepPieces}
 use Rattle.rsb_many.specs.declared.multiway_at_least.MultiwayAtLeast.{MultiwayAtLeast}
