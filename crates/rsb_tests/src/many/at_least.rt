@@ -25,7 +25,11 @@ fn from_every_value_in_none_of_three_to_no_value_in_four(rt: HostRuntime) -> Res
     let c = set_of(alloc, &[(5, 6)])?;
     for k in 0..5usize {
         let wanted = DEPTHS[k];
-        let streams = MultiwaySortedDisjoint::at_least([a.ranges(), b.ranges(), c.ranges()], alloc, k)?;
+        let streams = MultiwaySortedDisjoint::at_least(
+            [a.ranges(), b.ranges(), c.ranges()],
+            alloc,
+            k,
+        )?;
         assert!(rt; gives(streams, wanted));
         let lent = MultiwayRangeSetBlazeRef::at_least([&a, &b, &c], alloc, k)?;
         assert!(rt; gives(lent.ranges(), wanted));
@@ -57,9 +61,18 @@ fn touching_pieces_are_one_run_and_no_streams_have_every_value(
                 let some = subset(one | other | third);
                 let two = subset((one & other) | (one & third) | (other & third));
                 let all = subset(one & other & third);
-                assert!(rt; makes(alloc, &tables, 1, some)?, "of {one}, {other}, {third}");
-                assert!(rt; makes(alloc, &tables, 2, two)?, "of {one}, {other}, {third}");
-                assert!(rt; makes(alloc, &tables, 3, all)?, "of {one}, {other}, {third}");
+                assert!(rt;
+                    makes(alloc, &tables, 1, some)?,
+                    "of {one}, {other}, {third}"
+                );
+                assert!(rt;
+                    makes(alloc, &tables, 2, two)?,
+                    "of {one}, {other}, {third}"
+                );
+                assert!(rt;
+                    makes(alloc, &tables, 3, all)?,
+                    "of {one}, {other}, {third}"
+                );
             }
         }
     }

@@ -9,11 +9,7 @@ use std::test::Fail;
 
 /// Whether a list is refused at a position, and then given back, or accepted, and then gives its
 /// ranges.
-fn is_refused_at(
-    alloc: Global,
-    ranges: &[(u8, u8)],
-    wanted: Option<usize>,
-) -> Result<bool, Fail> {
+fn is_refused_at(alloc: Global, ranges: &[(u8, u8)], wanted: Option<usize>) -> Result<bool, Fail> {
     match CheckSortedTouching::try_new(list_of(alloc, ranges)?) {
         Ok(stream) => Ok(wanted.is_none() && gives(stream, ranges)),
         Err(refused) => {
@@ -57,7 +53,13 @@ fn ranges_that_touch_are_joined(rt: HostRuntime) -> Result<(), Fail> {
     assert!(rt; gives(own.joined(), &[(0, 1), (3, 255)]));
 
     let ranges = list_of(rt.alloc(), &[(1u8, 2), (2, 3)])?;
-    let text = format!(in rt.alloc(); "{}", NotSortedTouching { position: 1, ranges })?;
+    let text = format!(in rt.alloc();
+        "{}",
+        NotSortedTouching {
+            position: 1,
+            ranges
+        }
+    )?;
     let wanted = "the range at position 1 is empty, or does not lie past the one before it";
     assert!(rt; text.as_str() == wanted);
     Ok(())
