@@ -1,25 +1,58 @@
 -- What was read of an input, and what was written of the replies.
-use Rattle.std.proofs.Common.{◌≡◌, ◌∙◌, ℕ, ℤ, ◌+◌, ◌^◌, ◌<◌, ◌≤◌, List, [], ◌∷◌, ◌++◌, get_or, length, take, drop, Option, refl, sym, ap, subst}
+use Rattle.std.proofs.Common.{◌≡◌, ◌∙◌, ℕ, ℤ, ◌+◌, ◌^◌, ◌<◌, ◌≤◌, List, [], ◌∷◌, ◌++◌, get_or, length, take, drop, Option, None, Some, refl, sym, ap, subst, inl, inr, arith}
 use Rattle.std.proofs.lemmas.Grind.{flat_map-append}
 use Rattle.std.proofs.lemmas.List.{append-nil, take_all, take-append-drop}
+use Rattle.std.proofs.lemmas.Map.Lookups.{exact_signed}
+use Rattle.std.proofs.lemmas.Option.{slice_get_read}
 use Rattle.std.specs.Int.{w32}
-use Rattle.std.specs.Io.KnownBytes.{Appends}
-use Rattle.rsb_integer.specs.Front.{IsFrontOf}
+use Rattle.std.specs.Io.KnownBytes.{Appends, Consumes}
+use Rattle.std.specs.Option.{IsSomeAnd}
+use Rattle.std.specs.Ordering.{int_cmp}
+use Rattle.std.specs.Prelude.{slice_get}
 use Rattle.rsb_integer.specs.Rank.{signed_rank}
+use Rattle.rsb_integer.specs.RankLaws.{signed-in_order}
 use Rattle.rsb_integer.specs.Runs.{Interval}
+use Rattle.rsb_integer.proofs.RangeLemmas.{one_place}
 use Rattle.rsb_commands.specs.declared.command.Command.{Command}
-use Rattle.rsb_commands.specs.Answer.{AreNumberReplies, Replies, RepliesFront, RepliesShort}
-use Rattle.rsb_commands.specs.Commands.{Content, IsReply, sets_of}
+use Rattle.rsb_commands.specs.Answer.{AreNumberReplies, HasBytes, Replies, StopsForMemory, WrotePartOfReplies}
+use Rattle.rsb_commands.specs.Commands.{Content, IsReply, MayTakeMemory, no_members, sets_of}
 use Rattle.rsb_commands.specs.Commands.{after as after_command}
+use Rattle.rsb_commands.specs.Spelling.{AreCommands}
 use Rattle.rsb_commands.specs.Text.{line_text, text}
-use Rattle.rsb_commands.specs.Transfer.{AppendsShortOf, Laid}
+use Rattle.rsb_commands.specs.Transfer.{AppendsShortOf, CutsShort, Laid}
+use Rattle.rsb_commands.proofs.ReplyLemmas.{replies_unique, replies-take}
 use Rattle.rsb_commands.proofs.RunLemmas.{HasRun, has_run_more}
-use Rattle.rsb_commands.proofs.TransferLemmas.{Appends-nothing}
-use Rattle.rsb_commands.proofs.WriteLemmas.{laid-all, laid-part, laid-short, laid-then}
+use Rattle.rsb_commands.proofs.TransferLemmas.{Appends-nothing, Keeps-itself}
+use Rattle.rsb_commands.proofs.WriteLemmas.{laid-all, laid-part, laid-short, laid-then, short_and_more}
 
--- the first items of a list are a front of it
-take-front : {X : Type 0} (at : ℕ) (whole : List X) → IsFrontOf (take at whole) whole
-take-front at whole = record { rest = drop at whole; parts = sym (take-append-drop at whole) }
+-- ---- the replies to commands over numbers
+
+-- numbers of 32 bits with one rank are one
+one_number : (x y : ℤ) → signed_rank w32 x < 2 ^ 32 → signed_rank w32 x ≡ signed_rank w32 y → x ≡ y
+one_number = one_place (signed_rank w32) (2 ^ 32) int_cmp exact_signed (signed-in_order w32)
+
+-- replies to the first commands are the first of the replies to all
+first_replies : (commands : List (Command ℤ)) (at : ℕ) (found replies : List (Content ℤ))
+    → AreNumberReplies (take at commands) found → AreNumberReplies commands replies
+    → found ≡ take at replies
+first_replies commands at found replies are all =
+    replies_unique (signed_rank w32) (2 ^ 32) one_number no_members (take at commands) found
+    (take at replies) are
+    (replies-take (signed_rank w32) (2 ^ 32) no_members at commands replies all)
+
+-- a text is that of its first replies, and of the others
+text_parts : (at : ℕ) (replies : List (Content ℤ))
+    → text replies ≡ text (take at replies) ++ text (drop at replies)
+text_parts at replies =
+    ap text (sym (take-append-drop at replies))
+    ∙ flat_map-append line_text (take at replies) (drop at replies)
+
+-- where less than the text of the first replies was written, less than the whole text was
+short_of_all : (old new : Option (List ℕ)) (at : ℕ) (replies : List (Content ℤ))
+    → AppendsShortOf old new (text (take at replies)) → AppendsShortOf old new (text replies)
+short_of_all old new at replies cut =
+    subst (AppendsShortOf old new) (sym (text_parts at replies))
+    (short_and_more old new (text (take at replies)) (text (drop at replies)) cut)
 
 -- ---- replies that are laid down as commands run
 
@@ -60,26 +93,33 @@ module _ (commands : List (Command ℤ)) (at : ℕ) (kept : List (List Interval)
       → at < length commands → command ≡ get_or commands at command
       → IsReply (signed_rank w32) (2 ^ 32) (sets_of kept) command reply
       → sets_of next ≡ after_command (signed_rank w32) (2 ^ 32) (sets_of kept) command
-      → AppendsShortOf mid new (waiting ++ line_text reply) → RepliesShort commands old new
-  answered_short command reply next within here replies leaves cut = record {
-    front = take (at + 1) commands;
-    is_front = take-front (at + 1) commands;
-    replies = before.replies ++ reply ∷ [];
-    replied = (has_run_more (signed_rank w32) (2 ^ 32) commands at command before.replies _ reply
-        kept next before.run within here refl replies leaves).replied;
-    written = laid-short old mid new [] waiting (text before.replies) (line_text reply) []
-        (text (before.replies ++ reply ∷ [])) (text-push before.replies reply) before.laid cut;
-  }
+      → AppendsShortOf mid new (waiting ++ line_text reply)
+      → (replies : List (Content ℤ)) → AreNumberReplies commands replies
+      → AppendsShortOf old new (text replies)
+  answered_short command reply next within here is leaves cut replies all =
+      let more = before.replies ++ reply ∷ [] in
+      let run = has_run_more (signed_rank w32) (2 ^ 32) commands at command before.replies _ reply
+      kept next before.run within here refl is leaves in
+      let first = first_replies commands (at + 1) more replies run.replied all in
+      short_of_all old new (at + 1) replies
+      (subst (λ found. AppendsShortOf old new (text found)) first
+      (laid-short old mid new [] waiting (text before.replies) (line_text reply) []
+      (text more) (text-push before.replies reply) before.laid cut))
 
-  -- what waits was written
-  pub answered_front : Appends mid new waiting → RepliesFront commands old new
-  answered_front written = record {
-    front = take at commands;
-    is_front = take-front at commands;
-    replies = before.replies;
-    replied = before.run.replied;
-    written = laid-all old mid new waiting (text before.replies) before.laid written;
-  }
+  -- what waits was written, and the next command found no memory
+  pub answered_front : (command : Command ℤ) → at < length commands
+      → command ≡ get_or commands at command → MayTakeMemory command → Appends mid new waiting
+      → (replies : List (Content ℤ)) → AreNumberReplies commands replies
+      → StopsForMemory commands replies old new
+  answered_front command within here may written replies all =
+      let first = first_replies commands at before.replies replies before.run.replied all in
+      let next : slice_get commands at ≡ Some command =
+      slice_get_read commands (length commands) at command refl within here in record {
+        at = at;
+        took_memory = inr (subst (λ found. IsSomeAnd found MayTakeMemory) (sym next) may);
+        written = subst (λ found. Appends old new (text found)) first
+            (laid-all old mid new waiting (text before.replies) before.laid written);
+      }
 
   -- what waits was written, and there is no command more
   pub answered_all : length commands ≤ at → Appends mid new waiting → Replies commands old new
@@ -91,22 +131,45 @@ module _ (commands : List (Command ℤ)) (at : ℕ) (kept : List (List Interval)
   }
 
   -- not all that waits was written
-  pub answered_part : AppendsShortOf mid new waiting → RepliesShort commands old new
-  answered_part cut = record {
-    front = take at commands;
-    is_front = take-front at commands;
-    replies = before.replies;
-    replied = before.run.replied;
-    written = laid-part old mid new waiting (text before.replies) before.laid cut;
-  }
+  pub answered_part : AppendsShortOf mid new waiting → (replies : List (Content ℤ))
+      → AreNumberReplies commands replies → AppendsShortOf old new (text replies)
+  answered_part cut replies all =
+      let first = first_replies commands at before.replies replies before.run.replied all in
+      short_of_all old new at replies
+      (subst (λ found. AppendsShortOf old new (text found)) first
+      (laid-part old mid new waiting (text before.replies) before.laid cut))
 
--- no reply was laid
-pub answered_none : (commands : List (Command ℤ)) (known : Option (List ℕ))
-    → RepliesFront commands known known
-answered_none commands known = record {
+-- no command was run
+pub answered_none : (commands : List (Command ℤ)) (replies : List (Content ℤ))
+    (known : Option (List ℕ)) → StopsForMemory commands replies known known
+answered_none commands replies known =
+    record { at = 0; took_memory = inl refl; written = Appends-nothing known }
+
+-- ---- texts that were not begun
+
+-- nothing of a text is a part cut short, or all of an empty one
+pub cut_at_once : (known : Option (List ℕ)) (all : List ℕ) → CutsShort known known all
+cut_at_once known [] = inr (refl, Keeps-itself known)
+cut_at_once known (byte ∷ bytes) = inl (record {
   front = [];
-  is_front = record { rest = commands; parts = refl };
-  replies = [];
-  replied = tt;
+  is_front = record { rest = byte ∷ bytes; parts = refl };
+  shorter = omega arith;
   written = Appends-nothing known;
-}
+})
+
+-- so before the first reply
+pub cut_before_all : (known written : Option (List ℕ)) → WrotePartOfReplies known written written
+cut_before_all None written = tt
+cut_before_all (Some input) written =
+    λ commands replies spelled all. cut_at_once written (text replies)
+
+-- an input that was read, and spells some commands, has a byte
+pub some_read : (known left : Option (List ℕ)) (bytes : List ℕ) (commands : List (Command ℤ))
+    → Consumes known left bytes → AreCommands bytes commands → 0 < length commands
+    → HasBytes known
+some_read None left bytes commands read spelled some = tt
+some_read (Some input) None bytes commands read spelled some = absurd read
+some_read (Some input) (Some rest) [] [] read spelled some = absurd (omega (arith, some))
+some_read (Some input) (Some rest) [] (c ∷ cs) read spelled some = absurd spelled
+some_read (Some input) (Some rest) (byte ∷ bytes) commands read spelled some =
+    omega (arith, ap length read)

@@ -1,5 +1,6 @@
 pub mod AnswerLemmas
 pub mod CutLemmas
+pub mod ExistLemmas
 pub mod NumberLemmas
 pub mod ParseLemmas
 pub mod PieceLemmas
@@ -8,5 +9,6 @@ pub mod RunLemmas
 pub mod SetsLemmas
 pub mod SpellingLemmas
 pub mod TransferLemmas
+pub mod ValuesLemmas
 pub mod WeekendsLemmas
 pub mod WriteLemmas

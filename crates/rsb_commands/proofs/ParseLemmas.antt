@@ -7,7 +7,7 @@ use Rattle.std.specs.Prelude.{All}
 use Rattle.std.specs.List.{AllZip, filter}
 use Rattle.std.specs.Str.Lines.{lines}
 use Rattle.rsb_commands.specs.declared.command.Command.{Command}
-use Rattle.rsb_commands.specs.Spelling.{AreCommands, IsBadLine, IsFirstBadLine, Spells, has_words, words}
+use Rattle.rsb_commands.specs.Spelling.{AreCommands, IsBadLine, IsFirstBadLine, Spells, StartsWithCommand, has_words, lines_with_words, words}
 
 -- the words of each line that has some
 abbrev spoken : List (List ℕ) → List (List (List ℕ))
@@ -99,6 +99,35 @@ module _ (input rest line later : List ℕ) (number : ℕ) (commands : List (Com
     bad = record { some = lt-ltb 0 (length (words line)) some; none = none };
     first = before.good;
   }
+
+-- lines that spell some commands begin with one that does
+starts_with : (input : List ℕ) (first later : List (List (List ℕ))) (commands : List (Command ℤ))
+    (command : Command ℤ) → lines_with_words input ≡ first ++ later
+    → AllZip Spells first (commands ++ command ∷ []) → StartsWithCommand input
+starts_with input [] later [] command parts spelled = absurd spelled
+starts_with input [] later (c ∷ cs) command parts spelled = absurd spelled
+starts_with input (line ∷ others) later [] command parts spelled = record {
+  line = line;
+  others = others ++ later;
+  parts = parts;
+  command = command;
+  spelled = spelled.0;
+}
+starts_with input (line ∷ others) later (c ∷ cs) command parts spelled = record {
+  line = line;
+  others = others ++ later;
+  parts = parts;
+  command = c;
+  spelled = spelled.0;
+}
+
+-- so does an input of which a line was read that spells one more
+pub has_read_some : (input rest : List ℕ) (number : ℕ) (commands : List (Command ℤ))
+    (command : Command ℤ) → HasRead input rest number (commands ++ command ∷ [])
+    → StartsWithCommand input
+has_read_some input rest number commands command before =
+    starts_with input (spoken before.front) (spoken (lines rest)) commands command
+    (ap spoken before.parts ∙ spoken-append before.front (lines rest)) before.spelled
 
 -- nothing is left
 pub has_read_all : (input rest : List ℕ) (number : ℕ) (commands : List (Command ℤ))

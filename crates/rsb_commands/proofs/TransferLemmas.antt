@@ -1,7 +1,8 @@
 -- Bytes that a reader gives and a writer takes, part by part.
-use Rattle.std.proofs.Common.{◌≡◌, ◌∙◌, ℕ, List, [], ◌++◌, take, drop, Option, Some, None, sym, ap, append_assoc}
-use Rattle.std.proofs.lemmas.List.{append-nil, take-append-drop}
+use Rattle.std.proofs.Common.{◌≡◌, ◌∙◌, ℕ, ◌<◌, List, [], ◌++◌, length, take, drop, Option, Some, None, refl, sym, ap, append_assoc, arith}
+use Rattle.std.proofs.lemmas.List.{append-nil, length-append, take-append-drop}
 use Rattle.std.specs.Io.KnownBytes.{Appends, Consumes, Keeps}
+use Rattle.rsb_commands.specs.Answer.{HasBytes}
 
 -- ---- reading
 
@@ -24,7 +25,26 @@ Consumes-keeps (Some before) (Some between) None xs first same = absurd same
 Consumes-keeps (Some before) (Some between) (Some after) xs first same =
     first ∙ ap (λ v. xs ++ v) (sym same)
 
+-- what gave some bytes had some
+pub some_consumed : (old mid new : Option (List ℕ)) (xs ys : List ℕ)
+    → Consumes old mid xs → Consumes mid new ys → 0 < length ys → HasBytes old
+some_consumed None mid new xs ys first second some = tt
+some_consumed (Some before) None new xs ys first second some = absurd first
+some_consumed (Some before) (Some between) None xs ys first second some = absurd second
+some_consumed (Some before) (Some between) (Some after) xs ys first second some =
+    omega (
+      arith,
+      some,
+      ap length first ∙ length-append xs between,
+      ap length second ∙ length-append ys after,
+    )
+
 -- ---- writing
+
+-- known bytes stay as they are
+pub Keeps-itself : (known : Option (List ℕ)) → Keeps known known
+Keeps-itself None = tt
+Keeps-itself (Some xs) = refl
 
 -- where nothing changes, nothing was written
 pub Appends-nothing : (known : Option (List ℕ)) → Appends known known []

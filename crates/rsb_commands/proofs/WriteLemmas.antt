@@ -1,5 +1,5 @@
 -- A text laid down and written piece by piece.
-use Rattle.std.proofs.Common.{◌≡◌, ◌∙◌, ℕ, ◌+◌, ◌<◌, suc, add-one, List, [], ◌∷◌, ◌++◌, get_or, length, take, drop, Option, Result, Ok, Err, sym, ap, subst, append_assoc, arith}
+use Rattle.std.proofs.Common.{◌≡◌, ◌∙◌, ℕ, ◌+◌, ◌<◌, suc, add-one, List, [], ◌∷◌, ◌++◌, get_or, length, take, drop, Option, Result, Ok, Err, refl, sym, ap, subst, append_assoc, arith}
 use Rattle.std.proofs.lemmas.Grind.{flat_map-append}
 use Rattle.std.proofs.lemmas.List.{append-nil, length-append, take-append-drop}
 use Rattle.std.proofs.Math.Seq.{drop-cons, take-suc}
@@ -34,6 +34,12 @@ short_of_text old mid new front piece more text parts whole cut =
       );
       written = Appends-then old mid new front cut.front whole cut.written;
     }
+
+-- a text cut short, before more text
+pub short_and_more : (old new : Option (List ℕ)) (text more : List ℕ)
+    → AppendsShortOf old new text → AppendsShortOf old new (text ++ more)
+short_and_more old new text more cut =
+    short_of_text old old new [] text more (text ++ more) refl (Appends-nothing old) cut
 
 -- ---- laid down
 

@@ -1,14 +1,14 @@
 -- What the program writes for the input that it reads.
-use Rattle.std.specs.Prelude.{ℕ, ℤ, ◌^◌, ◌⊎◌, IfSome, List, Option}
+use Rattle.std.specs.Prelude.{◌≡◌, ℕ, ℤ, ◌<◌, ◌^◌, ◌⊎◌, IfSome, List, Option, length, slice_get, take}
 use Rattle.std.specs.Int.{w32}
 use Rattle.std.specs.Io.KnownBytes.{Appends, Keeps}
-use Rattle.rsb_integer.specs.Front.{IsFrontOf}
+use Rattle.std.specs.Option.{IsSomeAnd}
 use Rattle.rsb_integer.specs.Rank.{signed_rank}
 use Rattle.rsb_commands.specs.declared.command.Command.{Command}
-use Rattle.rsb_commands.specs.Commands.{AreReplies, Content}
+use Rattle.rsb_commands.specs.Commands.{AreReplies, Content, MayTakeMemory}
 use Rattle.rsb_commands.specs.Spelling.{AreCommands}
 use Rattle.rsb_commands.specs.Text.{text}
-use Rattle.rsb_commands.specs.Transfer.{AppendsShortOf}
+use Rattle.rsb_commands.specs.Transfer.{CutsShort}
 
 -- the replies to commands over sets of numbers of 32 bits
 abbrev pub AreNumberReplies : List (Command ℤ) → List (Content ℤ) → Type 0
@@ -20,21 +20,13 @@ pub record Replies (commands : List (Command ℤ)) (old new : Option (List ℕ))
   pub replied : AreNumberReplies commands replies
   pub written : Appends old new (text replies)
 
--- the text of the replies to the first of the commands was
-pub record RepliesFront (commands : List (Command ℤ)) (old new : Option (List ℕ)) : Type 0 where
-  pub front : List (Command ℤ)
-  pub is_front : IsFrontOf front commands
-  pub replies : List (Content ℤ)
-  pub replied : AreNumberReplies front replies
-  pub written : Appends old new (text replies)
-
--- and less than the text of the replies to the first of the commands was
-pub record RepliesShort (commands : List (Command ℤ)) (old new : Option (List ℕ)) : Type 0 where
-  pub front : List (Command ℤ)
-  pub is_front : IsFrontOf front commands
-  pub replies : List (Content ℤ)
-  pub replied : AreNumberReplies front replies
-  pub written : AppendsShortOf old new (text replies)
+-- memory ran out: the text of the replies before one command that may take some was written, and
+-- nothing else, or nothing was
+pub record StopsForMemory (commands : List (Command ℤ)) (replies : List (Content ℤ))
+    (old new : Option (List ℕ)) : Type 0 where
+  pub at : ℕ
+  pub took_memory : (at ≡ 0) ⊎ IsSomeAnd (slice_get commands at) MayTakeMemory
+  pub written : Appends old new (text (take at replies))
 
 -- the text of the replies to the commands that the input spells was written, and nothing else
 pub record Answers (input : List ℕ) (old new : Option (List ℕ)) : Type 0 where
@@ -44,31 +36,28 @@ pub record Answers (input : List ℕ) (old new : Option (List ℕ)) : Type 0 whe
   pub replied : AreNumberReplies commands replies
   pub written : Appends old new (text replies)
 
--- the text of the replies to the first of these commands was
-pub record AnswersFront (input : List ℕ) (old new : Option (List ℕ)) : Type 0 where
-  pub commands : List (Command ℤ)
-  pub spelled : AreCommands input commands
-  pub front : List (Command ℤ)
-  pub is_front : IsFrontOf front commands
-  pub replies : List (Content ℤ)
-  pub replied : AreNumberReplies front replies
-  pub written : Appends old new (text replies)
+-- it is so of the commands that the known input spells, and of their replies
+abbrev pub IfAnswered : Option (List ℕ)
+    → (List (Command ℤ) → List (Content ℤ) → Type 0) → Type 0
+IfAnswered known Fact = IfSome known (λ input.
+    (commands : List (Command ℤ)) (replies : List (Content ℤ))
+    → AreCommands input commands → AreNumberReplies commands replies → Fact commands replies)
 
--- and less than the text of the replies to the first of these commands was
-pub record AnswersShort (input : List ℕ) (old new : Option (List ℕ)) : Type 0 where
-  pub commands : List (Command ℤ)
-  pub spelled : AreCommands input commands
-  pub front : List (Command ℤ)
-  pub is_front : IsFrontOf front commands
-  pub replies : List (Content ℤ)
-  pub replied : AreNumberReplies front replies
-  pub written : AppendsShortOf old new (text replies)
-
--- nothing was written, or the replies to the first commands that the known input spells
+-- the text of the replies before a command that may take memory was written, or nothing was
 abbrev pub WroteFirstReplies : Option (List ℕ) → Option (List ℕ) → Option (List ℕ) → Type 0
-WroteFirstReplies known old new = Keeps old new ⊎ IfSome known (λ input. AnswersFront input old new)
+WroteFirstReplies known old new =
+    IfAnswered known (λ commands replies. StopsForMemory commands replies old new)
 
--- nothing was written, or not even all of the replies to the first commands
+-- less than the text of the replies was written, or nothing of an empty text
 abbrev pub WrotePartOfReplies : Option (List ℕ) → Option (List ℕ) → Option (List ℕ) → Type 0
 WrotePartOfReplies known old new =
-    Keeps old new ⊎ IfSome known (λ input. AnswersShort input old new)
+    IfAnswered known (λ commands replies. CutsShort old new (text replies))
+
+-- where the known input spells no list of commands, nothing was written
+abbrev pub KeepsWithoutCommands : Option (List ℕ) → Option (List ℕ) → Option (List ℕ) → Type 0
+KeepsWithoutCommands known old new = IfSome known (λ input.
+    ((commands : List (Command ℤ)) → ¬ AreCommands input commands) → Keeps old new)
+
+-- the known input has a byte
+abbrev pub HasBytes : Option (List ℕ) → Type 0
+HasBytes known = IfSome known (λ input. 0 < length input)

@@ -1,5 +1,5 @@
 -- What commands do to ten sets, and what they reply.
-use Rattle.std.specs.Prelude.{◌≡◌, ◌↔◌, ◌==◌, ◌&&◌, ⊤, ℕ, Bool, false, not, nat_lt, if◌then◌else◌, IsTrue, IsFalse, List, [], ◌∷◌, length, map, slice_index_or}
+use Rattle.std.specs.Prelude.{◌≡◌, ◌↔◌, ◌==◌, ◌&&◌, ◌<◌, ⊤, ℕ, Bool, false, not, nat_lt, if◌then◌else◌, IsTrue, IsFalse, List, [], ◌∷◌, length, map, slice_index_or}
 use Rattle.std.specs.declared.cmp.Ordering.{Ordering}
 use Rattle.std.specs.declared.ops.RangeInclusive.{RangeInclusive}
 use Rattle.rsb_integer.specs.Rank.{intervals_of}
@@ -65,6 +65,14 @@ whichever is set other rank = if is then set rank else other rank
 -- ---- commands
 
 module _ {T : Type 0} (rank : T → ℕ) (value_count : ℕ) where
+  -- the values that the command names are values of the type
+  abbrev pub NamesValues : Command T → Type 0
+  NamesValues (Add slot first last) = (rank first < value_count) × (rank last < value_count)
+  NamesValues (Del slot value) = rank value < value_count
+  NamesValues (Has slot value) = rank value < value_count
+  NamesValues (Gap slot value) = rank value < value_count
+  NamesValues _ = ⊤
+
   -- the interval from the rank of one value to that of another
   abbrev pub from_to : T → T → Interval
   from_to first last = record { first = rank first; last = rank last }

@@ -3,7 +3,7 @@ use Rattle.std.specs.Prelude.{◌≡◌, ℕ, List, ◌++◌, IfSome, MatchResul
 use Rattle.std.specs.Io.KnownBytes.{IsAtEnd, Keeps}
 use Rattle.rsb_commands.specs.declared.fault.Fault.{Fault}
 use Rattle.rsb_commands.specs.declared.fault.Fault.TheVariants.{BadLine, NoMemory, Io}
-use Rattle.rsb_commands.specs.Answer.{Answers, WroteFirstReplies, WrotePartOfReplies}
+use Rattle.rsb_commands.specs.Answer.{Answers, HasBytes, KeepsWithoutCommands, WroteFirstReplies, WrotePartOfReplies}
 use Rattle.rsb_commands.specs.Fault.{line_of, status_of}
 use Rattle.rsb_commands.specs.Spelling.{IsFirstBadLine}
 use Rattle.rsb_commands.specs.Transfer.{AppendsFrontOf}
@@ -25,7 +25,7 @@ abbrev pub Leaves : Option (List ℕ) → Option (List ℕ) → Option (List ℕ
 Leaves known left old new (Ok done) = IsAtEnd left × IfSome known (λ bytes. Answers bytes old new)
 Leaves known left old new (Err (BadLine number)) =
     IfSome known (λ bytes. IsFirstBadLine bytes number) × Keeps old new
-Leaves known left old new (Err NoMemory) = WroteFirstReplies known old new
+Leaves known left old new (Err NoMemory) = HasBytes known × WroteFirstReplies known old new
 Leaves known left old new (Err Io) = WrotePartOfReplies known old new
 
 -- the program ended with this status, and left what belongs to one outcome
@@ -35,3 +35,4 @@ pub record Ends (known left old new old_errors new_errors : Option (List ℕ)) (
     pub status_is : status ≡ status_after outcome
     pub told : TellsFault old_errors new_errors outcome
     pub leaves : Leaves known left old new outcome
+    pub no_commands : KeepsWithoutCommands known old new

@@ -111,6 +111,14 @@ lines_with_words input = filter has_words (map words (lines input))
 abbrev pub AreCommands : List ℕ → List (Command ℤ) → Type 0
 AreCommands input commands = AllZip Spells (lines_with_words input) commands
 
+-- the first line of the input that has words spells a command
+pub record StartsWithCommand (input : List ℕ) : Type 0 where
+  pub line : List (List ℕ)
+  pub others : List (List (List ℕ))
+  pub parts : lines_with_words input ≡ line ∷ others
+  pub command : Command ℤ
+  pub spelled : Spells line command
+
 -- the line has words, and they spell no command
 pub record IsBadLine (line : List ℕ) : Type 0 where
   pub some : IsTrue (has_words (words line))

@@ -1,10 +1,24 @@
 //! Laws of replies. The clause of each function is the law; the function does nothing.
 
-ghost use Rattle.std.specs.Prelude.{◌≡◌, ℕ, List, take};
+ghost use Rattle.std.specs.Prelude.{◌≡◌, ℕ, ℤ, All, List, take};
 ghost use Rattle.rsb_commands.specs.declared.command.Command.{Command};
-ghost use Rattle.rsb_commands.specs.Commands.{AreReplies, Content};
+ghost use Rattle.rsb_commands.specs.Answer.{AreNumberReplies};
+ghost use Rattle.rsb_commands.specs.Commands.{AreReplies, Content, NamesValues};
+ghost use Rattle.rsb_commands.specs.Spelling.{AreCommands};
 
 use rsb_integer::Integer;
+
+/// Commands that name values of the type have a list of replies.
+pub fn replies_exist<T: Integer>()
+    ensures { (commands : List (Command T)) → All (NamesValues T.rank T.value_count) commands
+        → (replies : List (Content T)) × AreReplies T.rank T.value_count commands replies }
+{}
+
+/// The commands that an input spells have a list of replies.
+pub fn spelled_commands_have_replies()
+    ensures { (input : List ℕ) (commands : List (Command ℤ)) → AreCommands input commands
+        → (replies : List (Content ℤ)) × AreNumberReplies commands replies }
+{}
 
 /// Commands have one list of replies.
 pub fn replies_are_unique<T: Integer>()

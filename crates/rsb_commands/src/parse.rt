@@ -6,7 +6,7 @@ ghost use Rattle.std.specs.List.{AllZip};
 ghost use Rattle.std.specs.Str.Lines.{lines, strip_carriage_return};
 ghost use Rattle.std.specs.Str.Parse.{IsNumeral, digits_value};
 ghost use Rattle.rsb_commands.specs.declared.command.Command.{Command};
-ghost use Rattle.rsb_commands.specs.Spelling.{AreCommands, IsArgument, IsFirstBadLine, IsNoneOf, IsNumber, IsSlot, Reads, ReadsFirst, Spells, is_blank, number, slot, words};
+ghost use Rattle.rsb_commands.specs.Spelling.{AreCommands, IsArgument, IsFirstBadLine, IsNoneOf, IsNumber, IsSlot, Reads, ReadsFirst, Spells, StartsWithCommand, is_blank, number, slot, words};
 
 use crate::command::Command;
 use crate::fault::Fault;
@@ -14,7 +14,8 @@ use crate::set_no::SetNo;
 use std::alloc::Allocator;
 
 /// The commands that the lines spell, or the number of the first line that spells none. The list of
-/// commands alone takes memory: `NoMemory` is answered where a growth of it was refused.
+/// commands alone takes memory: `NoMemory` is answered where a growth of it was refused, and so only
+/// where the first line with words spells a command.
 pub fn parse_commands<A: Allocator + Copy>(
     alloc: A,
     input: &[u8],
@@ -25,6 +26,7 @@ pub fn parse_commands<A: Allocator + Copy>(
     ensures bad_line { (number : ℕ) → result ≡ Err (Fault.BadLine number)
         → IsFirstBadLine input.now number }
     ensures no_io { result ≢ Err Fault.Io }
+    ensures took_memory { result ≡ Err Fault.NoMemory → StartsWithCommand input.now }
 {
     let mut commands = Vec::new(alloc);
     let mut rest = input;

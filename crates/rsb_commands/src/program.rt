@@ -1,11 +1,14 @@
 //! From an input to an output.
 
-ghost use Rattle.std.specs.Prelude.{◌≡◌, ◌≢◌, ℕ, Err, IfSome, OnOk};
+ghost use Rattle.std.specs.Prelude.{◌≡◌, ◌≢◌, ◌<◌, ℕ, ℤ, Err, IfSome, List, OnOk, length};
 ghost use Rattle.std.specs.Io.KnownBytes.{IsAtEnd, Keeps};
 ghost use Rattle.std.specs.Process.{exit_status};
-ghost use Rattle.rsb_commands.specs.Answer.{Answers, Replies, RepliesFront, RepliesShort, WroteFirstReplies, WrotePartOfReplies};
+ghost use Rattle.rsb_commands.specs.Answer.{Answers, AreNumberReplies, HasBytes, KeepsWithoutCommands, Replies, StopsForMemory, WroteFirstReplies, WrotePartOfReplies};
+ghost use Rattle.rsb_commands.specs.Commands.{Content};
 ghost use Rattle.rsb_commands.specs.Ending.{Ends, TellsFault, status_after};
 ghost use Rattle.rsb_commands.specs.Spelling.{IsFirstBadLine};
+ghost use Rattle.rsb_commands.specs.Text.{text};
+ghost use Rattle.rsb_commands.specs.Transfer.{AppendsShortOf};
 
 use crate::command::Command;
 use crate::commands::{empty_sets, run_command};
@@ -51,7 +54,7 @@ pub fn finish<W: Write>(errors: &mut W, outcome: Result<(), Fault>) -> ExitCode
 /// Reads all of the input, runs the commands that its lines spell, and writes a line for each
 /// reply. After `BadLine` nothing was written. After `NoMemory` the replies before the command that
 /// found none were written, and no more. After `Io` a beginning of the replies was, short of the
-/// whole unless that is empty.
+/// whole unless that is empty. Where the lines spell no commands nothing is written.
 pub fn run<A: Allocator + Copy, R: Read, W: Write>(
     alloc: A,
     input: &mut R,
@@ -67,11 +70,17 @@ pub fn run<A: Allocator + Copy, R: Read, W: Write>(
     ensures bad_line_keeps { (number : ℕ) → result ≡ Err (Fault.BadLine number)
         → Keeps (W.contents output.old) (W.contents output.new) }
 
-    // After the other faults nothing was written, or the first replies, or not even all of those.
+    // After the other faults the first replies were written, or less than all of their text; and
+    // these are all that there are, by `laws::replies_are_unique` and `replies_exist`.
     ensures no_memory { result ≡ Err Fault.NoMemory → WroteFirstReplies
         (R.remaining input.old) (W.contents output.old) (W.contents output.new) }
     ensures io { result ≡ Err Fault.Io → WrotePartOfReplies
         (R.remaining input.old) (W.contents output.old) (W.contents output.new) }
+    ensures no_commands { KeepsWithoutCommands
+        (R.remaining input.old) (W.contents output.old) (W.contents output.new) }
+
+    // No memory is wanted of an empty input.
+    ensures some_input { result ≡ Err Fault.NoMemory → HasBytes (R.remaining input.old) }
 {
     let commands = {
         let bytes = read_all(alloc, input)?;
@@ -90,10 +99,13 @@ fn answer<A: Allocator + Copy, W: Write>(
     ensures ok { OnOk result
         (Replies commands.now (W.contents output.old) (W.contents output.new)) }
     ensures no_bad_line { (number : ℕ) → result ≢ Err (Fault.BadLine number) }
-    ensures no_memory { result ≡ Err Fault.NoMemory
-        → RepliesFront commands.now (W.contents output.old) (W.contents output.new) }
-    ensures io { result ≡ Err Fault.Io
-        → RepliesShort commands.now (W.contents output.old) (W.contents output.new) }
+    ensures no_memory { result ≡ Err Fault.NoMemory → (replies : List (Content ℤ))
+        → AreNumberReplies commands.now replies
+        → StopsForMemory commands.now replies (W.contents output.old) (W.contents output.new) }
+    ensures io { result ≡ Err Fault.Io → (replies : List (Content ℤ))
+        → AreNumberReplies commands.now replies
+        → AppendsShortOf (W.contents output.old) (W.contents output.new) (text replies) }
+    ensures some { result ≡ Err Fault.NoMemory → 0 < length commands.now }
 {
     if commands.is_empty() {
         return Ok(());

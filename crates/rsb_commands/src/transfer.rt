@@ -2,6 +2,7 @@
 
 ghost use Rattle.std.specs.Prelude.{◌≡◌, ◌≢◌, ℕ, Err, IfOk, OnOk};
 ghost use Rattle.std.specs.Io.KnownBytes.{Consumes, IsAtEnd};
+ghost use Rattle.rsb_commands.specs.Answer.{HasBytes};
 ghost use Rattle.rsb_commands.specs.Transfer.{Writes};
 
 use crate::fault::Fault;
@@ -15,6 +16,7 @@ pub(crate) fn read_all<A: Allocator, R: Read>(alloc: A, input: &mut R) -> Result
         Consumes (R.remaining input.old) (R.remaining input.new) bytes.items) }
     ensures end { OnOk result (IsAtEnd (R.remaining input.new)) }
     ensures no_bad_line { (number : ℕ) → result ≢ Err (Fault.BadLine number) }
+    ensures some_input { result ≡ Err Fault.NoMemory → HasBytes (R.remaining input.old) }
 {
     let mut bytes = Vec::new(alloc);
     let mut buffer = [0; 65_536];

@@ -1,7 +1,9 @@
 //! The calls of commands, each once.
 
 use crate::run::sessions::{ALL_COMMANDS, ALL_TOLD, SESSION, TOLD, Told};
-use rsb_commands::laws::{first_commands_first_replies, replies_are_unique};
+use rsb_commands::laws::{
+    first_commands_first_replies, replies_are_unique, replies_exist, spelled_commands_have_replies,
+};
 use rsb_commands::{Command, Fault, Reply, SetNo, parse_commands, run_commands};
 use std::alloc::Global;
 use std::process::Abort;
@@ -88,6 +90,8 @@ fn the_worked_sessions_run_as_commands(rt: HostRuntime) {
 
 #[test]
 fn commands_run_over_another_element_type(rt: HostRuntime) -> Result<(), Fail> {
+    replies_exist::<u8>();
+    spelled_commands_have_replies();
     replies_are_unique::<u8>();
     first_commands_first_replies::<u8>();
     let set = slot(&rt, 4);

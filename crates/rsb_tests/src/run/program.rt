@@ -147,24 +147,29 @@ fn bad_lines_are_told_by_their_number(rt: HostRuntime) {
     }
 }
 
+/// The worked sessions, each with its replies.
+static SESSIONS: [(&[u8], &[u8]); 2] = [(SESSION, REPLIES), (ALL_COMMANDS, ALL_REPLIES)];
+
 #[test]
 fn one_byte_a_call_and_interruptions_change_nothing(rt: HostRuntime) {
-    let mut input = Dripping {
-        bytes: SESSION,
-        failure: None,
-        is_interrupted: false,
-    };
-    let mut output = Filling {
-        taken: Vec::new(rt.alloc()),
-        room: REPLIES.len(),
-        failure: Some(ErrorKind::Other),
-        is_interrupted: false,
-    };
-    assert_eq!(rt; run(rt.alloc(), &mut input, &mut output), Ok(()));
-    assert_eq!(rt; output.taken.as_slice(), REPLIES);
+    for (lines, replies) in &SESSIONS {
+        let mut input = Dripping {
+            bytes: *lines,
+            failure: None,
+            is_interrupted: false,
+        };
+        let mut output = Filling {
+            taken: Vec::new(rt.alloc()),
+            room: replies.len(),
+            failure: Some(ErrorKind::Other),
+            is_interrupted: false,
+        };
+        assert!(rt; run(rt.alloc(), &mut input, &mut output) == Ok(()));
+        assert!(rt; output.taken.as_slice() == *replies);
+    }
 }
 
-// A second read would find the input's end.
+// With no bytes it is the first call that fails; a second one would find the input's end.
 #[test]
 fn a_read_that_fails_once_in_any_way_is_told_and_nothing_is_written(rt: HostRuntime) {
     for kind in KINDS {
@@ -176,7 +181,7 @@ fn a_read_that_fails_once_in_any_way_is_told_and_nothing_is_written(rt: HostRunt
             let mut input = Dripping {
                 bytes,
                 failure: Some(kind),
-                is_interrupted: false,
+                is_interrupted: bytes.is_empty(),
             };
             let mut output = Vec::new(rt.alloc());
             let told = run(rt.alloc(), &mut input, &mut output);
@@ -192,32 +197,41 @@ fn a_read_that_fails_once_in_any_way_is_told_and_nothing_is_written(rt: HostRunt
 }
 
 /// Whether a writer with room for so many bytes, which then fails once or takes no more, is told
-/// as a failure, and has just that front of the replies.
-fn is_told_where_it_stopped(alloc: Global, room: usize, failure: Option<ErrorKind>) -> bool {
-    let mut input = SESSION;
+/// as a failure for these lines, and has just that front of the replies. With room for none it is
+/// the first call that fails.
+fn is_told_where_it_stopped(
+    alloc: Global,
+    session: (&[u8], &[u8]),
+    room: usize,
+    failure: Option<ErrorKind>,
+) -> bool {
+    let (lines, replies) = session;
+    let mut input = lines;
     let mut output = Filling {
         taken: Vec::new(alloc),
         room,
         failure,
-        is_interrupted: false,
+        is_interrupted: room == 0,
     };
     run(alloc, &mut input, &mut output) == Err(Fault::Io)
-        && REPLIES.get(..room) == Some(output.taken.as_slice())
+        && replies.get(..room) == Some(output.taken.as_slice())
 }
 
 // A second write would be taken.
 #[test]
 fn a_write_that_fails_once_in_any_way_is_told_where_it_stopped(rt: HostRuntime) {
-    for room in [0, 3, 33] {
-        assert!(rt;
-            is_told_where_it_stopped(rt.alloc(), room, None),
-            "room for {room} bytes"
-        );
-        for kind in KINDS {
+    for session in SESSIONS {
+        for room in [0, 3, 33] {
             assert!(rt;
-                is_told_where_it_stopped(rt.alloc(), room, Some(kind)),
-                "{kind:?} at {room} bytes"
+                is_told_where_it_stopped(rt.alloc(), session, room, None),
+                "room for {room} bytes"
             );
+            for kind in KINDS {
+                assert!(rt;
+                    is_told_where_it_stopped(rt.alloc(), session, room, Some(kind)),
+                    "{kind:?} at {room} bytes"
+                );
+            }
         }
     }
 }

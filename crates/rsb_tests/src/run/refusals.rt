@@ -3,20 +3,20 @@
 use crate::run::ends::Filling;
 use linked_list_allocator::LocalHeap;
 use rsb_commands::{Command, Fault, Reply, SetNo, run, run_commands, start};
+use std::alloc::{AllocError, Global};
 use std::io::ErrorKind;
 use std::process::ExitCode;
 use std::test::*;
 
-const COMMANDS: &[u8] = b"add 0 1 5\nhas 0 9\nshow 0\n";
+const COMMANDS: &[u8] = b"add 0 1 5\nshow 0\n";
 
-const FIRST: &[u8] = b"true\nfalse\n";
+const FIRST: &[u8] = b"true\n";
 
-const ALL: &[u8] = b"true\nfalse\n1..=5\n";
+const ALL: &[u8] = b"true\n1..=5\n";
 
-// Over heaps of growing size the growth that is refused comes later and later. What was written is
-// the replies before the command that it stopped.
+// Over heaps of growing size the growth that is refused comes later and later.
 #[test]
-fn each_growth_is_refused_in_turn(rt: HostRuntime) -> Result<(), Fail> {
+fn replies_before_a_refused_growth_are_written(rt: HostRuntime) -> Result<(), Fail> {
     let mut is_stopped_early = false;
     let mut is_stopped_at_last = false;
     let mut is_done = false;
@@ -92,6 +92,21 @@ fn stopped_commands_keep_their_replies(rt: HostRuntime) -> Result<(), Fail> {
     Ok(())
 }
 
+// It takes no memory of its own, but the replies and the sets do.
+#[test]
+fn a_question_without_room_to_begin_is_stopped_at_0(rt: HostRuntime) -> Result<(), Fail> {
+    let heap = LocalHeap::new(rt.alloc(), 16)?;
+    let commands = [Command::Has {
+        slot: SetNo::new(0).expect(&rt, "a set number"),
+        value: 1,
+    }];
+    let Err(stopped) = run_commands(&heap, &commands) else {
+        return Err(Fail::from("there was room"));
+    };
+    assert!(rt; stopped.at == 0 && stopped.replies.is_empty());
+    Ok(())
+}
+
 #[test]
 fn refused_memory_ends_with_status_3_and_no_commands_with_0(rt: HostRuntime) -> Result<(), Fail> {
     let heap = LocalHeap::new(rt.alloc(), 64)?;
@@ -108,35 +123,34 @@ fn refused_memory_ends_with_status_3_and_no_commands_with_0(rt: HostRuntime) -> 
     Ok(())
 }
 
+/// What is told of the lines over a heap of this size, and a writer with room for so many bytes,
+/// which then fails, and how many bytes it took.
+fn told_of(alloc: Global, size: usize, room: usize) -> Result<(Option<Fault>, usize), AllocError> {
+    let heap = LocalHeap::new(alloc, size)?;
+    let mut input = COMMANDS;
+    let mut output = Filling {
+        taken: Vec::new(alloc),
+        room,
+        failure: Some(ErrorKind::Other),
+        is_interrupted: true,
+    };
+    let told = run(&heap, &mut input, &mut output).err();
+    Ok((told, output.taken.len()))
+}
+
 // Where the last command finds no memory, and then the replies before it can't be written, it is
 // the write that is told.
 #[test]
 fn a_failed_write_is_told_before_refused_memory(rt: HostRuntime) -> Result<(), Fail> {
     let mut is_write_told = false;
-    for size in 4..200usize {
-        let heap = LocalHeap::new(rt.alloc(), 16 * size)?;
-        let mut input = COMMANDS;
-        let mut output = Filling {
-            taken: Vec::new(rt.alloc()),
-            room: 11,
-            failure: Some(ErrorKind::Other),
-            is_interrupted: false,
-        };
-        let are_first_written = run(&heap, &mut input, &mut output) == Err(Fault::NoMemory)
-            && output.taken.len() == 11;
-        if are_first_written {
-            let heap = LocalHeap::new(rt.alloc(), 16 * size)?;
-            let mut input = COMMANDS;
-            let mut output = Filling {
-                taken: Vec::new(rt.alloc()),
-                room: 4,
-                failure: Some(ErrorKind::Other),
-                is_interrupted: false,
-            };
-            let told = run(&heap, &mut input, &mut output);
-            assert_eq!(rt; told, Err(Fault::Io), "size {size}");
-            assert_eq!(rt; output.taken.as_slice(), b"true".as_slice(), "size {size}");
-            is_write_told = true;
+    for step in 4..200usize {
+        let size = 16 * step;
+        if told_of(rt.alloc(), size, FIRST.len())? == (Some(Fault::NoMemory), FIRST.len()) {
+            for room in [0, 4] {
+                let told = told_of(rt.alloc(), size, room)?;
+                assert!(rt; told == (Some(Fault::Io), room), "size {size}, room {room}");
+                is_write_told = true;
+            }
         }
     }
     assert!(rt; is_write_told);

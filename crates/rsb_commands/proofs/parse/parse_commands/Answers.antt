@@ -1,6 +1,6 @@
 use Rattle.std.proofs.Common.{◌≡◌, ◌+◌, ◌<◌, ap, arith, length, rules, subst, sym}
 use Rattle.rsb_commands.specs.Spelling.{IsFirstBadLine, Spells, lines_with_words, words}
-use Rattle.rsb_commands.proofs.ParseLemmas.{has_read_silent, has_read_command, has_read_bad, has_read_all}
+use Rattle.rsb_commands.proofs.ParseLemmas.{has_read_silent, has_read_command, has_read_bad, has_read_all, has_read_some}
 use Rattle.rsb_commands.proofs.SpellingLemmas.{one_list}
 use Rattle.rsb_commands.proofs.parse.parse_commands.Goals as goal
 
@@ -18,6 +18,19 @@ returns-in_default-command_of-clause-bad_line g c = λ number is.
     c.loop-rest.invariant.0 some
     (subst (λ ws. (command : _) → Spells ws command → ⊥) (sym cut)
     c.in_default-command_of.ensures))
+
+-- there was no room for one command more
+pub returns-in_err-push-clause-took_memory : goal.returns-in_err-push-clause-took_memory
+returns-in_err-push-clause-took_memory g c = λ is.
+    let line = c.first_line.result.0.now in
+    let command = c.in-Some-command_of.command in
+    let cut = c.in-Some.ensures in
+    let some : 0 < length (words line) = omega (arith, ap length cut) in
+    has_read_some c.args.input.now _ _ c.loop-rest.commands.items command
+    (has_read_command c.args.input.now c.loop-rest.rest.now line c.first_line.result.1.now
+    c.loop-rest.number c.loop-rest.commands.items c.first_line.ensures.lines
+    c.loop-rest.invariant.0 command some
+    (subst (λ ws. Spells ws command) (sym cut) c.in-Some-command_of.ensures))
 
 -- one line more was read, with a command
 pub loop-rest-preserved-in_ok-push : goal.loop-rest-preserved-in_ok-push

@@ -6,7 +6,8 @@ use Rattle.rsb_commands.proofs.program.answer.Goals as goal
 
 -- there was no room to begin
 pub returns-in_err-sets-clause-no_memory : goal.returns-in_err-sets-clause-no_memory
-returns-in_err-sets-clause-no_memory g c = λ is. answered_none c.args.commands.now _
+returns-in_err-sets-clause-no_memory g c = λ is replies all.
+    answered_none c.args.commands.now replies _
 
 -- no command was run, and nothing was laid
 pub loop-command-init : goal.loop-command-init
@@ -30,7 +31,8 @@ pub returns-in_default-clause-no_memory : goal.returns-in_default-clause-no_memo
 returns-in_default-clause-no_memory g c = λ is.
     answered_front c.args.commands.now c.loop-command.command-index
     c.loop-command.sets.items _ _ _ _
-    c.loop-command.invariant.0 c.in_ok-send.ensures.written
+    c.loop-command.invariant.0 c.command-item.result c.loop-command-test.true c.command-item.is
+    c.in_default.ensures.took_memory c.in_ok-send.ensures.written
 
 -- a reply was cut short
 pub returns-in_err-write_line-clause-io : goal.returns-in_err-write_line-clause-io
