@@ -27,6 +27,10 @@ pub(crate) enum Change {
     Append,
     BitorAssign,
     BitorAssignOwned,
+    /// By the trait of std, as the next one.
+    StdExtend,
+    /// Adds each fourth value from the one to the other.
+    StdExtendValues(i32, i32),
 }
 
 impl Change {
@@ -39,6 +43,8 @@ impl Change {
                 | Change::Append
                 | Change::BitorAssign
                 | Change::BitorAssignOwned
+                | Change::StdExtend
+                | Change::StdExtendValues(_, _)
         )
     }
 
@@ -85,6 +91,8 @@ fn add<A: Allocator + Copy>(
         Change::ExtendValues(start, end) => set.extend_values((start..=end).step_by(4)),
         Change::Append => set.append(other),
         Change::BitorAssign => set.bitor_assign(other),
+        Change::StdExtend => Extend::extend(set, other.ranges()),
+        Change::StdExtendValues(start, end) => Extend::extend(set, (start..=end).step_by(4)),
         _ => set.bitor_assign_owned(mem::replace(other, RangeSetBlaze::new(alloc))),
     }
 }
@@ -174,11 +182,22 @@ pub(crate) enum Making {
     IntoRangeSetBlaze,
     From(i32, i32),
     Universe,
+    /// These by the traits of std.
+    StdClone,
+    StdBitor,
+    StdBitand,
+    StdSub,
+    StdBitxor,
+    StdNot,
+    /// Of the runs of the second set, and then those of the first.
+    Collect,
+    /// Of each fourth value from the one to the other.
+    CollectValues(i32, i32),
 }
 
 impl Making {
     /// Each of them once.
-    pub(crate) const ALL: [Making; 13] = [
+    pub(crate) const ALL: [Making; 21] = [
         Making::Clone,
         Making::Bitor,
         Making::Bitand,
@@ -192,6 +211,14 @@ impl Making {
         Making::IntoRangeSetBlaze,
         Making::From(3, 7),
         Making::Universe,
+        Making::StdClone,
+        Making::StdBitor,
+        Making::StdBitand,
+        Making::StdSub,
+        Making::StdBitxor,
+        Making::StdNot,
+        Making::Collect,
+        Making::CollectValues(2, 800),
     ];
 }
 
@@ -208,7 +235,25 @@ fn make_one<A: Allocator + Copy>(
         Making::FromSortedDisjoint => RangeSetBlaze::from_sorted_disjoint(alloc, set.ranges()),
         Making::IntoRangeSetBlaze => set.ranges().into_range_set_blaze(alloc),
         Making::From(start, end) => RangeSetBlaze::from(alloc, start..=end),
+        Making::StdClone => Clone::clone(set),
+        Making::StdNot => !set,
         _ => RangeSetBlaze::universe(alloc),
+    }
+}
+
+/// Makes a set of two by an operator, or by a loop over both.
+fn make_by_std<A: Allocator + Copy, B: Allocator>(
+    alloc: A,
+    making: Making,
+    set: &RangeSetBlaze<i32, A>,
+    other: &RangeSetBlaze<i32, B>,
+) -> Result<RangeSetBlaze<i32, A>, AllocError> {
+    match making {
+        Making::StdBitor => set | other,
+        Making::StdBitand => set & other,
+        Making::StdSub => set - other,
+        Making::StdBitxor => set ^ other,
+        _ => other.ranges().chain(set.ranges()).collect(alloc),
     }
 }
 
@@ -228,6 +273,12 @@ pub(crate) fn make<A: Allocator + Copy, B: Allocator>(
         Making::FromIterValues(start, end) => {
             RangeSetBlaze::from_iter_values(alloc, (start..=end).step_by(4))
         }
+        Making::CollectValues(start, end) => (start..=end).step_by(4).collect(alloc),
+        Making::StdBitor
+        | Making::StdBitand
+        | Making::StdSub
+        | Making::StdBitxor
+        | Making::Collect => make_by_std(alloc, making, set, other),
         _ => make_one(alloc, making, set),
     }
 }

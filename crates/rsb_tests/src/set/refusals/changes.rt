@@ -1,0 +1,191 @@
+//! What changes a set.
+
+use crate::set::calls::{Answer, Change, carry_out};
+use crate::set::cells::{Cell, Side, agree, cells, mark_front, reckon, runs};
+use crate::set::refusals::heaps::filled_but;
+use crate::set::rows::set_in;
+use linked_list_allocator::LocalHeap;
+use range_set_blaze::RangeSetBlaze;
+use std::alloc::{AllocError, Global};
+use std::test::*;
+
+/// A set in a heap.
+pub(crate) type HeapSet<'a> = RangeSetBlaze<i32, &'a LocalHeap>;
+
+/// The changes that are tried.
+static CHANGES: [Change; 20] = [
+    Change::Insert(6),
+    Change::Replace(6),
+    Change::RangesInsert(4, 6),
+    Change::RangesInsert(1, 815),
+    Change::RangesInsert(-8, 815),
+    Change::Remove(1),
+    Change::Take(1),
+    Change::PopFirst,
+    Change::PopLast,
+    Change::SplitOff(1),
+    Change::Retain(2, 1),
+    Change::RangesRetain(16, 0),
+    Change::Clear,
+    Change::ExtendValues(4, 800),
+    Change::StdExtendValues(4, 800),
+    Change::Extend,
+    Change::StdExtend,
+    Change::Append,
+    Change::BitorAssign,
+    Change::BitorAssignOwned,
+];
+
+/// Whether a change wants memory at one place at least, of a set of so many runs, where it adds
+/// another of so many. A leaf of the map has room for fifteen runs, so no removal from one run or
+/// from three wants more.
+fn wants(change: Change, count: i32, others: i32) -> bool {
+    match change {
+        Change::Insert(_) | Change::Replace(_) => true,
+        Change::ExtendValues(_, _) | Change::StdExtendValues(_, _) => true,
+        // Where a run reaches the start of the new one, its end is moved.
+        Change::RangesInsert(start, _) => start == 4 || count == 0 || start < 0 && count == 15,
+        Change::Remove(_) | Change::Take(_) | Change::PopFirst => count >= 15,
+        Change::SplitOff(_) | Change::Retain(_, _) => count > 0,
+        Change::PopLast | Change::RangesRetain(_, _) | Change::Clear => false,
+        Change::Extend | Change::StdExtend => grows(count, others),
+        Change::Append | Change::BitorAssign => grows(count, others) || is_anew(count, others),
+        // The larger set goes on.
+        Change::BitorAssignOwned => {
+            let (few, more) = (count.min(others), count.max(others));
+            few > 0 && grows(more, few) || is_anew(count, others)
+        }
+    }
+}
+
+/// Whether so many runs more need another leaf.
+fn grows(count: i32, others: i32) -> bool {
+    others > 0 && (count == 0 || count == 15 || others == 100)
+}
+
+/// Whether runs are so many beside the others that both sets are made one anew.
+fn is_anew(count: i32, others: i32) -> bool {
+    count == 3 && others == 3
+}
+
+/// The cells of so many runs of three values, eight apart from 0 on, and of so many of two others,
+/// each in the gap after one.
+pub(crate) fn spaced(alloc: Global, count: i32, others: i32) -> Result<Vec<Cell>, AllocError> {
+    let mut cells = cells(alloc, -8, 824)?;
+    for cell in cells.iter_mut() {
+        let (place, rest) = (cell.start / 8, cell.start % 8);
+        cell.is_member = cell.start >= 0 && place < count && rest < 3;
+        cell.is_other = cell.start >= 0 && place < others && (rest == 4 || rest == 5);
+    }
+    Ok(cells)
+}
+
+/// What a change answers where a full heap has so much room in one place, or that it is refused.
+fn tried<'a>(
+    alloc: Global,
+    heap: &'a LocalHeap,
+    room: usize,
+    change: Change,
+    set: &mut HeapSet<'a>,
+    other: &mut HeapSet<'a>,
+) -> Result<Option<Answer>, AllocError> {
+    let filler = filled_but(alloc, heap, room)?;
+    let told = carry_out(heap, change, set, other);
+    drop(filler);
+    Ok(told.ok())
+}
+
+/// Whether two sets are what a refused change leaves: the first has a front of what was to be added,
+/// and the other is as it was. One that was given up is given anew.
+fn are_left<'a>(
+    alloc: Global,
+    heap: &'a LocalHeap,
+    change: Change,
+    set: &HeapSet<'a>,
+    other: &mut HeapSet<'a>,
+    cells: &mut Vec<Cell>,
+) -> Result<bool, AllocError> {
+    if change.adds() {
+        mark_front(change, set, cells);
+    }
+    if matches!(change, Change::BitorAssignOwned) {
+        *other = set_in(heap, &runs(alloc, cells, Side::Other)?)?;
+    }
+    agree(alloc, set, other, cells)
+}
+
+/// How many tries of a change are refused before one passes. `None` where a refused one leaves what
+/// it must not, or where the one that passes goes wrong from there.
+fn refusals<'a>(
+    alloc: Global,
+    heap: &'a LocalHeap,
+    change: Change,
+    set: &mut HeapSet<'a>,
+    other: &mut HeapSet<'a>,
+    cells: &mut Vec<Cell>,
+) -> Result<Option<u32>, AllocError> {
+    for step in 0..150u32 {
+        let told = tried(alloc, heap, 96 * step as usize, change, set, other)?;
+        if let Some(answer) = told {
+            let is_told = answer == reckon(alloc, change, cells)?;
+            return Ok((is_told && agree(alloc, set, other, cells)?).then_some(step));
+        }
+        if !are_left(alloc, heap, change, set, other, cells)? {
+            return Ok(None);
+        }
+    }
+    Ok(None)
+}
+
+/// At how many places a change is tried: at each run, but once over all runs, and a pop at each value.
+fn places(change: Change) -> i32 {
+    match change {
+        Change::PopFirst | Change::PopLast => 301,
+        Change::RangesInsert(_, 815) => 1,
+        _ => 101,
+    }
+}
+
+/// Whether some tries of a change are refused, at places eight apart, from the last on. `None` where
+/// one leaves what it must not.
+fn is_refused_somewhere(
+    alloc: Global,
+    heap: &LocalHeap,
+    change: Change,
+    cells: &mut Vec<Cell>,
+) -> Result<Option<bool>, AllocError> {
+    let mut set = set_in(heap, &runs(alloc, cells, Side::One)?)?;
+    let mut other = set_in(heap, &runs(alloc, cells, Side::Other)?)?;
+    let places = places(change);
+    let mut is_refused = false;
+    for place in 0..places {
+        let moved = change.moved((places - 1 - place).saturating_mul(8));
+        let times = refusals(alloc, heap, moved, &mut set, &mut other, cells)?;
+        let Some(times) = times else {
+            return Ok(None);
+        };
+        is_refused = is_refused || times > 0;
+    }
+    Ok(Some(is_refused))
+}
+
+/// Whether a change is refused as it is to be, and no room is kept once the sets are dropped.
+fn is_right(alloc: Global, change: Change, count: i32, others: i32) -> Result<bool, AllocError> {
+    let heap = LocalHeap::new(alloc, 32768)?;
+    let free = heap.free();
+    let mut cells = spaced(alloc, count, others)?;
+    let refused = is_refused_somewhere(alloc, &heap, change, &mut cells)?;
+    Ok(refused == Some(wants(change, count, others)) && heap.free() == free)
+}
+
+#[test]
+fn each_growth_of_a_change_is_refused_in_turn(rt: HostRuntime) {
+    for change in &CHANGES {
+        for count in [0, 1, 3, 15, 100] {
+            for others in [0, 1, 3, 100] {
+                let answer = is_right(rt.alloc(), *change, count, others);
+                assert!(rt; answer == Ok(true), "{change:?}, {count} runs, {others}");
+            }
+        }
+    }
+}
