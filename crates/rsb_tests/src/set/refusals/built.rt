@@ -1,15 +1,18 @@
 //! What is built of the runs of two sets in a heap: streams, and sets of many sets.
 
+ghost use Rattle.std.specs.Prelude.{IfOk};
+
 use crate::set::calls::Making;
 use crate::set::rows::{Table, has};
 use crate::tables::gives;
 use linked_list_allocator::LocalHeap;
 use range_set_blaze::{
-    DynSortedDisjoint, KMerge, MultiwayRangeSetBlaze, MultiwayRangeSetBlazeRef,
-    MultiwaySortedDisjoint, MultiwaySweep, RangeSetBlaze, UnionIter,
+    Draw, DrawDisjoint, DynSortedDisjoint, KMerge, MultiwayRangeSetBlaze, MultiwayRangeSetBlazeRef,
+    MultiwaySortedDisjoint, MultiwaySweep, MultiwaySymmetricDifference, MultiwayUnion,
+    RangeSetBlaze, UnionIter,
 };
 use rsb_many::{intersection_dyn, symmetric_difference_dyn, union_dyn};
-use std::alloc::AllocError;
+use std::alloc::{AllocError, Allocator};
 
 /// A call that builds something of two sets.
 #[derive(Clone, Copy, Debug)]
@@ -98,9 +101,14 @@ fn merged_gives(
     if matches!(building, Building::Merge) {
         return Ok(gives(UnionIter::new(KMerge::new(heap, streams)?), wanted));
     }
-    let sweep = MultiwaySweep::new(heap, streams)?;
+    let mut sweep = MultiwaySweep::new(heap, streams)?;
     let runs = one.ranges_len().saturating_add(other.ranges_len());
-    Ok(sweep.count() == runs.saturating_mul(2))
+    for _ in 0..runs.saturating_mul(2) {
+        if sweep.next().is_none() {
+            return Ok(false);
+        }
+    }
+    Ok(sweep.next().is_none())
 }
 
 /// Whether a stream of streams of one type gives these runs.
@@ -119,7 +127,7 @@ fn streams_give(
     }
 }
 
-/// Whether a stream that takes all ranges first gives these runs.
+/// Whether all ranges of one set or of two, taken first, give these runs.
 fn taken_give(
     heap: &LocalHeap,
     building: Building,
@@ -128,12 +136,53 @@ fn taken_give(
     wanted: Table<'_>,
 ) -> Result<bool, AllocError> {
     let (one, other) = (one.ranges(), other.ranges());
+    if matches!(building, Building::OneType) {
+        return Ok(gives(DynSortedDisjoint::new(heap, one)?, wanted));
+    }
+    Ok(gives(UnionIter::from_iter(heap, other.chain(one))?, wanted))
+}
+
+/// What two streams have together, all ranges of which are taken first.
+fn taken_union<I: DrawDisjoint<i32>, J: DrawDisjoint<i32>, A: Allocator + Copy>(
+    alloc: A,
+    one: I,
+    other: J,
+) -> Result<MultiwayUnion<i32, DynSortedDisjoint<i32, A>, A>, AllocError>
+    requires one { I.can_draw one }
+    requires other { J.can_draw other }
+    ensures { IfOk result
+        ⟦<MultiwayUnion<i32, DynSortedDisjoint<i32, A>, A> as Draw<i32>>⟧.can_draw }
+{
+    union_dyn!(alloc, one, other)
+}
+
+/// What one stream alone has of two, all ranges of which are taken first.
+fn taken_odd<I: DrawDisjoint<i32>, J: DrawDisjoint<i32>, A: Allocator + Copy>(
+    alloc: A,
+    one: I,
+    other: J,
+) -> Result<MultiwaySymmetricDifference<i32, DynSortedDisjoint<i32, A>, A>, AllocError>
+    requires one { I.can_draw one }
+    requires other { J.can_draw other }
+    ensures { IfOk result
+        ⟦<MultiwaySymmetricDifference<i32, DynSortedDisjoint<i32, A>, A> as Draw<i32>>⟧.can_draw }
+{
+    symmetric_difference_dyn!(alloc, one, other)
+}
+
+/// Whether an operation on the ranges of two sets, which are taken first, gives these runs.
+fn taken_operate(
+    heap: &LocalHeap,
+    building: Building,
+    one: &Set,
+    other: &Set,
+    wanted: Table<'_>,
+) -> Result<bool, AllocError> {
+    let (one, other) = (one.ranges(), other.ranges());
     match building {
-        Building::UnionOfRanges => Ok(gives(UnionIter::from_iter(heap, other.chain(one))?, wanted)),
-        Building::OneType => Ok(gives(DynSortedDisjoint::new(heap, one)?, wanted)),
-        Building::DynUnion => Ok(gives(union_dyn!(heap, one, other)?, wanted)),
+        Building::DynUnion => Ok(gives(taken_union(heap, one, other)?, wanted)),
         Building::DynIntersection => Ok(gives(intersection_dyn!(heap, one, other)?, wanted)),
-        _ => Ok(gives(symmetric_difference_dyn!(heap, one, other)?, wanted)),
+        _ => Ok(gives(taken_odd(heap, one, other)?, wanted)),
     }
 }
 
@@ -186,6 +235,11 @@ pub(crate) fn built_gives(
         Building::LentUnion | Building::LentIntersection | Building::LentSymmetricDifference => {
             Ok(has(&made_of_lent(heap, building, one, other)?, wanted))
         }
-        _ => taken_give(heap, building, one, other, wanted),
+        Building::DynUnion | Building::DynIntersection | Building::DynSymmetricDifference => {
+            taken_operate(heap, building, one, other, wanted)
+        }
+        Building::UnionOfRanges | Building::OneType => {
+            taken_give(heap, building, one, other, wanted)
+        }
     }
 }

@@ -159,7 +159,7 @@ fn is_refused_somewhere(
     let places = places(change);
     let mut is_refused = false;
     for place in 0..places {
-        let moved = change.moved((places - 1 - place).saturating_mul(8));
+        let moved = change.moved(places.saturating_sub(place + 1).saturating_mul(8));
         let times = refusals(alloc, heap, moved, &mut set, &mut other, cells)?;
         let Some(times) = times else {
             return Ok(None);
