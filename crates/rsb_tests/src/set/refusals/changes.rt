@@ -137,11 +137,12 @@ fn refusals<'a>(
     Ok(None)
 }
 
-/// At how many places a change is tried: at each run, but once over all runs, and a pop at each value.
+/// At how many places a change is tried: at each run, but over all runs once, and a pop at each value.
 fn places(change: Change) -> i32 {
     match change {
         Change::PopFirst | Change::PopLast => 301,
         Change::RangesInsert(_, 815) => 1,
+        _ if change.adds() => 1,
         _ => 101,
     }
 }
@@ -183,6 +184,9 @@ fn each_growth_of_a_change_is_refused_in_turn(rt: HostRuntime) {
     for change in &CHANGES {
         for count in [0, 1, 3, 15, 100] {
             for others in [0, 1, 3, 100] {
+                if others > 0 && !change.adds() {
+                    break;
+                }
                 let answer = is_right(rt.alloc(), *change, count, others);
                 assert!(rt; answer == Ok(true), "{change:?}, {count} runs, {others}");
             }
