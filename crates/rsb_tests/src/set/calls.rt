@@ -196,30 +196,36 @@ pub(crate) enum Making {
 }
 
 impl Making {
-    /// Each of them once.
-    pub(crate) const ALL: [Making; 21] = [
-        Making::Clone,
-        Making::Bitor,
-        Making::Bitand,
-        Making::Sub,
-        Making::Bitxor,
-        Making::Not,
-        Making::FromIter,
-        Making::FromIterValues(2, 800),
-        Making::FromArray,
-        Making::FromSortedDisjoint,
-        Making::IntoRangeSetBlaze,
-        Making::From(3, 7),
-        Making::Universe,
-        Making::StdClone,
-        Making::StdBitor,
-        Making::StdBitand,
-        Making::StdSub,
-        Making::StdBitxor,
-        Making::StdNot,
-        Making::Collect,
-        Making::CollectValues(2, 800),
-    ];
+    /// The first of all.
+    pub(crate) const FIRST: Making = Making::Clone;
+
+    /// The one after it, and none after the last.
+    pub(crate) fn after(self) -> Option<Making> {
+        let next = match self {
+            Making::Clone => Making::Bitor,
+            Making::Bitor => Making::Bitand,
+            Making::Bitand => Making::Sub,
+            Making::Sub => Making::Bitxor,
+            Making::Bitxor => Making::Not,
+            Making::Not => Making::FromIter,
+            Making::FromIter => Making::FromIterValues(2, 800),
+            Making::FromIterValues(_, _) => Making::FromArray,
+            Making::FromArray => Making::FromSortedDisjoint,
+            Making::FromSortedDisjoint => Making::IntoRangeSetBlaze,
+            Making::IntoRangeSetBlaze => Making::From(3, 7),
+            Making::From(_, _) => Making::Universe,
+            Making::Universe => Making::StdClone,
+            Making::StdClone => Making::StdBitor,
+            Making::StdBitor => Making::StdBitand,
+            Making::StdBitand => Making::StdSub,
+            Making::StdSub => Making::StdBitxor,
+            Making::StdBitxor => Making::StdNot,
+            Making::StdNot => Making::Collect,
+            Making::Collect => Making::CollectValues(2, 800),
+            Making::CollectValues(_, _) => return None,
+        };
+        Some(next)
+    }
 }
 
 /// Makes a set that takes another's values or none.

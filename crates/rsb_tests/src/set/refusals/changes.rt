@@ -12,42 +12,51 @@ use std::test::*;
 /// A set in a heap.
 pub(crate) type HeapSet<'a> = RangeSetBlaze<i32, &'a LocalHeap>;
 
-/// The changes that are tried.
-static CHANGES: [Change; 20] = [
-    Change::Insert(6),
-    Change::Replace(6),
-    Change::RangesInsert(4, 6),
-    Change::RangesInsert(1, 815),
-    Change::RangesInsert(-8, 815),
-    Change::Remove(1),
-    Change::Take(1),
-    Change::PopFirst,
-    Change::PopLast,
-    Change::SplitOff(1),
-    Change::Retain(2, 1),
-    Change::RangesRetain(16, 0),
-    Change::Clear,
-    Change::ExtendValues(4, 800),
-    Change::StdExtendValues(4, 800),
-    Change::Extend,
-    Change::StdExtend,
-    Change::Append,
-    Change::BitorAssign,
-    Change::BitorAssignOwned,
-];
+/// The change that is tried first.
+const FIRST: Change = Change::Insert(6);
+
+/// The change that is tried after another, and none after the last.
+fn after(change: Change) -> Option<Change> {
+    let next = match change {
+        Change::Insert(_) => Change::Replace(6),
+        Change::Replace(_) => Change::RangesInsert(4, 6),
+        Change::RangesInsert(4, _) => Change::RangesInsert(1, 815),
+        Change::RangesInsert(1, _) => Change::RangesInsert(-8, 815),
+        Change::RangesInsert(_, _) => Change::Remove(1),
+        Change::Remove(_) => Change::Take(1),
+        Change::Take(_) => Change::PopFirst,
+        Change::PopFirst => Change::PopLast,
+        Change::PopLast => Change::SplitOff(1),
+        Change::SplitOff(_) => Change::Retain(2, 1),
+        Change::Retain(_, _) => Change::RangesRetain(16, 0),
+        Change::RangesRetain(_, _) => Change::Clear,
+        Change::Clear => Change::ExtendValues(4, 800),
+        Change::ExtendValues(_, _) => Change::StdExtendValues(4, 800),
+        Change::StdExtendValues(_, _) => Change::Extend,
+        Change::Extend => Change::StdExtend,
+        Change::StdExtend => Change::Append,
+        Change::Append => Change::BitorAssign,
+        Change::BitorAssign => Change::BitorAssignOwned,
+        Change::BitorAssignOwned => return None,
+    };
+    Some(next)
+}
 
 /// Whether a change wants memory at one place at least, of a set of so many runs, where it adds
-/// another of so many. A leaf of the map has room for fifteen runs, so no removal from one run or
-/// from three wants more.
+/// another of so many. A leaf of the map has room for fifteen runs, so no insertion beside one run or
+/// three and no removal from them wants more.
 fn wants(change: Change, count: i32, others: i32) -> bool {
     match change {
-        Change::Insert(_) | Change::Replace(_) => true,
-        Change::ExtendValues(_, _) | Change::StdExtendValues(_, _) => true,
-        // Where a run reaches the start of the new one, its end is moved.
-        Change::RangesInsert(start, _) => start == 4 || count == 0 || start < 0 && count == 15,
+        Change::Insert(_) | Change::Replace(_) | Change::RangesInsert(4, _) => {
+            count == 0 || count >= 15
+        }
+        // A run reaches the start of the new one, and its end is moved.
+        Change::RangesInsert(1, _) => count == 0,
+        Change::RangesInsert(_, _) => count == 0 || count == 15,
         Change::Remove(_) | Change::Take(_) | Change::PopFirst => count >= 15,
         Change::SplitOff(_) | Change::Retain(_, _) => count > 0,
         Change::PopLast | Change::RangesRetain(_, _) | Change::Clear => false,
+        Change::ExtendValues(_, _) | Change::StdExtendValues(_, _) => true,
         Change::Extend | Change::StdExtend => grows(count, others),
         Change::Append | Change::BitorAssign => grows(count, others) || is_anew(count, others),
         // The larger set goes on.
@@ -137,27 +146,28 @@ fn refusals<'a>(
     Ok(None)
 }
 
-/// At how many places a change is tried: at each run, but over all runs once, and a pop at each value.
-fn places(change: Change) -> i32 {
+/// At how many places a change of so many runs is tried: at each run and past the last, but over all
+/// runs once, and a pop at each value.
+fn places(change: Change, count: i32) -> i32 {
     match change {
-        Change::PopFirst | Change::PopLast => 301,
+        Change::PopFirst | Change::PopLast => count.saturating_mul(3).saturating_add(1),
         Change::RangesInsert(_, 815) => 1,
         _ if change.adds() => 1,
-        _ => 101,
+        _ => count.saturating_add(1),
     }
 }
 
-/// Whether some tries of a change are refused, at places eight apart, from the last on. `None` where
-/// one leaves what it must not.
+/// Whether some tries of a change are refused, at so many places, eight apart, from the last on. `None`
+/// where one leaves what it must not.
 fn is_refused_somewhere(
     alloc: Global,
     heap: &LocalHeap,
     change: Change,
+    places: i32,
     cells: &mut Vec<Cell>,
 ) -> Result<Option<bool>, AllocError> {
     let mut set = set_in(heap, &runs(alloc, cells, Side::One)?)?;
     let mut other = set_in(heap, &runs(alloc, cells, Side::Other)?)?;
-    let places = places(change);
     let mut is_refused = false;
     for place in 0..places {
         let moved = change.moved(places.saturating_sub(place + 1).saturating_mul(8));
@@ -175,21 +185,32 @@ fn is_right(alloc: Global, change: Change, count: i32, others: i32) -> Result<bo
     let heap = LocalHeap::new(alloc, 32768)?;
     let free = heap.free();
     let mut cells = spaced(alloc, count, others)?;
-    let refused = is_refused_somewhere(alloc, &heap, change, &mut cells)?;
+    let places = places(change, count);
+    let refused = is_refused_somewhere(alloc, &heap, change, places, &mut cells)?;
     Ok(refused == Some(wants(change, count, others)) && heap.free() == free)
+}
+
+/// The change that is not refused as it is to be, if any is: of those that add where there is
+/// something to add, and of all else.
+fn first_wrong(alloc: Global, count: i32, others: i32) -> Option<Change> {
+    let mut next = Some(FIRST);
+    for _ in 0..u8::MAX {
+        let change = next?;
+        let is_tried = others == 0 || change.adds();
+        if is_tried && is_right(alloc, change, count, others) != Ok(true) {
+            return Some(change);
+        }
+        next = after(change);
+    }
+    next
 }
 
 #[test]
 fn each_growth_of_a_change_is_refused_in_turn(rt: HostRuntime) {
-    for change in &CHANGES {
-        for count in [0, 1, 3, 15, 100] {
-            for others in [0, 1, 3, 100] {
-                if others > 0 && !change.adds() {
-                    break;
-                }
-                let answer = is_right(rt.alloc(), *change, count, others);
-                assert!(rt; answer == Ok(true), "{change:?}, {count} runs, {others}");
-            }
+    for count in [0, 1, 3, 15, 100] {
+        for others in [0, 1, 3, 100] {
+            let wrong = first_wrong(rt.alloc(), count, others);
+            assert!(rt; wrong.is_none(), "{wrong:?}, {count} runs, {others}");
         }
     }
 }

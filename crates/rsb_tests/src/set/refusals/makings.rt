@@ -15,26 +15,38 @@ use std::test::*;
 /// What is made of a set in a heap and of two sets beside it, the first of which is the same.
 #[derive(Clone, Copy, Debug)]
 enum Made {
-    Set(Making),
-    Built(Building),
     /// All elements of the set in the heap.
     Elements,
+    Set(Making),
+    Built(Building),
 }
 
 impl Made {
+    /// The one after it, and none after the last.
+    fn after(self) -> Option<Made> {
+        match self {
+            Made::Elements => Some(Made::Set(Making::FIRST)),
+            Made::Set(making) => match making.after() {
+                Some(next) => Some(Made::Set(next)),
+                None => Some(Made::Built(Building::FIRST)),
+            },
+            Made::Built(building) => Some(Made::Built(building.after()?)),
+        }
+    }
+
     /// The making that comes to the same.
     fn meaning(self) -> Making {
         match self {
+            Made::Elements => Making::Clone,
             Made::Set(making) => making,
             Made::Built(building) => building.meaning(),
-            Made::Elements => Making::Clone,
         }
     }
 
     /// Whether it wants memory where it comes to nothing or to something.
     fn wants(self, is_nothing: bool) -> bool {
         match self {
-            Made::Set(_) | Made::Elements => !is_nothing,
+            Made::Elements | Made::Set(_) => !is_nothing,
             Made::Built(building) => !is_nothing || building.wants_room_for_streams(),
         }
     }
@@ -78,9 +90,9 @@ fn tried<'a>(
     let (one, other, wanted) = (given.one, given.other, given.wanted);
     let filler = filled_but(alloc, heap, room)?;
     let answer = match made {
-        Made::Set(making) => is_made(heap, making, set, other, wanted),
-        Made::Built(building) => built_gives(heap, building, one, other, wanted),
         Made::Elements => elements_are(alloc, set, wanted),
+        Made::Set(making) => is_made(heap, making, set, other, wanted),
+        Made::Built(building) => built_gives(alloc, heap, building, one, other, wanted),
     };
     drop(filler);
     Ok(answer.ok())
@@ -125,20 +137,23 @@ fn is_right(alloc: Global, made: Made, count: i32) -> Result<bool, AllocError> {
     is_refused_rightly(alloc, &heap, made, &set, given)
 }
 
+/// What is not refused as it is to be of sets of so many runs, if anything is.
+fn first_wrong(alloc: Global, count: i32) -> Option<Made> {
+    let mut next = Some(Made::Elements);
+    for _ in 0..u8::MAX {
+        let made = next?;
+        if is_right(alloc, made, count) != Ok(true) {
+            return Some(made);
+        }
+        next = made.after();
+    }
+    next
+}
+
 #[test]
 fn each_growth_of_what_is_made_is_refused_in_turn(rt: HostRuntime) {
     for count in [0, 1, 3, 100] {
-        for making in Making::ALL {
-            let answer = is_right(rt.alloc(), Made::Set(making), count);
-            assert!(rt; answer == Ok(true), "{making:?}, {count} runs");
-        }
-        for building in Building::ALL {
-            let answer = is_right(rt.alloc(), Made::Built(building), count);
-            assert!(rt; answer == Ok(true), "{building:?}, {count} runs");
-        }
-        assert!(rt;
-            is_right(rt.alloc(), Made::Elements, count) == Ok(true),
-            "{count} runs"
-        );
+        let wrong = first_wrong(rt.alloc(), count);
+        assert!(rt; wrong.is_none(), "{wrong:?} of {count} runs");
     }
 }

@@ -45,10 +45,13 @@ fn removes_in_full_heap(
 // One run has room beside it for a second, so no growth happens in a removal from {1..=5} alone: it
 // does where fifteen runs fill a leaf.
 #[test]
-fn a_refused_cut_leaves_the_run_whose_end_goes_with_no_memory(rt: HostRuntime) -> Result<(), Fail> {
+fn a_refused_cut_leaves_the_runs_and_the_end_of_a_run_goes_with_no_memory(
+    rt: HostRuntime,
+) -> Result<(), Fail> {
     let alloc = rt.alloc();
-    assert!(rt; removes_in_full_heap(alloc, &[(1, 5)], 5, Some(true), &[(1, 4)])?);
     assert!(rt; removes_in_full_heap(alloc, FIFTEEN, 3, None, FIFTEEN)?);
+    assert!(rt; removes_in_full_heap(alloc, &[(1, 5)], 3, Some(true), &[(1, 2), (4, 5)])?);
+    assert!(rt; removes_in_full_heap(alloc, &[(1, 5)], 5, Some(true), &[(1, 4)])?);
     Ok(())
 }
 
