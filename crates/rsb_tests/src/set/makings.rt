@@ -152,16 +152,6 @@ fn ranges_in_any_order_make_a_set(rt: HostRuntime) -> Result<(), Fail> {
 }
 
 #[test]
-fn values_in_any_order_make_a_set(rt: HostRuntime) -> Result<(), Fail> {
-    let values = RangeSetBlaze::from_array(rt.alloc(), [5, 1, 5, 2, 4])?;
-    assert!(rt; has(&values, &[(1, 2), (4, 5)]));
-    let run = RangeSetBlaze::from_iter_values(rt.alloc(), -1..3)?;
-    assert!(rt; has(&run, &[(-1, 2)]));
-    assert!(rt; RangeSetBlaze::<i32>::from_array(rt.alloc(), [])?.is_empty());
-    Ok(())
-}
-
-#[test]
 fn all_wide_numbers_but_one_are_counted(rt: HostRuntime) -> Result<(), Fail> {
     let ranges = [i128::MIN..=10, -10..=i128::MAX - 1];
     let set = RangeSetBlaze::from_iter(rt.alloc(), ranges)?;
