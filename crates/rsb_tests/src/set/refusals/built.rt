@@ -9,7 +9,7 @@ use linked_list_allocator::LocalHeap;
 use range_set_blaze::{
     CheckSortedTouching, Draw, DrawDisjoint, DynSortedDisjoint, KMerge, MultiwayRangeSetBlaze,
     MultiwayRangeSetBlazeRef, MultiwaySortedDisjoint, MultiwaySweep, MultiwaySymmetricDifference,
-    MultiwayUnion, RangeSetBlaze, UnionIter,
+    MultiwayUnion, RangeSetBlaze, SortedTouching, UnionIter,
 };
 use rsb_many::{intersection_dyn, symmetric_difference_dyn, union_dyn};
 use std::alloc::{AllocError, Allocator, Global};
@@ -187,6 +187,30 @@ fn touching(
     Ok(streams)
 }
 
+/// Whether what lies in an odd number of streams whose ranges may touch is this.
+fn touching_difference_gives<I: SortedTouching<i32>>(
+    heap: &LocalHeap,
+    streams: Vec<I>,
+    wanted: Table<'_>,
+) -> Result<bool, AllocError>
+    requires { All I.can_draw streams.items }
+{
+    let odd = MultiwaySymmetricDifference::new_touching(heap, streams)?;
+    Ok(gives(odd, wanted))
+}
+
+/// Whether a sweep over streams whose ranges may touch tells as many events as so many ranges have.
+fn touching_sweep_tells<I: SortedTouching<i32>>(
+    heap: &LocalHeap,
+    streams: Vec<I>,
+    ranges: usize,
+) -> Result<bool, AllocError>
+    requires { All I.can_draw streams.items }
+{
+    let sweep = MultiwaySweep::new_touching(heap, streams)?;
+    Ok(tells(sweep, ranges))
+}
+
 /// Whether a symmetric difference of streams whose ranges may touch gives these runs, or a sweep over
 /// them tells as many events as it is to.
 fn touching_gives(
@@ -199,11 +223,9 @@ fn touching_gives(
 ) -> Result<bool, AllocError> {
     let streams = touching(alloc, one, other)?;
     if matches!(building, Building::TouchingDifference) {
-        let odd = MultiwaySymmetricDifference::new_touching(heap, streams)?;
-        return Ok(gives(odd, wanted));
+        return touching_difference_gives(heap, streams, wanted);
     }
-    let sweep = MultiwaySweep::new_touching(heap, streams)?;
-    Ok(tells(sweep, runs_of_both(one, other)))
+    touching_sweep_tells(heap, streams, runs_of_both(one, other))
 }
 
 /// Whether all ranges of a set, taken first, give these runs.
