@@ -42,7 +42,7 @@ asks-more g f mid last items shown answer asked called = FoldsTo-push _ _ _ _ _ 
 
 -- ---- what the answers select
 
-module _ {T : Type 0} (rank : T → ℕ) (n total number : ℕ) (old now : List (T × T)) (run : Run T)
+module _ {T : Type 0} {rank : T → ℕ} {n total number : ℕ} {old now : List (T × T)} {run : Run T}
     (retaining : IsRetaining rank n total number old now (Some run)) where
   -- with it, where the answer is true
   pub exact-keep : (keeps : Interval → Bool)
@@ -84,34 +84,28 @@ module _ {T : Type 0} (rank : T → ℕ) (n total number : ℕ) (old now : List 
 
 -- ---- how many are to come
 
-module _ {T : Type 0} (rank : T → ℕ) (n : ℕ) (old : List (T × T))
-    (canonical : IsCanonicalIn n (runs_of rank old)) where
+module _ {T : Type 0} {rank : T → ℕ} {n total : ℕ} {old : List (T × T)} where
   -- as many as there are
-  coming : (total number : ℕ) (now : List (T × T)) (next : Option (Run T))
+  coming : {number : ℕ} {now : List (T × T)} (next : Option (Run T))
       → (retaining : IsRetaining rank n total number old now next)
-      → to_come rank n next now ≡ length retaining.todo
-  coming total number now None retaining =
-      let none = ap length retaining.next_is in
-      omega (arith, none)
-  coming total number now (Some run) retaining =
-      asked-coming rank n total number old now run canonical retaining
+      → IsCanonicalIn n (runs_of rank old) → to_come rank n next now ≡ length retaining.todo
+  coming None retaining canonical = let none = ap length retaining.next_is in omega (arith, none)
+  coming (Some run) retaining canonical = asked-coming retaining canonical
 
   -- so there are fewer, when some were asked about
-  pub fewer-coming : (total number fewer : ℕ) (now new : List (T × T)) (next after : Option (Run T))
+  pub fewer-coming : {number fewer : ℕ} {now new : List (T × T)} {next after : Option (Run T)}
       → (retaining : IsRetaining rank n total number old now next)
       → (going : IsRetaining rank n total fewer old new after)
-      → length going.todo < length retaining.todo → to_come rank n after new < to_come rank n next now
-  fewer-coming total number fewer now new next after retaining going less =
-      omega (
-        arith,
-        less,
-        coming total number now next retaining,
-        coming total fewer new after going,
-      )
+      → IsCanonicalIn n (runs_of rank old) → length going.todo < length retaining.todo
+      → to_come rank n after new < to_come rank n next now
+  fewer-coming {number} {fewer} {now} {new} {next} {after} retaining going canonical less =
+      let before = coming next retaining canonical in
+      let later = coming after going canonical in
+      omega (arith, less, before, later)
 
 -- ---- the end
 
-module _ {T : Type 0} (rank : T → ℕ) (n total number : ℕ) (old now : List (T × T))
+module _ {T : Type 0} {rank : T → ℕ} {n total number : ℕ} {old now : List (T × T)}
     (kept : IsKept rank n old total)
     (retaining : IsRetaining rank n total number old now None) where
   -- none is to come

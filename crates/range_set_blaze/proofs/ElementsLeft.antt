@@ -47,32 +47,10 @@ item-last None run rest none before = tt
 item-last (Some value) run rest none before =
     fewer-last run rest (some-item value run none) before
 
--- where the one end has fewer after a call and the other had none, both have fewer together
-pub fewer-other : {T : Type 0} (item : Option T) (run rest other gone : Interval) → IsEmpty gone
-    → OnSome item (length_of rest < length_of run)
-    → OnSome item (length_of rest + length_of gone < length_of run + length_of other)
-fewer-other None run rest other gone empty fewer = tt
-fewer-other (Some value) run rest other gone empty fewer = omega (arith, fewer, empty)
-
--- the same, with the other end first
-pub fewer-turned : {T : Type 0} (item : Option T) (run rest other gone : Interval) → IsEmpty gone
-    → OnSome item (length_of rest < length_of run)
-    → OnSome item (length_of gone + length_of rest < length_of other + length_of run)
-fewer-turned None run rest other gone empty fewer = tt
-fewer-turned (Some value) run rest other gone empty fewer = omega (arith, fewer, empty)
-
--- where a range of a type of n values was drawn into the front, or into the back, fewer than n more
-pub fewer-drawn : {T : Type 0} (n : ℕ) (item : Option T) (run rest other gone : Interval)
-    → run.last < n → OnSome item (length_of rest < length_of run)
-    → OnSome item (length_of rest + length_of other < length_of gone + length_of other + n)
-fewer-drawn n None run rest other gone below fewer = tt
-fewer-drawn n (Some value) run rest other gone below fewer = omega (arith, fewer)
-
-pub fewer-drawn_back : {T : Type 0} (n : ℕ) (item : Option T) (run rest other gone : Interval)
-    → run.last < n → OnSome item (length_of rest < length_of run)
-    → OnSome item (length_of other + length_of rest < length_of other + length_of gone + n)
-fewer-drawn_back n None run rest other gone below fewer = tt
-fewer-drawn_back n (Some value) run rest other gone below fewer = omega (arith, fewer)
+-- what follows of an item where there is one
+pub on-some : {T P Q : Type 0} (item : Option T) → OnSome item P → (P → Q) → OnSome item Q
+on-some None on follows = tt
+on-some (Some value) on follows = follows on
 
 -- what is known by the one of two counts of what is left, where both are one
 module _ {I : Type 0} (left other : I → Count) (same : (s : I) → left s ≡ other s) (s t : I) where
@@ -111,38 +89,22 @@ module _ {T I : Type 0} (rank : T → ℕ) (n : ℕ) (left : I → Count) (can :
       → OnSome item (length_of (interval_of rank t.front) + length_of (interval_of rank t.back)
       < length_of (interval_of rank s.front) + length_of (interval_of rank s.back))
       → MakesProgress can (elements_left rank n left) s item t
-  goes-held item same undone fewer = goes-by item (λ finite. by item fewer)
-    where
-      -- by whether there is an item
-      by : (item : Option T)
-          → OnSome item (length_of (interval_of rank t.front) + length_of (interval_of rank t.back)
-          < length_of (interval_of rank s.front) + length_of (interval_of rank s.back))
-          → OnSome item (size (elements_left rank n left t) < size (elements_left rank n left s))
-      by None fewer = tt
-      by (Some value) fewer =
-          let as_many : cond t.done 0 (size (left t.ranges) * n)
-          ≡ cond s.done 0 (size (left s.ranges) * n) =
-          ap (λ done. cond done 0 (size (left t.ranges) * n)) undone
-          ∙ ap (λ ranges. cond s.done 0 (size (left ranges) * n)) same in
-          omega (arith, as_many, fewer)
+  goes-held item same undone fewer = goes-by item (λ finite. on-some item fewer (λ less.
+      let as_many : cond t.done 0 (size (left t.ranges) * n)
+      ≡ cond s.done 0 (size (left s.ranges) * n) =
+      ap (λ done. cond done 0 (size (left t.ranges) * n)) undone
+      ∙ ap (λ ranges. cond s.done 0 (size (left ranges) * n)) same in
+      omega (arith, as_many, less)))
 
   -- where the stream has ended by then
   pub goes-ended : (item : Option T) → t.done ≡ true
       → OnSome item (length_of (interval_of rank t.front) + length_of (interval_of rank t.back)
       < length_of (interval_of rank s.front) + length_of (interval_of rank s.back))
       → MakesProgress can (elements_left rank n left) s item t
-  goes-ended item done fewer = goes-by item (λ finite. by item fewer)
-    where
-      -- by whether there is an item
-      by : (item : Option T)
-          → OnSome item (length_of (interval_of rank t.front) + length_of (interval_of rank t.back)
-          < length_of (interval_of rank s.front) + length_of (interval_of rank s.back))
-          → OnSome item (size (elements_left rank n left t) < size (elements_left rank n left s))
-      by None fewer = tt
-      by (Some value) fewer =
-          let none : cond t.done 0 (size (left t.ranges) * n) ≡ 0 =
-          ap (λ each. cond each 0 (size (left t.ranges) * n)) done in
-          omega (arith, none, fewer)
+  goes-ended item done fewer = goes-by item (λ finite. on-some item fewer (λ less.
+      let none : cond t.done 0 (size (left t.ranges) * n) ≡ 0 =
+      ap (λ each. cond each 0 (size (left t.ranges) * n)) done in
+      omega (arith, none, less)))
 
   -- and where the stream gave a range of the type
   pub goes-drawn : (item : Option T) → s.done ≡ false → t.done ≡ s.done
@@ -150,22 +112,14 @@ module _ {T I : Type 0} (rank : T → ℕ) (n : ℕ) (left : I → Count) (can :
       → OnSome item (length_of (interval_of rank t.front) + length_of (interval_of rank t.back)
       < length_of (interval_of rank s.front) + length_of (interval_of rank s.back) + n)
       → MakesProgress can (elements_left rank n left) s item t
-  goes-drawn item undone same drawn fewer = goes-by item (λ finite. by item fewer (drawn finite))
-    where
-      -- by whether there is an item
-      by : (item : Option T)
-          → OnSome item (length_of (interval_of rank t.front) + length_of (interval_of rank t.back)
-          < length_of (interval_of rank s.front) + length_of (interval_of rank s.back) + n)
-          → size (left t.ranges) < size (left s.ranges)
-          → OnSome item (size (elements_left rank n left t) < size (elements_left rank n left s))
-      by None fewer less = tt
-      by (Some value) fewer less =
-          let new : cond t.done 0 (size (left t.ranges) * n) ≡ size (left t.ranges) * n =
-          ap (λ each. cond each 0 (size (left t.ranges) * n)) (same ∙ undone) in
-          let old : cond s.done 0 (size (left s.ranges) * n) ≡ size (left s.ranges) * n =
-          ap (λ each. cond each 0 (size (left s.ranges) * n)) undone in
-          let fits = row_fits (size (left t.ranges)) n (size (left s.ranges)) n less (omega arith) in
-          omega (arith, new, old, fits, fewer)
+  goes-drawn item undone same drawn fewer = goes-by item (λ finite. on-some item fewer (λ less.
+      let new : cond t.done 0 (size (left t.ranges) * n) ≡ size (left t.ranges) * n =
+      ap (λ each. cond each 0 (size (left t.ranges) * n)) (same ∙ undone) in
+      let old : cond s.done 0 (size (left s.ranges) * n) ≡ size (left s.ranges) * n =
+      ap (λ each. cond each 0 (size (left s.ranges) * n)) undone in
+      let fits = row_fits (size (left t.ranges)) n (size (left s.ranges)) n (drawn finite)
+      (omega arith) in
+      omega (arith, new, old, fits, less)))
 
 -- a hint of the stream is one of its elements: each range has one at least
 pub hint-within : {T I : Type 0} (rank : T → ℕ) (n : ℕ) → 2 ≤ n → (remaining left : I → Count)

@@ -1,16 +1,31 @@
 -- The least and the greatest member, and when there is none.
-use Rattle.std.proofs.Common.{◌≡◌, ◌↔◌, ℕ, zero, suc, ◌+◌, ◌-◌, ◌<◌, ◌≤◌, ◌||◌, true, List, [], ◌∷◌, length, get_or, slice_get, Some, refl, sym, ◌∙◌, ap, inl, inr, arith}
-use Rattle.std.proofs.Math.Bool.{or-true}
-use Rattle.std.proofs.lemmas.Bool.{cases_lt}
+use Rattle.std.proofs.Common.{◌≡◌, ◌↔◌, ℕ, zero, suc, ◌+◌, ◌-◌, ◌<◌, true, List, [], ◌∷◌, ◌++◌, length, get_or, slice_get, Some, refl, sym, ◌∙◌, ap, subst, inl, inr, arith}
 use Rattle.std.proofs.lemmas.Option.{get_or_from_slice_get, slice_get_within}
-use Rattle.std.proofs.lemmas.List.Elements.{All-head, All-nil, All-tail}
-use Rattle.rsb_integer.specs.Runs.{Interval, covers, members, AllEndBelow, IsCanonical, IsCanonicalFrom, IsCanonicalIn}
+use Rattle.std.proofs.lemmas.List.{map-append}
+use Rattle.std.proofs.lemmas.List.Elements.{All-nil}
+use Rattle.rsb_integer.specs.Runs.{Interval, members, IsCanonical, IsCanonicalIn}
 use Rattle.rsb_integer.specs.Selection.{Selection, count, IsEverything, IsNothing}
 use Rattle.rsb_integer.proofs.CountLemmas.{count-all, count-less, count-none, count-within}
 use Rattle.rsb_integer.proofs.ListLemmas.{not_both, true_or_false}
-use Rattle.rsb_integer.proofs.MembersLemmas.{members-below, members-cons, members-head, members-tail}
+use Rattle.rsb_integer.proofs.MembersLemmas.{members-head}
 use Rattle.range_set_blaze.specs.Kept.{entry_run, runs_of, IsKept}
+use Rattle.range_set_blaze.specs.Places.{EndsWith}
 use Rattle.range_set_blaze.specs.Set.{IsGreatest, IsLeast}
+use Rattle.range_set_blaze.proofs.TakenLemmas.{greatest-last, least-first}
+
+-- the item at the last position is the last
+last-item : {X : Type 0} (items : List X) (i : ℕ) (item : X) → i + 1 ≡ length items
+    → EndsWith items (get_or items i item)
+last-item [] i item last = absurd (omega (arith, last))
+last-item (first ∷ []) zero item last = record { front = []; parts = refl }
+last-item (first ∷ []) (suc i) item last = absurd (omega (arith, last))
+last-item (first ∷ second ∷ items) zero item last = absurd (omega (arith, last))
+last-item (first ∷ second ∷ items) (suc i) item last =
+    let rest = last-item (second ∷ items) i item (omega (arith, last)) in
+    record {
+      front = first ∷ rest.front;
+      parts = ap (λ each. first ∷ each) rest.parts;
+    }
 
 module _ {T : Type 0} (rank : T → ℕ) (n : ℕ) where
   -- nothing is kept of the empty set, and its length is 0
@@ -36,69 +51,7 @@ module _ {T : Type 0} (rank : T → ℕ) (n : ℕ) where
   first-least [] run canonical found = absurd (cc)
   first-least (first ∷ runs) run canonical found =
       let is = get_or_from_slice_get (first ∷ runs) 0 run run found in
-      let ordered = canonical.0.1 in
-      let below = All-head (λ (each : Interval). each.last < n) (entry_run rank first)
-      (runs_of rank runs) canonical.1 in
-      rw (← is) (record {
-        in_type = omega arith;
-        here = members-head (entry_run rank first) (runs_of rank runs) (rank first.0) (omega arith)
-            ordered;
-        least = λ other member. elim (cases_lt other (rank first.0)) [
-          | inl before ↦
-              absurd (not_both _ member
-              (members-below (rank first.0) (runs_of rank (first ∷ runs)) other
-              (omega arith, ordered, canonical.0.2) before))
-          | inr from ↦ from
-        ];
-      })
-
-  -- the run at the last position ends with the greatest member
-  last-at : (low : ℕ) (runs : List (T × T)) (i : ℕ) (run : T × T)
-      → IsCanonicalFrom low (runs_of rank runs)
-      → AllEndBelow n (runs_of rank runs) → i + 1 ≡ length runs
-      → IsGreatest n (members (runs_of rank runs)) (rank (get_or runs i run).1)
-      × (low ≤ rank (get_or runs i run).1)
-  last-at low [] i run canonical below last = absurd (omega (arith, last))
-  last-at low (first ∷ []) zero run canonical below last =
-      let starts = canonical.0 in
-      let ordered = canonical.1 in (
-        record {
-          in_type = All-head (λ (each : Interval). each.last < n) (entry_run rank first) [] below;
-          here = members-head (entry_run rank first) [] (rank first.1) ordered (omega arith);
-          greatest = λ other member. elim (cases_lt (rank first.1) other) [
-            | inl past ↦ absurd
-                (not_both _ member (members-tail (entry_run rank first) [] other (inr past)))
-            | inr within ↦ within
-          ];
-        },
-        omega arith,
-      )
-  last-at low (first ∷ second ∷ runs) zero run canonical below last = absurd (omega (arith, last))
-  last-at low (first ∷ runs) (suc i) run canonical below last =
-      let tail = All-tail (λ (each : Interval). each.last < n) (entry_run rank first)
-      (runs_of rank runs) below in
-      let rest = last-at (rank first.1 + 2) runs i run canonical.2 tail (omega (arith, last)) in
-      let greatest = rest.0 in
-      let past = rest.1 in
-      let starts = canonical.0 in
-      let ordered = canonical.1 in
-      let point = rank (get_or runs i run).1 in (
-        record {
-          in_type = greatest.in_type;
-          here =
-              members-cons (entry_run rank first) (runs_of rank runs) point
-              ∙ ap (λ test. covers point (entry_run rank first) || test) greatest.here
-              ∙ or-true (covers point (entry_run rank first));
-          greatest = λ other member. elim (cases_lt (rank first.1) other) [
-            | inl later ↦
-                greatest.greatest other
-                (sym (members-tail (entry_run rank first) (runs_of rank runs) other (inr later))
-                ∙ member)
-            | inr within ↦ omega (arith, past)
-          ];
-        },
-        omega (arith, past),
-      )
+      rw (← is) (least-first n (entry_run rank first) (runs_of rank runs) canonical)
 
   -- the last run ends with the greatest member
   pub last-greatest : (runs : List (T × T)) (run : T × T) → IsCanonicalIn n (runs_of rank runs)
@@ -107,8 +60,12 @@ module _ {T : Type 0} (rank : T → ℕ) (n : ℕ) where
   last-greatest runs run canonical found =
       let some = slice_get_within runs (length runs - 1) run found in
       let is = get_or_from_slice_get runs (length runs - 1) run run found in
-      rw (← is) (last-at 0 runs (length runs - 1) run canonical.0 canonical.1
-      (omega (arith, some))).0
+      let last = last-item runs (length runs - 1) run (omega (arith, some)) in
+      let parts : runs_of rank runs ≡ runs_of rank last.front ++ entry_run rank run ∷ [] =
+      ap (runs_of rank) (last.parts ∙ ap (λ (each : T × T). last.front ++ each ∷ []) is)
+      ∙ map-append (entry_run rank) last.front (run ∷ []) in
+      rw parts (greatest-last n (runs_of rank last.front) (entry_run rank run)
+      (subst (IsCanonicalIn n) parts canonical))
 
   -- a set with no run has no member, and one with a run has one
   pub nothing-kept : (runs : List (T × T)) → IsCanonical (runs_of rank runs)

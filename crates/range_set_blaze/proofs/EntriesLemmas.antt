@@ -9,10 +9,28 @@ use Rattle.std.specs.declared.cmp.Ordering.{Ordering}
 use Rattle.std.specs.declared.ops.Bound.TheVariants.{Excluded, Included, Unbounded}
 use Rattle.std.proofs.lemmas.Bool.{cases_lt, eq-eqb, le-ltb, lt-ltb, ne_eqb}
 use Rattle.std.proofs.lemmas.Bool.Decides.{nat_tests}
-use Rattle.std.proofs.lemmas.List.Elements.{All-cons, All-head, All-nil, All-tail}
+use Rattle.std.proofs.lemmas.List.Elements.{filter_passes, All-cons, All-head, All-nil, All-tail, All-weaker}
 use Rattle.rsb_integer.specs.Runs.{Interval, AllEndBelow, IsCanonicalFrom}
 use Rattle.range_set_blaze.specs.Kept.{runs_of, IsAscendingFrom}
 use Rattle.range_set_blaze.specs.Places.{past, up_to}
+
+-- items that all pass a test are kept
+filter-all : {X : Type 0} (test : X → Bool) (P : X → Type 0) → ((x : X) → P x → test x ≡ true)
+    → (items : List X) → All P items → filter test items ≡ items
+filter-all test P passes [] all = refl
+filter-all test P passes (item ∷ items) all =
+    let first = passes item (All-head P item items all) in
+    let rest = filter-all test P passes items (All-tail P item items all) in
+    λ i. cond (first i) (item ∷ rest i) (rest i)
+
+-- and those that all fail it are not
+filter-none : {X : Type 0} (test : X → Bool) (P : X → Type 0) → ((x : X) → P x → test x ≡ false)
+    → (items : List X) → All P items → filter test items ≡ []
+filter-none test P fails [] all = refl
+filter-none test P fails (item ∷ items) all =
+    let first = fails item (All-head P item items all) in
+    let rest = filter-none test P fails items (All-tail P item items all) in
+    λ i. cond (first i) (item ∷ rest i) (rest i)
 
 module _ {T : Type 0} (rank : T → ℕ) (n : ℕ) where
   -- ---- starts that ascend
@@ -111,74 +129,48 @@ module _ {T : Type 0} (rank : T → ℕ) (n : ℕ) where
   -- each of the first starts at the point or below it
   pub up_to-starts : (point : ℕ) (entries : List (T × T))
       → All (λ (entry : T × T). rank entry.0 ≤ point) (up_to rank point entries)
-  up_to-starts point [] = All-nil (λ (entry : T × T). rank entry.0 ≤ point)
-  up_to-starts point (entry ∷ entries) = elim (cases_lt point (rank entry.0)) [
-    | inl above ↦
-        let test : nat_le (rank entry.0) point ≡ false = grind (arith, nat_tests, above) in
-        rw test (up_to-starts point entries)
-    | inr within ↦
-        let test : nat_le (rank entry.0) point ≡ true = grind (arith, nat_tests, within) in
-        rw test (All-cons (λ (each : T × T). rank each.0 ≤ point) entry
-        (up_to rank point entries) within (up_to-starts point entries))
-  ]
+  up_to-starts point entries =
+      All-weaker (λ (entry : T × T). nat_le (rank entry.0) point ≡ true)
+      (λ (entry : T × T). rank entry.0 ≤ point) (λ entry test. grind (arith, nat_tests, test))
+      (up_to rank point entries)
+      (filter_passes (λ (entry : T × T). nat_le (rank entry.0) point) entries)
 
   -- each of the second starts past it
   pub past-starts : (point : ℕ) (entries : List (T × T))
       → All (λ (entry : T × T). point < rank entry.0) (past rank point entries)
-  past-starts point [] = All-nil (λ (entry : T × T). point < rank entry.0)
-  past-starts point (entry ∷ entries) = elim (cases_lt point (rank entry.0)) [
-    | inl above ↦
-        let test : nat_lt point (rank entry.0) ≡ true = grind (arith, nat_tests, above) in
-        rw test (All-cons (λ (each : T × T). point < rank each.0) entry
-        (past rank point entries) above (past-starts point entries))
-    | inr within ↦
-        let test : nat_lt point (rank entry.0) ≡ false = grind (arith, nat_tests, within) in
-        rw test (past-starts point entries)
-  ]
+  past-starts point entries =
+      All-weaker (λ (entry : T × T). nat_lt point (rank entry.0) ≡ true)
+      (λ (entry : T × T). point < rank entry.0) (λ entry test. grind (arith, nat_tests, test))
+      (past rank point entries)
+      (filter_passes (λ (entry : T × T). nat_lt point (rank entry.0)) entries)
 
   -- all entries are up to a point that none starts past
   pub up_to-all : (point : ℕ) (entries : List (T × T))
       → All (λ (entry : T × T). rank entry.0 ≤ point) entries → up_to rank point entries ≡ entries
-  up_to-all point [] all = refl
-  up_to-all point (entry ∷ entries) all =
-      let first = All-head (λ (each : T × T). rank each.0 ≤ point) entry entries all in
-      let test : nat_le (rank entry.0) point ≡ true = grind (arith, nat_tests, first) in
-      let rest = up_to-all point entries
-      (All-tail (λ (each : T × T). rank each.0 ≤ point) entry entries all) in
-      λ i. cond (test i) (entry ∷ rest i) (rest i)
+  up_to-all point =
+      filter-all (λ (entry : T × T). nat_le (rank entry.0) point) (λ (entry : T × T). rank entry.0 ≤ point)
+      (λ entry within. grind (arith, nat_tests, within))
 
   -- and none of them where all start past it
   pub up_to-none : (point : ℕ) (entries : List (T × T))
       → All (λ (entry : T × T). point < rank entry.0) entries → up_to rank point entries ≡ []
-  up_to-none point [] all = refl
-  up_to-none point (entry ∷ entries) all =
-      let first = All-head (λ (each : T × T). point < rank each.0) entry entries all in
-      let test : nat_le (rank entry.0) point ≡ false = grind (arith, nat_tests, first) in
-      let rest = up_to-none point entries
-      (All-tail (λ (each : T × T). point < rank each.0) entry entries all) in
-      λ i. cond (test i) (entry ∷ rest i) (rest i)
+  up_to-none point =
+      filter-none (λ (entry : T × T). nat_le (rank entry.0) point) (λ (entry : T × T). point < rank entry.0)
+      (λ entry above. grind (arith, nat_tests, above))
 
   -- all are past a point that none starts up to
   pub past-all : (point : ℕ) (entries : List (T × T))
       → All (λ (entry : T × T). point < rank entry.0) entries → past rank point entries ≡ entries
-  past-all point [] all = refl
-  past-all point (entry ∷ entries) all =
-      let first = All-head (λ (each : T × T). point < rank each.0) entry entries all in
-      let test : nat_lt point (rank entry.0) ≡ true = grind (arith, nat_tests, first) in
-      let rest = past-all point entries
-      (All-tail (λ (each : T × T). point < rank each.0) entry entries all) in
-      λ i. cond (test i) (entry ∷ rest i) (rest i)
+  past-all point =
+      filter-all (λ (entry : T × T). nat_lt point (rank entry.0)) (λ (entry : T × T). point < rank entry.0)
+      (λ entry above. grind (arith, nat_tests, above))
 
   -- and none of them where all start up to it
   pub past-none : (point : ℕ) (entries : List (T × T))
       → All (λ (entry : T × T). rank entry.0 ≤ point) entries → past rank point entries ≡ []
-  past-none point [] all = refl
-  past-none point (entry ∷ entries) all =
-      let first = All-head (λ (each : T × T). rank each.0 ≤ point) entry entries all in
-      let test : nat_lt point (rank entry.0) ≡ false = grind (arith, nat_tests, first) in
-      let rest = past-none point entries
-      (All-tail (λ (each : T × T). rank each.0 ≤ point) entry entries all) in
-      λ i. cond (test i) (entry ∷ rest i) (rest i)
+  past-none point =
+      filter-none (λ (entry : T × T). nat_lt point (rank entry.0)) (λ (entry : T × T). rank entry.0 ≤ point)
+      (λ entry within. grind (arith, nat_tests, within))
 
   -- entries that ascend past a point all start past it
   pub ascending-past : (low point : ℕ) (entries : List (T × T)) → IsAscendingFrom rank n low entries

@@ -1,6 +1,6 @@
 -- Ranges and values that are added one after the other.
-use Rattle.std.proofs.Common.{◌≡◌, ◌↔◌, ℕ, Bool, true, false, ◌&&◌, ◌||◌, nat_le, nat_lt, ◌+◌, List, [], ◌∷◌, ◌++◌, append-nil, refl, sym, ◌∙◌, ap, subst, inl, inr, arith}
-use Rattle.std.proofs.Math.Bool.{or-false, or_assoc, or_comm}
+use Rattle.std.proofs.Common.{◌≡◌, ◌↔◌, ℕ, Bool, false, ◌&&◌, ◌||◌, nat_le, nat_lt, ◌+◌, List, [], ◌∷◌, ◌++◌, append-nil, refl, sym, ◌∙◌, ap, subst, inl, inr, arith}
+use Rattle.std.proofs.Math.Bool.{or-false, or_assoc}
 use Rattle.std.proofs.lemmas.Bool.{cases_lt}
 use Rattle.std.proofs.lemmas.Bool.Decides.{nat_tests}
 use Rattle.std.proofs.lemmas.List.{map-append}
@@ -28,12 +28,6 @@ pub adds-after : (old mid new : List Interval) (these those : Selection) → Add
 adds-after old mid new these those first second point =
     second point ∙ ap (λ test. test || those point) (first point)
     ∙ or_assoc (members old point) (these point) (those point)
-
--- what one set adds to another, the other adds to the one
-pub adds-turned : (one other new : List Interval) → Adds other new (members one)
-    → Adds one new (members other)
-adds-turned one other new adds point =
-    adds point ∙ or_comm (members other point) (members one point)
 
 -- nothing added is a front of any runs
 pub adds-no_front : (old new runs : List Interval) → new ≡ old → AddsFrontOf old new runs

@@ -1,18 +1,14 @@
--- What an insertion makes of a list of runs.
+-- Where runs go on, and what a run covers that takes in others.
 use Rattle.std.proofs.Common.{◌≡◌, ℕ, Bool, true, false, ◌||◌, ◌+◌, ◌<◌, ◌≤◌, max, List, [], ◌∷◌, ◌++◌, refl, sym, ◌∙◌, ap, inl, inr, arith}
 use Rattle.std.proofs.Math.Bool.{or-false, or_assoc, or_comm}
 use Rattle.std.proofs.lemmas.Bool.{cases_lt}
 use Rattle.std.proofs.lemmas.Bool.Decides.{nat_tests}
-use Rattle.std.proofs.lemmas.List.Elements.{All-append, All-cons, All-tail}
-use Rattle.std.proofs.lemmas.List.Sums.{sum_by-append, sum_by-cons}
-use Rattle.std.specs.List.{sum_by}
-use Rattle.rsb_integer.specs.Runs.{Interval, covers, length_of, members, AllEndBelow, IsCanonicalFrom, IsCanonicalIn}
-use Rattle.rsb_integer.specs.Selection.{count}
-use Rattle.rsb_integer.proofs.ListLemmas.{not_both, All-front}
-use Rattle.rsb_integer.proofs.CanonicalLemmas.{next_start, canonical-append, canonical-parts}
+use Rattle.std.proofs.lemmas.List.Elements.{All-tail}
+use Rattle.rsb_integer.specs.Runs.{Interval, covers, members, AllEndBelow, IsCanonicalFrom}
+use Rattle.rsb_integer.proofs.ListLemmas.{not_both}
+use Rattle.rsb_integer.proofs.CanonicalLemmas.{next_start, canonical-parts}
 use Rattle.rsb_integer.proofs.MembersLemmas.{members-append, members-below, members-cons, members-tail}
-use Rattle.range_set_blaze.specs.Set.{Adds, IsReached}
-use Rattle.range_set_blaze.proofs.KeptLemmas.{sum_by-canonical}
+use Rattle.range_set_blaze.specs.Set.{IsReached}
 
 -- a canonical list goes on no lower than it starts
 pub next_start-from : (low : ℕ) (runs : List Interval) → IsCanonicalFrom low runs
@@ -40,61 +36,11 @@ ends-rest n [] others below = below
 ends-rest n (run ∷ runs) others below =
     ends-rest n runs others (All-tail (λ (each : Interval). each.last < n) run (runs ++ others) below)
 
--- the last two of three tests in an `or` may change places
-or-shift : (left middle right : Bool) → (left || (right || middle)) ≡ ((left || middle) || right)
-or-shift left middle right =
-    ap (λ test. left || test) (or_comm right middle) ∙ sym (or_assoc left middle right)
-
--- a list of runs in which one took the place of those in the middle
-pub record IsReplaced (n : ℕ) (before middle after : List Interval) (run joined : Interval) : Type 0
-  where
-    pub canonical : IsCanonicalIn n (before ++ joined ∷ after)
-    pub adds : Adds (before ++ (middle ++ after)) (before ++ joined ∷ after)
-        (λ point. covers point run)
-    pub counted : count n (members (before ++ joined ∷ after)) + sum_by length_of middle
-        ≡ count n (members (before ++ (middle ++ after))) + length_of joined
-
-module _ (n : ℕ) (before middle after : List Interval) (run joined : Interval)
-    (canonical : IsCanonicalIn n (before ++ (middle ++ after)))
-    (starts : next_start 0 before ≤ joined.first) (order : joined.first ≤ joined.last)
-    (value : joined.last < n) (apart : IsCanonicalFrom (joined.last + 2) after)
-    (same : (point : ℕ) → covers point joined ≡ (covers point run || members middle point)) where
-  -- the new list is canonical
-  replaced-canonical : IsCanonicalIn n (before ++ joined ∷ after)
-  replaced-canonical =
-      let front = canonical-parts 0 before (middle ++ after) canonical.0 in
-      let ends = ends-rest n middle after (ends-rest n before (middle ++ after) canonical.1) in (
-        canonical-append 0 before (joined ∷ after) front.0 (starts, order, apart),
-        All-append (λ (each : Interval). each.last < n) before (joined ∷ after)
-            (All-front (λ (each : Interval). each.last < n) before (middle ++ after) canonical.1)
-            (All-cons (λ (each : Interval). each.last < n) joined after value ends),
-      )
-
-  -- the joined run takes the place of those in the middle
-  pub replaced : IsReplaced n before middle after run joined
-  replaced =
-      let old = before ++ (middle ++ after) in
-      let new = before ++ joined ∷ after in
-      let sum_old = sum_by-append length_of before (middle ++ after) in
-      let sum_rest = sum_by-append length_of middle after in
-      let sum_new = sum_by-append length_of before (joined ∷ after) in
-      let sum_joined = sum_by-cons length_of joined after in
-      let count_old = sum_by-canonical n old canonical in
-      let count_new = sum_by-canonical n new replaced-canonical in
-      record {
-        canonical = replaced-canonical;
-        adds = λ point.
-            members-append before (joined ∷ after) point
-            ∙ ap (λ test. members before point || test)
-            (members-cons joined after point
-            ∙ ap (λ test. test || members after point) (same point)
-            ∙ or_assoc (covers point run) (members middle point) (members after point)
-            ∙ ap (λ test. covers point run || test) (sym (members-append middle after point)))
-            ∙ or-shift (members before point) (members (middle ++ after) point) (covers point run)
-            ∙ ap (λ test. test || covers point run)
-            (sym (members-append before (middle ++ after) point));
-        counted = omega (arith, sum_old, sum_rest, sum_new, sum_joined, count_old, count_new);
-      }
+-- runs that start lower go on no later
+pub next_start-lower : (low lower : ℕ) (runs : List Interval) → lower ≤ low
+    → next_start lower runs ≤ next_start low runs
+next_start-lower low lower [] less = less
+next_start-lower low lower (run ∷ runs) less = omega arith
 
 -- ---- what the joined run covers
 

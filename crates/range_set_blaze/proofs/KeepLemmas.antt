@@ -1,6 +1,6 @@
 -- Values that are kept by a test, one after the other.
 use Rattle.std.proofs.Common.{◌≡◌, ℕ, zero, suc, Bool, true, false, not, ◌&&◌, ◌||◌, ◌+◌, ◌<◌, ◌≤◌, List, [], ◌∷◌, ◌++◌, map, Option, None, Some, IfSome, MatchOption, append_assoc, refl, sym, ap, ◌∙◌, arith, subst}
-use Rattle.std.proofs.Math.Bool.{or-false, or-true}
+use Rattle.std.proofs.Math.Bool.{and-false, or-false, or-true, or_assoc}
 use Rattle.std.proofs.lemmas.Bool.Decides.{nat_tests}
 use Rattle.std.proofs.lemmas.List.{map-append}
 use Rattle.std.proofs.lemmas.List.Elements.{All-cons, All-head, All-tail}
@@ -16,11 +16,6 @@ use Rattle.range_set_blaze.specs.Set.{only}
 use Rattle.range_set_blaze.specs.declared.set.run.Run.{Run}
 
 -- ---- what is left once the first rank is out
-
--- three tests in a row
-or-later : (first second third : Bool) → ((first || second) || third) ≡ (first || (second || third))
-or-later true second third = refl
-or-later false second third = refl
 
 module _ (n : ℕ) (run : Interval) (rest : List Interval) (canonical : IsCanonicalIn n (run ∷ rest))
   where
@@ -53,7 +48,7 @@ module _ (n : ℕ) (run : Interval) (rest : List Interval) (canonical : IsCanoni
               grind (arith, nat_tests, more, starts, ends) in
               members-cons run rest point
               ∙ ap (λ test. test || members rest point) covered
-              ∙ or-later (only run.first point) (covers point next) (members rest point)
+              ∙ or_assoc (only run.first point) (covers point next) (members rest point)
               ∙ ap (λ test. only run.first point || test) (sym (members-cons next rest point));
           fewer = omega (arith, one, other, more, starts, ends);
           listed = ap (λ count. ranks_from run.first count ++ ascending_ranks rest) count
@@ -88,11 +83,6 @@ left-next rank None old new is = sym (ap (runs_of rank) is)
 left-next rank (Some run) old new is = sym (ap (runs_of rank) is)
 
 -- ---- what is kept
-
--- nothing is selected of a test that fails
-and-none : (test : Bool) → (test && false) ≡ false
-and-none true = refl
-and-none false = refl
 
 module _ (n : ℕ) (old todo rest : List Interval) (first : ℕ) (past : IsPastFirst n todo rest first)
     (inside : members old first ≡ true) (keeps has : Selection)
@@ -131,22 +121,11 @@ module _ (n : ℕ) (old todo rest : List Interval) (first : ℕ) (past : IsPastF
           let member : members old point ≡ true = ap (members old) same ∙ inside in
           let kept : keeps point ≡ false = ap keeps same ∙ answer in
           exact point ∙ rw kept
-          (and-none (members old point && not (members todo point))
-          ∙ sym (and-none (members old point && not (members rest point))))
+          (and-false (members old point && not (members todo point))
+          ∙ sym (and-false (members old point && not (members rest point))))
       by false is =
           let left = past.has point in
           exact point ∙ rw (left, is) refl
-
--- where nothing is left, all members were asked about
-pub exact-all : (old : List Interval) (keeps has : Selection)
-    → ((point : ℕ) → has point ≡ intersection (difference (members old) (members [])) keeps point)
-    → (point : ℕ) → has point ≡ intersection (members old) keeps point
-exact-all old keeps has exact point = exact point ∙ ap (λ test. test && keeps point) (stays (members old point))
-  where
-    -- nothing is taken off
-    stays : (test : Bool) → (test && true) ≡ test
-    stays true = refl
-    stays false = refl
 
 -- ---- before the first call
 
@@ -255,7 +234,7 @@ with_piece-longer set run value point order later reached =
     ≡ (covers point run || only value point) =
     grind (arith, nat_tests, order, later, reached) in
     ap (λ test. members set point || test) same
-    ∙ sym (or-later (members set point) (covers point run) (only value point))
+    ∙ sym (or_assoc (members set point) (covers point run) (only value point))
 
 -- a value that begins a piece, once the one before it is in the set
 pub with_piece-parted : (old new : List Interval) (run : Interval) (value point : ℕ)

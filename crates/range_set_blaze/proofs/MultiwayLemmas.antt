@@ -1,15 +1,21 @@
 -- Sets made of any number of sets, by the streams of their ranges.
-use Rattle.std.proofs.Common.{◌≡◌, ℕ, ◌<◌, List, [], ◌∷◌, ◌++◌, ◌∙◌, length, map, refl, sym, ap, subst}
+use Rattle.std.proofs.Common.{◌≡◌, ℕ, List, [], ◌∷◌, ◌++◌, ◌∙◌, length, map, ap, subst}
 use Rattle.std.proofs.lemmas.List.{map-append}
+use Rattle.std.specs.Prelude.{Option}
 use Rattle.std.specs.Iterator.Runs.{EveryRun, ItemsAre, WholeRun}
 use Rattle.std.specs.Vec.Iter.{into_iter_items, into_iter_steps}
+use Rattle.std.specs.declared.ops.RangeInclusive.{RangeInclusive}
 use Rattle.std.specs.declared.vec.IntoIter.{IntoIter}
+use Rattle.rsb_integer.specs.Rank.{intervals_of}
 use Rattle.rsb_integer.specs.Runs.{Interval, members}
 use Rattle.rsb_integer.specs.Selection.{Selection}
 use Rattle.rsb_integer.proofs.RunsLemmas.{runs-members}
+use Rattle.rsb_streams.specs.Items.{GaveRun}
+use Rattle.rsb_streams.specs.Listed.{listed_may_give}
 use Rattle.rsb_streams.specs.Stream.{◌⊆◌, just, Outcomes}
 use Rattle.rsb_many.specs.Many.{may_give_at, runs_by_all}
 use Rattle.rsb_many.specs.MultiwayAtLeast.{GivesRunsOfAllAtMost}
+use Rattle.rsb_many.proofs.HandedInLemmas.{gave-each}
 use Rattle.rsb_many.proofs.MultiwayAtLeastLemmas.{few-these}
 use Rattle.rsb_many.proofs.ManyCallers.{runs_by_all-these, GiveThese}
 use Rattle.range_set_blaze.specs.Multiway.{HasRunsOfAllAtMost, IsMadeOf}
@@ -38,6 +44,33 @@ module _ {S : Type 0} (may_give : S → Outcomes) (runs_of : S → List Interval
   known-few n least streams sets set same may =
       few-these n least may_give streams sets set
       (subst (GiveThese may_give streams) same (give-these streams)) may
+
+-- where streams give the runs of the sets that a value gave, a set of an operation on them is made of
+-- these sets
+module _ {T J I X : Type 0} (becomes : J → I → Type 0) (steps : I → Option X → I → Type 0)
+    (value : J) (sets_of : List X → List (List Interval)) (rank : T → ℕ) (n : ℕ)
+    (streams : List (List (RangeInclusive T)))
+    (gave : GaveRun becomes steps value
+    (λ items. map (intervals_of rank) streams ≡ sets_of items)) where
+  pub gave-made : (operation : List Selection → Selection) (set : List Interval)
+      → runs_by_all n operation (length streams)
+      (may_give_at (listed_may_give rank (λ s. s)) streams) set
+      → GaveRun becomes steps value (λ items. IsMadeOf n operation (sets_of items) set)
+  gave-made operation set may = gave-each becomes steps value
+      (λ items. map (intervals_of rank) streams ≡ sets_of items)
+      (λ items. IsMadeOf n operation (sets_of items) set)
+      (λ items same. known-made (listed_may_give rank (λ s. s)) (intervals_of rank)
+      (λ s each at. at) n operation streams (sets_of items) set same may) gave
+
+  -- with at most as many runs as they have
+  pub gave-few : (least : ℕ) (set : List Interval)
+      → GivesRunsOfAllAtMost least n (listed_may_give rank (λ s. s)) streams (just set)
+      → GaveRun becomes steps value (λ items. HasRunsOfAllAtMost (sets_of items) set)
+  gave-few least set may = gave-each becomes steps value
+      (λ items. map (intervals_of rank) streams ≡ sets_of items)
+      (λ items. HasRunsOfAllAtMost (sets_of items) set)
+      (λ items same. known-few (listed_may_give rank (λ s. s)) (intervals_of rank)
+      (λ s each at. at) n least streams (sets_of items) set same may) gave
 
 -- with the runs of one set more, streams have the runs of one set more
 pub map-more : {X Y : Type 0} (f : X → Y) (values : List X) (value : X) (results : List Y) (result : Y)

@@ -1,74 +1,51 @@
 -- A list of runs that is parted at a rank, and a map that is parted at a key.
-use Rattle.std.proofs.Common.{◌≡◌, ℕ, Bool, true, false, nat_le, ◌&&◌, ◌||◌, ◌+◌, ◌-◌, ◌<◌, ◌≤◌, List, [], ◌∷◌, ◌++◌, append-nil, refl, sym, ap, ◌∙◌, inl, inr, arith, subst}
+use Rattle.std.proofs.Common.{◌≡◌, ℕ, true, false, nat_le, not, ◌&&◌, ◌||◌, ◌+◌, ◌-◌, ◌<◌, ◌≤◌, List, [], ◌∷◌, ◌++◌, refl, sym, ap, ◌∙◌, inl, inr, arith, subst}
 use Rattle.std.specs.List.{All, sum_by}
 use Rattle.std.specs.Map.{keys_of}
 use Rattle.std.specs.Ordering.{is_gt, nat_cmp}
 use Rattle.std.specs.declared.cmp.Ordering.{Ordering}
+use Rattle.std.proofs.Math.Bool.{and-false, and-true, or-false}
 use Rattle.std.proofs.lemmas.Bool.{cases_lt}
 use Rattle.std.proofs.lemmas.Bool.Decides.{nat_tests}
 use Rattle.std.proofs.lemmas.List.{map-append}
-use Rattle.std.proofs.lemmas.List.Elements.{filter-append, All-cons, All-head, All-nil, All-tail, All-weaker}
+use Rattle.std.proofs.lemmas.List.Elements.{All-cons, All-head, All-nil, All-tail, All-weaker}
 use Rattle.std.proofs.lemmas.List.Sums.{sum_by-append, sum_by-cons}
 use Rattle.rsb_integer.specs.Runs.{Interval, length_of, members, AllEndBelow, IsCanonicalFrom, IsCanonicalIn}
-use Rattle.rsb_integer.specs.Selection.{count, intersection}
+use Rattle.rsb_integer.specs.Selection.{count}
 use Rattle.rsb_integer.proofs.CanonicalLemmas.{next_start, canonical-front, canonical-lower, canonical-parts}
 use Rattle.rsb_integer.proofs.MembersLemmas.{members-append, members-below}
 use Rattle.range_set_blaze.specs.Kept.{entry_run, runs_of, IsAscendingFrom}
-use Rattle.range_set_blaze.specs.Places.{past, up_to, IsFree}
-use Rattle.range_set_blaze.specs.Set.{IsSetOf, Removes}
-use Rattle.range_set_blaze.specs.Split.{from_on, IsParting}
-use Rattle.range_set_blaze.proofs.EntriesLemmas.{ascending-front, ascending-middle, past-all, past-none, up_to-all, up_to-none}
+use Rattle.range_set_blaze.specs.Places.{IsFree}
+use Rattle.range_set_blaze.specs.Split.{IsParting}
+use Rattle.range_set_blaze.proofs.EntriesLemmas.{ascending-front, ascending-middle}
 use Rattle.range_set_blaze.proofs.InsertLemmas.{ends-rest, members-front}
 use Rattle.range_set_blaze.proofs.KeptLemmas.{sum_by-canonical, sum_by-within}
+use Rattle.range_set_blaze.proofs.PartsLemmas.{parts-two, AreParts}
 
 -- ---- the members of two parts
-
--- what one part has is told by a test that is true of it alone
-kept-first : (here : Bool) → here ≡ ((here || false) && true)
-kept-first true = refl
-kept-first false = refl
-
-kept-second : (here : Bool) → here ≡ ((false || here) && true)
-kept-second true = refl
-kept-second false = refl
-
-gone-first : (here : Bool) → false ≡ ((here || false) && false)
-gone-first true = refl
-gone-first false = refl
-
-gone-second : (here : Bool) → false ≡ ((false || here) && false)
-gone-second true = refl
-gone-second false = refl
 
 module _ (n : ℕ) (old low high : List Interval) (point : ℕ) (old_is : IsCanonicalIn n old)
     (low_is : IsCanonicalIn n low) (ends : next_start 0 low ≤ point + 1)
     (high_from : IsCanonicalFrom point high) (high_below : AllEndBelow n high)
     (both : (other : ℕ) → members old other ≡ (members low other || members high other))
     (sum : sum_by length_of low + sum_by length_of high ≡ sum_by length_of old) where
-  -- the first part has those below the point
-  parting-below : Removes old low (from_on point)
-  parting-below other = elim (cases_lt other point) [
+  -- the first part has those below the point, and the second the others
+  sides : (other : ℕ) → (members low other ≡ (members old other && not (nat_le point other)))
+      × (members high other ≡ (members old other && nat_le point other))
+  sides other = elim (cases_lt other point) [
     | inl under ↦
         let test : nat_le point other ≡ false = grind (arith, nat_tests, under) in
-        rw (both other, test, members-below point high other high_from under)
-        (kept-first (members low other))
+        let lacks = members-below point high other high_from under in (
+          rw (both other, test, lacks)
+              (sym (and-true (members low other || false) ∙ or-false (members low other))),
+          rw (both other, test, lacks) (sym (and-false (members low other || false))),
+        )
     | inr above ↦
         let test : nat_le point other ≡ true = grind (arith, nat_tests, above) in
-        rw (both other, test, members-front 0 (point + 1) other low low_is.0 ends (omega arith))
-        (gone-second (members high other))
-  ]
-
-  -- and the second the others
-  parting-from : IsSetOf high (intersection (members old) (from_on point))
-  parting-from other = elim (cases_lt other point) [
-    | inl under ↦
-        let test : nat_le point other ≡ false = grind (arith, nat_tests, under) in
-        rw (both other, test, members-below point high other high_from under)
-        (gone-first (members low other))
-    | inr above ↦
-        let test : nat_le point other ≡ true = grind (arith, nat_tests, above) in
-        rw (both other, test, members-front 0 (point + 1) other low low_is.0 ends (omega arith))
-        (kept-second (members high other))
+        let lacks = members-front 0 (point + 1) other low low_is.0 ends (omega arith) in (
+          rw (both other, test, lacks) (sym (and-false (members high other))),
+          rw (both other, test, lacks) (sym (and-true (members high other))),
+        )
   ]
 
   -- the second is canonical
@@ -90,8 +67,8 @@ module _ (n : ℕ) (old low high : List Interval) (point : ℕ) (old_is : IsCano
   parting rank entries lows highs all first second = record {
     low_canonical = rw first low_is;
     high_canonical = rw second high-canonical;
-    below = rw (all, first) parting-below;
-    from = rw (all, second) parting-from;
+    below = rw (all, first) (λ other. (sides other).0);
+    from = rw (all, second) (λ other. (sides other).1);
     counted = rw (all, first, second) parting-counted;
   }
 
@@ -123,28 +100,12 @@ module _ {T : Type 0} (rank : T → ℕ) (n last point : ℕ) (is : last + 1 ≡
     (entries low high : List (T × T)) (parts : entries ≡ low ++ high)
     (below : All (λ (entry : T × T). rank entry.0 < point) low)
     (from : All (λ (entry : T × T). point ≤ rank entry.0) high) where
-  -- of two parts the first has the entries up to a rank, where the second starts past it
-  pub up_to-first : up_to rank last entries ≡ low
-  up_to-first =
-      ap (up_to rank last) parts ∙ filter-append _ low high
-      ∙ ap (λ (rest : List (T × T)). up_to rank last low ++ rest)
-      (up_to-none rank n last high
-      (All-weaker (λ (entry : T × T). point ≤ rank entry.0)
-      (λ (entry : T × T). last < rank entry.0) (λ entry above. omega (arith, is)) high from))
-      ∙ append-nil (up_to rank last low)
-      ∙ up_to-all rank n last low
+  -- of two parts the first has the entries up to a rank, and the second those past it
+  pub two-parts : AreParts rank last last entries low [] high
+  two-parts =
+      parts-two rank n last entries low high parts
       (All-weaker (λ (entry : T × T). rank entry.0 < point)
       (λ (entry : T × T). rank entry.0 ≤ last) (λ entry under. omega (arith, is)) low below)
-
-  -- and the second has those past it
-  pub past-second : past rank last entries ≡ high
-  past-second =
-      ap (past rank last) parts ∙ filter-append _ low high
-      ∙ ap (λ (rest : List (T × T)). rest ++ past rank last high)
-      (past-none rank n last low
-      (All-weaker (λ (entry : T × T). rank entry.0 < point)
-      (λ (entry : T × T). rank entry.0 ≤ last) (λ entry under. omega (arith, is)) low below))
-      ∙ past-all rank n last high
       (All-weaker (λ (entry : T × T). point ≤ rank entry.0)
       (λ (entry : T × T). last < rank entry.0) (λ entry above. omega (arith, is)) high from)
 
@@ -236,8 +197,8 @@ module _ {T : Type 0} (cmp : T → T → Ordering) (rank : T → ℕ) (n : ℕ)
         → IsParting rank n entries low high (rank key)
     parting-free canonical free = elim (cases_lt 0 (rank key)) [
       | inl above ↦
-          let first = up_to-first rank n (rank key - 1) (rank key) (omega (arith, above)) entries low
-          high parts low-starts high-starts in
+          let first = (two-parts rank n (rank key - 1) (rank key) (omega (arith, above)) entries low
+          high parts low-starts high-starts).low_is in
           parting-clean canonical
           (subst (λ (items : List (T × T)). next_start 0 (runs_of rank items) ≤ rank key + 1) first
           (free above))

@@ -61,16 +61,7 @@ module _ {T : Type 0} (rank : T → ℕ) (n : ℕ) (entries : List (T × T))
       (subst (IsCanonicalFrom 0) (point-runs point) canonical.0)).1
       (past-starts rank n point entries)
 
-  -- the others go on from the first
-  pub past-from : (point : ℕ)
-      → IsCanonicalFrom (next_start 0 (runs_of rank (up_to rank point entries)))
-      (runs_of rank (past rank point entries))
-  past-from point =
-      (canonical-parts 0 (runs_of rank (up_to rank point entries))
-      (runs_of rank (past rank point entries))
-      (subst (IsCanonicalFrom 0) (point-runs point) canonical.0)).1
-
-  -- and lie in the type
+  -- which lie in the type
   pub past-below : (point : ℕ) → AllEndBelow n (runs_of rank (past rank point entries))
   past-below point =
       ends-rest n (runs_of rank (up_to rank point entries)) (runs_of rank (past rank point entries))
@@ -97,8 +88,8 @@ module _ {T : Type 0} (rank : T → ℕ) (n : ℕ) (entries : List (T × T))
       (subst (λ (runs : List Interval). IsReached runs start) (point-runs point) reached)
 
 -- the length that is kept is within the type
-pub kept-fits : {T : Type 0} (rank : T → ℕ) (n : ℕ) (entries : List (T × T)) (length : ℕ)
+pub kept-fits : {T : Type 0} {rank : T → ℕ} {n : ℕ} {entries : List (T × T)} {length : ℕ}
     → IsKept rank n entries length → length ≤ n
-kept-fits rank n entries length kept =
+kept-fits {T} {rank} {n} {entries} {length} kept =
     let within = count-within n (members (runs_of rank entries)) in
     omega (arith, within, kept.length)

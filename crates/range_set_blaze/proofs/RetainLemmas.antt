@@ -6,7 +6,7 @@ use Rattle.std.specs.Ordering.{nat_cmp}
 use Rattle.std.specs.BTreeMap.{is_at}
 use Rattle.std.specs.declared.cmp.Ordering.{Ordering}
 use Rattle.std.proofs.lemmas.List.{map-append}
-use Rattle.std.proofs.lemmas.List.Elements.{filter-append, All-append, All-cons, All-head, All-nil, All-weaker}
+use Rattle.std.proofs.lemmas.List.Elements.{All-head, All-push, All-weaker}
 use Rattle.std.proofs.lemmas.List.Sums.{sum_by-append, sum_by-cons}
 use Rattle.rsb_integer.specs.Runs.{Interval, length_of, members, IsCanonicalIn}
 use Rattle.rsb_integer.specs.Selection.{count}
@@ -15,10 +15,10 @@ use Rattle.rsb_streams.specs.Sublists.{IsSublist}
 use Rattle.range_set_blaze.specs.Kept.{entry_of, entry_run, run_of, runs_of, IsAscendingFrom}
 use Rattle.range_set_blaze.specs.Places.{past, StartsWith}
 use Rattle.range_set_blaze.specs.declared.set.run.Run.{Run}
-use Rattle.range_set_blaze.proofs.EntriesLemmas.{ascending-past, ascending-without, canonical-entries, past-all, past-none, remove_entry-at}
+use Rattle.range_set_blaze.proofs.EntriesLemmas.{ascending-past, ascending-without, canonical-entries, remove_entry-at}
 use Rattle.range_set_blaze.proofs.InsertLemmas.{ends-rest}
 use Rattle.range_set_blaze.proofs.KeptLemmas.{sum_by-canonical}
-use Rattle.range_set_blaze.proofs.PartsLemmas.{ascending-before}
+use Rattle.range_set_blaze.proofs.PartsLemmas.{ascending-before, parts-two}
 use Rattle.range_set_blaze.proofs.SublistLemmas.{sublist-next, sublist-skip}
 
 module _ {T : Type 0} (rank : T → ℕ) (n : ℕ) where
@@ -42,9 +42,9 @@ module _ {T : Type 0} (rank : T → ℕ) (n : ℕ) where
     pub fits : number ≤ n
     pub next_is : MatchOption next (todo ≡ []) (λ run. StartsWith todo (entry_of run))
 
-module _ {T : Type 0} (rank : T → ℕ) (n total number : ℕ) (old now : List (T × T)) (run : Run T)
-    (canonical : IsCanonicalIn n (runs_of rank old))
-    (retaining : IsRetaining rank n total number old now (Some run)) where
+module _ {T : Type 0} {rank : T → ℕ} {n total number : ℕ} {old now : List (T × T)} {run : Run T}
+    (retaining : IsRetaining rank n total number old now (Some run))
+    (canonical : IsCanonicalIn n (runs_of rank old)) where
   -- the runs after the next one
   abbrev pub rest : List (T × T)
   rest = retaining.next_is.rest
@@ -123,10 +123,7 @@ module _ {T : Type 0} (rank : T → ℕ) (n total number : ℕ) (old now : List 
   next-rest kept new next is starts found =
       subst (λ (items : List (T × T)). MatchOption next (items ≡ [])
       (λ other. StartsWith items (entry_of other)))
-      (ap (past rank (rank run.end)) is ∙ filter-append _ kept rest
-      ∙ ap (λ (items : List (T × T)). items ++ past rank (rank run.end) rest)
-      (past-none rank n (rank run.end) kept starts)
-      ∙ past-all rank n (rank run.end) rest rest-starts) found
+      (parts-two rank n (rank run.end) new kept rest is starts rest-starts).high_is found
 
   -- as many are to come as there are past its start, and it
   pub asked-coming : to_come rank n (Some run) now ≡ length retaining.todo
@@ -136,24 +133,17 @@ module _ {T : Type 0} (rank : T → ℕ) (n total number : ℕ) (old now : List 
       asked-now ∙ sym (append_assoc retaining.kept (entry_of run ∷ []) rest) in
       let up_to : All (λ (entry : T × T). rank entry.0 ≤ rank run.start)
       (retaining.kept ++ entry_of run ∷ []) =
-      All-append (λ (entry : T × T). rank entry.0 ≤ rank run.start) retaining.kept
-      (entry_of run ∷ [])
+      All-push (λ (entry : T × T). rank entry.0 ≤ rank run.start) retaining.kept (entry_of run)
       (All-weaker (λ (entry : T × T). rank entry.0 < rank run.start)
       (λ (entry : T × T). rank entry.0 ≤ rank run.start) (λ entry below. omega arith)
       retaining.kept (ascending-before rank n 0 retaining.kept (entry_of run) rest asked-ascending))
-      (All-cons (λ (entry : T × T). rank entry.0 ≤ rank run.start) (entry_of run) []
-      (omega arith) (All-nil (λ (entry : T × T). rank entry.0 ≤ rank run.start))) in
+      (omega arith) in
       let later : All (λ (entry : T × T). rank run.start < rank entry.0) rest =
       All-weaker (λ (entry : T × T). rank run.end < rank entry.0)
       (λ (entry : T × T). rank run.start < rank entry.0)
       (λ entry above. omega (arith, ordered.0)) rest rest-starts in
-      let past_start : past rank (rank run.start) now ≡ rest =
-      ap (past rank (rank run.start)) parts
-      ∙ filter-append _ (retaining.kept ++ entry_of run ∷ []) rest
-      ∙ ap (λ (items : List (T × T)). items ++ past rank (rank run.start) rest)
-      (past-none rank n (rank run.start) (retaining.kept ++ entry_of run ∷ []) up_to)
-      ∙ past-all rank n (rank run.start) rest later in
-      let counts = ap length past_start in
+      let counts = ap length (parts-two rank n (rank run.start) now
+      (retaining.kept ++ entry_of run ∷ []) rest parts up_to later).high_is in
       let todo = ap length retaining.next_is.parts in
       omega (arith, counts, todo)
 
@@ -171,10 +161,8 @@ module _ {T : Type 0} (rank : T → ℕ) (n total number : ℕ) (old now : List 
         (retaining.kept ++ entry_of run ∷ [])
     keep-starts =
         let ordered = asked-order in
-        All-append (λ (entry : T × T). rank entry.0 ≤ rank run.end) retaining.kept
-        (entry_of run ∷ []) kept-starts
-        (All-cons (λ (entry : T × T). rank entry.0 ≤ rank run.end) (entry_of run) [] ordered.0
-        (All-nil (λ (entry : T × T). rank entry.0 ≤ rank run.end)))
+        All-push (λ (entry : T × T). rank entry.0 ≤ rank run.end) retaining.kept (entry_of run)
+        kept-starts ordered.0
 
     -- both lists grow by it
     pub keep-counted : number + sum_by length_of (runs_of rank (retaining.done ++ entry_of run ∷ []))

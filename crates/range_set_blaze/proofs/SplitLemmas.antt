@@ -9,18 +9,18 @@ use Rattle.std.proofs.lemmas.Bool.Decides.{nat_tests}
 use Rattle.std.proofs.lemmas.List.{map-append}
 use Rattle.std.proofs.lemmas.List.Elements.{All-append, All-cons, All-nil, All-weaker}
 use Rattle.std.proofs.lemmas.List.Sums.{sum_by-append, sum_by-cons}
-use Rattle.rsb_integer.specs.Runs.{Interval, covers, length_of, members, IsCanonicalIn}
-use Rattle.rsb_integer.proofs.CanonicalLemmas.{next_start-push, canonical-append, canonical-parts}
+use Rattle.rsb_integer.specs.Runs.{Interval, covers, length_of, members}
+use Rattle.rsb_integer.proofs.CanonicalLemmas.{next_start-push, canonical-append}
 use Rattle.rsb_integer.proofs.ListLemmas.{All-front}
 use Rattle.rsb_integer.proofs.MembersLemmas.{members-append, members-cons}
 use Rattle.range_set_blaze.specs.Kept.{entry_of, entry_run, run_of, runs_of, IsAscendingFrom}
-use Rattle.range_set_blaze.specs.Places.{up_to, EndsWith}
+use Rattle.range_set_blaze.specs.Places.{past, IsLastUpTo}
 use Rattle.range_set_blaze.specs.Split.{IsParting}
 use Rattle.range_set_blaze.specs.declared.set.run.Run.{Run}
-use Rattle.range_set_blaze.proofs.CutLemmas.{after, cut-canonical, cut-order, cut-parts, cut-runs, cut-starts, put-after, put-ascending, put-earlier, put-later}
+use Rattle.range_set_blaze.proofs.CutLemmas.{put-after, put-ascending, put-earlier, put-later}
 use Rattle.range_set_blaze.proofs.EntriesLemmas.{ascending-front, remove_entry-at, set_value-at}
-use Rattle.range_set_blaze.proofs.InsertLemmas.{ends-rest}
-use Rattle.range_set_blaze.proofs.PartingLemmas.{high-starts, low-starts, parting, past-second, up_to-first}
+use Rattle.range_set_blaze.proofs.FoundLemmas.{split-at}
+use Rattle.range_set_blaze.proofs.PartingLemmas.{high-starts, low-starts, parting, two-parts}
 
 -- two parts of what a run covers, beside the runs before it and after it
 regroup : (before low high later : Bool) → (before || ((low || high) || later))
@@ -29,18 +29,17 @@ regroup true low high later = refl
 regroup false true high later = refl
 regroup false false high later = refl
 
-module _ {T : Type 0} (rank : T → ℕ) (n : ℕ) (entries : List (T × T))
-    (canonical : IsCanonicalIn n (runs_of rank entries)) (last : ℕ) (run : Run T)
-    (found : EndsWith (up_to rank last entries) (entry_of run)) (cmp : T → T → Ordering)
+module _ {T : Type 0} {rank : T → ℕ} {n : ℕ} {entries : List (T × T)} {last : ℕ} {run : Run T}
+    (found : IsLastUpTo rank n entries last run) (cmp : T → T → Ordering)
     (in_order : (x y : T) → rank x < n → rank y < n → cmp x y ≡ nat_cmp (rank x) (rank y))
     (more : last < rank run.end) (key : T) (is : rank key ≡ last + 1) where
   -- the entries after the run
   abbrev rest : List (T × T)
-  rest = after rank n entries canonical last run found
+  rest = past rank last entries
 
   -- the entries up to the run, and those after it, with one for the key
   abbrev low-part : List (T × T)
-  low-part = found.front ++ entry_of run ∷ []
+  low-part = found.last.front ++ entry_of run ∷ []
 
   abbrev high-part : List (T × T)
   high-part = (key, run.end) ∷ rest
@@ -51,28 +50,25 @@ module _ {T : Type 0} (rank : T → ℕ) (n : ℕ) (entries : List (T × T))
   put-back mid new put out =
       out
       ∙ ap (remove_entry (is_at (cmp key)))
-      (put ∙ put-after rank n entries canonical last run found cmp in_order more key is)
+      (put ∙ put-after found cmp in_order more key is)
       ∙ remove_entry-at cmp rank n in_order 0 low-part (key, run.end) rest
-      (put-ascending rank n entries canonical last run found cmp in_order more key is)
-      ∙ append_assoc found.front (entry_of run ∷ []) rest
-      ∙ sym (cut-parts rank n entries canonical last run found)
+      (put-ascending found cmp in_order more key is)
+      ∙ append_assoc found.last.front (entry_of run ∷ []) rest
+      ∙ sym (split-at found).parts
 
   -- where the run ends below the key, and the entry for it goes on, the runs are parted
   cut-parting : (end : T) → rank end ≡ last
-      → IsParting rank n entries (found.front ++ (run.start, end) ∷ []) high-part (rank key)
+      → IsParting rank n entries (found.last.front ++ (run.start, end) ∷ []) high-part (rank key)
   cut-parting end ends =
-      let starts = cut-starts rank n entries canonical last run found in
-      let order = cut-order rank n entries canonical last run found in
-      let in_type = order.1 in
-      let front = runs_of rank found.front in
-      let all = cut-canonical rank n entries canonical last run found in
-      let parts = canonical-parts 0 front (run_of rank run ∷ runs_of rank rest) all.0 in
+      let starts = found.starts in
+      let in_type = found.value in
+      let split = split-at found in
+      let front = runs_of rank found.last.front in
+      let all = split.canonical in
       let one = entry_run rank (run.start, end) in
       let other = entry_run rank (key, run.end) in
       let front_below = All-front (λ (each : Interval). each.last < n) front
       (run_of rank run ∷ runs_of rank rest) all.1 in
-      let rest_below = ends-rest n (run_of rank run ∷ []) (runs_of rank rest)
-      (ends-rest n front (run_of rank run ∷ runs_of rank rest) all.1) in
       let push = next_start-push 0 front one in
       let low_sum = sum_by-append length_of front (one ∷ []) in
       let low_one = sum_by-cons length_of one [] in
@@ -81,15 +77,15 @@ module _ {T : Type 0} (rank : T → ℕ) (n : ℕ) (entries : List (T × T))
       let old_one = sum_by-cons length_of (run_of rank run) (runs_of rank rest) in
       parting n (front ++ run_of rank run ∷ runs_of rank rest) (front ++ one ∷ [])
       (other ∷ runs_of rank rest) (rank key) all (
-        canonical-append 0 front (one ∷ []) parts.0
-            (parts.1.0, omega (arith, starts, ends), tt),
+        canonical-append 0 front (one ∷ []) split.before
+            (split.later, omega (arith, starts, ends), tt),
         All-append (λ (each : Interval). each.last < n) front (one ∷ []) front_below
             (All-cons (λ (each : Interval). each.last < n) one [] (omega (arith, ends, more, in_type))
             (All-nil (λ (each : Interval). each.last < n))),
       )
       (omega (arith, push, ends, is))
-      (omega arith, omega (arith, is, more), order.2)
-      (All-cons (λ (each : Interval). each.last < n) other (runs_of rank rest) in_type rest_below)
+      (omega arith, omega (arith, is, more), split.after)
+      (All-cons (λ (each : Interval). each.last < n) other (runs_of rank rest) in_type split.below)
       (λ point.
       members-append front (run_of rank run ∷ runs_of rank rest) point
       ∙ ap (λ test. members front point || test) (members-cons (run_of rank run) (runs_of rank rest) point
@@ -104,9 +100,9 @@ module _ {T : Type 0} (rank : T → ℕ) (n : ℕ) (entries : List (T × T))
       ∙ ap (λ test. (members front point || (covers point one || false)) || test)
       (members-cons other (runs_of rank rest) point)))
       (omega (arith, low_sum, low_one, high_sum, old_sum, old_one, starts, ends, is, more))
-      rank entries (found.front ++ (run.start, end) ∷ []) high-part
-      (cut-runs rank n entries canonical last run found)
-      (map-append (entry_run rank) found.front ((run.start, end) ∷ [])) refl
+      rank entries (found.last.front ++ (run.start, end) ∷ []) high-part
+      split.runs
+      (map-append (entry_run rank) found.last.front ((run.start, end) ∷ [])) refl
     where
       -- what an interval covers, in two parts
       cover-split : (point first mid next final : ℕ) → first ≤ mid → next ≡ mid + 1 → next ≤ final
@@ -122,31 +118,33 @@ module _ {T : Type 0} (rank : T → ℕ) (n : ℕ) (entries : List (T × T))
       → rank end + 1 ≡ rank key → (new : List (T × T))
       → new ≡ set_value (is_at (cmp run.start)) low end → IsParting rank n entries new high (rank key)
   parting-within mid low high put parts all_below all_from end ends new moved =
-      let in_type = (cut-order rank n entries canonical last run found).1 in
+      let in_type = found.value in
       let known : rank key < n = omega (arith, in_type, is, more) in
       let placed = put
-      ∙ put-after rank n entries canonical last run found cmp in_order more key is in
-      let all = put-ascending rank n entries canonical last run found cmp in_order more key is in
+      ∙ put-after found cmp in_order more key is in
+      let all = put-ascending found cmp in_order more key is in
       let ascending : IsAscendingFrom rank n 0 mid =
       subst (IsAscendingFrom rank n 0) (sym placed) all in
       let below = low-starts cmp rank n in_order key known mid low high ascending parts all_below
       all_from in
       let from = high-starts cmp rank n in_order key known mid low high ascending parts all_below
       all_from in
-      let earlier = put-earlier rank n entries canonical last run found cmp in_order more key is in
+      let earlier = put-earlier found cmp in_order more key is in
       let later : All (λ (entry : T × T). rank key ≤ rank entry.0) high-part =
       All-cons (λ (entry : T × T). rank key ≤ rank entry.0) (key, run.end) rest (omega arith)
       (All-weaker (λ (entry : T × T). rank key < rank entry.0)
       (λ (entry : T × T). rank key ≤ rank entry.0) (λ entry above. omega arith) rest
-      (put-later rank n entries canonical last run found cmp in_order more key is)) in
+      (put-later found cmp in_order more key is)) in
       let first : low ≡ low-part =
-      sym (up_to-first rank n last (rank key) (sym is) mid low high parts below from)
-      ∙ up_to-first rank n last (rank key) (sym is) mid low-part high-part placed earlier later in
+      sym (two-parts rank n last (rank key) (sym is) mid low high parts below from).low_is
+      ∙ (two-parts rank n last (rank key) (sym is) mid low-part high-part placed earlier later).low_is
+      in
       let second : high ≡ high-part =
-      sym (past-second rank n last (rank key) (sym is) mid low high parts below from)
-      ∙ past-second rank n last (rank key) (sym is) mid low-part high-part placed earlier later in
-      let same : new ≡ found.front ++ (run.start, end) ∷ [] =
+      sym (two-parts rank n last (rank key) (sym is) mid low high parts below from).high_is
+      ∙ (two-parts rank n last (rank key) (sym is) mid low-part high-part placed earlier
+      later).high_is in
+      let same : new ≡ found.last.front ++ (run.start, end) ∷ [] =
       moved ∙ ap (λ (each : List (T × T)). set_value (is_at (cmp run.start)) each end) first
-      ∙ set_value-at cmp rank n in_order 0 found.front (entry_of run) [] end
+      ∙ set_value-at cmp rank n in_order 0 found.last.front (entry_of run) [] end
       (ascending-front rank n 0 low-part high-part all) in
       rw (same, second) (cut-parting end (omega (arith, ends, is)))

@@ -12,7 +12,7 @@ use Rattle.rsb_streams.specs.Stream.{run_if_any}
 use Rattle.rsb_streams.proofs.CheckLemmas.{none-if_empty}
 use Rattle.range_set_blaze.specs.Set.{only, IsGreatest, IsLeast, Removes}
 use Rattle.range_set_blaze.proofs.InsertLemmas.{ends-rest, members-front}
-use Rattle.range_set_blaze.proofs.RemoveLemmas.{parted}
+use Rattle.range_set_blaze.proofs.SpliceLemmas.{parted, parted-removes}
 
 -- an interval that has a rank stands for itself
 pub some-if_any : (run : Interval) → run.first ≤ run.last → run_if_any run ≡ run ∷ []
@@ -113,9 +113,12 @@ pub taken-first : (n : ℕ) (run rest : Interval) (others : List Interval)
 taken-first n run rest others canonical after =
     let below = All-head (λ (each : Interval). each.last < n) run others canonical.1 in
     let shorter = shorter-first n run canonical.0.1 below rest after in
-    let done = parted n [] (run_if_any rest) others run (only run.first) canonical
-    shorter.inner shorter.ends shorter.below shorter.same shorter.within in
-    record { canonical = done.canonical; removes = done.removes }
+    record {
+      canonical = (parted n _ _ [] (run_if_any rest) others run refl refl canonical shorter.inner
+          shorter.ends shorter.below).canonical;
+      removes = parted-removes n _ _ [] (run_if_any rest) others run refl refl canonical
+          shorter.inner shorter.ends shorter.below (only run.first) shorter.same shorter.within;
+    }
 
 module _ (n : ℕ) (others : List Interval) (run : Interval)
     (canonical : IsCanonicalIn n (others ++ run ∷ [])) where
@@ -156,8 +159,11 @@ module _ (n : ℕ) (others : List Interval) (run : Interval)
       → IsTaken n (others ++ run ∷ []) (others ++ run_if_any rest) run.last
   taken-last rest before =
       let shorter = shorter-last n run last-parts.1.1 last-below rest before in
-      let done = parted n others (run_if_any rest) [] run (only run.last) canonical
-      shorter.inner shorter.ends shorter.below shorter.same shorter.within in
-      subst (λ parts. IsTaken n (others ++ run ∷ []) (others ++ parts) run.last)
-      (append-nil (run_if_any rest))
-      (record { canonical = done.canonical; removes = done.removes })
+      let left = ap (λ (parts : List Interval). others ++ parts) (sym (append-nil (run_if_any rest)))
+      in
+      record {
+        canonical = (parted n _ _ others (run_if_any rest) [] run refl left canonical shorter.inner
+            shorter.ends shorter.below).canonical;
+        removes = parted-removes n _ _ others (run_if_any rest) [] run refl left canonical
+            shorter.inner shorter.ends shorter.below (only run.last) shorter.same shorter.within;
+      }

@@ -4,7 +4,7 @@ ghost use Rattle.std.specs.Prelude.{◌≡◌, ◌↔◌, ◌+◌, ◌-◌, ◌<
 ghost use Rattle.rsb_integer.specs.Runs.{covers, members};
 ghost use Rattle.rsb_integer.specs.Selection.{IsNothing};
 ghost use Rattle.range_set_blaze.specs.Kept.{run_of, runs_of, IsKept};
-ghost use Rattle.range_set_blaze.specs.Places.{Has, IsFree, IsInserted, IsReaching};
+ghost use Rattle.range_set_blaze.specs.Places.{Has, IsFree, IsInserted, IsOver};
 ghost use Rattle.rsb_streams.specs.RunCount.{HasOneRunMoreAtMost};
 ghost use Rattle.range_set_blaze.specs.Set.{first_rank, only, past_rank, ranks_in, Adds, IsReached, LacksSomeOf};
 
@@ -155,11 +155,11 @@ fn add_run<T: Integer, A: Allocator + Clone>(
     ensures succeeds { IsReached (runs_of T.rank map.old.entries) (T.rank run.start)
         → IsOk result }
 {
-    let Some((last, before)) = last_reaching(map, run.start, next_or_greatest(run.end)) else {
+    let Some(last) = last_reaching(map, run.start, next_or_greatest(run.end)) else {
         return Ok(Some(put_free(map, run, total)?));
     };
     if is_below(run.start, last.start) {
-        return Ok(Some(swallow(map, run, last, before, total)?));
+        return Ok(Some(swallow(map, run, last, total)?));
     }
     if is_below(last.end, run.end) {
         return Ok(Some(lengthen(map, run, last, total)));
@@ -195,11 +195,7 @@ fn lengthen<T: Integer, A: Allocator>(
     last: Run<T>,
     total: T::SafeLen,
 ) -> T::SafeLen
-    requires kept { IsKept T.rank T.value_count map.old.entries (T.SafeLen.number total) }
-    requires order { T.rank run.start ≤ T.rank run.end }
-    requires value { T.rank run.end < T.value_count }
-    requires reaching { IsReaching T.rank (T.rank run.start)
-        (min (T.rank run.end + 1) (T.value_count - 1)) map.old.entries last }
+    requires over { IsOver T.rank T.value_count map.old.entries (T.SafeLen.number total) run last }
     requires start { T.rank last.start ≤ T.rank run.start }
     requires end { T.rank last.end < T.rank run.end }
     ensures { IsInserted T.rank T.value_count

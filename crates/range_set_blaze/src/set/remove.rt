@@ -1,10 +1,10 @@
 //! Removals.
 
 ghost use Rattle.std.specs.Prelude.{◌≡◌, ◌↔◌, ◌+◌, ◌<◌, ◌≤◌, ℕ, [], IfOk, IfSome, IsFalse, IsNone, IsOk, IsSome, IsTrue, OnErr, OnOk};
-ghost use Rattle.rsb_integer.specs.Runs.{members, IsCanonicalIn};
+ghost use Rattle.rsb_integer.specs.Runs.{members};
 ghost use Rattle.range_set_blaze.specs.BothEnds.{TakesGreatest, TakesLeast};
-ghost use Rattle.range_set_blaze.specs.Kept.{entry_of, runs_of, IsKept};
-ghost use Rattle.range_set_blaze.specs.Places.{up_to, EndsWith, IsRemoved};
+ghost use Rattle.range_set_blaze.specs.Kept.{runs_of, IsKept};
+ghost use Rattle.range_set_blaze.specs.Places.{IsLastUpTo, IsRemoved};
 ghost use Rattle.rsb_streams.specs.RunCount.{HasOneRunMoreAtMost};
 ghost use Rattle.range_set_blaze.specs.Set.{only, IsLeast, Removes};
 
@@ -142,8 +142,7 @@ fn cut<T: Integer, A: Allocator + Clone>(
     run: Run<T>,
     value: T,
 ) -> Result<(), AllocError>
-    requires canonical { IsCanonicalIn T.value_count (runs_of T.rank map.old.entries) }
-    requires last { EndsWith (up_to T.rank (T.rank value) map.old.entries) (entry_of run) }
+    requires last { IsLastUpTo T.rank T.value_count map.old.entries (T.rank value) run }
     requires within { T.rank value ≤ T.rank run.end }
     ensures removed { OnOk result
         (IsRemoved T.rank T.value_count map.old.entries map.new.entries (T.rank value)) }

@@ -3,8 +3,8 @@
 ghost use Rattle.std.specs.Prelude.{◌≡◌, ◌+◌, ◌-◌, ◌<◌, ◌≤◌, IfOk, IfSome, IsFalse, IsNone, IsOk, IsSome, OnErr, OnOk};
 ghost use Rattle.rsb_integer.specs.Runs.{members, IsCanonicalIn};
 ghost use Rattle.rsb_integer.specs.Selection.{count, intersection, IsNothing};
-ghost use Rattle.range_set_blaze.specs.Kept.{entry_of, runs_of};
-ghost use Rattle.range_set_blaze.specs.Places.{up_to, EndsWith, IsFree};
+ghost use Rattle.range_set_blaze.specs.Kept.{runs_of};
+ghost use Rattle.range_set_blaze.specs.Places.{IsFree, IsLastUpTo};
 ghost use Rattle.range_set_blaze.specs.Set.{IsSetOf, Removes};
 ghost use Rattle.range_set_blaze.specs.Split.{from_on, IsParting};
 
@@ -88,8 +88,8 @@ fn run_over<T: Integer, A: Allocator>(map: &BTreeMap<T, T, A>, key: T) -> Option
     ensures none { IsNone result → 0 < T.rank key
         → IsFree T.rank (T.rank key + 1) (T.rank key - 1) map.now.entries }
     ensures above { IsSome result → 0 < T.rank key }
-    ensures last { IfSome result (λ run.
-        EndsWith (up_to T.rank (T.rank key - 1) map.now.entries) (entry_of run)) }
+    ensures last { IfSome result
+        (IsLastUpTo T.rank T.value_count map.now.entries (T.rank key - 1)) }
     ensures within { IfSome result (λ run. T.rank key ≤ T.rank run.end) }
 {
     if !is_below(T::min_value(), key) {
@@ -108,8 +108,7 @@ fn part_within<T: Integer, A: Allocator + Clone>(
     run: Run<T>,
     key: T,
 ) -> Result<BTreeMap<T, T, A>, AllocError>
-    requires canonical { IsCanonicalIn T.value_count (runs_of T.rank map.old.entries) }
-    requires last { EndsWith (up_to T.rank (T.rank key - 1) map.old.entries) (entry_of run) }
+    requires last { IsLastUpTo T.rank T.value_count map.old.entries (T.rank key - 1) run }
     requires above { 0 < T.rank key }
     requires within { T.rank key ≤ T.rank run.end }
     ensures parting { IfOk result (λ high. IsParting T.rank T.value_count

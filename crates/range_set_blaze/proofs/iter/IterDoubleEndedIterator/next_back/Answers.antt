@@ -5,7 +5,7 @@ use Rattle.rsb_integer.specs.Runs.{IsEmpty}
 use Rattle.rsb_streams.specs.Stream.{unless}
 use Rattle.range_set_blaze.specs.BothEnds.{is_ready}
 use Rattle.range_set_blaze.proofs.BackTurns.{greatest-drawn, greatest-ended, greatest-held, over-nothing}
-use Rattle.range_set_blaze.proofs.ElementsLeft.{counted-alike, fewer-drawn_back, fewer-other, goes-drawn, goes-ended, goes-held, item-last}
+use Rattle.range_set_blaze.proofs.ElementsLeft.{counted-alike, goes-drawn, goes-ended, goes-held, item-last, on-some}
 use Rattle.range_set_blaze.proofs.iter.IterDoubleEndedIterator.next_back.Goals as goal
 
 -- the stream may be asked from the back
@@ -68,11 +68,9 @@ returns-then-self-clause-goes g c =
       ready = (returns-then-self-clause-steps g c).ready;
     })
     (λ finite. finite) item c.if-self.true
-    (fewer-other item run rest
-    (interval_of g.T.Integer.rank s.back) (interval_of g.T.Integer.rank c.range_next_back.new.range)
-    (c.in_default.ensures.rest.none (omega (arith, none)))
-    (item-last item run rest c.range_next_back-then-self.ensures.none
-    c.range_next_back-then-self.ensures.rest))
+    (on-some item (item-last item run rest c.range_next_back-then-self.ensures.none
+    c.range_next_back-then-self.ensures.rest) (λ fewer.
+    let gone = c.in_default.ensures.rest.none (omega (arith, none)) in omega (arith, fewer, gone)))
 
 -- and where it ends
 pub returns-in_default-next_back-clause-steps : goal.returns-in_default-next_back-clause-steps
@@ -116,11 +114,9 @@ returns-in_default-next_back-clause-goes g c =
       ready = (returns-in_default-next_back-clause-steps g c).ready;
     })
     (alike.ends c.in_default-next_back.ensures.goes.rests) item refl
-    (fewer-other item run rest
-    (interval_of g.T.Integer.rank s.back) (interval_of g.T.Integer.rank c.range_next_back.new.range)
-    (c.in_default.ensures.rest.none (omega (arith, none)))
-    (item-last item run rest c.range_next_back-in_default-next_back.ensures.none
-    c.range_next_back-in_default-next_back.ensures.rest))
+    (on-some item (item-last item run rest c.range_next_back-in_default-next_back.ensures.none
+    c.range_next_back-in_default-next_back.ensures.rest) (λ fewer.
+    let gone = c.in_default.ensures.rest.none (omega (arith, none)) in omega (arith, fewer, gone)))
 
 -- the last of the last range of the stream
 pub returns-clause-steps : goal.returns-clause-steps
@@ -158,7 +154,6 @@ returns-clause-goes g c =
     (alike.ends (λ finite. (c.in-Some-next_back.ensures.goes.on finite).1))
     item c.if-self.false refl
     (alike.fewer (λ finite. (c.in-Some-next_back.ensures.goes.on finite).2))
-    (fewer-drawn_back g.T.Integer.value_count item run rest
-    (interval_of g.T.Integer.rank s.front) (interval_of g.T.Integer.rank s.back)
-    c.range_next_back-2.ensures.value
-    (item-last item run rest c.range_next_back-2.ensures.none c.range_next_back-2.ensures.rest))
+    (on-some item
+    (item-last item run rest c.range_next_back-2.ensures.none c.range_next_back-2.ensures.rest)
+    (λ fewer. let below = c.range_next_back-2.ensures.value in omega (arith, fewer, below)))

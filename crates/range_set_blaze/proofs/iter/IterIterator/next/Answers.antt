@@ -4,7 +4,7 @@ use Rattle.rsb_integer.specs.Rank.{interval_of}
 use Rattle.rsb_integer.specs.Runs.{IsEmpty}
 use Rattle.rsb_streams.specs.Stream.{unless}
 use Rattle.range_set_blaze.specs.BothEnds.{is_ready}
-use Rattle.range_set_blaze.proofs.ElementsLeft.{fewer-drawn, fewer-turned, goes-drawn, goes-ended, goes-held, item-first}
+use Rattle.range_set_blaze.proofs.ElementsLeft.{goes-drawn, goes-ended, goes-held, item-first, on-some}
 use Rattle.range_set_blaze.proofs.FrontTurns.{least-drawn, least-ended, least-held}
 use Rattle.range_set_blaze.proofs.iter.IterIterator.next.Goals as goal
 
@@ -53,11 +53,10 @@ returns-then-self-clause-goes g c =
     goes-ended g.T.Integer.rank g.T.Integer.value_count g.I.Draw.draws_left _ s _
     (returns-then-self-clause-steps g c).ready (λ finite. finite)
     c.range_next-then-self.result c.if-self.true
-    (fewer-turned c.range_next-then-self.result run rest
-    (interval_of g.T.Integer.rank s.front) (interval_of g.T.Integer.rank c.range_next.new.range)
-    (c.in_default.ensures.rest.none (omega (arith, none)))
+    (on-some c.range_next-then-self.result
     (item-first c.range_next-then-self.result run rest
-    c.range_next-then-self.ensures.none c.range_next-then-self.ensures.rest))
+    c.range_next-then-self.ensures.none c.range_next-then-self.ensures.rest) (λ fewer.
+    let gone = c.in_default.ensures.rest.none (omega (arith, none)) in omega (arith, fewer, gone)))
 
 -- and where it ends
 pub returns-in_default-draw-clause-steps : goal.returns-in_default-draw-clause-steps
@@ -81,11 +80,10 @@ returns-in_default-draw-clause-goes g c =
     goes-ended g.T.Integer.rank g.T.Integer.value_count g.I.Draw.draws_left _ s _
     (returns-in_default-draw-clause-steps g c).ready c.in_default-draw.ensures.goes.rests
     c.range_next-in_default-draw.result refl
-    (fewer-turned c.range_next-in_default-draw.result run rest
-    (interval_of g.T.Integer.rank s.front) (interval_of g.T.Integer.rank c.range_next.new.range)
-    (c.in_default.ensures.rest.none (omega (arith, none)))
+    (on-some c.range_next-in_default-draw.result
     (item-first c.range_next-in_default-draw.result run rest
-    c.range_next-in_default-draw.ensures.none c.range_next-in_default-draw.ensures.rest))
+    c.range_next-in_default-draw.ensures.none c.range_next-in_default-draw.ensures.rest) (λ fewer.
+    let gone = c.in_default.ensures.rest.none (omega (arith, none)) in omega (arith, fewer, gone)))
 
 -- the first of the next range of the stream
 pub returns-clause-steps : goal.returns-clause-steps
@@ -109,8 +107,7 @@ returns-clause-goes g c =
     (returns-clause-steps g c).ready (λ finite. (c.in-Some-draw.ensures.goes.on finite).1)
     c.range_next-2.result c.if-self.false refl
     (λ finite. (c.in-Some-draw.ensures.goes.on finite).2)
-    (fewer-drawn g.T.Integer.value_count c.range_next-2.result run rest
-    (interval_of g.T.Integer.rank s.back) (interval_of g.T.Integer.rank s.front)
-    c.range_next-2.ensures.value
+    (on-some c.range_next-2.result
     (item-first c.range_next-2.result run rest c.range_next-2.ensures.none
-    c.range_next-2.ensures.rest))
+    c.range_next-2.ensures.rest) (λ fewer.
+    let below = c.range_next-2.ensures.value in omega (arith, fewer, below)))

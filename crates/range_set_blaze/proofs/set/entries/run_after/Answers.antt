@@ -1,22 +1,16 @@
-use Rattle.std.proofs.Common.{◌∙◌, sym}
-use Rattle.range_set_blaze.proofs.EntriesLemmas.{between-past}
+use Rattle.range_set_blaze.proofs.FoundLemmas.{found-past}
+use Rattle.range_set_blaze.proofs.PointLemmas.{kept-ascending}
 use Rattle.range_set_blaze.proofs.set.entries.run_after.Goals as goal
 
--- the range has the entries past the value
-pub returns-in_err-start : goal.returns-in_err-start
-returns-in_err-start g c =
-    let laws = g.met.T.Integer in
-    let same = between-past g.T.Ord.cmp g.T.Integer.rank g.T.Integer.value_count laws.in_order
-    c.args.value c.requires.value 0 c.args.map.now.entries c.requires.ascending in
-    rw c.from_residual.ensures
-    (sym same ∙ sym (c.range.ensures.between tt) ∙ c.in_err-start.ensures.steps.0)
+-- the starts of a set ascend
+pub first_after-requires-clause-ascending : goal.first_after-requires-clause-ascending
+first_after-requires-clause-ascending g c =
+    kept-ascending g.T.Integer.rank g.T.Integer.value_count c.args.map.now.entries
+    c.requires.canonical
 
+-- the first of its runs is in order, and lies in the type
 pub returns : goal.returns
 returns g c =
-    let laws = g.met.T.Integer in
-    let same = between-past g.T.Ord.cmp g.T.Integer.rank g.T.Integer.value_count laws.in_order
-    c.args.value c.requires.value 0 c.args.map.now.entries c.requires.ascending in
-    record {
-      rest = c.next.new.self;
-      parts = sym same ∙ sym (c.range.ensures.between tt) ∙ c.in_ok-start.ensures.steps;
-    }
+    found-past g.T.Integer.rank g.T.Integer.value_count c.args.map.now.entries
+    c.requires.canonical (g.T.Integer.rank c.args.value) c.first_after.result
+    c.first_after.ensures

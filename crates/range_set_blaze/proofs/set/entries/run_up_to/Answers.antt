@@ -1,17 +1,15 @@
-use Rattle.std.proofs.Common.{◌≡◌, ◌∙◌, List, [], MatchOption, subst}
-use Rattle.range_set_blaze.specs.Kept.{entry_of}
-use Rattle.range_set_blaze.specs.Places.{EndsWith}
-use Rattle.range_set_blaze.proofs.AloneLemmas.{ends-with}
-use Rattle.range_set_blaze.proofs.EntriesLemmas.{between-up_to}
+use Rattle.range_set_blaze.proofs.FoundLemmas.{found-up_to}
+use Rattle.range_set_blaze.proofs.PointLemmas.{kept-ascending}
 use Rattle.range_set_blaze.proofs.set.entries.run_up_to.Goals as goal
 
--- the range has the entries up to the value
+-- the starts of a set ascend
+pub last_up_to-requires-clause-ascending : goal.last_up_to-requires-clause-ascending
+last_up_to-requires-clause-ascending g c =
+    kept-ascending g.T.Integer.rank g.T.Integer.value_count c.args.map.now.entries
+    c.requires.canonical
+
+-- the last of its runs is in order, and lies in the type
 pub returns : goal.returns
 returns g c =
-    let laws = g.met.T.Integer in
-    let same = between-up_to g.T.Ord.cmp g.T.Integer.rank g.T.Integer.value_count laws.in_order
-    c.args.value c.requires.value 0 c.args.map.now.entries c.requires.ascending in
-    subst (λ (items : List (g.row.T.Denot × g.row.T.Denot)).
-    MatchOption c.last_run.result (items ≡ []) (λ run. EndsWith items (entry_of run)))
-    (c.range-entries.ensures.between tt ∙ same)
-    (ends-with c.range-entries.result c.last_run.new.entries c.last_run.result c.last_run.ensures)
+    found-up_to g.T.Integer.rank g.T.Integer.value_count c.args.map.now.entries
+    c.requires.canonical (g.T.Integer.rank c.args.value) c.last_up_to.result c.last_up_to.ensures

@@ -25,7 +25,6 @@ safe_len-requires g c =
 -- and in the type
 pub add_assign-requires : goal.add_assign-requires
 add_assign-requires g c =
-    let laws = g.met.T.Integer in
     let s = c.loop-range.iter in
     let t = c.draw.new.self in
     let run = interval_of g.T.Integer.rank c.in-Some.range in
@@ -36,13 +35,12 @@ add_assign-requires g c =
     (g.met.I.Draw.answers s t (Some c.in-Some.range) c.in-Some.ensures.steps rest may))
     (g.met.I.Draw.sorted t c.in-Some.ensures.goes.keeps).some in
     g.met.T.SafeLen.SafeLength.sum_allowed c.loop-range.length c.safe_len.result
-    (omega (arith, fits, laws.lengths_suffice, c.loop-range.invariant.length, c.safe_len.ensures))
+    (omega (arith, fits, g.met.T.Integer.lengths_suffice, c.loop-range.invariant.length, c.safe_len.ensures))
 
 pub loop-range-preserved : goal.loop-range-preserved
 loop-range-preserved g c =
     let s = c.loop-range.iter in
     let t = c.draw.new.self in
-    let laws = g.met.T.Integer in
     let rank = g.T.Integer.rank in
     let n = g.T.Integer.value_count in
     let run = interval_of rank c.in-Some.range in

@@ -8,12 +8,11 @@ use Rattle.range_set_blaze.proofs.set.fill.map_of.Goals as goal
 -- the entries came in order, so the map has these
 pub returns : goal.returns
 returns g c =
-    let laws = g.met.T.Integer in
     let rank = g.T.Integer.rank in
     let n = g.T.Integer.value_count in
     IfOk-weaker c.from_iter.result _ _ (λ map ran.
     let last = ran.3.2 tt in
-    made-entries g.T.Ord.cmp g.met.T.Ord.total rank n laws.in_order laws.exact
+    made-entries g.T.Ord.cmp g.met.T.Ord.total rank n g.met.T.Integer.in_order g.met.T.Integer.exact
     ran.1 c.args.entries.items map ran.4
     (All-taken ran.0 ran.1 (last.0, (ran.3.0, ran.3.1, last.1)) ∙ ran.2.0)
     (kept-ascending rank n c.args.entries.items c.requires))

@@ -1,6 +1,6 @@
 use Rattle.std.proofs.Common.{arith, refl}
 use Rattle.range_set_blaze.proofs.KeptLemmas.{lt-fails}
-use Rattle.range_set_blaze.proofs.InsertedLemmas.{last-has, last-order, over}
+use Rattle.range_set_blaze.proofs.InsertedLemmas.{last-has}
 use Rattle.range_set_blaze.proofs.PointLemmas.{free-reached}
 use Rattle.range_set_blaze.proofs.set.insert.add_run.Goals as goal
 
@@ -13,19 +13,31 @@ returns-in_err-put_free-clause-succeeds g c reached =
     (omega (arith, c.next_or_greatest.ensures, c.requires.order, c.requires.value))
     (c.in_default.ensures.none refl) reached)
 
--- the last run is in order, and lies in the type
-pub is_below-requires-clause-right : goal.is_below-requires-clause-right
-is_below-requires-clause-right g c =
-    let order = last-order (over c.args.run c.requires.kept c.requires.order c.requires.value (rw c.next_or_greatest.ensures at c.in-Some.ensures.found)) in
-    omega (arith, order.0, order.1)
+-- the last run is the last that the run reaches
+pub swallow-requires-clause-over : goal.swallow-requires-clause-over
+swallow-requires-clause-over g c = record {
+  kept = c.requires.kept;
+  order = c.requires.order;
+  value = c.requires.value;
+  reaching = rw c.next_or_greatest.ensures at c.in-Some.ensures.found;
+}
 
-pub is_below-requires-2-clause-left : goal.is_below-requires-2-clause-left
-is_below-requires-2-clause-left g c =
-    (last-order (over c.args.run c.requires.kept c.requires.order c.requires.value (rw c.next_or_greatest.ensures at c.in-Some.ensures.found))).1
+pub lengthen-requires-clause-over : goal.lengthen-requires-clause-over
+lengthen-requires-clause-over g c = record {
+  kept = c.requires.kept;
+  order = c.requires.order;
+  value = c.requires.value;
+  reaching = rw c.next_or_greatest.ensures at c.in-Some.ensures.found;
+}
 
 -- it has all values of the run
 pub returns-clause-within : goal.returns-clause-within
 returns-clause-within g c none =
-    last-has (over c.args.run c.requires.kept c.requires.order c.requires.value (rw c.next_or_greatest.ensures at c.in-Some.ensures.found))
+    last-has (record {
+      kept = c.requires.kept;
+      order = c.requires.order;
+      value = c.requires.value;
+      reaching = rw c.next_or_greatest.ensures at c.in-Some.ensures.found;
+    })
     (lt-fails c.is_below.result _ _ c.is_below.ensures c.if-is_below.false)
     (lt-fails c.is_below-2.result _ _ c.is_below-2.ensures c.if-is_below-2.false)

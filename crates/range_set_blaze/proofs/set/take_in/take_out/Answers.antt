@@ -1,76 +1,57 @@
-use Rattle.std.proofs.Common.{◌≡◌, [], ◌∷◌, ◌++◌, true, cond, nat_lt, ap, subst, ◌∙◌, arith}
-use Rattle.std.specs.List.{All}
-use Rattle.std.proofs.lemmas.Bool.Decides.{nat_tests}
-use Rattle.std.proofs.lemmas.List.{map-append}
-use Rattle.std.proofs.lemmas.List.Elements.{filter-append}
-use Rattle.rsb_integer.specs.Runs.{IsNonEmpty}
-use Rattle.range_set_blaze.specs.Kept.{entry_of, entry_run, run_of, runs_of}
-use Rattle.range_set_blaze.specs.Places.{past, swallowed}
-use Rattle.range_set_blaze.proofs.PartsLemmas.{All-last}
-use Rattle.range_set_blaze.proofs.TakeLastLemmas.{last-done, last-taken, left-counted, left-runs}
+use Rattle.std.proofs.Common.{arith, refl}
+use Rattle.range_set_blaze.proofs.TakeOutLemmas.{taking-ascending, taking-counted, taking-done, taking-next, taking-shorter}
 use Rattle.range_set_blaze.proofs.set.take_in.take_out.Goals as goal
 
--- the last of those that are taken out has values
+-- nothing was taken out at first
+pub loop-left-init : goal.loop-left-init
+loop-left-init g c = record {
+  ascending = c.requires.ascending;
+  next = c.requires.last;
+  some = c.requires.some;
+  low = refl;
+  high = refl;
+  fewer = omega arith;
+  counted = omega arith;
+}
+
+-- the last that is left has values, and no more than are counted
 pub take_off_length-requires-clause-some : goal.take_off_length-requires-clause-some
 take_off_length-requires-clause-some g c =
-    let rank = g.T.Integer.rank in
-    let front = past rank (rank c.args.start) c.requires.last.front in
-    let last = entry_of c.args.last in
-    let test : nat_lt (rank c.args.start) (rank c.args.last.start) ≡ true =
-    grind (arith, nat_tests, c.requires.later) in
-    let parts : swallowed rank (rank c.args.start) (rank c.args.last.start) c.args.map.now.entries
-    ≡ front ++ last ∷ [] =
-    ap (past rank (rank c.args.start)) c.requires.last.parts
-    ∙ filter-append (λ entry. nat_lt (rank c.args.start) (rank entry.0)) c.requires.last.front (last ∷ [])
-    ∙ ap (λ each. front ++ cond each (last ∷ []) []) test in
-    All-last IsNonEmpty (runs_of rank front) (run_of rank c.args.last)
-    (subst (All IsNonEmpty) (ap (runs_of rank) parts ∙ map-append (entry_run rank) front (last ∷ []))
-    c.requires.runs)
+    (taking-counted (rw c.in-Some.is at c.loop-left.invariant) c.requires.order
+    c.requires.counted).0
 
--- the only one is out
-pub returns-then-alone-clause-spared : goal.returns-then-alone-clause-spared
-returns-then-alone-clause-spared g c =
-    let laws = g.met.T.Integer in
-    last-done g.T.Ord.cmp g.T.Integer.rank g.T.Integer.value_count laws.in_order _ _
-    c.requires.ascending c.args.last c.requires.last c.requires.later c.remove.new.self.entries
-    c.remove.ensures.entries _ _ c.take_off_length.ensures (c.requires.alone c.if-alone.true)
+pub take_off_length-requires-clause-counted : goal.take_off_length-requires-clause-counted
+take_off_length-requires-clause-counted g c =
+    (taking-counted (rw c.in-Some.is at c.loop-left.invariant) c.requires.order
+    c.requires.counted).1
 
--- those that are left ascend, have values, and no more than are counted
-pub take_out_up_to-requires-clause-ascending : goal.take_out_up_to-requires-clause-ascending
-take_out_up_to-requires-clause-ascending g c =
-    let laws = g.met.T.Integer in
-    (last-taken g.T.Ord.cmp g.T.Integer.rank g.T.Integer.value_count laws.in_order _ _
-    c.requires.ascending c.args.last c.requires.last c.requires.later c.remove.new.self.entries
-    c.remove.ensures.entries _ _ c.take_off_length.ensures).ascending
+pub take_off_length-requires-clause-fits : goal.take_off_length-requires-clause-fits
+take_off_length-requires-clause-fits g c =
+    omega (arith, c.loop-left.invariant.fewer, c.requires.fits)
 
-pub take_out_up_to-requires-clause-runs : goal.take_out_up_to-requires-clause-runs
-take_out_up_to-requires-clause-runs g c =
-    let laws = g.met.T.Integer in
-    left-runs g.T.Ord.cmp g.T.Integer.rank g.T.Integer.value_count laws.in_order _ _
-    c.requires.ascending c.args.last c.requires.last c.requires.later c.remove.new.self.entries
-    c.remove.ensures.entries _ _ c.take_off_length.ensures c.requires.runs
+-- the others still ascend
+pub last_between-left-requires-clause-ascending : goal.last_between-left-requires-clause-ascending
+last_between-left-requires-clause-ascending g c =
+    taking-ascending (rw c.in-Some.is at c.loop-left.invariant) c.requires.order g.T.Ord.cmp
+    g.met.T.Integer.in_order c.remove.ensures.entries
 
-pub take_out_up_to-requires-clause-counted : goal.take_out_up_to-requires-clause-counted
-take_out_up_to-requires-clause-counted g c =
-    let laws = g.met.T.Integer in
-    let left = left-counted g.T.Ord.cmp g.T.Integer.rank g.T.Integer.value_count laws.in_order _ _
-    c.requires.ascending c.args.last c.requires.last c.requires.later c.remove.new.self.entries
-    c.remove.ensures.entries _ _ c.take_off_length.ensures in
-    omega (arith, left, c.requires.counted)
+-- one more is taken out
+pub loop-left-smaller : goal.loop-left-smaller
+loop-left-smaller g c =
+    taking-shorter (rw c.in-Some.is at c.loop-left.invariant) c.requires.order g.T.Ord.cmp
+    g.met.T.Integer.in_order c.remove.ensures.entries
 
--- the others are out too
+pub loop-left-preserved : goal.loop-left-preserved
+loop-left-preserved g c =
+    taking-next (rw c.in-Some.is at c.loop-left.invariant) c.requires.order g.T.Ord.cmp
+    g.met.T.Integer.in_order c.remove.ensures.entries _ c.take_off_length.ensures _
+    c.last_between-left.ensures
+
+-- no more is left
 pub returns-clause-spared : goal.returns-clause-spared
 returns-clause-spared g c =
-    let laws = g.met.T.Integer in
-    c.take_out_up_to.ensures.spared
-    ∙ (last-taken g.T.Ord.cmp g.T.Integer.rank g.T.Integer.value_count laws.in_order _ _
-    c.requires.ascending c.args.last c.requires.last c.requires.later c.remove.new.self.entries
-    c.remove.ensures.entries _ _ c.take_off_length.ensures).stays
+    (taking-done (rw c.in_default.is at c.loop-left.invariant) c.requires.order).0
 
 pub returns-clause-others : goal.returns-clause-others
 returns-clause-others g c =
-    let laws = g.met.T.Integer in
-    let left = left-counted g.T.Ord.cmp g.T.Integer.rank g.T.Integer.value_count laws.in_order _ _
-    c.requires.ascending c.args.last c.requires.last c.requires.later c.remove.new.self.entries
-    c.remove.ensures.entries _ _ c.take_off_length.ensures in
-    omega (arith, left, c.take_out_up_to.ensures.others)
+    (taking-done (rw c.in_default.is at c.loop-left.invariant) c.requires.order).1
