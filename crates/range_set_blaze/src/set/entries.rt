@@ -65,10 +65,7 @@ pub(crate) fn run_up_to<T: Integer, A: Allocator>(
 }
 
 // The same, of entries whose starts ascend.
-fn last_up_to<T: Integer, A: Allocator>(
-    map: &BTreeMap<T, T, A>,
-    value: T,
-) -> Option<Run<T>>
+fn last_up_to<T: Integer, A: Allocator>(map: &BTreeMap<T, T, A>, value: T) -> Option<Run<T>>
     requires ascending { IsAscendingFrom T.rank T.value_count 0 map.now.entries }
     requires value { T.rank value < T.value_count }
     ensures { MatchOption result (up_to T.rank (T.rank value) map.now.entries ≡ [])

@@ -10,7 +10,7 @@ ghost use Rattle.range_set_blaze.specs.Retain.{AnswersByRank, AnswersByRun, Asks
 ghost use Rattle.range_set_blaze.specs.Set.{IsSetOf};
 
 use crate::set::RangeSetBlaze;
-use crate::set::entries::{first_run, first_after};
+use crate::set::entries::{first_after, first_run};
 use crate::set::keep::kept_values;
 use crate::set::lengths::take_off_length;
 use rsb_integer::Integer;
