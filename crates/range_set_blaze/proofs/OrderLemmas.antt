@@ -10,7 +10,7 @@ use Rattle.rsb_integer.proofs.ListLemmas.{not_both}
 use Rattle.rsb_integer.proofs.MembersLemmas.{members-append, members-below, members-head, members-tail}
 use Rattle.range_set_blaze.specs.Order.{DiffersAt, HasLater, IsLess, HasOrder}
 use Rattle.range_set_blaze.specs.OrderLaws.{less-not}
-use Rattle.range_set_blaze.proofs.InsertLemmas.{members-front}
+use Rattle.range_set_blaze.proofs.insertion.CoverLemmas.{members-front}
 
 -- ---- two sets have one order
 

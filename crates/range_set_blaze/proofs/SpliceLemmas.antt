@@ -12,7 +12,7 @@ use Rattle.rsb_integer.proofs.CanonicalLemmas.{next_start, canonical-append, can
 use Rattle.rsb_integer.proofs.MembersLemmas.{covers-bounds, members-append, members-below, members-cons}
 use Rattle.range_set_blaze.specs.Kept.{entry_run, runs_of}
 use Rattle.range_set_blaze.specs.Set.{Adds, Removes}
-use Rattle.range_set_blaze.proofs.InsertLemmas.{ends-rest, members-front, next_start-lower}
+use Rattle.range_set_blaze.proofs.insertion.CoverLemmas.{ends-rest, members-front, next_start-lower}
 use Rattle.range_set_blaze.proofs.KeptLemmas.{sum_by-canonical}
 
 -- the runs of entries in three parts

@@ -1,6 +1,6 @@
 use Rattle.range_set_blaze.specs.BothEnds.{runs_left}
-use Rattle.range_set_blaze.proofs.ListedElements.{listed-greatest}
-use Rattle.range_set_blaze.proofs.TakesLemmas.{greatest-goes}
+use Rattle.range_set_blaze.proofs.elements.ListedElements.{listed-greatest}
+use Rattle.range_set_blaze.proofs.elements.ProgressLemmas.{greatest-goes}
 use Rattle.range_set_blaze.proofs.into_iter.IntoIterDoubleEndedIterator.next_back.Goals as goal
 
 -- the greatest element of those that are left

@@ -1,6 +1,6 @@
 use Rattle.range_set_blaze.specs.BothEnds.{runs_left}
-use Rattle.range_set_blaze.proofs.ListedElements.{listed-least}
-use Rattle.range_set_blaze.proofs.TakesLemmas.{least-goes}
+use Rattle.range_set_blaze.proofs.elements.ListedElements.{listed-least}
+use Rattle.range_set_blaze.proofs.elements.ProgressLemmas.{least-goes}
 use Rattle.range_set_blaze.proofs.into_iter.IntoIterIterator.next.Goals as goal
 
 -- the least element of those that are left

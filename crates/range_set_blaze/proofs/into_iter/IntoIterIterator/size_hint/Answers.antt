@@ -1,5 +1,5 @@
-use Rattle.range_set_blaze.proofs.ListedElements.{listed-canonical}
-use Rattle.range_set_blaze.proofs.TakesLemmas.{hint-count}
+use Rattle.range_set_blaze.proofs.elements.ListedElements.{listed-canonical}
+use Rattle.range_set_blaze.proofs.elements.ProgressLemmas.{hint-count}
 use Rattle.range_set_blaze.proofs.into_iter.IntoIterIterator.size_hint.Goals as goal
 
 -- each range has an element

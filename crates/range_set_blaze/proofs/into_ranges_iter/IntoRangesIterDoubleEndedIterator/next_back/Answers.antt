@@ -1,7 +1,7 @@
 use Rattle.std.proofs.Common.{◌∙◌, ◌∷◌, [], ap, sym}
 use Rattle.std.proofs.lemmas.List.{map-append}
 use Rattle.range_set_blaze.specs.Kept.{range_of, ranges_of}
-use Rattle.range_set_blaze.proofs.RangesLemmas.{canonical-goes_back}
+use Rattle.range_set_blaze.proofs.elements.RangesLemmas.{canonical-goes_back}
 use Rattle.range_set_blaze.proofs.into_ranges_iter.IntoRangesIterDoubleEndedIterator.next_back.Goals as goal
 
 -- what is left of canonical ranges is canonical

@@ -4,8 +4,8 @@ use Rattle.rsb_integer.specs.Rank.{interval_of}
 use Rattle.rsb_integer.specs.Runs.{IsEmpty}
 use Rattle.rsb_streams.specs.Stream.{unless}
 use Rattle.range_set_blaze.specs.BothEnds.{is_ready}
-use Rattle.range_set_blaze.proofs.BackTurns.{greatest-drawn, greatest-ended, greatest-held, over-nothing}
-use Rattle.range_set_blaze.proofs.ElementsLeft.{counted-alike, goes-drawn, goes-ended, goes-held, item-last, on-some}
+use Rattle.range_set_blaze.proofs.elements.BackTurns.{greatest-drawn, greatest-ended, greatest-held, over-nothing}
+use Rattle.range_set_blaze.proofs.elements.ElementsLeft.{counted-alike, goes-drawn, goes-ended, goes-held, item-last, on-some}
 use Rattle.range_set_blaze.proofs.iter.IterDoubleEndedIterator.next_back.Goals as goal
 
 -- the stream may be asked from the back

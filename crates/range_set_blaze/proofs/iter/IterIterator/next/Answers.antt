@@ -4,8 +4,8 @@ use Rattle.rsb_integer.specs.Rank.{interval_of}
 use Rattle.rsb_integer.specs.Runs.{IsEmpty}
 use Rattle.rsb_streams.specs.Stream.{unless}
 use Rattle.range_set_blaze.specs.BothEnds.{is_ready}
-use Rattle.range_set_blaze.proofs.ElementsLeft.{goes-drawn, goes-ended, goes-held, item-first, on-some}
-use Rattle.range_set_blaze.proofs.FrontTurns.{least-drawn, least-ended, least-held}
+use Rattle.range_set_blaze.proofs.elements.ElementsLeft.{goes-drawn, goes-ended, goes-held, item-first, on-some}
+use Rattle.range_set_blaze.proofs.elements.FrontTurns.{least-drawn, least-ended, least-held}
 use Rattle.range_set_blaze.proofs.iter.IterIterator.next.Goals as goal
 
 -- the stream may be drawn from

@@ -1,4 +1,4 @@
-use Rattle.range_set_blaze.proofs.ElementsLeft.{hint-within}
+use Rattle.range_set_blaze.proofs.elements.ElementsLeft.{hint-within}
 use Rattle.range_set_blaze.proofs.iter.IterIterator.size_hint.Goals as goal
 
 -- each range has an element

@@ -1,5 +1,5 @@
 use Rattle.rsb_integer.proofs.RangeLemmas.{exhausted-some}
-use Rattle.range_set_blaze.proofs.ExtendLemmas.{adds-between, adds-empty}
+use Rattle.range_set_blaze.proofs.insertion.ExtendLemmas.{adds-between, adds-empty}
 use Rattle.range_set_blaze.proofs.set.RangeSetBlaze.add_range.Goals as goal
 
 -- an empty range adds nothing

@@ -1,5 +1,5 @@
 use Rattle.std.proofs.Common.{refl}
-use Rattle.range_set_blaze.proofs.ExtendLemmas.{adds-no_front, on_err-holds}
+use Rattle.range_set_blaze.proofs.insertion.ExtendLemmas.{adds-no_front, on_err-holds}
 use Rattle.range_set_blaze.proofs.set.RangeSetBlaze.bitor_assign_owned.Goals as goal
 
 -- where the larger set finds no memory, this one is as it was

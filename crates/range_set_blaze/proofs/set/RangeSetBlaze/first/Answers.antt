@@ -1,5 +1,5 @@
 use Rattle.std.proofs.Common.{refl}
-use Rattle.range_set_blaze.proofs.EndLemmas.{first-least, no-runs, some-runs}
+use Rattle.range_set_blaze.proofs.look_up.EndLemmas.{first-least, no-runs, some-runs}
 use Rattle.range_set_blaze.proofs.set.RangeSetBlaze.first.Goals as goal
 
 -- no run is there

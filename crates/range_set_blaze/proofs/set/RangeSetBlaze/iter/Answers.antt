@@ -1,5 +1,5 @@
 use Rattle.std.proofs.Common.{refl}
-use Rattle.range_set_blaze.proofs.ListedElements.{whole-ready, whole-ready_back, whole-runs}
+use Rattle.range_set_blaze.proofs.elements.ListedElements.{whole-ready, whole-ready_back, whole-runs}
 use Rattle.range_set_blaze.proofs.set.RangeSetBlaze.iter.Goals as goal
 
 -- nothing is taken of the runs yet

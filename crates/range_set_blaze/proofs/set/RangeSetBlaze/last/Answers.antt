@@ -1,5 +1,5 @@
 use Rattle.std.proofs.Common.{refl}
-use Rattle.range_set_blaze.proofs.EndLemmas.{last-greatest, no-runs, some-runs}
+use Rattle.range_set_blaze.proofs.look_up.EndLemmas.{last-greatest, no-runs, some-runs}
 use Rattle.range_set_blaze.proofs.set.RangeSetBlaze.last.Goals as goal
 
 -- no run is there

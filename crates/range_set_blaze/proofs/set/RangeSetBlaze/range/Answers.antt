@@ -4,7 +4,7 @@ use Rattle.rsb_integer.specs.Selection.{intersection}
 use Rattle.rsb_streams.specs.Stream.{just, run_if_any}
 use Rattle.rsb_streams.proofs.CallerLemmas.{runs_by_two-within}
 use Rattle.range_set_blaze.specs.Set.{first_rank, past_rank}
-use Rattle.range_set_blaze.proofs.BetweenLemmas.{between-some, interval-new}
+use Rattle.range_set_blaze.proofs.look_up.BetweenLemmas.{between-some, interval-new}
 use Rattle.range_set_blaze.proofs.set.RangeSetBlaze.range.Goals as goal
 
 -- the set and the run between the bounds have these members in common

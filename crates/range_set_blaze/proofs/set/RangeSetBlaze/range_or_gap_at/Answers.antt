@@ -1,6 +1,6 @@
 use Rattle.std.proofs.Common.{sym}
 use Rattle.range_set_blaze.proofs.KeptLemmas.{lt-fails}
-use Rattle.range_set_blaze.proofs.LookUpLemmas.{found-absent, found-around, found-gap, found-present, none-absent, none-gap}
+use Rattle.range_set_blaze.proofs.look_up.GapLemmas.{found-absent, found-around, found-gap, found-present, none-absent, none-gap}
 use Rattle.range_set_blaze.proofs.set.RangeSetBlaze.range_or_gap_at.Goals as goal
 use Rattle.range_set_blaze.proofs.set.RangeSetBlaze.range_or_gap_at.Goals.{in-None, in-Some+else-not-is_below}
 

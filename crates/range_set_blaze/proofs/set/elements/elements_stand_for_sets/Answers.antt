@@ -1,4 +1,4 @@
-use Rattle.range_set_blaze.proofs.ListedElements.{listed-greatest, listed-least}
+use Rattle.range_set_blaze.proofs.elements.ListedElements.{listed-greatest, listed-least}
 use Rattle.range_set_blaze.proofs.set.elements.elements_stand_for_sets.Goals as goal
 
 -- from the front

@@ -1,5 +1,5 @@
 use Rattle.std.proofs.Common.{◌∙◌, sym}
-use Rattle.range_set_blaze.proofs.EntriesLemmas.{between-past}
+use Rattle.range_set_blaze.proofs.look_up.EntriesLemmas.{between-past}
 use Rattle.range_set_blaze.proofs.set.entries.first_after.Goals as goal
 
 -- the range has the entries past the value

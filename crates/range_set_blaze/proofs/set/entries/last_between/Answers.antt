@@ -2,9 +2,9 @@ use Rattle.std.proofs.Common.{◌≤◌, ap, arith, subst}
 use Rattle.std.specs.List.{All}
 use Rattle.range_set_blaze.specs.Kept.{entry_of, IsAscendingFrom}
 use Rattle.range_set_blaze.specs.Places.{past, up_to}
-use Rattle.range_set_blaze.proofs.EntriesLemmas.{ascending-front, point-parts, up_to-starts}
+use Rattle.range_set_blaze.proofs.look_up.EntriesLemmas.{ascending-front, point-parts, up_to-starts}
 use Rattle.range_set_blaze.proofs.KeptLemmas.{lt-fails}
-use Rattle.range_set_blaze.proofs.PartsLemmas.{past-last, past-stops, All-last}
+use Rattle.range_set_blaze.proofs.look_up.ThreePartsLemmas.{past-last, past-stops, All-last}
 use Rattle.range_set_blaze.proofs.set.entries.last_between.Goals as goal
 
 -- none starts up to the point

@@ -1,5 +1,5 @@
 use Rattle.std.proofs.Common.{arith}
-use Rattle.range_set_blaze.proofs.FoundLemmas.{split-at}
+use Rattle.range_set_blaze.proofs.look_up.FoundLemmas.{split-at}
 use Rattle.range_set_blaze.proofs.KeptLemmas.{le-fails}
 use Rattle.range_set_blaze.proofs.set.entries.last_reaching.Goals as goal
 

@@ -1,8 +1,8 @@
 use Rattle.std.proofs.Common.{◌≡◌, ◌∙◌, List, [], MatchOption, subst}
 use Rattle.range_set_blaze.specs.Kept.{entry_of}
 use Rattle.range_set_blaze.specs.Places.{EndsWith}
-use Rattle.range_set_blaze.proofs.FoundLemmas.{ends-with}
-use Rattle.range_set_blaze.proofs.EntriesLemmas.{between-up_to}
+use Rattle.range_set_blaze.proofs.look_up.FoundLemmas.{ends-with}
+use Rattle.range_set_blaze.proofs.look_up.EntriesLemmas.{between-up_to}
 use Rattle.range_set_blaze.proofs.set.entries.last_up_to.Goals as goal
 
 -- the range has the entries up to the value

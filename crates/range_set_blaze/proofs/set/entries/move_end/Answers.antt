@@ -1,6 +1,6 @@
 use Rattle.std.proofs.Common.{refl, sym}
 use Rattle.std.specs.BTreeMap.{is_at}
-use Rattle.range_set_blaze.proofs.EntriesLemmas.{set_value-absent}
+use Rattle.range_set_blaze.proofs.look_up.EntriesLemmas.{set_value-absent}
 use Rattle.range_set_blaze.proofs.set.entries.move_end.Goals as goal
 
 -- nothing is written at a start that is not there

@@ -1,5 +1,5 @@
-use Rattle.range_set_blaze.proofs.FoundLemmas.{found-past}
-use Rattle.range_set_blaze.proofs.PointLemmas.{kept-ascending}
+use Rattle.range_set_blaze.proofs.look_up.FoundLemmas.{found-past}
+use Rattle.range_set_blaze.proofs.look_up.PointLemmas.{kept-ascending}
 use Rattle.range_set_blaze.proofs.set.entries.run_after.Goals as goal
 
 -- the starts of a set ascend

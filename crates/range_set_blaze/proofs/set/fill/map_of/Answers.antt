@@ -2,7 +2,7 @@ use Rattle.std.proofs.Common.{◌∙◌}
 use Rattle.std.proofs.IntoIterSteps.{All-taken}
 use Rattle.std.proofs.lemmas.Result.{IfOk-weaker}
 use Rattle.range_set_blaze.proofs.FilledLemmas.{made-entries}
-use Rattle.range_set_blaze.proofs.PointLemmas.{kept-ascending}
+use Rattle.range_set_blaze.proofs.look_up.PointLemmas.{kept-ascending}
 use Rattle.range_set_blaze.proofs.set.fill.map_of.Goals as goal
 
 -- the entries came in order, so the map has these

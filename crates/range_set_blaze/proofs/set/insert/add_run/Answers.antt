@@ -1,7 +1,7 @@
 use Rattle.std.proofs.Common.{arith, refl}
 use Rattle.range_set_blaze.proofs.KeptLemmas.{lt-fails}
-use Rattle.range_set_blaze.proofs.InsertedLemmas.{last-has}
-use Rattle.range_set_blaze.proofs.PointLemmas.{free-reached}
+use Rattle.range_set_blaze.proofs.insertion.InsertionLemmas.{last-has}
+use Rattle.range_set_blaze.proofs.look_up.PointLemmas.{free-reached}
 use Rattle.range_set_blaze.proofs.set.insert.add_run.Goals as goal
 
 -- no run reaches the start

@@ -1,7 +1,7 @@
 use Rattle.std.proofs.Common.{◌+◌, ◌-◌, arith, refl}
 use Rattle.std.specs.BTreeMap.{is_at}
 use Rattle.std.specs.Map.{set_value}
-use Rattle.range_set_blaze.proofs.InsertedLemmas.{inserted-fits, lengthened}
+use Rattle.range_set_blaze.proofs.insertion.InsertionLemmas.{inserted-fits, lengthened}
 use Rattle.range_set_blaze.proofs.set.insert.lengthen.Goals as goal
 
 -- the length with the fresh values is the number of members then

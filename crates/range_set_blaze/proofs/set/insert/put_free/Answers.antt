@@ -2,7 +2,7 @@ use Rattle.std.proofs.Common.{◌+◌, refl}
 use Rattle.std.specs.BTreeMap.{insert_entry}
 use Rattle.rsb_integer.specs.Runs.{length_of}
 use Rattle.range_set_blaze.specs.Kept.{run_of}
-use Rattle.range_set_blaze.proofs.InsertedLemmas.{inserted-fits, put-free}
+use Rattle.range_set_blaze.proofs.insertion.InsertionLemmas.{inserted-fits, put-free}
 use Rattle.range_set_blaze.proofs.set.insert.put_free.Goals as goal
 
 -- the length with the run is the number of members then

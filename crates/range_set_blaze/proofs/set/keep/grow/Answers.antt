@@ -1,6 +1,6 @@
 use Rattle.std.proofs.Common.{refl}
 use Rattle.range_set_blaze.specs.Kept.{run_of}
-use Rattle.range_set_blaze.proofs.KeepLemmas.{with_piece-begun, with_piece-longer, with_piece-parted}
+use Rattle.range_set_blaze.proofs.removal.KeepLemmas.{with_piece-begun, with_piece-longer, with_piece-parted}
 use Rattle.range_set_blaze.proofs.set.keep.grow.Goals as goal
 
 -- the value begins the first piece

@@ -5,8 +5,8 @@ use Rattle.rsb_integer.specs.Runs.{Interval, members, IsCanonicalFrom}
 use Rattle.rsb_integer.proofs.ListLemmas.{not_both}
 use Rattle.range_set_blaze.specs.Kept.{run_of, runs_of}
 use Rattle.range_set_blaze.specs.Retain.{left_runs, ascending_ranks, with_piece}
-use Rattle.range_set_blaze.proofs.AnswerLemmas.{computes-next}
-use Rattle.range_set_blaze.proofs.KeepLemmas.{exact-false, exact-none, exact-true, first-left, grown-within, head-order, left-canonical, left-later, left-listed, left-next, left-within, piece-below, piece-none}
+use Rattle.range_set_blaze.proofs.removal.AnswerLemmas.{computes-next}
+use Rattle.range_set_blaze.proofs.removal.KeepLemmas.{exact-false, exact-none, exact-true, first-left, grown-within, head-order, left-canonical, left-later, left-listed, left-next, left-within, piece-below, piece-none}
 use Rattle.range_set_blaze.proofs.set.keep.kept_values.Goals as goal
 use Rattle.range_set_blaze.proofs.set.keep.kept_values.Goals.{then-f+in_ok-grown, else-f}
 

@@ -1,6 +1,6 @@
 use Rattle.std.proofs.Common.{arith, refl}
 use Rattle.range_set_blaze.specs.Kept.{run_of, runs_of}
-use Rattle.range_set_blaze.proofs.KeepLemmas.{head-order, left-next, past-more, past-one}
+use Rattle.range_set_blaze.proofs.removal.KeepLemmas.{head-order, left-next, past-more, past-one}
 use Rattle.range_set_blaze.proofs.KeptLemmas.{lt-fails}
 use Rattle.range_set_blaze.proofs.set.keep.next_left.Goals as goal
 

@@ -2,7 +2,7 @@ use Rattle.std.proofs.Common.{◌∙◌, ap, arith}
 use Rattle.rsb_integer.specs.Runs.{members}
 use Rattle.range_set_blaze.specs.Kept.{runs_of}
 use Rattle.range_set_blaze.specs.Places.{past}
-use Rattle.range_set_blaze.proofs.LookUpLemmas.{next-ends, next-free}
+use Rattle.range_set_blaze.proofs.look_up.GapLemmas.{next-ends, next-free}
 use Rattle.range_set_blaze.proofs.set.look_up.gap_end.Goals as goal
 
 -- nothing between the value and the next run is a member

@@ -1,7 +1,7 @@
 use Rattle.std.proofs.Common.{refl}
 use Rattle.rsb_integer.proofs.ListLemmas.{not_both}
 use Rattle.range_set_blaze.proofs.KeptLemmas.{lt-fails}
-use Rattle.range_set_blaze.proofs.LookUpLemmas.{found-absent, found-around, found-present, none-absent}
+use Rattle.range_set_blaze.proofs.look_up.GapLemmas.{found-absent, found-around, found-present, none-absent}
 use Rattle.range_set_blaze.proofs.set.look_up.run_at.Goals as goal
 
 -- no run starts up to the value

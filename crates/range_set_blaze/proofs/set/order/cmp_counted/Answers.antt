@@ -1,4 +1,4 @@
-use Rattle.range_set_blaze.proofs.TurnsLemmas.{turns-bound}
+use Rattle.range_set_blaze.proofs.order.PassingLemmas.{turns-bound}
 use Rattle.range_set_blaze.proofs.set.order.cmp_counted.Goals as goal
 
 pub returns-clause-order : goal.returns-clause-order

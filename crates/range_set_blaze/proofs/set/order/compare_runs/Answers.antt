@@ -5,10 +5,10 @@ use Rattle.rsb_integer.specs.Runs.{members}
 use Rattle.range_set_blaze.specs.Kept.{runs_of}
 use Rattle.range_set_blaze.specs.Order.{HasOrder}
 use Rattle.range_set_blaze.specs.declared.set.run.Run.{Run}
-use Rattle.range_set_blaze.proofs.ComparedLemmas.{apart-order, ended-order, held-fewer, pass-both, pass-left, pass-right}
-use Rattle.range_set_blaze.proofs.HeldLemmas.{held, runs_of-held}
-use Rattle.range_set_blaze.proofs.LastTurnLemmas.{passing-fits}
-use Rattle.range_set_blaze.proofs.TurnsLemmas.{passing-none, IsPassing}
+use Rattle.range_set_blaze.proofs.order.ComparedLemmas.{apart-order, ended-order, held-fewer, pass-both, pass-left, pass-right}
+use Rattle.range_set_blaze.proofs.order.HeldLemmas.{held, runs_of-held}
+use Rattle.range_set_blaze.proofs.order.LastTurnLemmas.{passing-fits}
+use Rattle.range_set_blaze.proofs.order.PassingLemmas.{passing-none, IsPassing}
 use Rattle.range_set_blaze.proofs.set.order.compare_runs.Given.{Over}
 use Rattle.range_set_blaze.proofs.set.order.compare_runs.Goals.{in_default-via-in-Some+in_default, in_default-via-in_default}
 use Rattle.range_set_blaze.proofs.set.order.compare_runs.Goals as goal

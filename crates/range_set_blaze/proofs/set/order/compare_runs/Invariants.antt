@@ -1,8 +1,8 @@
 -- The turns so far passed a common front, and one run more at most.
 use Rattle.std.proofs.Common.{◌+◌, length}
 use Rattle.range_set_blaze.specs.Kept.{runs_of}
-use Rattle.range_set_blaze.proofs.HeldLemmas.{held}
-use Rattle.range_set_blaze.proofs.TurnsLemmas.{IsPassing}
+use Rattle.range_set_blaze.proofs.order.HeldLemmas.{held}
+use Rattle.range_set_blaze.proofs.order.PassingLemmas.{IsPassing}
 use Rattle.range_set_blaze.proofs.set.order.compare_runs.Given as goal
 
 abbrev pub invariant-turns : goal.invariant-turns

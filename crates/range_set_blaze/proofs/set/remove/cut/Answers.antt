@@ -1,5 +1,5 @@
 use Rattle.std.proofs.Common.{arith}
-use Rattle.range_set_blaze.proofs.CutLemmas.{cut-below, cut-whole, split-none, split-some, IsSplit}
+use Rattle.range_set_blaze.proofs.removal.CutLemmas.{cut-below, cut-whole, split-none, split-some, IsSplit}
 use Rattle.range_set_blaze.proofs.KeptLemmas.{lt-fails}
 use Rattle.range_set_blaze.proofs.set.remove.cut.Goals as goal
 use Rattle.range_set_blaze.proofs.set.remove.cut.Goals.{then-is_below+in_ok-insert, else-is_below}

@@ -1,10 +1,10 @@
 use Rattle.std.proofs.Common.{◌+◌, false, arith, inl, inr, refl}
 use Rattle.std.proofs.lemmas.Bool.{cases_lt}
 use Rattle.rsb_integer.proofs.ListLemmas.{not_both}
-use Rattle.range_set_blaze.proofs.FoundLemmas.{split-at}
+use Rattle.range_set_blaze.proofs.look_up.FoundLemmas.{split-at}
 use Rattle.range_set_blaze.proofs.KeptLemmas.{lt-fails}
-use Rattle.range_set_blaze.proofs.LookUpLemmas.{found-absent, none-absent}
-use Rattle.range_set_blaze.proofs.PointLemmas.{kept-fits}
+use Rattle.range_set_blaze.proofs.look_up.GapLemmas.{found-absent, none-absent}
+use Rattle.range_set_blaze.proofs.look_up.PointLemmas.{kept-fits}
 use Rattle.range_set_blaze.proofs.set.remove.take_value.Goals as goal
 
 -- no run starts up to the value

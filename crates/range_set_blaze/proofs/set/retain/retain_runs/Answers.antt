@@ -1,9 +1,9 @@
 use Rattle.std.proofs.Common.{◌<◌, ◌∙◌, ◌∷◌, ◌++◌, [], ap, length, arith, refl, sym}
 use Rattle.std.specs.Range.{range_inclusive_start, range_inclusive_end}
 use denote.Param.Always.{mut_next}
-use Rattle.range_set_blaze.proofs.PointLemmas.{kept-ascending, kept-fits}
-use Rattle.range_set_blaze.proofs.AnswerLemmas.{asked-more, asks-more, computes-next, exact-drop, exact-keep, fewer-coming, range-run, retained-asked, retained-exact, retained-kept, retained-runs}
-use Rattle.range_set_blaze.proofs.RetainLemmas.{asked-counted, asked-order, drop-ascending, retaining-drop, retaining-keep}
+use Rattle.range_set_blaze.proofs.look_up.PointLemmas.{kept-ascending, kept-fits}
+use Rattle.range_set_blaze.proofs.removal.AnswerLemmas.{asked-more, asks-more, computes-next, exact-drop, exact-keep, fewer-coming, range-run, retained-asked, retained-exact, retained-kept, retained-runs}
+use Rattle.range_set_blaze.proofs.removal.RetainLemmas.{asked-counted, asked-order, drop-ascending, retaining-drop, retaining-keep}
 use Rattle.range_set_blaze.proofs.set.retain.retain_runs.Goals as goal
 use Rattle.range_set_blaze.proofs.set.retain.retain_runs.Goals.{then-not-f, else-not-f}
 

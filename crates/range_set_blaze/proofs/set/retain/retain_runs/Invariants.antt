@@ -7,7 +7,7 @@ use Rattle.rsb_integer.specs.Rank.{intervals_of}
 use Rattle.rsb_integer.specs.Runs.{Interval}
 use Rattle.range_set_blaze.specs.Kept.{runs_of}
 use Rattle.range_set_blaze.specs.Retain.{AnswersByRun, IsAsked}
-use Rattle.range_set_blaze.proofs.RetainLemmas.{to_come, IsRetaining}
+use Rattle.range_set_blaze.proofs.removal.RetainLemmas.{to_come, IsRetaining}
 use Rattle.range_set_blaze.proofs.set.retain.retain_runs.Given as goal
 
 abbrev pub invariant-loop-next : goal.invariant-loop-next

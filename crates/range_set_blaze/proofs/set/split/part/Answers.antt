@@ -1,6 +1,6 @@
 use Rattle.std.proofs.Common.{refl}
-use Rattle.range_set_blaze.proofs.PartingLemmas.{parting-free}
-use Rattle.range_set_blaze.proofs.PointLemmas.{kept-ascending}
+use Rattle.range_set_blaze.proofs.removal.PartingLemmas.{parting-free}
+use Rattle.range_set_blaze.proofs.look_up.PointLemmas.{kept-ascending}
 use Rattle.range_set_blaze.proofs.set.split.part.Goals as goal
 
 -- no run goes on over the value

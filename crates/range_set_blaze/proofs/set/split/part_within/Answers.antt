@@ -1,7 +1,7 @@
 use Rattle.std.proofs.Common.{◌∙◌, ap, arith}
 use Rattle.std.specs.BTreeMap.{is_at}
 use Rattle.std.specs.Map.{remove_entry}
-use Rattle.range_set_blaze.proofs.SplitLemmas.{parting-within, put-back}
+use Rattle.range_set_blaze.proofs.removal.SplitLemmas.{parting-within, put-back}
 use Rattle.range_set_blaze.proofs.set.split.part_within.Goals as goal
 
 -- the run ends below the value, and its other part has an entry of its own

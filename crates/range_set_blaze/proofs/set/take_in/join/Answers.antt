@@ -1,8 +1,8 @@
 use Rattle.std.proofs.Common.{◌+◌, ◌-◌, arith, refl}
 use Rattle.std.specs.BTreeMap.{is_at}
 use Rattle.std.specs.Map.{set_value}
-use Rattle.range_set_blaze.proofs.InsertedLemmas.{inserted-fits}
-use Rattle.range_set_blaze.proofs.SwallowLemmas.{first-before, first-inserted, first-out}
+use Rattle.range_set_blaze.proofs.insertion.InsertionLemmas.{inserted-fits}
+use Rattle.range_set_blaze.proofs.insertion.SwallowLemmas.{first-before, first-inserted, first-out}
 use Rattle.range_set_blaze.proofs.set.take_in.join.Goals as goal
 
 -- it is the last of those that are taken out

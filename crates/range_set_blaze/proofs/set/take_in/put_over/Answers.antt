@@ -1,7 +1,7 @@
 use Rattle.std.proofs.Common.{◌+◌, arith}
 use Rattle.rsb_integer.specs.Runs.{length_of}
-use Rattle.range_set_blaze.proofs.InsertedLemmas.{inserted-fits}
-use Rattle.range_set_blaze.proofs.SwallowLemmas.{put-inserted, put-out}
+use Rattle.range_set_blaze.proofs.insertion.InsertionLemmas.{inserted-fits}
+use Rattle.range_set_blaze.proofs.insertion.SwallowLemmas.{put-inserted, put-out}
 use Rattle.range_set_blaze.proofs.set.take_in.put_over.Goals as goal
 
 -- the last run is the last of those that are taken out, which the new entry comes before

@@ -1,5 +1,5 @@
 use Rattle.std.proofs.Common.{arith, refl}
-use Rattle.range_set_blaze.proofs.PointLemmas.{free-reached}
+use Rattle.range_set_blaze.proofs.look_up.PointLemmas.{free-reached}
 use Rattle.range_set_blaze.proofs.set.take_in.swallow.Goals as goal
 
 -- no run reaches the start

@@ -1,5 +1,5 @@
 use Rattle.std.proofs.Common.{arith, refl}
-use Rattle.range_set_blaze.proofs.TakeOutLemmas.{taking-ascending, taking-counted, taking-done, taking-next, taking-shorter}
+use Rattle.range_set_blaze.proofs.insertion.TakeOutLemmas.{taking-ascending, taking-counted, taking-done, taking-next, taking-shorter}
 use Rattle.range_set_blaze.proofs.set.take_in.take_out.Goals as goal
 
 -- nothing was taken out at first

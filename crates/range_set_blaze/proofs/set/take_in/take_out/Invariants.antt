@@ -1,6 +1,6 @@
 -- Some of the last entries were taken out.
 use Rattle.std.proofs.Common.{length}
-use Rattle.range_set_blaze.proofs.TakeOutLemmas.{IsTakingOut}
+use Rattle.range_set_blaze.proofs.insertion.TakeOutLemmas.{IsTakingOut}
 use Rattle.range_set_blaze.proofs.set.take_in.take_out.Given as goal
 
 abbrev pub invariant-loop-left : goal.invariant-loop-left

@@ -1,8 +1,8 @@
 use Rattle.std.proofs.Common.{◌∙◌, ap, refl}
 use Rattle.rsb_integer.specs.Rank.{intervals_of}
 use Rattle.range_set_blaze.specs.Kept.{ranges_of}
-use Rattle.range_set_blaze.proofs.ListedElements.{whole-ready, whole-runs}
-use Rattle.range_set_blaze.proofs.RangesLemmas.{intervals_of-ranges}
+use Rattle.range_set_blaze.proofs.elements.ListedElements.{whole-ready, whole-runs}
+use Rattle.range_set_blaze.proofs.elements.RangesLemmas.{intervals_of-ranges}
 use Rattle.range_set_blaze.proofs.set.elements.RangeSetBlazeIntoIterator.into_iter.Goals as goal
 
 -- nothing is taken of the runs yet, which are canonical

@@ -7,8 +7,8 @@ use Rattle.rsb_integer.proofs.CanonicalLemmas.{next_start}
 use Rattle.range_set_blaze.specs.Kept.{entry_of, runs_of, IsAscendingFrom}
 use Rattle.range_set_blaze.specs.Places.{past, swallowed, up_to, EndsWith}
 use Rattle.range_set_blaze.specs.declared.set.run.Run.{Run}
-use Rattle.range_set_blaze.proofs.EntriesLemmas.{ascending-front, past-all, past-none, past-starts, point-parts, up_to-all, up_to-none}
-use Rattle.range_set_blaze.proofs.InsertLemmas.{next_start-from}
+use Rattle.range_set_blaze.proofs.look_up.EntriesLemmas.{ascending-front, past-all, past-none, past-starts, point-parts, up_to-all, up_to-none}
+use Rattle.range_set_blaze.proofs.insertion.CoverLemmas.{next_start-from}
 
 -- what holds of each item holds of the last
 pub All-last : {X : Type 0} (P : X → Type 0) (front : List X) (last : X) → All P (front ++ last ∷ [])

@@ -6,9 +6,9 @@ use Rattle.rsb_integer.specs.Runs.{Interval, members, AllEndBelow, IsCanonicalFr
 use Rattle.rsb_integer.proofs.CanonicalLemmas.{next_start, canonical-parts}
 use Rattle.range_set_blaze.specs.Order.{start_alike, AreTurns, HasOrder, IsLess}
 use Rattle.range_set_blaze.specs.OrderLaws.{nat_cmp-greater, nat_cmp-less}
-use Rattle.range_set_blaze.proofs.InsertLemmas.{ends-rest}
+use Rattle.range_set_blaze.proofs.insertion.CoverLemmas.{ends-rest}
 use Rattle.range_set_blaze.proofs.OrderLemmas.{less-behind, less-ends, less-goes_on, less-none, less-starts}
-use Rattle.range_set_blaze.proofs.TurnsLemmas.{alike-apart, alike-starts, apart-turned, ends-apart, order_now, turns-behind, two-turns, AreLevel, IsAhead, IsPassing}
+use Rattle.range_set_blaze.proofs.order.PassingLemmas.{alike-apart, alike-starts, apart-turned, ends-apart, order_now, turns-behind, two-turns, AreLevel, IsAhead, IsPassing}
 
 -- ---- canonical lists
 

@@ -17,10 +17,10 @@ use Rattle.range_set_blaze.specs.Kept.{entry_of, entry_run, run_of, runs_of, IsA
 use Rattle.range_set_blaze.specs.Places.{past, IsLastUpTo}
 use Rattle.range_set_blaze.specs.Split.{IsParting}
 use Rattle.range_set_blaze.specs.declared.set.run.Run.{Run}
-use Rattle.range_set_blaze.proofs.CutLemmas.{put-after, put-ascending, put-earlier, put-later}
-use Rattle.range_set_blaze.proofs.EntriesLemmas.{ascending-front, remove_entry-at, set_value-at}
-use Rattle.range_set_blaze.proofs.FoundLemmas.{split-at}
-use Rattle.range_set_blaze.proofs.PartingLemmas.{high-starts, low-starts, parting, two-parts}
+use Rattle.range_set_blaze.proofs.removal.CutLemmas.{put-after, put-ascending, put-earlier, put-later}
+use Rattle.range_set_blaze.proofs.look_up.EntriesLemmas.{ascending-front, remove_entry-at, set_value-at}
+use Rattle.range_set_blaze.proofs.look_up.FoundLemmas.{split-at}
+use Rattle.range_set_blaze.proofs.removal.PartingLemmas.{high-starts, low-starts, parting, two-parts}
 
 -- two parts of what a run covers, beside the runs before it and after it
 regroup : (before low high later : Bool) → (before || ((low || high) || later))

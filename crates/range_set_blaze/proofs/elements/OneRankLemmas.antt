@@ -11,7 +11,7 @@ use Rattle.rsb_integer.proofs.MembersLemmas.{members-append, members-below, memb
 use Rattle.rsb_streams.specs.Stream.{run_if_any}
 use Rattle.rsb_streams.proofs.CheckLemmas.{none-if_empty}
 use Rattle.range_set_blaze.specs.Set.{only, IsGreatest, IsLeast, Removes}
-use Rattle.range_set_blaze.proofs.InsertLemmas.{ends-rest, members-front}
+use Rattle.range_set_blaze.proofs.insertion.CoverLemmas.{ends-rest, members-front}
 use Rattle.range_set_blaze.proofs.SpliceLemmas.{parted, parted-removes}
 
 -- an interval that has a rank stands for itself

@@ -16,11 +16,11 @@ use Rattle.range_set_blaze.specs.Kept.{entry_of, entry_run, run_of, runs_of, IsA
 use Rattle.range_set_blaze.specs.Places.{past, up_to, Has, IsFree, IsInserted, IsOver}
 use Rattle.range_set_blaze.specs.Set.{LacksSomeOf}
 use Rattle.range_set_blaze.specs.declared.set.run.Run.{Run}
-use Rattle.range_set_blaze.proofs.EntriesLemmas.{insert_entry-between, past-starts, point-parts, set_value-at}
-use Rattle.range_set_blaze.proofs.FoundLemmas.{split-at, IsSplitAt}
-use Rattle.range_set_blaze.proofs.InsertLemmas.{covers-alone, covers-longer, lacks-between}
-use Rattle.range_set_blaze.proofs.PartsLemmas.{front-starts}
-use Rattle.range_set_blaze.proofs.PointLemmas.{kept-ascending, past-apart, past-canonical, point-runs, up_to-canonical}
+use Rattle.range_set_blaze.proofs.look_up.EntriesLemmas.{insert_entry-between, past-starts, point-parts, set_value-at}
+use Rattle.range_set_blaze.proofs.look_up.FoundLemmas.{split-at, IsSplitAt}
+use Rattle.range_set_blaze.proofs.insertion.CoverLemmas.{covers-alone, covers-longer, lacks-between}
+use Rattle.range_set_blaze.proofs.look_up.ThreePartsLemmas.{front-starts}
+use Rattle.range_set_blaze.proofs.look_up.PointLemmas.{kept-ascending, past-apart, past-canonical, point-runs, up_to-canonical}
 use Rattle.range_set_blaze.proofs.SpliceLemmas.{runs-parts, splice}
 
 module _ {T : Type 0} {rank : T → ℕ} {n : ℕ} {entries : List (T × T)} {total : ℕ}

@@ -10,8 +10,8 @@ use Rattle.rsb_streams.specs.Stream.{Outcomes, unless}
 use Rattle.rsb_streams.proofs.CheckLemmas.{none-if_empty}
 use Rattle.range_set_blaze.specs.BothEnds.{between_ends, elements_ready, held, is_ready, stream_of, AnswersLast, ElementsReady, IsReady, GivesGreatest}
 use Rattle.range_set_blaze.specs.declared.iter.Iter.{Iter}
-use Rattle.range_set_blaze.proofs.TakenLemmas.{some-if_any}
-use Rattle.range_set_blaze.proofs.TurnLemmas.{along, turn-back, TurnsGreatest}
+use Rattle.range_set_blaze.proofs.elements.OneRankLemmas.{some-if_any}
+use Rattle.range_set_blaze.proofs.elements.CallLemmas.{along, turn-back, TurnsGreatest}
 
 module _ {T I : Type 0} (rank : T → ℕ) (n : ℕ) (can_draw : I → Type 0) (may_give : I → Outcomes)
     (s : Iter T I) (may_call : ElementsReady rank n can_draw may_give s) where

@@ -16,13 +16,13 @@ use Rattle.range_set_blaze.specs.Kept.{entry_of, entry_run, run_of, runs_of, IsA
 use Rattle.range_set_blaze.specs.Places.{past, spared, swallowed, up_to, EndsWith, IsFree, IsInserted, IsLastBetween, IsOver, IsReaching}
 use Rattle.range_set_blaze.specs.Set.{LacksSomeOf}
 use Rattle.range_set_blaze.specs.declared.set.run.Run.{Run}
-use Rattle.range_set_blaze.proofs.EntriesLemmas.{ascending-middle, ascending-with, canonical-past, insert_entry-between, past-starts, set_value-at, up_to-starts}
-use Rattle.range_set_blaze.proofs.FoundLemmas.{split-at, IsSplitAt}
-use Rattle.range_set_blaze.proofs.InsertLemmas.{covers-joined, covers-taken, lacks-between}
-use Rattle.range_set_blaze.proofs.InsertedLemmas.{inserted-at, last-split}
+use Rattle.range_set_blaze.proofs.look_up.EntriesLemmas.{ascending-middle, ascending-with, canonical-past, insert_entry-between, past-starts, set_value-at, up_to-starts}
+use Rattle.range_set_blaze.proofs.look_up.FoundLemmas.{split-at, IsSplitAt}
+use Rattle.range_set_blaze.proofs.insertion.CoverLemmas.{covers-joined, covers-taken, lacks-between}
+use Rattle.range_set_blaze.proofs.insertion.InsertionLemmas.{inserted-at, last-split}
 use Rattle.range_set_blaze.proofs.KeptLemmas.{sum_by-canonical}
-use Rattle.range_set_blaze.proofs.PartsLemmas.{front-starts, in-three, parts-of, past-last, All-last, AreParts}
-use Rattle.range_set_blaze.proofs.PointLemmas.{canonical-some, kept-ascending, kept-fits, past-apart, up_to-canonical}
+use Rattle.range_set_blaze.proofs.look_up.ThreePartsLemmas.{front-starts, in-three, parts-of, past-last, All-last, AreParts}
+use Rattle.range_set_blaze.proofs.look_up.PointLemmas.{canonical-some, kept-ascending, kept-fits, past-apart, up_to-canonical}
 use Rattle.range_set_blaze.proofs.SpliceLemmas.{runs-parts}
 
 module _ {T : Type 0} {rank : T → ℕ} {n : ℕ} {entries : List (T × T)} {total : ℕ}

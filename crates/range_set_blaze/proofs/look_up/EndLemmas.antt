@@ -11,7 +11,7 @@ use Rattle.rsb_integer.proofs.MembersLemmas.{members-head}
 use Rattle.range_set_blaze.specs.Kept.{entry_run, runs_of, IsKept}
 use Rattle.range_set_blaze.specs.Places.{EndsWith}
 use Rattle.range_set_blaze.specs.Set.{IsGreatest, IsLeast}
-use Rattle.range_set_blaze.proofs.TakenLemmas.{greatest-last, least-first}
+use Rattle.range_set_blaze.proofs.elements.OneRankLemmas.{greatest-last, least-first}
 
 -- the item at the last position is the last
 last-item : {X : Type 0} (items : List X) (i : ℕ) (item : X) → i + 1 ≡ length items

@@ -13,8 +13,8 @@ use Rattle.rsb_integer.proofs.ListLemmas.{All-front}
 use Rattle.range_set_blaze.specs.Kept.{entry_of, entry_run, run_of, runs_of, IsAscendingFrom}
 use Rattle.range_set_blaze.specs.Places.{past, spared, swallowed, up_to, EndsWith}
 use Rattle.range_set_blaze.specs.declared.set.run.Run.{Run}
-use Rattle.range_set_blaze.proofs.EntriesLemmas.{ascending-without, past-starts, remove_entry-at, up_to-starts}
-use Rattle.range_set_blaze.proofs.PartsLemmas.{in-three, parts-of, All-last, AreParts}
+use Rattle.range_set_blaze.proofs.look_up.EntriesLemmas.{ascending-without, past-starts, remove_entry-at, up_to-starts}
+use Rattle.range_set_blaze.proofs.look_up.ThreePartsLemmas.{in-three, parts-of, All-last, AreParts}
 
 -- of the entries past the start and up to the last some last ones were taken out, the others are
 -- counted, and `left` is the last that was not

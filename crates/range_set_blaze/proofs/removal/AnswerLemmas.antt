@@ -16,8 +16,8 @@ use Rattle.range_set_blaze.specs.Kept.{entry_of, entry_run, run_of, runs_of, IsK
 use Rattle.range_set_blaze.specs.Retain.{IsAsked}
 use Rattle.range_set_blaze.specs.declared.set.run.Run.{Run}
 use Rattle.range_set_blaze.proofs.KeptLemmas.{sum_by-canonical}
-use Rattle.range_set_blaze.proofs.RetainLemmas.{asked-coming, to_come, IsRetaining}
-use Rattle.range_set_blaze.proofs.SublistLemmas.{sublist-map}
+use Rattle.range_set_blaze.proofs.removal.RetainLemmas.{asked-coming, to_come, IsRetaining}
+use Rattle.range_set_blaze.proofs.removal.SublistLemmas.{sublist-map}
 
 -- the ranks of a range that was made of a run
 pub range-run : {T : Type 0} (rank : T → ℕ) (range : RangeInclusive T) (run : Run T)

@@ -10,8 +10,8 @@ use Rattle.rsb_integer.proofs.CountLemmas.{count-within}
 use Rattle.range_set_blaze.specs.Kept.{entry_run, runs_of, IsAscendingFrom, IsKept}
 use Rattle.range_set_blaze.specs.Places.{past, up_to, IsFree}
 use Rattle.range_set_blaze.specs.Set.{IsReached}
-use Rattle.range_set_blaze.proofs.EntriesLemmas.{canonical-entries, canonical-past, past-starts, point-parts}
-use Rattle.range_set_blaze.proofs.InsertLemmas.{ends-rest, none-reached}
+use Rattle.range_set_blaze.proofs.look_up.EntriesLemmas.{canonical-entries, canonical-past, past-starts, point-parts}
+use Rattle.range_set_blaze.proofs.insertion.CoverLemmas.{ends-rest, none-reached}
 
 -- runs past the last value are none
 canonical-beyond : (n low bound : ℕ) (runs : List Interval) → IsCanonicalFrom low runs

@@ -15,11 +15,11 @@ use Rattle.rsb_streams.specs.Sublists.{IsSublist}
 use Rattle.range_set_blaze.specs.Kept.{entry_of, entry_run, run_of, runs_of, IsAscendingFrom}
 use Rattle.range_set_blaze.specs.Places.{past, StartsWith}
 use Rattle.range_set_blaze.specs.declared.set.run.Run.{Run}
-use Rattle.range_set_blaze.proofs.EntriesLemmas.{ascending-past, ascending-without, canonical-entries, remove_entry-at}
-use Rattle.range_set_blaze.proofs.InsertLemmas.{ends-rest}
+use Rattle.range_set_blaze.proofs.look_up.EntriesLemmas.{ascending-past, ascending-without, canonical-entries, remove_entry-at}
+use Rattle.range_set_blaze.proofs.insertion.CoverLemmas.{ends-rest}
 use Rattle.range_set_blaze.proofs.KeptLemmas.{sum_by-canonical}
-use Rattle.range_set_blaze.proofs.PartsLemmas.{ascending-before, parts-two}
-use Rattle.range_set_blaze.proofs.SublistLemmas.{sublist-next, sublist-skip}
+use Rattle.range_set_blaze.proofs.look_up.ThreePartsLemmas.{ascending-before, parts-two}
+use Rattle.range_set_blaze.proofs.removal.SublistLemmas.{sublist-next, sublist-skip}
 
 module _ {T : Type 0} (rank : T → ℕ) (n : ℕ) where
   -- how many runs are to come

@@ -9,9 +9,9 @@ use Rattle.range_set_blaze.specs.Kept.{run_of, runs_of}
 use Rattle.range_set_blaze.specs.Places.{past, up_to, IsFirstPast, IsLastUpTo}
 use Rattle.range_set_blaze.specs.Set.{IsRunAround}
 use Rattle.range_set_blaze.specs.declared.set.run.Run.{Run}
-use Rattle.range_set_blaze.proofs.FoundLemmas.{split-at}
-use Rattle.range_set_blaze.proofs.InsertLemmas.{lacks-between, members-front}
-use Rattle.range_set_blaze.proofs.PointLemmas.{past-canonical, point-runs, up_to-canonical}
+use Rattle.range_set_blaze.proofs.look_up.FoundLemmas.{split-at}
+use Rattle.range_set_blaze.proofs.insertion.CoverLemmas.{lacks-between, members-front}
+use Rattle.range_set_blaze.proofs.look_up.PointLemmas.{past-canonical, point-runs, up_to-canonical}
 
 module _ {T : Type 0} (rank : T → ℕ) (n : ℕ) (entries : List (T × T))
     (canonical : IsCanonicalIn n (runs_of rank entries)) (value : ℕ) where

@@ -11,9 +11,9 @@ use Rattle.rsb_integer.proofs.MembersLemmas.{members-append, members-head}
 use Rattle.range_set_blaze.specs.Kept.{entry_of, entry_run, run_of, runs_of, IsAscendingFrom}
 use Rattle.range_set_blaze.specs.Places.{past, up_to, EndsWith, IsFirstPast, IsLastUpTo, StartsWith}
 use Rattle.range_set_blaze.specs.declared.set.run.Run.{Run}
-use Rattle.range_set_blaze.proofs.EntriesLemmas.{point-parts, up_to-starts}
-use Rattle.range_set_blaze.proofs.PartsLemmas.{All-last}
-use Rattle.range_set_blaze.proofs.PointLemmas.{kept-ascending, past-below, past-canonical, point-runs, up_to-canonical}
+use Rattle.range_set_blaze.proofs.look_up.EntriesLemmas.{point-parts, up_to-starts}
+use Rattle.range_set_blaze.proofs.look_up.ThreePartsLemmas.{All-last}
+use Rattle.range_set_blaze.proofs.look_up.PointLemmas.{kept-ascending, past-below, past-canonical, point-runs, up_to-canonical}
 
 -- what was taken off the end is the last
 pub ends-with : {T : Type 0} (entries left : List (T × T)) (last : Option (Run T))

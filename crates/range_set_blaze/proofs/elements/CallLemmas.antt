@@ -8,7 +8,7 @@ use Rattle.rsb_streams.specs.Stream.{run_if_any}
 use Rattle.rsb_streams.proofs.CheckLemmas.{none-if_empty}
 use Rattle.range_set_blaze.specs.BothEnds.{TakesGreatest, TakesLeast}
 use Rattle.range_set_blaze.specs.Set.{only, IsGreatest, IsLeast}
-use Rattle.range_set_blaze.proofs.TakenLemmas.{greatest-last, least-first, some-if_any, taken-first, taken-last, IsTaken}
+use Rattle.range_set_blaze.proofs.elements.OneRankLemmas.{greatest-last, least-first, some-if_any, taken-first, taken-last, IsTaken}
 use Rattle.std.proofs.lemmas.Bool.{cases_lt}
 
 module _ {T : Type 0} (rank : T → ℕ) (n : ℕ) where

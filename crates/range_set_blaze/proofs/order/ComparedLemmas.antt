@@ -11,9 +11,9 @@ use Rattle.rsb_integer.specs.Runs.{Interval, members, IsCanonicalIn}
 use Rattle.range_set_blaze.specs.Kept.{entry_of, run_of, runs_of}
 use Rattle.range_set_blaze.specs.Order.{AreTurns, HasOrder}
 use Rattle.range_set_blaze.specs.declared.set.run.Run.{Run}
-use Rattle.range_set_blaze.proofs.HeldLemmas.{held, runs_of-held}
-use Rattle.range_set_blaze.proofs.LastTurnLemmas.{behind-canonical, passing-level, passing-order, passing-turns}
-use Rattle.range_set_blaze.proofs.TurnsLemmas.{next-both, next-left, next-right, AreLevel, IsPassing}
+use Rattle.range_set_blaze.proofs.order.HeldLemmas.{held, runs_of-held}
+use Rattle.range_set_blaze.proofs.order.LastTurnLemmas.{behind-canonical, passing-level, passing-order, passing-turns}
+use Rattle.range_set_blaze.proofs.order.PassingLemmas.{next-both, next-left, next-right, AreLevel, IsPassing}
 
 -- the first run of the left list is one of a canonical list
 head-fits : (n : ℕ) (whole total : List Interval) → IsCanonicalIn n whole → (run : Interval)

@@ -17,10 +17,10 @@ use Rattle.rsb_integer.proofs.MembersLemmas.{members-append, members-below}
 use Rattle.range_set_blaze.specs.Kept.{entry_run, runs_of, IsAscendingFrom}
 use Rattle.range_set_blaze.specs.Places.{IsFree}
 use Rattle.range_set_blaze.specs.Split.{IsParting}
-use Rattle.range_set_blaze.proofs.EntriesLemmas.{ascending-front, ascending-middle}
-use Rattle.range_set_blaze.proofs.InsertLemmas.{ends-rest, members-front}
+use Rattle.range_set_blaze.proofs.look_up.EntriesLemmas.{ascending-front, ascending-middle}
+use Rattle.range_set_blaze.proofs.insertion.CoverLemmas.{ends-rest, members-front}
 use Rattle.range_set_blaze.proofs.KeptLemmas.{sum_by-canonical, sum_by-within}
-use Rattle.range_set_blaze.proofs.PartsLemmas.{parts-two, AreParts}
+use Rattle.range_set_blaze.proofs.look_up.ThreePartsLemmas.{parts-two, AreParts}
 
 -- ---- the members of two parts
 

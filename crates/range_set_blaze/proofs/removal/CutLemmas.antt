@@ -16,10 +16,10 @@ use Rattle.range_set_blaze.specs.Kept.{entry_of, entry_run, run_of, runs_of, IsA
 use Rattle.range_set_blaze.specs.Places.{past, up_to, IsLastUpTo, IsRemoved}
 use Rattle.range_set_blaze.specs.Set.{only}
 use Rattle.range_set_blaze.specs.declared.set.run.Run.{Run}
-use Rattle.range_set_blaze.proofs.EntriesLemmas.{ascending-past, ascending-with, canonical-entries, insert_entry-between, remove_entry-at, set_value-at, up_to-starts}
-use Rattle.range_set_blaze.proofs.FoundLemmas.{split-at, IsSplitAt}
-use Rattle.range_set_blaze.proofs.InsertLemmas.{next_start-lower}
-use Rattle.range_set_blaze.proofs.PointLemmas.{kept-ascending}
+use Rattle.range_set_blaze.proofs.look_up.EntriesLemmas.{ascending-past, ascending-with, canonical-entries, insert_entry-between, remove_entry-at, set_value-at, up_to-starts}
+use Rattle.range_set_blaze.proofs.look_up.FoundLemmas.{split-at, IsSplitAt}
+use Rattle.range_set_blaze.proofs.insertion.CoverLemmas.{next_start-lower}
+use Rattle.range_set_blaze.proofs.look_up.PointLemmas.{kept-ascending}
 use Rattle.range_set_blaze.proofs.SpliceLemmas.{parted, parted-removes, runs-parts}
 
 module _ {T : Type 0} {rank : T → ℕ} {n : ℕ} {entries : List (T × T)} {point : ℕ} {run : Run T}

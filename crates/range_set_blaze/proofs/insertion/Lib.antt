@@ -1,0 +1,5 @@
+pub mod CoverLemmas
+pub mod ExtendLemmas
+pub mod InsertionLemmas
+pub mod SwallowLemmas
+pub mod TakeOutLemmas

@@ -1,0 +1,5 @@
+pub mod ComparedLemmas
+pub mod HashLemmas
+pub mod HeldLemmas
+pub mod LastTurnLemmas
+pub mod PassingLemmas
