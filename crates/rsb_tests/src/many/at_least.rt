@@ -1,7 +1,6 @@
 //! What lies in at least so many streams, sets and lent sets, in rows worked by hand.
 
 use crate::many::forms::{Ranges, streams_of, subset};
-use crate::streams::listed::stream_of;
 use crate::tables::{gives, set_of};
 use range_set_blaze::{MultiwayRangeSetBlaze, MultiwayRangeSetBlazeRef};
 use rsb_many::MultiwaySortedDisjoint;
@@ -76,23 +75,5 @@ fn touching_pieces_are_one_run_and_no_streams_have_every_value(
             }
         }
     }
-    Ok(())
-}
-
-/// What lies in at least two of 1..=5, 3..=8 and 5..=6 is 3..=6.
-#[test]
-fn what_is_two_deep_in_operations_with_another_stream(rt: HostRuntime) -> Result<(), Fail> {
-    let alloc = rt.alloc();
-    let tables: [Ranges; 3] = [&[(1, 5)], &[(3, 8)], &[(5, 6)]];
-    let union = streams_of(alloc, &tables)?.at_least(alloc, 2)? | stream_of(&[(5, 9)]);
-    assert!(rt; gives(union, &[(3, 9)]));
-    let both = streams_of(alloc, &tables)?.at_least(alloc, 2)? & stream_of(&[(5, 9)]);
-    assert!(rt; gives(both, &[(5, 6)]));
-    let first = streams_of(alloc, &tables)?.at_least(alloc, 2)? - stream_of(&[(5, 9)]);
-    assert!(rt; gives(first, &[(3, 4)]));
-    let one = streams_of(alloc, &tables)?.at_least(alloc, 2)? ^ stream_of(&[(5, 9)]);
-    assert!(rt; gives(one, &[(3, 4), (7, 9)]));
-    let none = !streams_of(alloc, &tables)?.at_least(alloc, 2)?;
-    assert!(rt; gives(none, &[(0, 2), (7, 255)]));
     Ok(())
 }
