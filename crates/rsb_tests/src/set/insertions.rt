@@ -1,42 +1,15 @@
 //! `ranges_insert`, `insert` and `replace`, on rows worked by hand.
 
 use crate::set::calls::{Answer, Change};
-use crate::set::rows::{Table, changes, has, is_byte_run, makes};
+use crate::set::rows::{Table, changes, has, is_byte_run};
 use crate::tables::set_of;
 use range_set_blaze::RangeSetBlaze;
 use std::alloc::{AllocError, Global};
 use std::ops::Bound;
 use std::test::*;
 
-/// Ranges put in one after the other, and the runs that they make.
-static JOINED: [(Table<'static>, Table<'static>); 7] = [
-    (&[(1, 3), (4, 5)], &[(1, 5)]),
-    (&[(4, 5), (1, 3)], &[(1, 5)]),
-    (&[(1, 3), (5, 6)], &[(1, 3), (5, 6)]),
-    (&[(1, 3), (2, 9)], &[(1, 9)]),
-    (&[(1, 2), (5, 6), (9, 10), (3, 8)], &[(1, 10)]),
-    (
-        &[(1, 2), (5, 6), (9, 10), (4, 5)],
-        &[(1, 2), (4, 6), (9, 10)],
-    ),
-    (
-        &[(i32::MIN, -1), (1, i32::MAX), (0, 0)],
-        &[(i32::MIN, i32::MAX)],
-    ),
-];
-
-#[test]
-fn ranges_join_where_they_overlap_or_touch(rt: HostRuntime) {
-    for (ranges, wanted) in &JOINED {
-        assert!(rt;
-            makes(rt.alloc(), ranges, wanted) == Ok(true),
-            "of {ranges:?}"
-        );
-    }
-}
-
 /// An insertion, the set before, what it answers, and the set after.
-static TOLD: [(Change, Table<'static>, Answer, Table<'static>); 8] = [
+static TOLD: [(Change, Table<'static>, Answer, Table<'static>); 13] = [
     (
         Change::RangesInsert(4, 5),
         &[(1, 3)],
@@ -78,6 +51,36 @@ static TOLD: [(Change, Table<'static>, Answer, Table<'static>); 8] = [
         &[(1, 5), (7, 7)],
         Answer::Value(None),
         &[(1, 5), (7, 7), (9, 9)],
+    ),
+    (
+        Change::RangesInsert(1, 3),
+        &[(4, 5)],
+        Answer::Truth(true),
+        &[(1, 5)],
+    ),
+    (
+        Change::RangesInsert(5, 6),
+        &[(1, 3)],
+        Answer::Truth(true),
+        &[(1, 3), (5, 6)],
+    ),
+    (
+        Change::RangesInsert(3, 8),
+        &[(1, 2), (5, 6), (9, 10)],
+        Answer::Truth(true),
+        &[(1, 10)],
+    ),
+    (
+        Change::RangesInsert(4, 5),
+        &[(1, 2), (5, 6), (9, 10)],
+        Answer::Truth(true),
+        &[(1, 2), (4, 6), (9, 10)],
+    ),
+    (
+        Change::RangesInsert(0, 0),
+        &[(i32::MIN, -1), (1, i32::MAX)],
+        Answer::Truth(true),
+        &[(i32::MIN, i32::MAX)],
     ),
     (
         Change::Replace(i32::MAX),

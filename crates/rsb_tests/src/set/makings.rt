@@ -4,7 +4,7 @@ use crate::set::calls::{Making, make};
 use crate::set::rows::{Table, has, is_byte_run, makes_of_two};
 use crate::streams::operations::{Operation, operation_gives};
 use crate::tables::set_of;
-use range_set_blaze::{DrawDisjoint, IntoRangeSetBlaze, RangeSetBlaze, UIntPlusOne};
+use range_set_blaze::{DrawDisjoint, RangeSetBlaze, UIntPlusOne};
 use std::test::*;
 
 /// Two runs.
@@ -115,16 +115,6 @@ fn sets_streams_and_items_make_sets(rt: HostRuntime) {
 }
 
 #[test]
-fn a_union_makes_a_set(rt: HostRuntime) -> Result<(), Fail> {
-    let left = set_of(rt.alloc(), &[(100, 499), (501, 999)])?;
-    let right = set_of(rt.alloc(), &[(-20, -20), (400, 599)])?;
-    let both = left.ranges().union(right.ranges());
-    let both = both.into_range_set_blaze(rt.alloc())?;
-    assert!(rt; has(&both, &[(-20, -20), (100, 999)]) && both.len() == 901);
-    Ok(())
-}
-
-#[test]
 fn a_complement_makes_a_set(rt: HostRuntime) -> Result<(), Fail> {
     let mut bytes = RangeSetBlaze::<u8>::from(rt.alloc(), 0..=9)?;
     assert!(rt; bytes.ranges_insert(20..=255)?);
@@ -145,16 +135,6 @@ fn every_value_of_a_wide_type_makes_a_set(rt: HostRuntime) -> Result<(), Fail> {
 fn ranges_in_any_order_make_a_set(rt: HostRuntime) -> Result<(), Fail> {
     let set = RangeSetBlaze::from_iter(rt.alloc(), [1..=2, 2..=2, -10..=-5, 1..=0])?;
     assert!(rt; has(&set, &[(-10, -5), (1, 2)]));
-    Ok(())
-}
-
-#[test]
-fn values_in_any_order_make_a_set(rt: HostRuntime) -> Result<(), Fail> {
-    let values = RangeSetBlaze::from_array(rt.alloc(), [5, 1, 5, 2, 4])?;
-    assert!(rt; has(&values, &[(1, 2), (4, 5)]));
-    let run = RangeSetBlaze::from_iter_values(rt.alloc(), -1..3)?;
-    assert!(rt; has(&run, &[(-1, 2)]));
-    assert!(rt; RangeSetBlaze::<i32>::from_array(rt.alloc(), [])?.is_empty());
     Ok(())
 }
 

@@ -1,52 +1,42 @@
 //! The operators on the runs of sets.
 
 use crate::set::rows::Table;
+use crate::streams::operations::Operation::{
+    self, Complement, Difference, Intersection, SymmetricDifference, Union,
+};
 use crate::tables::{gives, set_of};
-use range_set_blaze::{DrawDisjoint, RangeSetBlaze, SortedDisjoint};
-use rsb_integer::Integer;
+use range_set_blaze::RangeSetBlaze;
 use std::test::*;
-
-/// An operator on two sets; `Not` is one on the first.
-#[derive(Clone, Copy, Debug)]
-enum Operator {
-    Or,
-    And,
-    Sub,
-    Xor,
-    Not,
-}
-
-use Operator::*;
 
 /// Whether an operator on the runs of two sets gives these.
 fn make(
-    operator: Operator,
+    operation: Operation,
     left: &RangeSetBlaze<i32>,
     right: &RangeSetBlaze<i32>,
     wanted: Table<'_>,
 ) -> bool {
-    match operator {
-        Or => gives(left.ranges() | right.ranges(), wanted),
-        And => gives(left.ranges() & right.ranges(), wanted),
-        Sub => gives(left.ranges() - right.ranges(), wanted),
-        Xor => gives(left.ranges() ^ right.ranges(), wanted),
-        Not => gives(!left.ranges(), wanted),
+    match operation {
+        Union => gives(left.ranges() | right.ranges(), wanted),
+        Intersection => gives(left.ranges() & right.ranges(), wanted),
+        Difference => gives(left.ranges() - right.ranges(), wanted),
+        SymmetricDifference => gives(left.ranges() ^ right.ranges(), wanted),
+        Complement => gives(!left.ranges(), wanted),
     }
 }
 
 /// Whether an operator on the runs of two sets that are given up gives these.
 fn owned_make(
-    operator: Operator,
+    operation: Operation,
     left: RangeSetBlaze<i32>,
     right: RangeSetBlaze<i32>,
     wanted: Table<'_>,
 ) -> bool {
-    match operator {
-        Or => gives(left.into_ranges() | right.into_ranges(), wanted),
-        And => gives(left.into_ranges() & right.into_ranges(), wanted),
-        Sub => gives(left.into_ranges() - right.into_ranges(), wanted),
-        Xor => gives(left.into_ranges() ^ right.into_ranges(), wanted),
-        Not => gives(!left.into_ranges(), wanted),
+    match operation {
+        Union => gives(left.into_ranges() | right.into_ranges(), wanted),
+        Intersection => gives(left.into_ranges() & right.into_ranges(), wanted),
+        Difference => gives(left.into_ranges() - right.into_ranges(), wanted),
+        SymmetricDifference => gives(left.into_ranges() ^ right.into_ranges(), wanted),
+        Complement => gives(!left.into_ranges(), wanted),
     }
 }
 
@@ -66,71 +56,50 @@ const SHORT: Table<'static> = &[(2, 6)];
 
 const ALL: Table<'static> = &[(i32::MIN, i32::MAX)];
 
-/// Two sets, an operator, and what it makes of their runs.
-static OPERATED: [(Table<'static>, Table<'static>, Operator, Table<'static>); 22] = [
-    (ONE, OTHER, Or, &[(1, 4), (7, 20)]),
-    (ONE, OTHER, And, &[(9, 10)]),
-    (ONE, OTHER, Sub, &[(1, 3), (7, 8)]),
-    (ONE, OTHER, Xor, &[(1, 4), (7, 8), (11, 20)]),
-    (ONE, OTHER, Not, &[(LEAST, 0), (4, 6), (11, MOST)]),
-    (OTHER, ALL, Or, ALL),
-    (OTHER, ALL, And, &[(4, 4), (9, 20)]),
-    (OTHER, ALL, Sub, &[]),
-    (OTHER, ALL, Xor, &[(LEAST, 3), (5, 8), (21, MOST)]),
-    (OTHER, ALL, Not, &[(LEAST, 3), (5, 8), (21, MOST)]),
-    (LONG, SHORT, Or, &[(1, 100)]),
-    (LONG, SHORT, And, &[(2, 2), (5, 6)]),
-    (LONG, SHORT, Sub, &[(1, 1), (7, 100)]),
-    (LONG, SHORT, Xor, &[(1, 1), (3, 4), (7, 100)]),
-    (LONG, SHORT, Not, &[(LEAST, 0), (3, 4), (101, MOST)]),
-    (&[], ALL, Or, ALL),
-    (&[], ALL, And, &[]),
-    (&[], ALL, Sub, &[]),
-    (&[], ALL, Xor, ALL),
-    (&[], ALL, Not, ALL),
-    (ALL, &[], Sub, ALL),
-    (ALL, &[], Not, &[]),
+/// Two sets, an operation, and what its operator makes of their runs.
+static OPERATED: [(Table<'static>, Table<'static>, Operation, Table<'static>); 22] = [
+    (ONE, OTHER, Union, &[(1, 4), (7, 20)]),
+    (ONE, OTHER, Intersection, &[(9, 10)]),
+    (ONE, OTHER, Difference, &[(1, 3), (7, 8)]),
+    (ONE, OTHER, SymmetricDifference, &[(1, 4), (7, 8), (11, 20)]),
+    (ONE, OTHER, Complement, &[(LEAST, 0), (4, 6), (11, MOST)]),
+    (OTHER, ALL, Union, ALL),
+    (OTHER, ALL, Intersection, &[(4, 4), (9, 20)]),
+    (OTHER, ALL, Difference, &[]),
+    (
+        OTHER,
+        ALL,
+        SymmetricDifference,
+        &[(LEAST, 3), (5, 8), (21, MOST)],
+    ),
+    (OTHER, ALL, Complement, &[(LEAST, 3), (5, 8), (21, MOST)]),
+    (LONG, SHORT, Union, &[(1, 100)]),
+    (LONG, SHORT, Intersection, &[(2, 2), (5, 6)]),
+    (LONG, SHORT, Difference, &[(1, 1), (7, 100)]),
+    (
+        LONG,
+        SHORT,
+        SymmetricDifference,
+        &[(1, 1), (3, 4), (7, 100)],
+    ),
+    (LONG, SHORT, Complement, &[(LEAST, 0), (3, 4), (101, MOST)]),
+    (&[], ALL, Union, ALL),
+    (&[], ALL, Intersection, &[]),
+    (&[], ALL, Difference, &[]),
+    (&[], ALL, SymmetricDifference, ALL),
+    (&[], ALL, Complement, ALL),
+    (ALL, &[], Difference, ALL),
+    (ALL, &[], Complement, &[]),
 ];
 
 #[test]
 fn runs_make_others_whoever_owns_them(rt: HostRuntime) -> Result<(), Fail> {
-    for (left, right, operator, wanted) in &OPERATED {
+    for (left, right, operation, wanted) in &OPERATED {
         let (one, other) = (set_of(rt.alloc(), left)?, set_of(rt.alloc(), right)?);
-        let found = make(*operator, &one, &other, wanted);
-        assert!(rt; found, "{operator:?} of {left:?}");
-        let found = owned_make(*operator, one, other, wanted);
-        assert!(rt; found, "{operator:?} of owned {left:?}");
+        let found = make(*operation, &one, &other, wanted);
+        assert!(rt; found, "{operation:?} of {left:?}");
+        let found = owned_make(*operation, one, other, wanted);
+        assert!(rt; found, "{operation:?} of owned {left:?}");
     }
-    Ok(())
-}
-
-/// Whether what two streams both leave out has the ranges with these ends, and nothing else.
-fn both_leave_out<T: Integer, L: SortedDisjoint<T>, R: SortedDisjoint<T>>(
-    left: L,
-    right: R,
-    wanted: &[(T, T)],
-) -> bool
-    requires left { L.can_draw left }
-    requires right { R.can_draw right }
-{
-    gives(left.union(right).complement(), wanted)
-}
-
-#[test]
-fn complements_of_complements_united_are_what_both_have(rt: HostRuntime) -> Result<(), Fail> {
-    let left = set_of(rt.alloc(), &[(1, 3), (7, 10)])?;
-    let right = set_of(rt.alloc(), &[(4, 4), (9, 20)])?;
-    assert!(rt; both_leave_out(!left.ranges(), !right.ranges(), &[(9, 10)]));
-    assert!(rt; left.range_at(9) == Some(7..=10) && right.range_at(9) == Some(9..=20));
-    Ok(())
-}
-
-#[test]
-fn everything_and_nothing_are_complements(rt: HostRuntime) -> Result<(), Fail> {
-    let nothing = RangeSetBlaze::<u8>::new(rt.alloc());
-    assert!(rt; gives(!nothing.ranges(), &[(0, 255)]));
-    let everything = RangeSetBlaze::<u8>::universe(rt.alloc())?;
-    assert!(rt; gives(!everything.ranges(), &[]));
-    assert!(rt; gives(!everything.into_ranges(), &[]));
     Ok(())
 }

@@ -2,14 +2,13 @@
 
 use crate::set::calls::{Answer, Change};
 use crate::set::rows::{Table, changes};
-use range_set_blaze::RangeSetBlaze;
 use std::test::*;
 
 /// Two runs.
 const TWO: Table<'static> = &[(1, 5), (9, 9)];
 
 /// A removal, the set before, what it answers, and the set after.
-static REMOVED: [(Change, Table<'static>, Answer, Table<'static>); 22] = [
+static REMOVED: [(Change, Table<'static>, Answer, Table<'static>); 24] = [
     (
         Change::Remove(3),
         TWO,
@@ -97,6 +96,18 @@ static REMOVED: [(Change, Table<'static>, Answer, Table<'static>); 22] = [
     ),
     (Change::PopLast, &[(1, 1)], Answer::Value(Some(1)), &[]),
     (Change::PopLast, &[], Answer::Value(None), &[]),
+    (
+        Change::Remove(i32::MAX),
+        &[(i32::MIN, i32::MAX)],
+        Answer::Truth(true),
+        &[(i32::MIN, i32::MAX - 1)],
+    ),
+    (
+        Change::PopFirst,
+        &[(i32::MIN, i32::MAX)],
+        Answer::Value(Some(i32::MIN)),
+        &[(i32::MIN + 1, i32::MAX)],
+    ),
 ];
 
 #[test]
@@ -122,12 +133,4 @@ fn a_removal_shortens_or_cuts_the_run(rt: HostRuntime) {
             "of {value}"
         );
     }
-}
-
-#[test]
-fn both_ends_of_the_type_are_taken_out(rt: HostRuntime) -> Result<(), Fail> {
-    let mut set = RangeSetBlaze::<i128>::universe(rt.alloc())?;
-    assert!(rt; set.remove(i128::MAX)? && set.pop_first()? == Some(i128::MIN));
-    assert!(rt; set.first() == Some(i128::MIN + 1) && set.last() == Some(i128::MAX - 1));
-    Ok(())
 }

@@ -20,7 +20,7 @@ const THREE: Table<'static> = &[(1, 3), (7, 7), (9, 10)];
 const UNIVERSE: Table<'static> = &[(i32::MIN, i32::MAX)];
 
 /// A test, the set before, how often it asks, and the set after.
-static RETAINED: [(Change, Table<'static>, u64, Table<'static>); 12] = [
+static RETAINED: [(Change, Table<'static>, u64, Table<'static>); 13] = [
     (
         Change::Retain(5, 0),
         SOME,
@@ -36,6 +36,12 @@ static RETAINED: [(Change, Table<'static>, u64, Table<'static>); 12] = [
         &[(i32::MIN, i32::MIN + 3)],
         4,
         &[(i32::MIN + 1, i32::MIN + 2)],
+    ),
+    (
+        Change::Retain(2, 0),
+        &[(i32::MAX - 2, i32::MAX)],
+        3,
+        &[(i32::MAX - 2, i32::MAX - 2), (i32::MAX, i32::MAX)],
     ),
     (Change::RangesRetain(7, 0), THREE, 3, &[(1, 3), (9, 10)]),
     (Change::RangesRetain(1, 1), THREE, 3, THREE),
@@ -85,14 +91,6 @@ fn runs_of_one_value_are_left_out(rt: HostRuntime) -> Result<(), Fail> {
     let mut set = set_of(rt.alloc(), &[(1, 3), (7, 7), (9, 10)])?;
     keep_long(&mut set);
     assert!(rt; has(&set, &[(1, 3), (9, 10)]));
-    Ok(())
-}
-
-#[test]
-fn the_universe_is_kept_to_its_ends(rt: HostRuntime) -> Result<(), Fail> {
-    let mut set = RangeSetBlaze::<u8>::universe(rt.alloc())?;
-    set.retain(|value| *value == 0 || *value == 255)?;
-    assert!(rt; set.contains(0) && set.contains(255) && set.len() == 2);
     Ok(())
 }
 

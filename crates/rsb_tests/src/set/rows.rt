@@ -24,16 +24,6 @@ pub(crate) fn has<A: Allocator>(set: &RangeSetBlaze<i32, A>, wanted: Table<'_>) 
     set.ranges_len() == wanted.len() && set.len() == counted(wanted) && gives(set.ranges(), wanted)
 }
 
-/// Whether the ranges of a table, put in one after the other, make these runs.
-pub(crate) fn makes(
-    alloc: Global,
-    ranges: Table<'_>,
-    wanted: Table<'_>,
-) -> Result<bool, AllocError> {
-    let set = set_of(alloc, ranges)?;
-    Ok(has(&set, wanted))
-}
-
 /// The set of the ranges of a table, in any allocator.
 pub(crate) fn set_in<A: Allocator + Copy>(
     alloc: A,

@@ -1,8 +1,7 @@
 //! `split_off`, on rows worked by hand.
 
 use crate::set::calls::{Answer, Change};
-use crate::set::rows::{Table, changes, is_byte_run};
-use range_set_blaze::RangeSetBlaze;
+use crate::set::rows::{Table, changes};
 use std::test::*;
 
 /// One run.
@@ -14,8 +13,11 @@ const THREE: Table<'static> = &[(1, 3), (17, 17), (41, 41)];
 /// Runs of sixteen members.
 const SIXTEEN: Table<'static> = &[(1, 5), (9, 9), (20, 29)];
 
+/// Every value.
+const UNIVERSE: Table<'static> = &[(i32::MIN, i32::MAX)];
+
 /// A set, the value that it is parted at, and its two parts.
-static PARTED: [(Table<'static>, i32, Table<'static>, Table<'static>); 13] = [
+static PARTED: [(Table<'static>, i32, Table<'static>, Table<'static>); 15] = [
     (ONE, 6, ONE, &[]),
     (ONE, 5, &[(1, 4)], &[(5, 5)]),
     (ONE, 1, &[], ONE),
@@ -29,6 +31,13 @@ static PARTED: [(Table<'static>, i32, Table<'static>, Table<'static>); 13] = [
     (SIXTEEN, 0, &[], SIXTEEN),
     (SIXTEEN, 30, SIXTEEN, &[]),
     (&[], 0, &[], &[]),
+    (
+        UNIVERSE,
+        i32::MAX,
+        &[(i32::MIN, i32::MAX - 1)],
+        &[(i32::MAX, i32::MAX)],
+    ),
+    (UNIVERSE, i32::MIN, &[], UNIVERSE),
 ];
 
 // What is below a value stays, and what is not is parted off, whatever the other set was.
@@ -66,14 +75,4 @@ fn one_run_is_parted_inside_or_not_at_all(rt: HostRuntime) {
         );
         assert!(rt; answer == Ok(true), "at {key}");
     }
-}
-
-#[test]
-fn the_universe_is_parted_at_its_ends(rt: HostRuntime) -> Result<(), Fail> {
-    let mut set = RangeSetBlaze::<u8>::universe(rt.alloc())?;
-    let last = set.split_off(255)?;
-    assert!(rt; is_byte_run(&last, 255, 255) && is_byte_run(&set, 0, 254));
-    let all = set.split_off(0)?;
-    assert!(rt; is_byte_run(&all, 0, 254) && set.is_empty() && set.len() == 0);
-    Ok(())
 }

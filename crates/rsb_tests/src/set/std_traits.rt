@@ -171,16 +171,6 @@ static BYTES: Row<u8> = Row {
     lacking: &[(0, 0), (4, 6)],
 };
 
-static NUMBERS: Row<i32> = Row {
-    left: &[(i32::MIN, -1), (5, 9)],
-    right: &[(-1, 5)],
-    either: &[(i32::MIN, 9)],
-    both: &[(-1, -1), (5, 5)],
-    rest: &[(i32::MIN, -2), (6, 9)],
-    alone: &[(i32::MIN, -2), (0, 4), (6, 9)],
-    lacking: &[(0, 4), (10, i32::MAX)],
-};
-
 static LETTERS: Row<char> = Row {
     left: &[('a', 'f'), ('\u{D7FF}', '\u{D7FF}')],
     right: &[('d', 'd'), ('\u{E000}', char::MAX)],
@@ -219,7 +209,6 @@ fn own_operator_makes<T: Integer + 'static>(
 #[test]
 fn operators_make_sets(rt: HostRuntime) -> Result<(), Fail> {
     assert!(rt; operators_make(rt.alloc(), &BYTES)? && own_operator_makes(rt.alloc(), &BYTES)?);
-    assert!(rt; operators_make(rt.alloc(), &NUMBERS)? && own_operator_makes(rt.alloc(), &NUMBERS)?);
     assert!(rt; operators_make(rt.alloc(), &LETTERS)? && own_operator_makes(rt.alloc(), &LETTERS)?);
     Ok(())
 }
@@ -247,15 +236,6 @@ fn values_are_collected_and_added(rt: HostRuntime) -> Result<(), Fail> {
             &[0, 2_u8],
             &[(0, 3), (255, 255)],
             255
-        )?
-    );
-    assert!(rt;
-        collects(
-            alloc,
-            &[9, -7],
-            &[8, i32::MIN],
-            &[(i32::MIN, i32::MIN), (-7, -7), (8, 9)],
-            9
         )?
     );
     assert!(rt;

@@ -10,12 +10,6 @@ fn an_array_of_ranges_apart_is_a_stream(rt: HostRuntime) {
 }
 
 #[test]
-fn an_array_of_signed_ranges_is_complemented(rt: HostRuntime) {
-    let stream = CheckSortedDisjoint::new([i8::MIN..=-3, -1..=5]);
-    assert!(rt; gives(!stream, &[(-2, -2), (6, 127)]));
-}
-
-#[test]
 fn an_array_of_ranges_by_starts_is_joined(rt: HostRuntime) {
     let stream = AssumeSortedStarts::new([1u8..=3, 2..=5, 7..=7]);
     assert!(rt; gives(UnionIter::new(stream), &[(1, 5), (7, 7)]));

@@ -1,7 +1,6 @@
 //! A nest of eight operations of all five kinds, of one type, over any lawful streams.
 
-use crate::tables::{gives, slot, slots};
-use rsb_commands::outside::Side;
+use crate::tables::gives;
 use rsb_integer::Integer;
 use rsb_streams::{
     Difference, Draw, DrawDisjoint, Intersection, NotIter, RangeOnce, SymmetricDifference, Union,
@@ -71,44 +70,4 @@ fn eight_operations_of_five_kinds(rt: HostRuntime) {
         others,
     );
     assert!(rt; gives(nest, &[(0, 6), (10, 12), (20, 80), (90, 99), (120, 255)]));
-}
-
-#[test]
-fn eight_operations_at_own_types(rt: HostRuntime) {
-    // Of the upper side these make the lower one.
-    let some = (
-        RangeOnce::new(Side::Lo..=Side::Hi),
-        RangeOnce::new(Side::Lo..=Side::Lo),
-        RangeOnce::new(Side::Lo..=Side::Hi),
-    );
-    let others = (
-        RangeOnce::new(Side::Lo..=Side::Lo),
-        RangeOnce::new(Side::Hi..=Side::Lo),
-        RangeOnce::new(Side::Hi..=Side::Hi),
-    );
-    let low = RangeOnce::new(Side::Lo..=Side::Lo);
-    let nest = eight(low, RangeOnce::new(Side::Hi..=Side::Lo), some, others);
-    assert!(rt; gives(nest, &[(Side::Lo, Side::Hi)]));
-
-    // Of 0..=19 and 81..=95 these make 5..=9, 13..=19, 81..=84 and 88..=90.
-    let some = (
-        RangeOnce::new(slots(10, 90)),
-        RangeOnce::new(slots(85, 87)),
-        RangeOnce::new(slots(5, 12)),
-    );
-    // And these the gaps of 7..=9, 13..=19 and 81..=81.
-    let others = (
-        RangeOnce::new(slots(7, 88)),
-        RangeOnce::new(slots(82, 95)),
-        RangeOnce::new(slots(0, 95)),
-    );
-    let first = RangeOnce::new(slots(25, 80));
-    let nest = eight(RangeOnce::new(slots(20, 29)), first, some, others);
-    let wanted = [
-        (slot(0), slot(6)),
-        (slot(10), slot(12)),
-        (slot(20), slot(80)),
-        (slot(82), slot(95)),
-    ];
-    assert!(rt; gives(nest, &wanted));
 }

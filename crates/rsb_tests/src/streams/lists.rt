@@ -70,17 +70,6 @@ fn lists_of_wide_types_are_taken_to_their_ends(rt: HostRuntime) -> Result<(), Fa
 }
 
 #[test]
-fn a_canonical_list_has_a_complement(rt: HostRuntime) -> Result<(), Fail> {
-    let good = vec![in rt.alloc(); 1u8..=2, 4..=4, 9..=255]?;
-    let Ok(three) = CheckSortedDisjoint::try_new(good) else {
-        assert!(rt; false, "a canonical list was refused");
-        return Ok(());
-    };
-    assert!(rt; gives(!three, &[(0, 0), (3, 3), (5, 8)]));
-    Ok(())
-}
-
-#[test]
 fn union_first_answers_what_both_begin_with(rt: HostRuntime) -> Result<(), Fail> {
     let left = CheckSortedDisjoint::try_new(vec![in rt.alloc(); 1..=2, 10..=11, 20..=21]?);
     let right = CheckSortedDisjoint::try_new(vec![in rt.alloc(); 1..=3, 30..=31]?);

@@ -3,7 +3,7 @@
 
 use crate::streams::listed::stream_of;
 use rsb_commands::outside::Counted;
-use rsb_streams::{DrawDisjoint, RangeOnce};
+use rsb_streams::DrawDisjoint;
 use std::cell::Cell;
 
 /// The ends of ranges.
@@ -225,35 +225,4 @@ fn questions_stop_where_they_are_answered(rt: HostRuntime) {
     for (question, left, right, wanted) in &DRAWN {
         assert_eq!(rt; drawn_by(*question, left, right), *wanted, "{question:?}");
     }
-}
-
-#[test]
-fn questions_of_ranges_without_members(rt: HostRuntime) {
-    assert!(rt; RangeOnce::new(1u8..=0).is_empty() && !RangeOnce::new(0u8..=0).is_empty());
-    assert!(rt; RangeOnce::new(1u8..=0).equal(RangeOnce::new(9..=8)));
-    assert!(rt; RangeOnce::new(1u8..=0).is_subset(RangeOnce::new(0..=255)));
-    assert!(rt; RangeOnce::new(1u8..=0).is_disjoint(RangeOnce::new(0..=255)));
-}
-
-#[test]
-fn questions_of_results(rt: HostRuntime) {
-    let left = RangeOnce::new(1u8..=2).union(RangeOnce::new(4..=4));
-    let right = RangeOnce::new(4..=4).union(RangeOnce::new(1..=2));
-    assert!(rt; left.equal(right));
-    assert!(rt; RangeOnce::new(0u8..=255).complement().is_empty());
-    assert!(rt;
-        !RangeOnce::new(1u8..=0)
-            .union(RangeOnce::new(7..=7))
-            .is_empty()
-    );
-    assert!(rt;
-        stream_of(&[(0, 4)])
-            .union(stream_of(&[(5, 255)]))
-            .is_universal()
-    );
-    assert!(rt;
-        !stream_of(&[(0, 4)])
-            .union(stream_of(&[(6, 255)]))
-            .is_universal()
-    );
 }

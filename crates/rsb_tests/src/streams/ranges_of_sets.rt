@@ -1,8 +1,7 @@
-//! Operations on the ranges of two sets, by the methods and by the operators.
+//! Operations on the ranges of two sets.
 
 use crate::streams::operations::{OPERATIONS, Operation, operation_gives};
-use crate::tables::{gives, set_of};
-use range_set_blaze::RangeSetBlaze;
+use crate::tables::set_of;
 use std::test::Fail;
 
 /// What an operation makes of {1..=2, 5..=100} and {2..=6}.
@@ -16,32 +15,14 @@ fn wanted(operation: Operation) -> &'static [(i32, i32)] {
     }
 }
 
-/// Whether an operator on the ranges of two sets gives the ranges with these ends.
-fn operator_gives(
-    operation: Operation,
-    left: &RangeSetBlaze<i32>,
-    right: &RangeSetBlaze<i32>,
-    wanted: &[(i32, i32)],
-) -> bool {
-    match operation {
-        Operation::Union => gives(left.ranges() | right.ranges(), wanted),
-        Operation::Intersection => gives(left.ranges() & right.ranges(), wanted),
-        Operation::Difference => gives(left.ranges() - right.ranges(), wanted),
-        Operation::SymmetricDifference => gives(left.ranges() ^ right.ranges(), wanted),
-        Operation::Complement => gives(!left.ranges(), wanted),
-    }
-}
-
 #[test]
 fn operations_on_the_ranges_of_two_sets(rt: HostRuntime) -> Result<(), Fail> {
     let left = set_of(rt.alloc(), &[(1, 2), (5, 100)])?;
     let right = set_of(rt.alloc(), &[(2, 6)])?;
     for operation in OPERATIONS {
         let runs = wanted(operation);
-        let by_method = operation_gives(operation, left.ranges(), right.ranges(), runs);
-        assert!(rt; by_method, "{operation:?} by its method");
-        let by_operator = operator_gives(operation, &left, &right, runs);
-        assert!(rt; by_operator, "{operation:?} by its operator");
+        let is_given = operation_gives(operation, left.ranges(), right.ranges(), runs);
+        assert!(rt; is_given, "{operation:?}");
     }
     Ok(())
 }

@@ -114,11 +114,3 @@ fn the_two_parts_of_a_stream_join_to_it(rt: HostRuntime) {
 fn what_is_in_neither_is_the_same_both_ways(rt: HostRuntime) {
     assert!(rt; neither_is_the_same(three_to_nine(), three_to_nine()));
 }
-
-#[test]
-fn what_is_in_neither_reaches_both_ends(rt: HostRuntime) {
-    let (low, high) = three_to_nine();
-    assert!(rt; gives(outside_union(low, high), &[(0, 2), (10, 255)]));
-    let (low, high) = three_to_nine();
-    assert!(rt; gives(inside_complements(low, high), &[(0, 2), (10, 255)]));
-}

@@ -58,16 +58,6 @@ fn gaps_of_ranges_up_to_one_that_fails_and_from_it_on(rt: HostRuntime) {
     }
 }
 
-#[test]
-fn union_with_a_fused_stream(rt: HostRuntime) {
-    assert!(rt;
-        gives(
-            two_ranges().fuse().union(RangeOnce::new(6u8..=6)),
-            &[(3, 9)]
-        )
-    );
-}
-
 /// The gaps that are left where only the ranges that pass a test are kept.
 fn outside_of_kept<T: Integer, I: SortedDisjoint<T>, P: FnMut(&RangeInclusive<T>) -> bool>(
     stream: I,

@@ -6,7 +6,6 @@ ghost use Rattle.rsb_integer.specs.Selection.{symmetric_difference};
 ghost use Rattle.rsb_streams.specs.Stream.{◌⊆◌, just, runs_by_two};
 
 use crate::streams::set_algebra::{are_the_same, three_to_nine};
-use crate::tables::gives;
 use rsb_integer::Integer;
 use rsb_streams::{Difference, Draw, DrawDisjoint, Intersection, Union};
 
@@ -57,14 +56,4 @@ fn alone_is_the_same<T: Integer, L: DrawDisjoint<T>, R: DrawDisjoint<T>>(
 #[test]
 fn what_lies_in_one_alone_is_the_same_both_ways(rt: HostRuntime) {
     assert!(rt; alone_is_the_same(three_to_nine(), three_to_nine(), three_to_nine()));
-}
-
-#[test]
-fn what_lies_in_one_alone_is_what_is_not_shared(rt: HostRuntime) {
-    assert!(rt;
-        gives(
-            unshared(three_to_nine(), three_to_nine()),
-            &[(3, 4), (6, 9)]
-        )
-    );
 }
