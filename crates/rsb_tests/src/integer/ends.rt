@@ -3,85 +3,102 @@
 use rsb_commands::outside::{Side, Slot};
 use rsb_integer::Integer;
 use rsb_length::UIntPlusOne;
-use std::process::Abort;
 
-/// Steps from each end of the type and back.
-fn steps_lead_back<T: Integer>(rt: &impl Abort) {
+/// Whether steps lead from each end of the type and back.
+fn steps_lead_back<T: Integer>() -> bool {
     let least = T::min_value();
     let greatest = T::max_value();
     let next = least.add_one();
-    let before = greatest.sub_one();
-    assert!(rt; least.checked_add_one() == Some(next));
-    assert!(rt; greatest.checked_add_one() == None);
-    assert!(rt; next.sub_one() == least);
-    assert!(rt; before.add_one() == greatest);
     let mut stepped = next;
     stepped.assign_sub_one();
-    assert!(rt; stepped == least);
+    stepped == least
+        && least.checked_add_one() == Some(next)
+        && greatest.checked_add_one().is_none()
+        && next.sub_one() == least
+        && greatest.sub_one().add_one() == greatest
 }
 
-/// Crosses the type from end to end by its whole length, and leads from each end to the value
-/// beside it by a length of two.
-fn lengths_lead_to_the_ends<T: Integer>(rt: &impl Abort, two: T::SafeLen, whole: T::SafeLen) {
+/// Whether the whole length leads from each end of the type to the other.
+fn the_whole_leads_across<T: Integer>(whole: T::SafeLen) -> bool {
     let least = T::min_value();
     let greatest = T::max_value();
     let length = T::safe_len(&(least..=greatest));
-    assert!(rt; length == whole);
-    assert!(rt; least.inclusive_end_from_start(length) == greatest);
-    assert!(rt; greatest.start_from_inclusive_end(length) == least);
-    let next = least.add_one();
-    let length = T::safe_len(&(least..=next));
-    assert!(rt; length == two);
-    assert!(rt; least.inclusive_end_from_start(length) == next);
-    assert!(rt; greatest.start_from_inclusive_end(length) == greatest.sub_one());
+    length == whole
+        && least.inclusive_end_from_start(length) == greatest
+        && greatest.start_from_inclusive_end(length) == least
 }
 
-/// Takes the one member of a range from either end, at both ends of the type, and looks at the
-/// range with none, which leads from the greatest value to the least.
-fn ranges_are_emptied<T: Integer>(rt: &impl Abort) {
+/// Whether a length of two leads from each end of the type to the value beside it.
+fn two_lead_to_neighbors<T: Integer>(two: T::SafeLen) -> bool {
     let least = T::min_value();
     let greatest = T::max_value();
-    let mut range = least..=least;
-    assert!(rt; T::range_next(&mut range) == Some(least) && T::range_next(&mut range) == None);
-    let mut range = least..=least;
-    assert!(rt; T::range_next_back(&mut range) == Some(least));
-    assert!(rt; T::range_next(&mut range) == None);
-    let mut range = greatest..=greatest;
-    assert!(rt; T::range_next(&mut range) == Some(greatest));
-    assert!(rt; T::range_next_back(&mut range) == None);
-    let mut range = greatest..=greatest;
-    assert!(rt; T::range_next_back(&mut range) == Some(greatest));
-    assert!(rt; T::range_next(&mut range) == None);
-    let mut range = least..=greatest;
-    assert!(rt; T::range_next_back(&mut range) == Some(greatest));
-    assert!(rt; T::range_next(&mut range) == Some(least));
-    let mut range = T::exhausted_range();
-    assert!(rt; range.is_empty() && *range.start() == greatest && *range.end() == least);
-    assert!(rt; T::range_next(&mut range) == None && T::range_next_back(&mut range) == None);
+    let next = least.add_one();
+    let length = T::safe_len(&(least..=next));
+    length == two
+        && least.inclusive_end_from_start(length) == next
+        && greatest.start_from_inclusive_end(length) == greatest.sub_one()
 }
 
-/// Calls everything at both ends of a type, of which these are two lengths.
-fn calls_end_well<T: Integer>(rt: &impl Abort, two: T::SafeLen, whole: T::SafeLen) {
-    steps_lead_back::<T>(rt);
-    lengths_lead_to_the_ends::<T>(rt, two, whole);
-    ranges_are_emptied::<T>(rt);
+/// Whether the range of one value gives it from the front, and then nothing from either end.
+fn comes_from_the_front<T: Integer>(value: T) -> bool {
+    let mut range = value..=value;
+    T::range_next(&mut range) == Some(value)
+        && T::range_next(&mut range).is_none()
+        && T::range_next_back(&mut range).is_none()
+}
+
+/// Whether the range of one value gives it from the back, and then nothing from either end.
+fn comes_from_the_back<T: Integer>(value: T) -> bool {
+    let mut range = value..=value;
+    T::range_next_back(&mut range) == Some(value)
+        && T::range_next_back(&mut range).is_none()
+        && T::range_next(&mut range).is_none()
+}
+
+/// Whether the range of all values gives the last from the back and then the first from the front.
+fn all_come_from_both_ends<T: Integer>() -> bool {
+    let mut range = T::min_value()..=T::max_value();
+    T::range_next_back(&mut range) == Some(T::max_value())
+        && T::range_next(&mut range) == Some(T::min_value())
+}
+
+/// Whether the range with no member leads from the greatest value to the least, and gives nothing.
+fn exhausted_gives_nothing<T: Integer>() -> bool {
+    let mut range = T::exhausted_range();
+    *range.start() == T::max_value()
+        && *range.end() == T::min_value()
+        && T::range_next(&mut range).is_none()
+        && T::range_next_back(&mut range).is_none()
+}
+
+/// Whether all calls end well at both ends of a type, of which these are two lengths.
+fn calls_end_well<T: Integer>(two: T::SafeLen, whole: T::SafeLen) -> bool {
+    steps_lead_back::<T>()
+        && the_whole_leads_across::<T>(whole)
+        && two_lead_to_neighbors::<T>(two)
+        && comes_from_the_front(T::min_value())
+        && comes_from_the_front(T::max_value())
+        && comes_from_the_back(T::min_value())
+        && comes_from_the_back(T::max_value())
+        && all_come_from_both_ends::<T>()
+        && exhausted_gives_nothing::<T>()
 }
 
 #[test]
 fn calls_at_the_ends_of_each_type_end_well(rt: HostRuntime) {
-    calls_end_well::<Side>(&rt, 2, 2);
-    calls_end_well::<Slot>(&rt, 2, 96);
-    calls_end_well::<i8>(&rt, 2, 256);
-    calls_end_well::<u8>(&rt, 2, 256);
-    calls_end_well::<i16>(&rt, 2, 65_536);
-    calls_end_well::<u16>(&rt, 2, 65_536);
-    calls_end_well::<i32>(&rt, 2, 4_294_967_296);
-    calls_end_well::<u32>(&rt, 2, 4_294_967_296);
-    calls_end_well::<i64>(&rt, 2, 18_446_744_073_709_551_616);
-    calls_end_well::<u64>(&rt, 2, 18_446_744_073_709_551_616);
-    calls_end_well::<isize>(&rt, 2, 18_446_744_073_709_551_616);
-    calls_end_well::<usize>(&rt, 2, 18_446_744_073_709_551_616);
-    calls_end_well::<i128>(&rt, UIntPlusOne::UInt(2), UIntPlusOne::MaxPlusOne);
-    calls_end_well::<u128>(&rt, UIntPlusOne::UInt(2), UIntPlusOne::MaxPlusOne);
-    calls_end_well::<char>(&rt, 2, 1_112_064);
+    assert!(rt; calls_end_well::<Side>(2, 2));
+    assert!(rt; calls_end_well::<Slot>(2, 96));
+    assert!(rt; calls_end_well::<i8>(2, 256));
+    assert!(rt; calls_end_well::<u8>(2, 256));
+    assert!(rt; calls_end_well::<i16>(2, 65_536));
+    assert!(rt; calls_end_well::<u16>(2, 65_536));
+    assert!(rt; calls_end_well::<i32>(2, 4_294_967_296));
+    assert!(rt; calls_end_well::<u32>(2, 4_294_967_296));
+    assert!(rt; calls_end_well::<i64>(2, 18_446_744_073_709_551_616));
+    assert!(rt; calls_end_well::<u64>(2, 18_446_744_073_709_551_616));
+    assert!(rt; calls_end_well::<isize>(2, 18_446_744_073_709_551_616));
+    assert!(rt; calls_end_well::<usize>(2, 18_446_744_073_709_551_616));
+    assert!(rt; calls_end_well::<i128>(UIntPlusOne::UInt(2), UIntPlusOne::MaxPlusOne));
+    assert!(rt; calls_end_well::<u128>(UIntPlusOne::UInt(2), UIntPlusOne::MaxPlusOne));
+    assert!(rt; calls_end_well::<char>(2, 1_112_064));
 }

@@ -1,10 +1,14 @@
 //! What lies in at least so many streams, sets and lent sets, in rows worked by hand.
 
+ghost use Rattle.std.specs.Prelude.{IfOk};
+
 use crate::many::forms::{Ranges, streams_of, subset};
-use crate::streams::listed::stream_of;
+use crate::streams::listed::{Listed, stream_of};
+use crate::streams::operations::{OPERATIONS, Operation};
 use crate::tables::{gives, set_of};
 use range_set_blaze::{MultiwayRangeSetBlaze, MultiwayRangeSetBlazeRef};
-use rsb_many::MultiwaySortedDisjoint;
+use rsb_many::{MultiwayAtLeast, MultiwaySortedDisjoint};
+use rsb_streams::Draw;
 use std::alloc::{AllocError, Global};
 use std::test::Fail;
 
@@ -61,38 +65,42 @@ fn touching_pieces_are_one_run_and_no_streams_have_every_value(
                 let some = subset(one | other | third);
                 let two = subset((one & other) | (one & third) | (other & third));
                 let all = subset(one & other & third);
-                assert!(rt;
-                    makes(alloc, &tables, 1, some)?,
-                    "of {one}, {other}, {third}"
-                );
-                assert!(rt;
-                    makes(alloc, &tables, 2, two)?,
-                    "of {one}, {other}, {third}"
-                );
-                assert!(rt;
-                    makes(alloc, &tables, 3, all)?,
-                    "of {one}, {other}, {third}"
-                );
+                let is_right = makes(alloc, &tables, 1, some)?
+                    && makes(alloc, &tables, 2, two)?
+                    && makes(alloc, &tables, 3, all)?;
+                assert!(rt; is_right, "of {one}, {other}, {third}");
             }
         }
     }
     Ok(())
 }
 
-/// What lies in at least two of 1..=5, 3..=8 and 5..=6 is 3..=6.
+/// What lies in at least two of 1..=5, 3..=8 and 5..=6, which is 3..=6.
+fn two_deep(alloc: Global) -> Result<MultiwayAtLeast<u8, Listed<'static>>, AllocError>
+    ensures { IfOk result ⟦<MultiwayAtLeast<u8, Listed<'static>> as Draw<u8>>⟧.can_draw }
+{
+    streams_of(alloc, &[&[(1, 5)], &[(3, 8)], &[(5, 6)]])?.at_least(alloc, 2)
+}
+
+/// Whether an operator of that and of 5..=9 gives what is wanted.
+fn operator_gives(alloc: Global, operation: Operation) -> Result<bool, AllocError> {
+    let deep = two_deep(alloc)?;
+    let other = stream_of(&[(5, 9)]);
+    Ok(match operation {
+        Operation::Union => gives(deep | other, &[(3, 9)]),
+        Operation::Intersection => gives(deep & other, &[(5, 6)]),
+        Operation::Difference => gives(deep - other, &[(3, 4)]),
+        Operation::SymmetricDifference => gives(deep ^ other, &[(3, 4), (7, 9)]),
+        Operation::Complement => gives(!deep, &[(0, 2), (7, 255)]),
+    })
+}
+
 #[test]
-fn what_is_two_deep_in_operations_with_another_stream(rt: HostRuntime) -> Result<(), Fail> {
-    let alloc = rt.alloc();
-    let tables: [Ranges; 3] = [&[(1, 5)], &[(3, 8)], &[(5, 6)]];
-    let union = streams_of(alloc, &tables)?.at_least(alloc, 2)? | stream_of(&[(5, 9)]);
-    assert!(rt; gives(union, &[(3, 9)]));
-    let both = streams_of(alloc, &tables)?.at_least(alloc, 2)? & stream_of(&[(5, 9)]);
-    assert!(rt; gives(both, &[(5, 6)]));
-    let first = streams_of(alloc, &tables)?.at_least(alloc, 2)? - stream_of(&[(5, 9)]);
-    assert!(rt; gives(first, &[(3, 4)]));
-    let one = streams_of(alloc, &tables)?.at_least(alloc, 2)? ^ stream_of(&[(5, 9)]);
-    assert!(rt; gives(one, &[(3, 4), (7, 9)]));
-    let none = !streams_of(alloc, &tables)?.at_least(alloc, 2)?;
-    assert!(rt; gives(none, &[(0, 2), (7, 255)]));
-    Ok(())
+fn what_is_two_deep_in_operations_with_another_stream(rt: HostRuntime) {
+    for operation in OPERATIONS {
+        assert!(rt;
+            operator_gives(rt.alloc(), operation) == Ok(true),
+            "{operation:?}"
+        );
+    }
 }

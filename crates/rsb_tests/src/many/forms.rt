@@ -26,6 +26,24 @@ pub(crate) fn streams_of(
     Ok(streams)
 }
 
+/// Whether what lies in some streams is this.
+fn are_in_some(alloc: Global, tables: &[Ranges], wanted: Ranges) -> Result<bool, AllocError> {
+    Ok(gives(streams_of(alloc, tables)?.union(alloc)?, wanted))
+}
+
+/// Whether what lies in all streams is this.
+fn are_in_all(alloc: Global, tables: &[Ranges], wanted: Ranges) -> Result<bool, AllocError> {
+    Ok(gives(streams_of(alloc, tables)?.intersection(alloc)?, wanted))
+}
+
+/// Whether what lies in an odd number of streams is this.
+fn are_in_odd(alloc: Global, tables: &[Ranges], wanted: Ranges) -> Result<bool, AllocError> {
+    Ok(gives(
+        streams_of(alloc, tables)?.symmetric_difference(alloc)?,
+        wanted,
+    ))
+}
+
 /// Whether what lies in some, in all and in an odd number of streams are these.
 fn makes(
     alloc: Global,
@@ -34,10 +52,11 @@ fn makes(
     all: Ranges,
     odd: Ranges,
 ) -> Result<bool, AllocError> {
-    let union = streams_of(alloc, tables)?.union(alloc)?;
-    let intersection = streams_of(alloc, tables)?.intersection(alloc)?;
-    let difference = streams_of(alloc, tables)?.symmetric_difference(alloc)?;
-    Ok(gives(union, some) && gives(intersection, all) && gives(difference, odd))
+    Ok(
+        are_in_some(alloc, tables, some)?
+            && are_in_all(alloc, tables, all)?
+            && are_in_odd(alloc, tables, odd)?,
+    )
 }
 
 #[test]

@@ -17,10 +17,10 @@ fn slot(rt: &impl Abort, n: u8) -> SetNo {
 #[test]
 fn set_numbers_end_at_nine(rt: HostRuntime) {
     for n in 0..=9u8 {
-        assert_eq!(rt; slot(&rt, n).index(), n as usize);
+        assert!(rt; slot(&rt, n).index() == n as usize);
     }
     for n in [10, 11, 48, 255] {
-        assert_eq!(rt; SetNo::new(n), None, "at {n}");
+        assert!(rt; SetNo::new(n).is_none(), "at {n}");
     }
 }
 
@@ -40,7 +40,7 @@ fn lines_spell_commands(rt: HostRuntime) -> Result<(), Fail> {
         Command::Count { slot: slot(&rt, 9) },
         Command::Show { slot: slot(&rt, 5) },
     ];
-    assert_eq!(rt; commands.as_slice(), wanted.as_slice());
+    assert!(rt; commands.as_slice() == wanted.as_slice());
     Ok(())
 }
 
@@ -119,35 +119,38 @@ fn commands_run_over_another_element_type(rt: HostRuntime) -> Result<(), Fail> {
         Reply::Count(6),
         Reply::Ranges(ranges),
     ];
-    assert_eq!(rt; replies.as_slice(), wanted.as_slice());
+    assert!(rt; replies.as_slice() == wanted.as_slice());
     Ok(())
 }
 
+/// A fault, its status, and its line.
+static FAULTS: [(Fault, u8, &str); 4] = [
+    (Fault::BadLine(2), 2, "bad line 2"),
+    (Fault::BadLine(12), 2, "bad line 12"),
+    (Fault::NoMemory, 3, "no memory"),
+    (Fault::Io, 4, "read or write failed"),
+];
+
 #[test]
 fn each_fault_has_a_status_and_a_line(rt: HostRuntime) -> Result<(), Fail> {
-    for (fault, status, line) in [
-        (Fault::BadLine(2), 2, "bad line 2"),
-        (Fault::BadLine(12), 2, "bad line 12"),
-        (Fault::NoMemory, 3, "no memory"),
-        (Fault::Io, 4, "read or write failed"),
-    ] {
-        assert_eq!(rt; fault.status(), status);
-        assert_eq!(rt; format!(in rt.alloc(); "{fault}")?.as_str(), line);
+    for (fault, status, line) in &FAULTS {
+        let text = format!(in rt.alloc(); "{fault}")?;
+        assert!(rt;
+            fault.status() == *status && text.as_str() == *line,
+            "{line}"
+        );
     }
     Ok(())
 }
 
 #[test]
 fn unlike_faults_differ(rt: HostRuntime) {
-    let faults = [
-        Fault::BadLine(1),
-        Fault::BadLine(2),
-        Fault::NoMemory,
-        Fault::Io,
-    ];
-    for (i, left) in faults.iter().enumerate() {
-        for (j, right) in faults.iter().enumerate() {
-            assert_eq!(rt; *left == *right, i == j, "{i} and {j}");
+    for (place, (left, _, _)) in FAULTS.iter().enumerate() {
+        for (other, (right, _, _)) in FAULTS.iter().enumerate() {
+            assert!(rt;
+                (*left == *right) == (place == other),
+                "{place} and {other}"
+            );
         }
     }
 }

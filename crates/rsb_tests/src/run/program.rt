@@ -185,13 +185,8 @@ fn a_read_that_fails_once_in_any_way_is_told_and_nothing_is_written(rt: HostRunt
             };
             let mut output = Vec::new(rt.alloc());
             let told = run(rt.alloc(), &mut input, &mut output);
-            assert_eq!(rt;
-                told,
-                Err(Fault::Io),
-                "{kind:?} after {} bytes",
-                bytes.len()
-            );
-            assert!(rt; output.is_empty(), "{kind:?} after {} bytes", bytes.len());
+            let is_right = told == Err(Fault::Io) && output.is_empty();
+            assert!(rt; is_right, "{kind:?} after {} bytes", bytes.len());
         }
     }
 }
@@ -260,7 +255,7 @@ fn many_lines_and_a_long_one_are_answered(rt: HostRuntime) -> Result<(), Fail> {
         failure: Some(ErrorKind::Other),
         is_interrupted: false,
     };
-    assert_eq!(rt; run(rt.alloc(), &mut input, &mut output), Ok(()));
+    assert!(rt; run(rt.alloc(), &mut input, &mut output) == Ok(()));
     assert!(rt; output.taken.as_slice() == wanted.as_slice());
     Ok(())
 }
@@ -310,8 +305,7 @@ fn a_hundred_thousand_lines_are_answered(rt: HostRuntime) -> Result<(), Fail> {
 #[test]
 fn each_outcome_has_its_status_and_line(rt: HostRuntime) {
     let mut errors = Vec::new(rt.alloc());
-    assert_eq!(rt; finish(&mut errors, Ok(())), ExitCode::SUCCESS);
-    assert!(rt; errors.is_empty());
+    assert!(rt; finish(&mut errors, Ok(())) == ExitCode::SUCCESS && errors.is_empty());
     let rows: [(Fault, u8, &[u8]); 3] = [
         (Fault::BadLine(2), 2, b"bad line 2\n"),
         (Fault::NoMemory, 3, b"no memory\n"),

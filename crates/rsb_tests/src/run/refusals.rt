@@ -114,8 +114,7 @@ fn refused_memory_ends_with_status_3_and_no_commands_with_0(rt: HostRuntime) -> 
     let mut output = Vec::new(rt.alloc());
     let mut errors = Vec::new(rt.alloc());
     let code = start(&heap, &mut input, &mut output, &mut errors);
-    assert_eq!(rt; code, ExitCode::from(3));
-    assert_eq!(rt; errors.as_slice(), b"no memory\n".as_slice());
+    assert!(rt; code == ExitCode::from(3) && errors.as_slice() == b"no memory\n".as_slice());
     // No commands want no memory.
     let mut nothing = b"".as_slice();
     let code = start(&heap, &mut nothing, &mut output, &mut errors);

@@ -7,17 +7,26 @@ use range_set_blaze::{RangeSetBlaze, UIntPlusOne};
 use std::test::*;
 
 #[test]
+fn a_byte_between_two_runs_lies_in_their_gap(rt: HostRuntime) -> Result<(), Fail> {
+    let mut bytes = RangeSetBlaze::<u8>::from(rt.alloc(), 0..=9)?;
+    assert!(rt; bytes.ranges_insert(20..=255)? && lies(&bytes, 15, 10, 19, false));
+    Ok(())
+}
+
+/// A byte, the ends of the run or the gap of {1..=3, 7..=10} around it, and which it is.
+static AROUND_BYTES: [(u8, u8, u8, bool); 4] = [
+    (0, 0, 0, false),
+    (5, 4, 6, false),
+    (255, 11, 255, false),
+    (7, 7, 10, true),
+];
+
+#[test]
 fn gaps_of_bytes_reach_both_ends(rt: HostRuntime) -> Result<(), Fail> {
-    let mut bytes = RangeSetBlaze::<u8>::new(rt.alloc());
-    assert!(rt; bytes.ranges_insert(1..=3)? && bytes.ranges_insert(7..=10)?);
-    let rows = [
-        (0, 0, 0, false),
-        (5, 4, 6, false),
-        (255, 11, 255, false),
-        (7, 7, 10, true),
-    ];
-    for (value, start, end, is_run) in rows {
-        assert!(rt; lies(&bytes, value, start, end, is_run), "at {value}");
+    let mut bytes = RangeSetBlaze::<u8>::from(rt.alloc(), 1..=3)?;
+    assert!(rt; bytes.ranges_insert(7..=10)?);
+    for (value, start, end, is_run) in &AROUND_BYTES {
+        assert!(rt; lies(&bytes, *value, *start, *end, *is_run), "at {value}");
     }
     Ok(())
 }
@@ -66,25 +75,29 @@ fn characters_beside_the_surrogates_are_two(rt: HostRuntime) -> Result<(), Fail>
     Ok(())
 }
 
-// The step over the surrogates is one of the pairs.
+/// Characters and those after them, of which one pair is the step over the surrogates.
+static NEIGHBORS: [(char, char); 9] = [
+    ('\0', '\u{1}'),
+    ('@', 'A'),
+    ('\u{7F}', '\u{80}'),
+    ('\u{7FF}', '\u{800}'),
+    ('\u{D7FE}', '\u{D7FF}'),
+    ('\u{D7FF}', '\u{E000}'),
+    ('\u{E000}', '\u{E001}'),
+    ('\u{FFFF}', '\u{10000}'),
+    ('\u{10FFFE}', '\u{10FFFF}'),
+];
+
 #[test]
 fn all_characters_have_each_pair_of_neighbors(rt: HostRuntime) -> Result<(), Fail> {
     let universe = RangeSetBlaze::<char>::universe(rt.alloc())?;
-    let rows = [
-        ('\0', '\u{1}'),
-        ('@', 'A'),
-        ('\u{7F}', '\u{80}'),
-        ('\u{7FF}', '\u{800}'),
-        ('\u{D7FE}', '\u{D7FF}'),
-        ('\u{D7FF}', '\u{E000}'),
-        ('\u{E000}', '\u{E001}'),
-        ('\u{FFFF}', '\u{10000}'),
-        ('\u{10FFFE}', '\u{10FFFF}'),
-    ];
-    for (before, c) in rows {
-        let pair = RangeSetBlaze::from(rt.alloc(), before..=c)?;
-        assert!(rt; universe.contains(before) && universe.contains(c), "{c:?}");
-        assert!(rt; pair.len() == 2 && universe.is_superset(&pair), "{c:?}");
+    for (before, c) in &NEIGHBORS {
+        let pair = RangeSetBlaze::from(rt.alloc(), *before..=*c)?;
+        let has_both = universe.contains(*before) && universe.contains(*c);
+        assert!(rt;
+            has_both && pair.len() == 2 && universe.is_superset(&pair),
+            "{c:?}"
+        );
     }
     Ok(())
 }

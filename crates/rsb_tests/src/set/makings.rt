@@ -4,7 +4,7 @@ use crate::set::calls::{Making, make};
 use crate::set::rows::{Table, has, is_byte_run, makes_of_two};
 use crate::streams::operations::{Operation, operation_gives};
 use crate::tables::set_of;
-use range_set_blaze::{DrawDisjoint, RangeSetBlaze, UIntPlusOne};
+use range_set_blaze::{RangeSetBlaze, UIntPlusOne};
 use std::test::*;
 
 /// Two runs.
@@ -115,19 +115,8 @@ fn sets_streams_and_items_make_sets(rt: HostRuntime) {
 }
 
 #[test]
-fn a_complement_makes_a_set(rt: HostRuntime) -> Result<(), Fail> {
-    let mut bytes = RangeSetBlaze::<u8>::from(rt.alloc(), 0..=9)?;
-    assert!(rt; bytes.ranges_insert(20..=255)?);
-    let gaps = RangeSetBlaze::from_sorted_disjoint(rt.alloc(), bytes.ranges().complement())?;
-    assert!(rt; bytes.range_or_gap_at(15) == (10..=19, false) && is_byte_run(&gaps, 10, 19));
-    Ok(())
-}
-
-#[test]
 fn every_value_of_a_wide_type_makes_a_set(rt: HostRuntime) -> Result<(), Fail> {
     assert!(rt; RangeSetBlaze::<char>::universe(rt.alloc())?.len() == 1_112_064);
-    let numbers = RangeSetBlaze::<i128>::universe(rt.alloc())?;
-    assert!(rt; numbers.len() == UIntPlusOne::MaxPlusOne);
     Ok(())
 }
 
@@ -153,8 +142,8 @@ fn emptied_ranges_make_no_members(rt: HostRuntime) -> Result<(), Fail> {
     assert!(rt; emptied.next() == Some(3));
     let set = RangeSetBlaze::from_iter(rt.alloc(), [emptied.clone()?, 7..=8])?;
     assert!(rt; set.ranges().next() == Some(7..=8) && set.len() == 2);
-    let mut more = RangeSetBlaze::<u8>::new(rt.alloc());
-    more.extend([emptied, 5..=4])?;
-    assert!(rt; more.is_empty());
+    let mut nine = RangeSetBlaze::<u8>::from(rt.alloc(), 9..=9)?;
+    nine.extend([emptied])?;
+    assert!(rt; is_byte_run(&nine, 9, 9));
     Ok(())
 }

@@ -131,17 +131,3 @@ fn seventy_thousand_runs_are_looked_up(rt: HostRuntime) -> Result<(), Fail> {
     assert!(rt; between.next() == Some(1) && between.next_back() == Some(349_997));
     Ok(())
 }
-
-#[test]
-fn hints_are_the_lengths_to_come(rt: HostRuntime) -> Result<(), Fail> {
-    let set = every_fifth(rt.alloc(), 0, 2)?;
-    assert!(rt; set.iter().size_hint() == (70_000, None));
-    assert!(rt; set.clone()?.into_iter().size_hint() == (70_000, None));
-    let mut ranges = set.ranges();
-    assert!(rt; ranges.next() == Some(0..=2) && ranges.next_back() == Some(349_995..=349_997));
-    assert!(rt; ranges.size_hint() == (69_998, Some(69_998)));
-    let mut owned = set.into_ranges();
-    assert!(rt; owned.next() == Some(0..=2) && owned.next_back() == Some(349_995..=349_997));
-    assert!(rt; owned.size_hint() == (69_998, Some(69_998)));
-    Ok(())
-}

@@ -2,7 +2,7 @@
 
 use crate::set::rows::Table;
 use crate::set::steps::End::{self, Back, Front};
-use crate::tables::{gives, set_of};
+use crate::tables::{both_give, set_of};
 use range_set_blaze::RangeSetBlaze;
 use std::ops::RangeInclusive;
 use std::test::*;
@@ -99,8 +99,6 @@ fn a_clone_gives_the_same_ranges(rt: HostRuntime) -> Result<(), Fail> {
     let set = set_of(rt.alloc(), &[(1, 2), (5, 5), (9, 12)])?;
     let mut ranges = set.ranges();
     assert!(rt; ranges.next() == Some(1..=2));
-    let copy = ranges.clone()?;
-    assert!(rt; gives(ranges, &[(5, 5), (9, 12)]));
-    assert!(rt; gives(copy, &[(5, 5), (9, 12)]));
+    assert!(rt; both_give(ranges, &[(5, 5), (9, 12)])?);
     Ok(())
 }

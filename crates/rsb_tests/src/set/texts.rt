@@ -1,47 +1,58 @@
 //! The texts of sets, and of their iterators.
 
-use crate::tables::set_of;
+use crate::streams::texts::is_shown;
+use crate::tables::{set_of, slot, slots};
 use linked_list_allocator::LocalHeap;
-use range_set_blaze::RangeSetBlaze;
+use range_set_blaze::{Integer, RangeSetBlaze};
+use rsb_commands::outside::Slot;
+use std::alloc::Global;
 use std::test::*;
+
+/// Whether a set has a text.
+fn reads<T: Integer>(alloc: Global, set: &RangeSetBlaze<T>, wanted: &str) -> Result<bool, Fail> {
+    Ok(format!(in alloc; "{set}")?.as_str() == wanted)
+}
 
 #[test]
 fn runs_are_written_with_a_comma_between_two_and_nothing_of_none(
     rt: HostRuntime,
 ) -> Result<(), Fail> {
     let set = RangeSetBlaze::from_iter(rt.alloc(), [1..=2, 2..=2, -10..=-5, 1..=0])?;
-    let text = format!(in rt.alloc(); "{set}")?;
-    assert!(rt; text.as_str() == "-10..=-5, 1..=2");
-    let debug = format!(in rt.alloc(); "{set:?}")?;
-    assert!(rt; debug.as_str() == "-10..=-5, 1..=2");
-    let padded = format!(in rt.alloc(); "{set:40}{set:+}")?;
-    assert!(rt; padded.as_str() == "-10..=-5, 1..=2-10..=-5, 1..=2");
-    let nothing = RangeSetBlaze::<i32>::new(rt.alloc());
-    assert!(rt; format!(in rt.alloc(); "{nothing}{nothing:?}")?.is_empty());
+    assert!(rt; reads(rt.alloc(), &set, "-10..=-5, 1..=2")?);
+    assert!(rt; reads(rt.alloc(), &RangeSetBlaze::<i32>::new(rt.alloc()), "")?);
+    let others = format!(in rt.alloc(); "{set:?}{set:40}{set:+}")?;
+    assert!(rt; others.as_str() == "-10..=-5, 1..=2-10..=-5, 1..=2-10..=-5, 1..=2");
     Ok(())
 }
 
-// A text that finds no memory midway is none, and not a shorter one.
+/// Whether a text that finds no memory midway is none, and not a shorter one, in a heap of this
+/// size; and whether there is one.
+fn is_whole(alloc: Global, set: &RangeSetBlaze<i32>, size: usize) -> Result<(bool, bool), Fail> {
+    let heap = LocalHeap::new(alloc, size)?;
+    Ok(match format!(in &heap; "{set}") {
+        Ok(text) => (
+            text.as_str() == "1..=2, 5..=6, 9..=9, 20..=30, 40..=50, 60..=70",
+            true,
+        ),
+        Err(_) => (true, false),
+    })
+}
+
 #[test]
 fn a_text_is_whole_or_refused(rt: HostRuntime) -> Result<(), Fail> {
-    let set = set_of(
-        rt.alloc(),
-        &[(1, 2), (5, 6), (9, 9), (20, 30), (40, 50), (60, 70)],
-    )?;
-    let mut is_refused = false;
-    let mut is_whole = false;
-    for size in 4..60usize {
-        let heap = LocalHeap::new(rt.alloc(), 16 * size)?;
-        match format!(in &heap; "{set}") {
-            Ok(text) => {
-                let wanted = "1..=2, 5..=6, 9..=9, 20..=30, 40..=50, 60..=70";
-                assert!(rt; text.as_str() == wanted, "size {size}");
-                is_whole = true;
-            }
-            Err(_) => is_refused = true,
+    let runs = [(1, 2), (5, 6), (9, 9), (20, 30), (40, 50), (60, 70)];
+    let set = set_of(rt.alloc(), &runs)?;
+    let (mut refused, mut written) = (0_u32, 0_u32);
+    for step in 4..60usize {
+        let (is_right, is_written) = is_whole(rt.alloc(), &set, 16 * step)?;
+        assert!(rt; is_right, "step {step}");
+        if is_written {
+            written = written.saturating_add(1);
+        } else {
+            refused = refused.saturating_add(1);
         }
     }
-    assert!(rt; is_refused && is_whole);
+    assert!(rt; refused > 0 && written > 0);
     Ok(())
 }
 
@@ -50,8 +61,16 @@ fn characters_are_written_in_quotes(rt: HostRuntime) -> Result<(), Fail> {
     let mut set = RangeSetBlaze::<char>::new(rt.alloc());
     set.ranges_insert('a'..='c')?;
     set.insert('\n')?;
-    let text = format!(in rt.alloc(); "{set}")?;
-    assert!(rt; text.as_str() == "'\\n'..='\\n', 'a'..='c'");
+    assert!(rt; reads(rt.alloc(), &set, "'\\n'..='\\n', 'a'..='c'")?);
+    Ok(())
+}
+
+#[test]
+fn slots_are_written_by_their_numbers(rt: HostRuntime) -> Result<(), Fail> {
+    let mut booked = RangeSetBlaze::<Slot>::from(rt.alloc(), slots(32, 39))?;
+    booked.ranges_insert(slots(48, 51))?;
+    assert!(rt; reads(rt.alloc(), &booked, "32..=39, 48..=51")?);
+    assert!(rt; slot(95).get() == 95 && Slot::new(96).is_none());
     Ok(())
 }
 
@@ -59,9 +78,8 @@ fn characters_are_written_in_quotes(rt: HostRuntime) -> Result<(), Fail> {
 #[test]
 fn iterators_have_a_text(rt: HostRuntime) -> Result<(), Fail> {
     let set = set_of(rt.alloc(), &[(1, 2)])?;
-    assert!(rt; !format!(in rt.alloc(); "{:?}", set.ranges())?.is_empty());
-    assert!(rt; !format!(in rt.alloc(); "{:?}", set.iter())?.is_empty());
-    assert!(rt; !format!(in rt.alloc(); "{:?}", set.clone()?.into_ranges())?.is_empty());
-    assert!(rt; !format!(in rt.alloc(); "{:?}", set.into_iter())?.is_empty());
+    assert!(rt; is_shown(rt.alloc(), &set.ranges())? && is_shown(rt.alloc(), &set.iter())?);
+    assert!(rt; is_shown(rt.alloc(), &set.clone()?.into_ranges())?);
+    assert!(rt; is_shown(rt.alloc(), &set.into_iter())?);
     Ok(())
 }

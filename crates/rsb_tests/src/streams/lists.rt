@@ -3,7 +3,7 @@
 use crate::streams::listed::list_of;
 use crate::tables::gives;
 use rsb_integer::Integer;
-use rsb_streams::{CheckSortedDisjoint, DrawDisjoint};
+use rsb_streams::CheckSortedDisjoint;
 use std::alloc::Global;
 use std::test::Fail;
 
@@ -66,19 +66,5 @@ fn lists_of_wide_types_are_taken_to_their_ends(rt: HostRuntime) -> Result<(), Fa
     assert!(rt; is_refused_at(rt.alloc(), &letters, Some(1))?);
     assert!(rt; is_refused_at(rt.alloc(), &[(0, 0), (2, u128::MAX)], None)?);
     assert!(rt; is_refused_at(rt.alloc(), &[(i128::MIN, i128::MAX)], None)?);
-    Ok(())
-}
-
-#[test]
-fn union_first_answers_what_both_begin_with(rt: HostRuntime) -> Result<(), Fail> {
-    let left = CheckSortedDisjoint::try_new(vec![in rt.alloc(); 1..=2, 10..=11, 20..=21]?);
-    let right = CheckSortedDisjoint::try_new(vec![in rt.alloc(); 1..=3, 30..=31]?);
-    let (Ok(left), Ok(right)) = (left, right) else {
-        assert!(rt; false, "a canonical list was refused");
-        return Ok(());
-    };
-    let mut union = left.union(right);
-    assert!(rt; union.next() == Some(1..=3));
-    assert!(rt; gives(union, &[(10, 11), (20, 21), (30, 31)]));
     Ok(())
 }

@@ -56,19 +56,39 @@ fn first_of_both<T: Integer, L: DrawDisjoint<T>, R: DrawDisjoint<T>>(
     (first, both)
 }
 
+/// What a stream gives, and how many ranges of its inputs are drawn then.
+type Calls = &'static [((u8, u8), (usize, usize))];
+
+/// Whether the union of two streams gives these ranges, and has drawn so many of each after each.
+fn union_draws(left: &[(u8, u8)], right: &[(u8, u8)], calls: Calls) -> bool {
+    let (lefts, rights) = (Cell::new(0), Cell::new(0));
+    let left = Counted::new(stream_of(left), &lefts);
+    let right = Counted::new(stream_of(right), &rights);
+    draws(left.union(right), &lefts, &rights, calls)
+}
+
+/// Of a union of three ranges and of two.
+static FIRST_THREE: Calls = &[
+    ((1, 3), (2, 2)),
+    ((10, 11), (3, 2)),
+    ((20, 21), (3, 2)),
+    ((30, 31), (3, 2)),
+];
+
+#[test]
+fn union_first_answers_what_both_begin_with(rt: HostRuntime) {
+    let left = [(1, 2), (10, 11), (20, 21)];
+    assert!(rt; union_draws(&left, &[(1, 3), (30, 31)], FIRST_THREE));
+}
+
+/// Of the union of the two streams.
+static UNITED: Calls = &[((0, 29), (3, 2)), ((40, 49), (3, 2)), ((60, 69), (3, 2))];
+
 #[test]
 fn union_draws_what_lies_in_its_answer_and_one_range_more(rt: HostRuntime) {
-    let (lefts, rights) = (Cell::new(0), Cell::new(0));
-    let left = Counted::new(stream_of(LEFT), &lefts);
-    let right = Counted::new(stream_of(RIGHT), &rights);
-    let calls = [((0, 29), (3, 2)), ((40, 49), (3, 2)), ((60, 69), (3, 2))];
-    assert!(rt; draws(left.union(right), &lefts, &rights, &calls));
-
-    let (lefts, rights) = (Cell::new(0), Cell::new(0));
-    let left = Counted::new(stream_of(LEFT), &lefts);
-    let right = Counted::new(stream_of(RIGHT), &rights);
-    let (first, _) = first_of_both(left, right);
-    assert!(rt; first == Some(0..=29) && (lefts.get(), rights.get()) == (3, 2));
+    assert!(rt; union_draws(LEFT, RIGHT, UNITED));
+    let (first, _) = first_of_both(stream_of(LEFT), stream_of(RIGHT));
+    assert!(rt; first == Some(0..=29));
 }
 
 #[test]

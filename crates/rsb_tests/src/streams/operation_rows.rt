@@ -33,8 +33,9 @@ impl Row {
     }
 }
 
-/// Single ranges that overlap, touch and lie apart.
-pub(crate) static RANGES: [Row; 14] = [
+/// Single ranges that overlap, touch and lie apart; streams with a gap; and nothing, everything, and
+/// the ends of the type.
+pub(crate) static ROWS: [Row; 36] = [
     // Ranges that touch.
     Row {
         left: &[(0, 4)],
@@ -166,10 +167,6 @@ pub(crate) static RANGES: [Row; 14] = [
         symmetric_difference: &[(10, 199)],
         complement: &[(0, 9)],
     },
-];
-
-/// Streams with a gap.
-pub(crate) static GAPS: [Row; 10] = [
     // Runs on both sides of a gap.
     Row {
         left: &[(1, 2), (5, 100)],
@@ -265,10 +262,6 @@ pub(crate) static GAPS: [Row; 10] = [
         symmetric_difference: &[(200, 255)],
         complement: &[(10, 199)],
     },
-];
-
-/// Nothing, everything, and the ends of the type.
-pub(crate) static ENDS: [Row; 12] = [
     // Everything, and nothing.
     Row {
         left: &[(0, 255)],

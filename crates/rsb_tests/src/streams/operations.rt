@@ -1,13 +1,14 @@
 //! The five operations, by their methods.
 
 use crate::streams::listed::stream_of;
-use crate::streams::operation_rows::{ENDS, GAPS, RANGES, Row};
+use crate::streams::operation_rows::{ROWS, Row};
 use crate::tables::gives;
+use rsb_commands::outside::Side;
 use rsb_integer::Integer;
 use rsb_streams::{Difference, DrawDisjoint, Intersection, RangeOnce, Union};
 
 /// An operation on streams.
-#[derive(Clone, Copy, Debug, PartialEq)]
+#[derive(Clone, Copy, Debug)]
 pub(crate) enum Operation {
     /// What lies in one of two streams or in both.
     Union,
@@ -61,40 +62,29 @@ fn first_wrong(row: &Row) -> Option<Operation> {
 }
 
 #[test]
-fn operations_on_ranges(rt: HostRuntime) {
-    for row in &RANGES {
-        assert_eq!(rt;
-            first_wrong(row),
-            None,
-            "{:?} and {:?}",
-            row.left,
-            row.right
-        );
+fn operations_on_streams(rt: HostRuntime) {
+    for (place, row) in ROWS.iter().enumerate() {
+        assert!(rt; first_wrong(row).is_none(), "row {place}");
     }
 }
 
-#[test]
-fn operations_on_streams_with_gaps(rt: HostRuntime) {
-    for row in &GAPS {
-        assert_eq!(rt;
-            first_wrong(row),
-            None,
-            "{:?} and {:?}",
-            row.left,
-            row.right
-        );
-    }
-}
+/// An operation, and what it makes of the lower side and of both sides.
+static OF_SIDES: [(Operation, &[(Side, Side)]); 5] = [
+    (Operation::Union, &[(Side::Lo, Side::Hi)]),
+    (Operation::Intersection, &[(Side::Lo, Side::Lo)]),
+    (Operation::Difference, &[]),
+    (Operation::SymmetricDifference, &[(Side::Hi, Side::Hi)]),
+    (Operation::Complement, &[(Side::Hi, Side::Hi)]),
+];
 
 #[test]
-fn operations_at_the_ends_of_the_type(rt: HostRuntime) {
-    for row in &ENDS {
-        assert_eq!(rt;
-            first_wrong(row),
-            None,
-            "{:?} and {:?}",
-            row.left,
-            row.right
+fn operations_at_a_type_of_two_values(rt: HostRuntime) {
+    for (operation, wanted) in &OF_SIDES {
+        let low = RangeOnce::new(Side::Lo..=Side::Lo);
+        let both = RangeOnce::new(Side::Lo..=Side::Hi);
+        assert!(rt;
+            operation_gives(*operation, low, both, wanted),
+            "{operation:?}"
         );
     }
 }

@@ -22,101 +22,49 @@ static ALONE: [(Ranges, bool, bool); 6] = [
 #[test]
 fn questions_of_one_stream(rt: HostRuntime) {
     for (ranges, is_empty, is_universal) in &ALONE {
-        assert_eq!(rt;
+        let (nothing, all) = (
             stream_of(ranges).is_empty(),
-            *is_empty,
-            "is_empty of {ranges:?}"
-        );
-        assert_eq!(rt;
             stream_of(ranges).is_universal(),
-            *is_universal,
-            "is_universal of {ranges:?}"
         );
+        assert!(rt; nothing == *is_empty && all == *is_universal, "{ranges:?}");
     }
 }
 
-/// What is told of two streams.
-#[derive(Clone, Copy, Debug, Drop, PartialEq)]
-struct Told {
-    equal: bool,
-    is_subset: bool,
-    is_superset: bool,
-    is_disjoint: bool,
-}
+/// What is told of two streams: whether they are equal, whether the first is a part of the second,
+/// whether the second is one of the first, and whether they are disjoint.
+type Told = (bool, bool, bool, bool);
 
-/// What is told of the ranges of two tables.
-fn told_of(left: Ranges, right: Ranges) -> Told {
-    Told {
-        equal: stream_of(left).equal(stream_of(right)),
-        is_subset: stream_of(left).is_subset(stream_of(right)),
-        is_superset: stream_of(left).is_superset(stream_of(right)),
-        is_disjoint: stream_of(left).is_disjoint(stream_of(right)),
-    }
+/// Whether this is told of the ranges of two tables.
+fn is_told(left: Ranges, right: Ranges, told: Told) -> bool {
+    stream_of(left).equal(stream_of(right)) == told.0
+        && stream_of(left).is_subset(stream_of(right)) == told.1
+        && stream_of(left).is_superset(stream_of(right)) == told.2
+        && stream_of(left).is_disjoint(stream_of(right)) == told.3
 }
 
 /// Of nothing and nothing.
-const BOTH_EMPTY: Told = Told {
-    equal: true,
-    is_subset: true,
-    is_superset: true,
-    is_disjoint: true,
-};
+const BOTH_EMPTY: Told = (true, true, true, true);
 
 /// Of a stream and itself.
-const SAME: Told = Told {
-    equal: true,
-    is_subset: true,
-    is_superset: true,
-    is_disjoint: false,
-};
+const SAME: Told = (true, true, true, false);
 
 /// Of nothing and some.
-const NOTHING_OF: Told = Told {
-    equal: false,
-    is_subset: true,
-    is_superset: false,
-    is_disjoint: true,
-};
+const NOTHING_OF: Told = (false, true, false, true);
 
 /// Of some and nothing.
-const OF_NOTHING: Told = Told {
-    equal: false,
-    is_subset: false,
-    is_superset: true,
-    is_disjoint: true,
-};
+const OF_NOTHING: Told = (false, false, true, true);
 
 /// Of a part and its whole.
-const PART: Told = Told {
-    equal: false,
-    is_subset: true,
-    is_superset: false,
-    is_disjoint: false,
-};
+const PART: Told = (false, true, false, false);
 
 /// Of a whole and its part.
-const WHOLE: Told = Told {
-    equal: false,
-    is_subset: false,
-    is_superset: true,
-    is_disjoint: false,
-};
+const WHOLE: Told = (false, false, true, false);
 
 /// Of streams with no member in common.
-const APART: Told = Told {
-    equal: false,
-    is_subset: false,
-    is_superset: false,
-    is_disjoint: true,
-};
+const APART: Told = (false, false, false, true);
 
 /// Of streams with some members in common.
-const MEETING: Told = Told {
-    equal: false,
-    is_subset: false,
-    is_superset: false,
-    is_disjoint: false,
-};
+const MEETING: Told = (false, false, false, false);
 
 /// Pairs of streams, and what is told of them.
 static PAIRS: [(Ranges, Ranges, Told); 24] = [
@@ -153,7 +101,7 @@ static PAIRS: [(Ranges, Ranges, Told); 24] = [
 #[test]
 fn questions_of_two_streams(rt: HostRuntime) {
     for (left, right, wanted) in &PAIRS {
-        assert_eq!(rt; told_of(left, right), *wanted, "{left:?} and {right:?}");
+        assert!(rt; is_told(left, right, *wanted), "{left:?} and {right:?}");
     }
 }
 
@@ -223,6 +171,6 @@ static DRAWN: [(Question, Ranges, Ranges, (usize, usize)); 6] = [
 #[test]
 fn questions_stop_where_they_are_answered(rt: HostRuntime) {
     for (question, left, right, wanted) in &DRAWN {
-        assert_eq!(rt; drawn_by(*question, left, right), *wanted, "{question:?}");
+        assert!(rt; drawn_by(*question, left, right) == *wanted, "{question:?}");
     }
 }

@@ -10,12 +10,15 @@ fn refusal(alloc: Global, position: usize, end: u8) -> Result<NotSortedDisjoint<
     Ok(NotSortedDisjoint { position, ranges })
 }
 
+/// A position, the end of the second range, and whether a refusal by these is that of 3..=4 at 1.
+static REFUSALS: [(usize, u8, bool); 3] = [(1, 4, true), (0, 4, false), (1, 5, false)];
+
 #[test]
 fn refusals_are_equal_where_position_and_ranges_are(rt: HostRuntime) -> Result<(), Fail> {
     let refused = refusal(rt.alloc(), 1, 4)?;
-    for (position, end, wanted) in [(1, 4, true), (0, 4, false), (1, 5, false)] {
-        let other = refusal(rt.alloc(), position, end)?;
-        assert_eq!(rt; refused == other, wanted, "at {position}, of 3..={end}");
+    for (position, end, wanted) in &REFUSALS {
+        let is_equal = refused == refusal(rt.alloc(), *position, *end)?;
+        assert!(rt; is_equal == *wanted, "at {position}, of 3..={end}");
     }
     Ok(())
 }
@@ -29,16 +32,15 @@ fn a_refusal_tells_the_position(rt: HostRuntime) -> Result<(), Fail> {
     Ok(())
 }
 
+/// The text of a refusal for those who debug.
+fn debugged(alloc: Global, position: usize, end: u8) -> Result<String, Fail> {
+    Ok(format!(in alloc; "{:?}", refusal(alloc, position, end)?)?)
+}
+
 // What the text for those who debug is is left open.
 #[test]
 fn unlike_refusals_have_unlike_texts_for_debugging(rt: HostRuntime) -> Result<(), Fail> {
-    let text = format!(in rt.alloc(); "{:?}", refusal(rt.alloc(), 1, 4)?)?;
-    for (position, end) in [(0, 4), (1, 5)] {
-        let other = format!(in rt.alloc(); "{:?}", refusal(rt.alloc(), position, end)?)?;
-        assert!(rt;
-            text.as_str() != other.as_str(),
-            "at {position}, of 3..={end}"
-        );
-    }
+    let text = debugged(rt.alloc(), 1, 4)?;
+    assert!(rt; text != debugged(rt.alloc(), 0, 4)? && text != debugged(rt.alloc(), 1, 5)?);
     Ok(())
 }

@@ -16,22 +16,18 @@ fn even_values(alloc: Global) -> Result<Vec<RangeInclusive<u8>>, AllocError> {
     Ok(ranges)
 }
 
-#[test]
-fn without_memory_no_union_is_made_and_none_is_kept(rt: HostRuntime) -> Result<(), Fail> {
-    for size in [16, 64, 256] {
-        let heap = LocalHeap::new(rt.alloc(), size)?;
-        let refused = UnionIter::from_iter(&heap, even_values(rt.alloc())?);
-        assert!(rt; refused.is_err(), "in {size} bytes");
-        assert!(rt; heap.used() == 0, "in {size} bytes");
-    }
-    Ok(())
+/// Whether the union of the even values is refused in a heap of this size, keeps nothing of it, and
+/// leaves room for a smaller one.
+fn is_refused(alloc: Global, size: usize) -> Result<bool, AllocError> {
+    let heap = LocalHeap::new(alloc, size)?;
+    let is_refused = UnionIter::from_iter(&heap, even_values(alloc)?).is_err() && heap.used() == 0;
+    let union = UnionIter::from_iter(&heap, [5u8..=6, 1..=2, 3..=3])?;
+    Ok(is_refused && gives(union, &[(1, 3), (5, 6)]))
 }
 
 #[test]
-fn after_a_refusal_a_smaller_union_is_made(rt: HostRuntime) -> Result<(), Fail> {
-    let heap = LocalHeap::new(rt.alloc(), 64)?;
-    assert!(rt; UnionIter::from_iter(&heap, even_values(rt.alloc())?).is_err());
-    let union = UnionIter::from_iter(&heap, [5u8..=6, 1..=2, 3..=3])?;
-    assert!(rt; gives(union, &[(1, 3), (5, 6)]));
-    Ok(())
+fn without_memory_no_union_is_made_and_none_is_kept(rt: HostRuntime) {
+    for size in [64, 256] {
+        assert!(rt; is_refused(rt.alloc(), size) == Ok(true), "in {size} bytes");
+    }
 }

@@ -16,34 +16,38 @@ fn two_ranges() -> Listed<'static>
     stream_of(&[(3, 5), (7, 9)])
 }
 
+/// The ends of ranges.
+type Ranges = &'static [(u8, u8)];
+
+/// A number, and the gaps of the first so many ranges and of the others.
+static TAKEN_AND_SKIPPED: [(usize, Ranges, Ranges); 4] = [
+    (0, &[(0, 255)], &[(0, 2), (6, 6), (10, 255)]),
+    (1, &[(0, 2), (6, 255)], &[(0, 6), (10, 255)]),
+    (2, &[(0, 2), (6, 6), (10, 255)], &[(0, 255)]),
+    (3, &[(0, 2), (6, 6), (10, 255)], &[(0, 255)]),
+];
+
 #[test]
 fn gaps_of_the_first_ranges_and_of_those_after_them(rt: HostRuntime) {
-    let rows: [(usize, &[(u8, u8)], &[(u8, u8)]); 4] = [
-        (0, &[(0, 255)], &[(0, 2), (6, 6), (10, 255)]),
-        (1, &[(0, 2), (6, 255)], &[(0, 6), (10, 255)]),
-        (2, &[(0, 2), (6, 6), (10, 255)], &[(0, 255)]),
-        (3, &[(0, 2), (6, 6), (10, 255)], &[(0, 255)]),
-    ];
-    for (count, first, others) in &rows {
-        assert!(rt;
-            gives(two_ranges().take(*count).complement(), first),
-            "take({count})"
-        );
-        assert!(rt;
-            gives(two_ranges().skip(*count).complement(), others),
-            "skip({count})"
-        );
+    for (count, first, others) in &TAKEN_AND_SKIPPED {
+        let taken = gives(two_ranges().take(*count).complement(), first);
+        assert!(rt; taken, "take({count})");
+        let skipped = gives(two_ranges().skip(*count).complement(), others);
+        assert!(rt; skipped, "skip({count})");
     }
 }
 
+/// A value, and the gaps of the ranges before the first that does not end below it, and of those
+/// from it on.
+static BEFORE_AND_FROM: [(u8, Ranges, Ranges); 3] = [
+    (5, &[(0, 255)], &[(0, 2), (6, 6), (10, 255)]),
+    (6, &[(0, 2), (6, 255)], &[(0, 6), (10, 255)]),
+    (10, &[(0, 2), (6, 6), (10, 255)], &[(0, 255)]),
+];
+
 #[test]
 fn gaps_of_ranges_up_to_one_that_fails_and_from_it_on(rt: HostRuntime) {
-    let rows: [(u8, &[(u8, u8)], &[(u8, u8)]); 3] = [
-        (5, &[(0, 255)], &[(0, 2), (6, 6), (10, 255)]),
-        (6, &[(0, 2), (6, 255)], &[(0, 6), (10, 255)]),
-        (10, &[(0, 2), (6, 6), (10, 255)], &[(0, 255)]),
-    ];
-    for (limit, before, from) in &rows {
+    for (limit, before, from) in &BEFORE_AND_FROM {
         let limit = *limit;
         let some = two_ranges().take_while(move |range| *range.end() < limit);
         assert!(rt;

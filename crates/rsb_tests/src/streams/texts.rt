@@ -8,7 +8,7 @@ use std::fmt::Debug;
 use std::test::Fail;
 
 /// Whether a stream has a text.
-fn is_shown<I: Debug>(alloc: Global, stream: &I) -> Result<bool, Fail> {
+pub(crate) fn is_shown<I: Debug>(alloc: Global, stream: &I) -> Result<bool, Fail> {
     let text = format!(in alloc; "{stream:?}")?;
     Ok(!text.is_empty())
 }

@@ -7,14 +7,18 @@ use std::alloc::Global;
 use std::ops::RangeInclusive;
 use std::test::Fail;
 
-/// Whether ranges are joined to these as they come.
+/// The ends of ranges.
+type Ranges = &'static [(u8, u8)];
+
+/// Whether ranges are joined to these as they come, and none is promised before.
 fn joins(
     alloc: Global,
     ranges: Vec<RangeInclusive<u8>>,
     wanted: &[(u8, u8)],
 ) -> Result<bool, Fail> {
-    let joined = Vec::from_iter(alloc, UnsortedDisjoint::new(ranges.into_iter()))?;
-    Ok(joined == list_of(alloc, wanted)?)
+    let joined = UnsortedDisjoint::new(ranges.into_iter());
+    let promises_none = joined.size_hint().0 == 0;
+    Ok(promises_none && Vec::from_iter(alloc, joined)? == list_of(alloc, wanted)?)
 }
 
 #[test]
@@ -29,42 +33,39 @@ fn single_values_are_joined_while_they_touch_what_was_gathered(
     Ok(())
 }
 
+/// Ranges in any order, and what they are joined to as they come.
+static JOINED: [(Ranges, Ranges); 5] = [
+    (
+        &[(255, 255), (254, 254), (0, 0), (1, 1), (3, 255), (2, 9)],
+        &[(254, 255), (0, 1), (2, 255)],
+    ),
+    (&[(5, 4), (9, 9), (4, 3), (10, 12)], &[(9, 12)]),
+    (&[(0, 255), (0, 255)], &[(0, 255)]),
+    (&[(5, 4)], &[]),
+    (&[], &[]),
+];
+
 #[test]
 fn ranges_are_joined_as_they_come(rt: HostRuntime) -> Result<(), Fail> {
-    let rows: [(&[(u8, u8)], &[(u8, u8)]); 5] = [
-        (
-            &[(255, 255), (254, 254), (0, 0), (1, 1), (3, 255), (2, 9)],
-            &[(254, 255), (0, 1), (2, 255)],
-        ),
-        (&[(5, 4), (9, 9), (4, 3), (10, 12)], &[(9, 12)]),
-        (&[(0, 255), (0, 255)], &[(0, 255)]),
-        (&[(5, 4)], &[]),
-        (&[], &[]),
-    ];
-    for (ranges, wanted) in &rows {
+    for (ranges, wanted) in &JOINED {
         let list = list_of(rt.alloc(), ranges)?;
         assert!(rt; joins(rt.alloc(), list, wanted)?, "{ranges:?}");
     }
     Ok(())
 }
 
-#[test]
-fn joined_ranges_promise_no_item(rt: HostRuntime) {
-    let mut joined = UnsortedDisjoint::new([5u8..=4].into_iter());
-    assert!(rt; joined.size_hint().0 == 0);
-    assert!(rt; joined.next() == None);
-}
+/// Ranges in any order, and their union.
+static UNITED: [(Ranges, Ranges); 5] = [
+    (&[], &[]),
+    (&[(5, 4), (9, 8)], &[]),
+    (&[(255, 255), (0, 0), (254, 254)], &[(0, 0), (254, 255)]),
+    (&[(1, 0), (2, 2), (5, 9), (1, 2)], &[(1, 2), (5, 9)]),
+    (&[(7, 255), (0, 3), (2, 6)], &[(0, 255)]),
+];
 
 #[test]
 fn unions_of_ranges_in_any_order(rt: HostRuntime) -> Result<(), Fail> {
-    let rows: [(&[(u8, u8)], &[(u8, u8)]); 5] = [
-        (&[], &[]),
-        (&[(5, 4), (9, 8)], &[]),
-        (&[(255, 255), (0, 0), (254, 254)], &[(0, 0), (254, 255)]),
-        (&[(1, 0), (2, 2), (5, 9), (1, 2)], &[(1, 2), (5, 9)]),
-        (&[(7, 255), (0, 3), (2, 6)], &[(0, 255)]),
-    ];
-    for (ranges, wanted) in &rows {
+    for (ranges, wanted) in &UNITED {
         let union = UnionIter::from_iter(rt.alloc(), list_of(rt.alloc(), ranges)?)?;
         assert!(rt; gives(union, wanted), "{ranges:?}");
     }
