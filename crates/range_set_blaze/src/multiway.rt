@@ -2,12 +2,14 @@
 
 ghost use Rattle.std.specs.Prelude.{◌≡◌, ◌<◌, length, map, All, IfOk};
 ghost use Rattle.rsb_integer.specs.Rank.{intervals_of};
+ghost use Rattle.rsb_integer.specs.Runs.{members};
 ghost use Rattle.rsb_integer.specs.Selection.{all_of, any_of, at_least, odd_of};
 ghost use Rattle.rsb_many.specs.Many.{may_give_at, runs_by_all};
 ghost use Rattle.rsb_many.specs.MultiwayAtLeast.{GivesRunsOfAllAtMost};
 ghost use Rattle.rsb_streams.specs.Items.{GaveRun, IsEnding};
 ghost use Rattle.rsb_streams.specs.Stream.{just};
 ghost use Rattle.range_set_blaze.specs.Multiway.{HasRunsOfAllAtMost, IsMadeOf};
+ghost use Rattle.range_set_blaze.specs.Set.{IsSetOf};
 
 use crate::into_ranges_iter::IntoRangesIter;
 use crate::ranges_iter::RangesIter;
@@ -82,6 +84,9 @@ pub trait MultiwayRangeSetBlaze<T: Integer, S: Allocator>: IntoIterator<
         ensures members { IfOk result (λ set.
             GaveRun Self.into_iter_gives Self.IntoIter.next_gives self
             (λ sets. IsMadeOf T.value_count (at_least k) sets set)) }
+        ensures exactly { 0 < k → IfOk result (λ set.
+            GaveRun Self.into_iter_gives Self.IntoIter.next_gives self
+            (λ sets. IsSetOf set (at_least k (map members sets)))) }
         ensures run_count { 0 < k → IfOk result (λ set.
             GaveRun Self.into_iter_gives Self.IntoIter.next_gives self
             (λ sets. HasRunsOfAllAtMost sets set)) }
@@ -162,6 +167,9 @@ pub trait MultiwayRangeSetBlazeRef<'a, T: Integer + 'a, S: Allocator + 'a>: Into
         ensures members { IfOk result (λ set.
             GaveRun Self.into_iter_gives Self.IntoIter.next_gives self
             (λ sets. IsMadeOf T.value_count (at_least k) (map (λ lent. lent.now) sets) set)) }
+        ensures exactly { 0 < k → IfOk result (λ set.
+            GaveRun Self.into_iter_gives Self.IntoIter.next_gives self
+            (λ sets. IsSetOf set (at_least k (map members (map (λ lent. lent.now) sets))))) }
         ensures run_count { 0 < k → IfOk result (λ set.
             GaveRun Self.into_iter_gives Self.IntoIter.next_gives self
             (λ sets. HasRunsOfAllAtMost (map (λ lent. lent.now) sets) set)) }
