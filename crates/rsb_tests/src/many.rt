@@ -6,8 +6,6 @@ mod forms;
 mod lookahead;
 mod merges;
 mod nested;
-mod refusals;
-mod sets;
 mod sweeps;
 mod thousand;
 mod touching;

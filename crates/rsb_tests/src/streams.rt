@@ -20,7 +20,6 @@ mod questions;
 mod range_once;
 mod ranges_of_sets;
 mod refused_lists;
-mod refused_unions;
 mod run_count;
 mod set_algebra;
 mod six_operations;

@@ -27,6 +27,10 @@ pub(crate) enum Change {
     Append,
     BitorAssign,
     BitorAssignOwned,
+    /// By the trait of std, as the next one.
+    StdExtend,
+    /// Adds each fourth value from the one to the other.
+    StdExtendValues(i32, i32),
 }
 
 impl Change {
@@ -39,6 +43,8 @@ impl Change {
                 | Change::Append
                 | Change::BitorAssign
                 | Change::BitorAssignOwned
+                | Change::StdExtend
+                | Change::StdExtendValues(_, _)
         )
     }
 
@@ -85,6 +91,8 @@ fn add<A: Allocator + Copy>(
         Change::ExtendValues(start, end) => set.extend_values((start..=end).step_by(4)),
         Change::Append => set.append(other),
         Change::BitorAssign => set.bitor_assign(other),
+        Change::StdExtend => Extend::extend(set, other.ranges()),
+        Change::StdExtendValues(start, end) => Extend::extend(set, (start..=end).step_by(4)),
         _ => set.bitor_assign_owned(mem::replace(other, RangeSetBlaze::new(alloc))),
     }
 }
@@ -174,25 +182,50 @@ pub(crate) enum Making {
     IntoRangeSetBlaze,
     From(i32, i32),
     Universe,
+    /// These by the traits of std.
+    StdClone,
+    StdBitor,
+    StdBitand,
+    StdSub,
+    StdBitxor,
+    StdNot,
+    /// Of the runs of the second set, and then those of the first.
+    Collect,
+    /// Of each fourth value from the one to the other.
+    CollectValues(i32, i32),
 }
 
 impl Making {
-    /// Each of them once.
-    pub(crate) const ALL: [Making; 13] = [
-        Making::Clone,
-        Making::Bitor,
-        Making::Bitand,
-        Making::Sub,
-        Making::Bitxor,
-        Making::Not,
-        Making::FromIter,
-        Making::FromIterValues(2, 800),
-        Making::FromArray,
-        Making::FromSortedDisjoint,
-        Making::IntoRangeSetBlaze,
-        Making::From(3, 7),
-        Making::Universe,
-    ];
+    /// The first of all.
+    pub(crate) const FIRST: Making = Making::Clone;
+
+    /// The one after it, and none after the last.
+    pub(crate) fn after(self) -> Option<Making> {
+        let next = match self {
+            Making::Clone => Making::Bitor,
+            Making::Bitor => Making::Bitand,
+            Making::Bitand => Making::Sub,
+            Making::Sub => Making::Bitxor,
+            Making::Bitxor => Making::Not,
+            Making::Not => Making::FromIter,
+            Making::FromIter => Making::FromIterValues(2, 800),
+            Making::FromIterValues(_, _) => Making::FromArray,
+            Making::FromArray => Making::FromSortedDisjoint,
+            Making::FromSortedDisjoint => Making::IntoRangeSetBlaze,
+            Making::IntoRangeSetBlaze => Making::From(3, 7),
+            Making::From(_, _) => Making::Universe,
+            Making::Universe => Making::StdClone,
+            Making::StdClone => Making::StdBitor,
+            Making::StdBitor => Making::StdBitand,
+            Making::StdBitand => Making::StdSub,
+            Making::StdSub => Making::StdBitxor,
+            Making::StdBitxor => Making::StdNot,
+            Making::StdNot => Making::Collect,
+            Making::Collect => Making::CollectValues(2, 800),
+            Making::CollectValues(_, _) => return None,
+        };
+        Some(next)
+    }
 }
 
 /// Makes a set that takes another's values or none.
@@ -208,7 +241,25 @@ fn make_one<A: Allocator + Copy>(
         Making::FromSortedDisjoint => RangeSetBlaze::from_sorted_disjoint(alloc, set.ranges()),
         Making::IntoRangeSetBlaze => set.ranges().into_range_set_blaze(alloc),
         Making::From(start, end) => RangeSetBlaze::from(alloc, start..=end),
+        Making::StdClone => Clone::clone(set),
+        Making::StdNot => !set,
         _ => RangeSetBlaze::universe(alloc),
+    }
+}
+
+/// Makes a set of two by an operator, or by a loop over both.
+fn make_by_std<A: Allocator + Copy, B: Allocator>(
+    alloc: A,
+    making: Making,
+    set: &RangeSetBlaze<i32, A>,
+    other: &RangeSetBlaze<i32, B>,
+) -> Result<RangeSetBlaze<i32, A>, AllocError> {
+    match making {
+        Making::StdBitor => set | other,
+        Making::StdBitand => set & other,
+        Making::StdSub => set - other,
+        Making::StdBitxor => set ^ other,
+        _ => other.ranges().chain(set.ranges()).collect(alloc),
     }
 }
 
@@ -228,6 +279,12 @@ pub(crate) fn make<A: Allocator + Copy, B: Allocator>(
         Making::FromIterValues(start, end) => {
             RangeSetBlaze::from_iter_values(alloc, (start..=end).step_by(4))
         }
+        Making::CollectValues(start, end) => (start..=end).step_by(4).collect(alloc),
+        Making::StdBitor
+        | Making::StdBitand
+        | Making::StdSub
+        | Making::StdBitxor
+        | Making::Collect => make_by_std(alloc, making, set, other),
         _ => make_one(alloc, making, set),
     }
 }

@@ -71,12 +71,16 @@ pub(crate) fn runs(
     Ok(runs)
 }
 
+/// Whether a cell is one of each fourth value from the one to the other.
+fn is_fourth(cell: &Cell, start: i32, end: i32) -> bool {
+    start <= cell.start && cell.end <= end && cell.start.abs_diff(start) % 4 == 0
+}
+
 /// Whether a change adds the values of a cell.
 fn is_added(change: Change, cell: &Cell) -> bool {
     match change {
-        Change::ExtendValues(start, end) => {
-            start <= cell.start && cell.end <= end && cell.start.abs_diff(start) % 4 == 0
-        }
+        Change::ExtendValues(start, end) => is_fourth(cell, start, end),
+        Change::StdExtendValues(start, end) => is_fourth(cell, start, end),
         _ => cell.is_other,
     }
 }
@@ -97,7 +101,13 @@ fn is_member_after(change: Change, cell: Cell, first: i32, last: i32, begin: i32
         Change::Retain(divisor, rest) => was && is_kept(cell.start, divisor, rest),
         Change::RangesRetain(divisor, rest) => was && is_kept(begin, divisor, rest),
         Change::Clear => false,
-        _ => was || is_added(change, &cell),
+        Change::Extend
+        | Change::ExtendValues(_, _)
+        | Change::Append
+        | Change::BitorAssign
+        | Change::BitorAssignOwned
+        | Change::StdExtend
+        | Change::StdExtendValues(_, _) => was || is_added(change, &cell),
     }
 }
 
@@ -156,16 +166,18 @@ pub(crate) fn reckon(
 fn selects(making: Making, cell: &Cell) -> bool {
     let (one, other) = (cell.is_member, cell.is_other);
     match making {
-        Making::Bitor | Making::FromIter => one || other,
-        Making::Bitand => one && other,
-        Making::Sub => one && !other,
-        Making::Bitxor => one != other,
-        Making::Not => !one,
-        Making::FromIterValues(start, end) => is_added(Change::ExtendValues(start, end), cell),
+        Making::Bitor | Making::FromIter | Making::StdBitor | Making::Collect => one || other,
+        Making::Bitand | Making::StdBitand => one && other,
+        Making::Sub | Making::StdSub => one && !other,
+        Making::Bitxor | Making::StdBitxor => one != other,
+        Making::Not | Making::StdNot => !one,
+        Making::FromIterValues(start, end) => is_fourth(cell, start, end),
+        Making::CollectValues(start, end) => is_fourth(cell, start, end),
         Making::FromArray => matches!(cell.start, 1 | 4 | 7 | 9),
         Making::From(start, end) => start <= cell.start && cell.end <= end,
         Making::Universe => true,
-        _ => one,
+        Making::Clone | Making::FromSortedDisjoint | Making::IntoRangeSetBlaze | Making::StdClone =>
+            one,
     }
 }
 

@@ -1,7 +1,7 @@
 //! Sets that reach both ends of their types.
 
-use crate::set::full_heaps::filled;
 use crate::set::look_ups::lies;
+use crate::set::refusals::heaps::filled;
 use linked_list_allocator::LocalHeap;
 use range_set_blaze::{RangeSetBlaze, UIntPlusOne};
 use std::test::*;

@@ -4,7 +4,10 @@ use crate::set::calls::{Making, make};
 use crate::set::rows::{Table, has, is_byte_run, makes_of_two};
 use crate::streams::operations::{Operation, operation_gives};
 use crate::tables::set_of;
-use range_set_blaze::{DrawDisjoint, IntoRangeSetBlaze, RangeSetBlaze, UIntPlusOne};
+use range_set_blaze::{
+    CheckSortedDisjoint, DrawDisjoint, Integer, IntoRangeSetBlaze, RangeOnce, RangeSetBlaze,
+    UIntPlusOne,
+};
 use std::test::*;
 
 /// Two runs.
@@ -168,13 +171,19 @@ fn all_wide_numbers_but_one_are_counted(rt: HostRuntime) -> Result<(), Fail> {
 }
 
 #[test]
-fn emptied_ranges_make_no_members(rt: HostRuntime) -> Result<(), Fail> {
-    let mut emptied = 3..=3_u8;
-    assert!(rt; emptied.next() == Some(3));
-    let set = RangeSetBlaze::from_iter(rt.alloc(), [emptied.clone()?, 7..=8])?;
-    assert!(rt; set.ranges().next() == Some(7..=8) && set.len() == 2);
-    let mut more = RangeSetBlaze::<u8>::new(rt.alloc());
-    more.extend([emptied, 5..=4])?;
-    assert!(rt; more.is_empty());
+fn a_range_iterated_to_its_end_has_no_members(rt: HostRuntime) -> Result<(), Fail> {
+    let mut range = 1u8..=3;
+    for wanted in [Some(1), Some(2), Some(3), None] {
+        assert!(rt; u8::range_next(&mut range) == wanted, "{wanted:?}");
+    }
+    assert!(rt; RangeOnce::new(range.clone()?).next() == None);
+    let set = RangeSetBlaze::from_iter(rt.alloc(), [range.clone()?, 7..=8])?;
+    assert!(rt; is_byte_run(&set, 7, 8));
+    let list = Vec::from_array(rt.alloc(), [range.clone()?])?;
+    let refused = CheckSortedDisjoint::try_new(list).err();
+    assert!(rt; refused.is_some_and(|refused| refused.position == 0));
+    let mut nine = RangeSetBlaze::from(rt.alloc(), 9..=9_u8)?;
+    nine.extend([range])?;
+    assert!(rt; is_byte_run(&nine, 9, 9));
     Ok(())
 }

@@ -1,9 +1,7 @@
 //! `range`, the elements between two bounds.
 
-use crate::set::full_heaps::filled;
 use crate::tables::set_of;
-use linked_list_allocator::LocalHeap;
-use range_set_blaze::{IntoIter, RangeSetBlaze};
+use range_set_blaze::IntoIter;
 use std::alloc::Allocator;
 use std::ops::Bound;
 use std::test::*;
@@ -37,18 +35,5 @@ fn bounds_with_nothing_between_them_give_nothing(rt: HostRuntime) -> Result<(), 
     assert!(rt; gives(set.range(..i32::MIN)?, &[]));
     let past = (Bound::Excluded(i32::MAX), Bound::Unbounded);
     assert!(rt; gives(set.range(past)?, &[]));
-    Ok(())
-}
-
-#[test]
-fn a_refused_growth_leaves_the_set(rt: HostRuntime) -> Result<(), Fail> {
-    let heap = LocalHeap::new(rt.alloc(), 8192)?;
-    let mut set = RangeSetBlaze::<i32, &LocalHeap>::new(&heap);
-    set.ranges_insert(3..=5)?;
-    let filler = filled(rt.alloc(), &heap)?;
-    assert!(rt; set.range(4..=6).is_err());
-    assert!(rt; set.ranges().next() == Some(3..=5) && set.len() == 3);
-    drop(filler);
-    assert!(rt; gives(set.range(4..=6)?, &[4, 5]));
     Ok(())
 }

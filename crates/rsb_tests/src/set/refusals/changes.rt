@@ -1,0 +1,216 @@
+//! What changes a set.
+
+use crate::set::calls::{Answer, Change, carry_out};
+use crate::set::cells::{Cell, Side, agree, cells, mark_front, reckon, runs};
+use crate::set::refusals::heaps::filled_but;
+use crate::set::rows::set_in;
+use linked_list_allocator::LocalHeap;
+use range_set_blaze::RangeSetBlaze;
+use std::alloc::{AllocError, Global};
+use std::test::*;
+
+/// A set in a heap.
+pub(crate) type HeapSet<'a> = RangeSetBlaze<i32, &'a LocalHeap>;
+
+/// The change that is tried first.
+const FIRST: Change = Change::Insert(6);
+
+/// The change that is tried after another, and none after the last.
+fn after(change: Change) -> Option<Change> {
+    let next = match change {
+        Change::Insert(_) => Change::Replace(6),
+        Change::Replace(_) => Change::RangesInsert(4, 6),
+        Change::RangesInsert(4, _) => Change::RangesInsert(1, 815),
+        Change::RangesInsert(1, _) => Change::RangesInsert(-8, 815),
+        Change::RangesInsert(_, _) => Change::Remove(1),
+        Change::Remove(_) => Change::Take(1),
+        Change::Take(_) => Change::PopFirst,
+        Change::PopFirst => Change::PopLast,
+        Change::PopLast => Change::SplitOff(1),
+        Change::SplitOff(_) => Change::Retain(2, 1),
+        Change::Retain(_, _) => Change::RangesRetain(16, 0),
+        Change::RangesRetain(_, _) => Change::Clear,
+        Change::Clear => Change::ExtendValues(4, 800),
+        Change::ExtendValues(_, _) => Change::StdExtendValues(4, 800),
+        Change::StdExtendValues(_, _) => Change::Extend,
+        Change::Extend => Change::StdExtend,
+        Change::StdExtend => Change::Append,
+        Change::Append => Change::BitorAssign,
+        Change::BitorAssign => Change::BitorAssignOwned,
+        Change::BitorAssignOwned => return None,
+    };
+    Some(next)
+}
+
+/// Whether a change wants memory at one place at least, of a set of so many runs, where it adds
+/// another of so many. A leaf of the map has room for fifteen runs, so no insertion beside one run or
+/// three and no removal from them wants more.
+fn wants(change: Change, count: i32, others: i32) -> bool {
+    match change {
+        Change::Insert(_) | Change::Replace(_) | Change::RangesInsert(4, _) => {
+            count == 0 || count >= 15
+        }
+        // A run reaches the start of the new one, and its end is moved.
+        Change::RangesInsert(1, _) => count == 0,
+        Change::RangesInsert(_, _) => count == 0 || count == 15,
+        Change::Remove(_) | Change::Take(_) | Change::PopFirst => count >= 15,
+        Change::SplitOff(_) | Change::Retain(_, _) => count > 0,
+        Change::PopLast | Change::RangesRetain(_, _) | Change::Clear => false,
+        Change::ExtendValues(_, _) | Change::StdExtendValues(_, _) => true,
+        Change::Extend | Change::StdExtend => grows(count, others),
+        Change::Append | Change::BitorAssign => grows(count, others) || is_anew(count, others),
+        // The larger set goes on.
+        Change::BitorAssignOwned => {
+            let (few, more) = (count.min(others), count.max(others));
+            few > 0 && grows(more, few) || is_anew(count, others)
+        }
+    }
+}
+
+/// Whether so many runs more need another leaf.
+fn grows(count: i32, others: i32) -> bool {
+    others > 0 && (count == 0 || count == 15 || others == 100)
+}
+
+/// Whether runs are so many beside the others that both sets are made one anew.
+fn is_anew(count: i32, others: i32) -> bool {
+    count == 3 && others == 3
+}
+
+/// The cells of so many runs of three values, eight apart from 0 on, and of so many of two others,
+/// each in the gap after one.
+pub(crate) fn spaced(alloc: Global, count: i32, others: i32) -> Result<Vec<Cell>, AllocError> {
+    let mut cells = cells(alloc, -8, 824)?;
+    for cell in cells.iter_mut() {
+        let (place, rest) = (cell.start / 8, cell.start % 8);
+        cell.is_member = cell.start >= 0 && place < count && rest < 3;
+        cell.is_other = cell.start >= 0 && place < others && (rest == 4 || rest == 5);
+    }
+    Ok(cells)
+}
+
+/// What a change answers where a full heap has so much room in one place, or that it is refused.
+fn tried<'a>(
+    alloc: Global,
+    heap: &'a LocalHeap,
+    room: usize,
+    change: Change,
+    set: &mut HeapSet<'a>,
+    other: &mut HeapSet<'a>,
+) -> Result<Option<Answer>, AllocError> {
+    let filler = filled_but(alloc, heap, room)?;
+    let told = carry_out(heap, change, set, other);
+    drop(filler);
+    Ok(told.ok())
+}
+
+/// Whether two sets are what a refused change leaves: the first has a front of what was to be added,
+/// and the other is as it was. One that was given up is given anew.
+fn are_left<'a>(
+    alloc: Global,
+    heap: &'a LocalHeap,
+    change: Change,
+    set: &HeapSet<'a>,
+    other: &mut HeapSet<'a>,
+    cells: &mut Vec<Cell>,
+) -> Result<bool, AllocError> {
+    if change.adds() {
+        mark_front(change, set, cells);
+    }
+    if matches!(change, Change::BitorAssignOwned) {
+        *other = set_in(heap, &runs(alloc, cells, Side::Other)?)?;
+    }
+    agree(alloc, set, other, cells)
+}
+
+/// How many tries of a change are refused before one passes. `None` where a refused one leaves what
+/// it must not, or where the one that passes goes wrong from there.
+fn refusals<'a>(
+    alloc: Global,
+    heap: &'a LocalHeap,
+    change: Change,
+    set: &mut HeapSet<'a>,
+    other: &mut HeapSet<'a>,
+    cells: &mut Vec<Cell>,
+) -> Result<Option<u32>, AllocError> {
+    for step in 0..150u32 {
+        let told = tried(alloc, heap, 96 * step as usize, change, set, other)?;
+        if let Some(answer) = told {
+            let is_told = answer == reckon(alloc, change, cells)?;
+            return Ok((is_told && agree(alloc, set, other, cells)?).then_some(step));
+        }
+        if !are_left(alloc, heap, change, set, other, cells)? {
+            return Ok(None);
+        }
+    }
+    Ok(None)
+}
+
+/// At how many places a change of so many runs is tried: at each run and past the last, but over all
+/// runs once, and a pop at each value.
+fn places(change: Change, count: i32) -> i32 {
+    match change {
+        Change::PopFirst | Change::PopLast => count.saturating_mul(3).saturating_add(1),
+        Change::RangesInsert(_, 815) => 1,
+        _ if change.adds() => 1,
+        _ => count.saturating_add(1),
+    }
+}
+
+/// Whether some tries of a change are refused, at so many places, eight apart, from the last on. `None`
+/// where one leaves what it must not.
+fn is_refused_somewhere(
+    alloc: Global,
+    heap: &LocalHeap,
+    change: Change,
+    places: i32,
+    cells: &mut Vec<Cell>,
+) -> Result<Option<bool>, AllocError> {
+    let mut set = set_in(heap, &runs(alloc, cells, Side::One)?)?;
+    let mut other = set_in(heap, &runs(alloc, cells, Side::Other)?)?;
+    let mut is_refused = false;
+    for place in 0..places {
+        let moved = change.moved(places.saturating_sub(place + 1).saturating_mul(8));
+        let times = refusals(alloc, heap, moved, &mut set, &mut other, cells)?;
+        let Some(times) = times else {
+            return Ok(None);
+        };
+        is_refused = is_refused || times > 0;
+    }
+    Ok(Some(is_refused))
+}
+
+/// Whether a change is refused as it is to be, and no room is kept once the sets are dropped.
+fn is_right(alloc: Global, change: Change, count: i32, others: i32) -> Result<bool, AllocError> {
+    let heap = LocalHeap::new(alloc, 32768)?;
+    let free = heap.free();
+    let mut cells = spaced(alloc, count, others)?;
+    let places = places(change, count);
+    let refused = is_refused_somewhere(alloc, &heap, change, places, &mut cells)?;
+    Ok(refused == Some(wants(change, count, others)) && heap.free() == free)
+}
+
+/// The change that is not refused as it is to be, if any is: of those that add where there is
+/// something to add, and of all else.
+fn first_wrong(alloc: Global, count: i32, others: i32) -> Option<Change> {
+    let mut next = Some(FIRST);
+    for _ in 0..u8::MAX {
+        let change = next?;
+        let is_tried = others == 0 || change.adds();
+        if is_tried && is_right(alloc, change, count, others) != Ok(true) {
+            return Some(change);
+        }
+        next = after(change);
+    }
+    next
+}
+
+#[test]
+fn each_growth_of_a_change_is_refused_in_turn(rt: HostRuntime) {
+    for count in [0, 1, 3, 15, 100] {
+        for others in [0, 1, 3, 100] {
+            let wrong = first_wrong(rt.alloc(), count, others);
+            assert!(rt; wrong.is_none(), "{wrong:?}, {count} runs, {others}");
+        }
+    }
+}
