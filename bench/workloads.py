@@ -66,6 +66,14 @@ def operations(draw):
         yield f"not 6 {left}"
 
 
+def depths(draw):
+    yield from two_sets(draw)
+    yield from ascending_runs(draw, 2)
+    for _ in range(10):
+        yield "most 3 0 1 2"
+        yield "most 4 0 1 1"
+
+
 def many_runs(draw):
     yield from ascending_runs(draw, 0)
 
@@ -108,6 +116,7 @@ WORKLOADS = {
     "touching": ("200,000 `add` that touch and collapse", touching),
     "two-sets": ("two sets of 100,000 runs", two_sets),
     "operations": ("the same, and fifty operations on them", operations),
+    "depths": ("three sets of 100,000 runs, and twenty `most` on them", depths),
     "runs": ("a set of 100,000 runs", many_runs),
     "look-ups": ("the same, then a million `has`", look_ups),
     "ten-thousand": ("10,000 commands, half `add`, half `has`", lambda draw: scattered(draw, 10_000)),

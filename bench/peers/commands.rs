@@ -21,6 +21,13 @@ pub trait Set: Default {
     fn less(&self, other: &Self) -> Self;
     fn one_alone(&self, other: &Self) -> Self;
     fn rest(&self) -> Self;
+
+    /// What lies in two of three sets, by operations on two.
+    fn two_of_three(&self, second: &Self, third: &Self) -> Self {
+        let one_more = self.either(second).both(third);
+        self.both(second).either(&one_more)
+    }
+
     fn order(&self, other: &Self) -> std::cmp::Ordering;
 }
 
@@ -63,6 +70,7 @@ fn answer<S: Set>(sets: &mut [S], words: &[&str], out: &mut impl Write) -> io::R
                 "and" => left.both(&sets[set(3)]),
                 "sub" => left.less(&sets[set(3)]),
                 "xor" => left.one_alone(&sets[set(3)]),
+                "most" => left.two_of_three(&sets[set(3)], &sets[set(4)]),
                 "not" => left.rest(),
                 _ => panic!("no command"),
             };

@@ -15,8 +15,8 @@ use Rattle.range_set_blaze.specs.Order.{order as order_of}
 use Rattle.range_set_blaze.specs.OrderLaws.{order-holds}
 use Rattle.range_set_blaze.specs.Set.{IsRunAround}
 use Rattle.rsb_commands.specs.declared.command.Command.{Command}
-use Rattle.rsb_commands.specs.declared.command.Command.TheVariants.{Add, Del, Has, Gap, Count, Show, Union, Intersection, Difference, SymmetricDifference, Complement, Compare}
-use Rattle.rsb_commands.specs.Commands.{Content, flag, number, order, piece, ranges, runs, LacksSome, Sets, after, between, from_to, left_out, whichever, AreRepliesFrom, IsPieceReply, IsReply, IsRunsReply, NamesValues}
+use Rattle.rsb_commands.specs.declared.command.Command.TheVariants.{Add, Del, Has, Gap, Count, Show, Union, Intersection, Difference, SymmetricDifference, Complement, Most, Compare}
+use Rattle.rsb_commands.specs.Commands.{Content, flag, number, order, piece, ranges, runs, LacksSome, Sets, after, between, from_to, left_out, most_of, whichever, AreRepliesFrom, IsPieceReply, IsReply, IsRunsReply, NamesValues}
 
 -- ---- whether a set lacks some ranks
 
@@ -176,6 +176,8 @@ module _ {T : Type 0} (rank : T → ℕ) (n : ℕ) (value_at : ℕ → T)
   reply_exists sets (SymmetricDifference target left right) values =
       many_exist (symmetric_difference (sets left) (sets right))
   reply_exists sets (Complement target source) values = many_exist (left_out rank n (sets source))
+  reply_exists sets (Most target a b c) values =
+      many_exist (most_of (sets a) (sets b) (sets c))
   reply_exists sets (Compare left right) values =
       (order (order_of n (sets left) (sets right)), order-holds n (sets left) (sets right))
 

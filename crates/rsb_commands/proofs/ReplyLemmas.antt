@@ -8,8 +8,8 @@ use Rattle.rsb_integer.proofs.RangeLemmas.{same_ranges}
 use Rattle.rsb_integer.proofs.RunsLemmas.{runs-canonical, runs-same}
 use Rattle.range_set_blaze.proofs.OrderLemmas.{order-unique}
 use Rattle.rsb_commands.specs.declared.command.Command.{Command}
-use Rattle.rsb_commands.specs.declared.command.Command.TheVariants.{Add, Del, Has, Gap, Count, Show, Union, Intersection, Difference, SymmetricDifference, Complement, Compare}
-use Rattle.rsb_commands.specs.Commands.{Content, flag, number, order, piece, ranges, runs, Sets, after, left_out, IsReply, AreRepliesFrom}
+use Rattle.rsb_commands.specs.declared.command.Command.TheVariants.{Add, Del, Has, Gap, Count, Show, Union, Intersection, Difference, SymmetricDifference, Complement, Most, Compare}
+use Rattle.rsb_commands.specs.Commands.{Content, flag, number, order, piece, ranges, runs, Sets, after, left_out, most_of, IsReply, AreRepliesFrom}
 use Rattle.rsb_commands.proofs.PieceLemmas.{one_many, one_piece}
 
 -- two answers to one question are equal
@@ -55,6 +55,8 @@ module _ {T : Type 0} (rank : T → ℕ) (value_count : ℕ)
       ap runs (one_many rank value_count one_place (symmetric_difference (sets left) (sets right)) l r is also)
   one_reply sets (Complement target source) (runs l) (runs r) is also =
       ap runs (one_many rank value_count one_place (left_out rank value_count (sets source)) l r is also)
+  one_reply sets (Most target a b c) (runs l) (runs r) is also =
+      ap runs (one_many rank value_count one_place (most_of (sets a) (sets b) (sets c)) l r is also)
   one_reply sets (Compare left right) (order l) (order r) is also =
       ap order (order-unique value_count (sets left) (sets right) l r is also)
   one_reply sets (Add slot first last) (flag l) _ is also = absurd also
@@ -68,6 +70,7 @@ module _ {T : Type 0} (rank : T → ℕ) (value_count : ℕ)
   one_reply sets (Difference target left right) (runs l) _ is also = absurd also
   one_reply sets (SymmetricDifference target left right) (runs l) _ is also = absurd also
   one_reply sets (Complement target source) (runs l) _ is also = absurd also
+  one_reply sets (Most target a b c) (runs l) _ is also = absurd also
   one_reply sets (Compare left right) (order l) _ is also = absurd also
   one_reply sets _ _ _ is also = absurd is
 

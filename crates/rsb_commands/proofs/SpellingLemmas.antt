@@ -2,7 +2,7 @@
 use Rattle.std.proofs.Common.{◌≡◌, ◌∙◌, ℕ, ℤ, ◌+◌, ◌*◌, Bool, true, false, List, [], ◌∷◌, get_or, map, arith, refl, sym, ap, subst}
 use Rattle.std.specs.List.{AllZip}
 use Rattle.rsb_commands.specs.declared.command.Command.{Command}
-use Rattle.rsb_commands.specs.declared.command.Command.TheVariants.{Add, Del, Has, Gap, Count, Show, Union, Intersection, Difference, SymmetricDifference, Complement, Compare}
+use Rattle.rsb_commands.specs.declared.command.Command.TheVariants.{Add, Del, Has, Gap, Count, Show, Union, Intersection, Difference, SymmetricDifference, Complement, Most, Compare}
 use Rattle.rsb_commands.specs.Spelling.{Argument, slot, number, IsArgument, IsNumber, IsSlot, LacksFirst, Spells, line_of, words}
 
 -- ---- what a word stands for, by its kind
@@ -122,6 +122,7 @@ alike (Intersection k l m) (Intersection n o p) is = record { same_kinds = refl;
 alike (Difference k l m) (Difference n o p) is = record { same_kinds = refl; told_apart = λ same. cc }
 alike (SymmetricDifference k l m) (SymmetricDifference n o p) is = record { same_kinds = refl; told_apart = λ same. cc }
 alike (Complement l m) (Complement n o) is = record { same_kinds = refl; told_apart = λ same. cc }
+alike (Most j k l m) (Most n o p q) is = record { same_kinds = refl; told_apart = λ same. cc }
 alike (Compare l m) (Compare n o) is = record { same_kinds = refl; told_apart = λ same. cc }
 alike (Add m v w) _ is = let e = ap letters is in absurd (omega (arith, e))
 alike (Del m v) _ is = let e = ap letters is in absurd (omega (arith, e))
@@ -134,6 +135,7 @@ alike (Intersection k l m) _ is = let e = ap letters is in absurd (omega (arith,
 alike (Difference k l m) _ is = let e = ap letters is in absurd (omega (arith, e))
 alike (SymmetricDifference k l m) _ is = let e = ap letters is in absurd (omega (arith, e))
 alike (Complement l m) _ is = let e = ap letters is in absurd (omega (arith, e))
+alike (Most j k l m) _ is = let e = ap letters is in absurd (omega (arith, e))
 alike (Compare l m) _ is = let e = ap letters is in absurd (omega (arith, e))
 
 -- the first word is the command's keyword, and the others are its arguments
@@ -214,3 +216,13 @@ pub three_slots_none : (words : List (List ℕ))
     → (xs : List Argument) → kinds xs ≡ true ∷ true ∷ true ∷ [] → AllZip IsArgument words xs → ⊥
 three_slots_none words none (slot l ∷ slot m ∷ slot n ∷ []) same are = none (l, m, n) are
 three_slots_none words none _ same are = absurd cc
+
+-- words that are no four slots stand for no arguments of those kinds
+pub four_slots_none : (words : List (List ℕ))
+    → ((read : ℕ × ℕ × ℕ × ℕ)
+    → AllZip IsArgument words (slot read.0 ∷ slot read.1 ∷ slot read.2 ∷ slot read.3 ∷ []) → ⊥)
+    → (xs : List Argument) → kinds xs ≡ true ∷ true ∷ true ∷ true ∷ []
+    → AllZip IsArgument words xs → ⊥
+four_slots_none words none (slot k ∷ slot l ∷ slot m ∷ slot n ∷ []) same are =
+    none (k, l, m, n) are
+four_slots_none words none _ same are = absurd cc

@@ -9,7 +9,7 @@ use Rattle.std.specs.List.{AllZip}
 use Rattle.std.specs.Prelude.{All, ⊤}
 use Rattle.rsb_integer.specs.Rank.{signed_rank}
 use Rattle.rsb_commands.specs.declared.command.Command.{Command}
-use Rattle.rsb_commands.specs.declared.command.Command.TheVariants.{Add, Del, Has, Gap, Count, Show, Union, Intersection, Difference, SymmetricDifference, Complement, Compare}
+use Rattle.rsb_commands.specs.declared.command.Command.TheVariants.{Add, Del, Has, Gap, Count, Show, Union, Intersection, Difference, SymmetricDifference, Complement, Most, Compare}
 use Rattle.rsb_commands.specs.Commands.{NamesValues}
 use Rattle.rsb_commands.specs.Spelling.{Argument, slot, number, IsArgument, Spells, line_of}
 
@@ -54,6 +54,7 @@ line_values words command spells =
     go (Difference target left right) values = tt
     go (SymmetricDifference target left right) values = tt
     go (Complement target source) values = tt
+    go (Most target a b c) values = tt
     go (Compare left right) values = tt
 
 -- the commands of lines name values

@@ -4,11 +4,11 @@ use Rattle.std.specs.declared.cmp.Ordering.{Ordering}
 use Rattle.std.specs.declared.ops.RangeInclusive.{RangeInclusive}
 use Rattle.rsb_integer.specs.Rank.{intervals_of}
 use Rattle.rsb_integer.specs.Runs.{Interval, AreRuns, covers, members}
-use Rattle.rsb_integer.specs.Selection.{Selection, complement, count, difference, intersection, symmetric_difference, union}
+use Rattle.rsb_integer.specs.Selection.{Selection, at_least, complement, count, difference, intersection, symmetric_difference, union}
 use Rattle.range_set_blaze.specs.Order.{HasOrder}
 use Rattle.range_set_blaze.specs.Set.{only, IsRunAround}
 use Rattle.rsb_commands.specs.declared.command.Command.{Command}
-use Rattle.rsb_commands.specs.declared.command.Command.TheVariants.{Add, Del, Has, Gap, Count, Show, Union, Intersection, Difference, SymmetricDifference, Complement, Compare}
+use Rattle.rsb_commands.specs.declared.command.Command.TheVariants.{Add, Del, Has, Gap, Count, Show, Union, Intersection, Difference, SymmetricDifference, Complement, Most, Compare}
 use Rattle.rsb_commands.specs.declared.commands.Reply.{Reply}
 use Rattle.rsb_commands.specs.declared.commands.Reply.TheVariants as replies
 
@@ -62,6 +62,10 @@ LacksSome set ranks = (rank : ℕ) × IsTrue (ranks rank) × IsFalse (set rank)
 abbrev pub whichever : Bool → Selection → Selection → Selection
 whichever is set other rank = if is then set rank else other rank
 
+-- what lies in at least two of three sets, where a set that stands there twice counts twice
+abbrev pub most_of : Selection → Selection → Selection → Selection
+most_of a b c = at_least 2 (a ∷ b ∷ c ∷ [])
+
 -- ---- commands
 
 module _ {T : Type 0} (rank : T → ℕ) (value_count : ℕ) where
@@ -96,6 +100,7 @@ module _ {T : Type 0} (rank : T → ℕ) (value_count : ℕ) where
   after sets (SymmetricDifference target left right) =
       put sets target (symmetric_difference (sets left) (sets right))
   after sets (Complement target source) = put sets target (left_out (sets source))
+  after sets (Most target a b c) = put sets target (most_of (sets a) (sets b) (sets c))
   after sets _ = sets
 
   -- the values are the ends of the run that has the rank, where it is present, and else of the gap
@@ -139,6 +144,7 @@ module _ {T : Type 0} (rank : T → ℕ) (value_count : ℕ) where
   IsReply sets (SymmetricDifference target left right) reply =
       IsRunsReply (symmetric_difference (sets left) (sets right)) reply
   IsReply sets (Complement target source) reply = IsRunsReply (left_out (sets source)) reply
+  IsReply sets (Most target a b c) reply = IsRunsReply (most_of (sets a) (sets b) (sets c)) reply
   IsReply sets (Compare left right) (order is) = HasOrder value_count (sets left) (sets right) is
   IsReply sets _ _ = ⊥
 

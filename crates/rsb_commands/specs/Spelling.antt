@@ -7,7 +7,7 @@ use Rattle.std.specs.List.{AllZip, slice_split}
 use Rattle.std.specs.Str.Lines.{lines}
 use Rattle.std.specs.Str.Parse.{IsNumeral, signed_digits_value, without_leading_sign}
 use Rattle.rsb_commands.specs.declared.command.Command.{Command}
-use Rattle.rsb_commands.specs.declared.command.Command.TheVariants.{Add, Del, Has, Gap, Count, Show, Union, Intersection, Difference, SymmetricDifference, Complement, Compare}
+use Rattle.rsb_commands.specs.declared.command.Command.TheVariants.{Add, Del, Has, Gap, Count, Show, Union, Intersection, Difference, SymmetricDifference, Complement, Most, Compare}
 
 -- ---- words
 
@@ -81,6 +81,10 @@ line_of (SymmetricDifference target left right) = record {
 line_of (Complement target source) = record {
   keyword = codes "not";
   arguments = slot target ∷ slot source ∷ [];
+}
+line_of (Most target a b c) = record {
+  keyword = codes "most";
+  arguments = slot target ∷ slot a ∷ slot b ∷ slot c ∷ [];
 }
 line_of (Compare left right) = record {
   keyword = codes "cmp";

@@ -65,6 +65,14 @@ pub enum Command<T> {
         target: SetNo,
         source: SetNo,
     },
+    /// Makes the target what lies in at least two of three sets, and tells how many runs it has.
+    /// A set that is named twice counts twice.
+    Most {
+        target: SetNo,
+        a: SetNo,
+        b: SetNo,
+        c: SetNo,
+    },
     /// Tells the order of the two sets.
     Compare {
         left: SetNo,

@@ -5,11 +5,11 @@ ghost use Rattle.rsb_integer.specs.Rank.{intervals_of};
 ghost use Rattle.rsb_integer.specs.Runs.{AreRuns, members};
 ghost use Rattle.rsb_integer.specs.Selection.{Selection};
 ghost use Rattle.range_set_blaze.specs.Set.{IsSetOf};
-ghost use Rattle.rsb_commands.specs.Commands.{AreReplies, Content, IsPieceReply, IsReply, IsRunsReply, MayTakeMemory, after, content_of, contents_of, no_members, put, sets_of};
+ghost use Rattle.rsb_commands.specs.Commands.{AreReplies, Content, IsPieceReply, IsReply, IsRunsReply, MayTakeMemory, after, content_of, contents_of, most_of, no_members, put, sets_of};
 
 use crate::command::Command;
 use crate::set_no::SetNo;
-use range_set_blaze::RangeSetBlaze;
+use range_set_blaze::{MultiwayRangeSetBlazeRef, RangeSetBlaze};
 use rsb_integer::Integer;
 use std::alloc::{AllocError, Allocator, Global};
 use std::cmp::Ordering;
@@ -161,6 +161,10 @@ pub(crate) fn run_command<T: Integer, A: Allocator + Copy>(
             let set = set_at(sets, *source).not()?;
             Ok(put_set(sets, *target, set))
         }
+        Command::Most { target, a, b, c } => {
+            let set = most_of(alloc, sets, *a, *b, *c)?;
+            Ok(put_set(sets, *target, set))
+        }
         Command::Compare { left, right } => {
             let order = set_at(sets, *left).cmp(set_at(sets, *right));
             Ok(Reply::Order(order))
@@ -177,6 +181,22 @@ fn set_at<T: Integer, A: Allocator>(
     ensures { result.now ≡ slice_index_or sets.now.items slot [] }
 {
     &sets[slot.index()]
+}
+
+// What lies in at least two of the sets in three slots. One that is named twice counts twice.
+fn most_of<T: Integer, A: Allocator + Copy>(
+    alloc: A,
+    sets: &Vec<RangeSetBlaze<T, A>, A>,
+    a: SetNo,
+    b: SetNo,
+    c: SetNo,
+) -> Result<RangeSetBlaze<T, A>, AllocError>
+    requires { vec_len sets.now ≡ 10 }
+    ensures { IfOk result (λ set. IsSetOf set (most_of (sets_of sets.now.items a)
+        (sets_of sets.now.items b) (sets_of sets.now.items c))) }
+{
+    let three = [set_at(sets, a), set_at(sets, b), set_at(sets, c)];
+    MultiwayRangeSetBlazeRef::at_least(three, alloc, 2)
 }
 
 // Puts a set in a slot, and replies how many runs it has.

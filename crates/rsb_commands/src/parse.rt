@@ -200,6 +200,10 @@ fn operation_of(keyword: &[u8], arguments: &[u8]) -> Option<Command<i32>>
             let (target, source) = two_slots(arguments)?;
             Some(Command::Complement { target, source })
         }
+        b"most" => {
+            let (target, a, b, c) = four_slots(arguments)?;
+            Some(Command::Most { target, a, b, c })
+        }
         b"cmp" => {
             let (left, right) = two_slots(arguments)?;
             Some(Command::Compare { left, right })
@@ -278,6 +282,18 @@ fn three_slots(arguments: &[u8]) -> Option<(SetNo, SetNo, SetNo)>
     let target = slot(word)?;
     let (left, right) = two_slots(rest)?;
     Some((target, left, right))
+}
+
+// Four sets, and nothing after them.
+#[inline(always)]
+fn four_slots(arguments: &[u8]) -> Option<(SetNo, SetNo, SetNo, SetNo)>
+    ensures { Reads result (λ read. AllZip IsArgument (words arguments.now)
+        (slot read.0 ∷ slot read.1 ∷ slot read.2 ∷ slot read.3 ∷ [])) }
+{
+    let (word, rest) = first_word(arguments)?;
+    let target = slot(word)?;
+    let (a, b, c) = three_slots(rest)?;
+    Some((target, a, b, c))
 }
 
 // The number that the first word of a line spells, and what comes after it.

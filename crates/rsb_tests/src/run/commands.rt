@@ -1,6 +1,6 @@
 //! The calls of commands, each once.
 
-use crate::run::sessions::{ALL_COMMANDS, ALL_TOLD, SESSION, TOLD, Told};
+use crate::run::sessions::{ALL_COMMANDS, ALL_TOLD, MOST, MOST_TOLD, SESSION, TOLD, Told};
 use rsb_commands::laws::{
     first_commands_first_replies, replies_are_unique, replies_exist, spelled_commands_have_replies,
 };
@@ -86,6 +86,7 @@ fn are_answered(alloc: Global, lines: &[u8], told: &[Told]) -> Result<bool, Faul
 fn the_worked_sessions_run_as_commands(rt: HostRuntime) {
     assert!(rt; are_answered(rt.alloc(), SESSION, &TOLD) == Ok(true));
     assert!(rt; are_answered(rt.alloc(), ALL_COMMANDS, &ALL_TOLD) == Ok(true));
+    assert!(rt; are_answered(rt.alloc(), MOST, &MOST_TOLD) == Ok(true));
 }
 
 #[test]

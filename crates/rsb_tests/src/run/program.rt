@@ -1,7 +1,7 @@
 //! The program from bytes to bytes.
 
 use crate::run::ends::{Dripping, Filling, KINDS};
-use crate::run::sessions::{ALL_COMMANDS, ALL_REPLIES, REPLIES, SESSION};
+use crate::run::sessions::{ALL_COMMANDS, ALL_REPLIES, MOST, MOST_REPLIES, REPLIES, SESSION};
 use rsb_commands::{Fault, finish, run, start};
 use std::alloc::Global;
 use std::fmt::Write;
@@ -10,7 +10,7 @@ use std::process::ExitCode;
 use std::test::*;
 
 /// What is shown, lines, and the text that they are answered with.
-static ANSWERED: [(&str, &[u8], &[u8]); 18] = [
+static ANSWERED: [(&str, &[u8], &[u8]); 21] = [
     ("the worked session", SESSION, REPLIES),
     ("no bytes", b"", b""),
     ("no words", b"\n \t\r\n", b""),
@@ -73,6 +73,21 @@ static ANSWERED: [(&str, &[u8], &[u8]); 18] = [
         b"add 0 5 5\nadd 1 1 1\ncmp 0 1\ncmp 1 0\n",
         b"true\ntrue\ngreater\nless\n",
     ),
+    (
+        "two of three, and a set that is named twice",
+        MOST,
+        MOST_REPLIES,
+    ),
+    (
+        "two of three that touch, in place of one of them",
+        b"add 0 1 4\nadd 1 1 2\nadd 2 3 4\nmost 1 0 1 2\nshow 1\nmost 2 2 2 2\nshow 2\n",
+        b"true\ntrue\ntrue\n1\n1..=4\n1\n3..=4\n",
+    ),
+    (
+        "all numbers in two of three",
+        b"not 0 9\nadd 1 -2147483648 2147483647\nmost 2 0 9 1\nshow 2\nmost 2 0 9 9\nshow 2\n",
+        b"1\ntrue\n1\n-2147483648..=2147483647\n0\n\n",
+    ),
 ];
 
 #[test]
@@ -86,7 +101,7 @@ fn lines_are_answered(rt: HostRuntime) {
 }
 
 /// Lines, and the number of the first that is bad.
-static BAD_LINES: [(&[u8], u64); 47] = [
+static BAD_LINES: [(&[u8], u64); 53] = [
     (b"len 0\nlen 10\n", 2),
     (b"\n\t\nlen 0\nlen\nlen\n", 4),
     (b"plus 0 1 2\n", 1),
@@ -134,6 +149,12 @@ static BAD_LINES: [(&[u8], u64); 47] = [
     (b"not 0 1 2\n", 1),
     (b"cmp 0\n", 1),
     (b"most 0 1 2\n", 1),
+    (b"most\n", 1),
+    (b"most 0 1 2 3 4\n", 1),
+    (b"most 0 1 2 10\n", 1),
+    (b"most 0 1 -2 3\n", 1),
+    (b"mos 0 1 2 3\n", 1),
+    (b"len 0\nMost 0 1 2 3\n", 2),
 ];
 
 #[test]

@@ -18,6 +18,13 @@ sub 2 0 1\nshow 2\nxor 3 2 1\nshow 3\nnot 4 0\nshow 4\ncmp 0 1\nhas 0 4\nadd 0 9
 pub(crate) const ALL_REPLIES: &[u8] = b"true\ntrue\ntrue\n1..=2, 4..=9\n8\n3..=3 false\ntrue\n\
 2\n1..=2, 5..=9\n2\n1..=2, 4..=9\n3\n-2147483648..=0, 3..=3, 10..=2147483647\nless\ntrue\nfalse\n\n";
 
+/// A session of what lies in two of three sets, and of one that is named twice.
+pub(crate) const MOST: &[u8] =
+    b"add 0 1 5\nadd 1 3 8\nadd 2 5 6\nmost 3 0 1 2\nshow 3\nmost 3 3 3 4\nshow 3\n";
+
+/// What it replies.
+pub(crate) const MOST_REPLIES: &[u8] = b"true\ntrue\ntrue\n1\n3..=6\n1\n3..=6\n";
+
 /// What a reply says.
 #[derive(Clone, Copy)]
 pub(crate) enum Told {
@@ -59,4 +66,15 @@ pub(crate) static ALL_TOLD: [Told; 17] = [
     Told::Flag(true),
     Told::Flag(false),
     Told::Ranges(&[]),
+];
+
+/// What the replies to the session of `most` say.
+pub(crate) static MOST_TOLD: [Told; 7] = [
+    Told::Flag(true),
+    Told::Flag(true),
+    Told::Flag(true),
+    Told::Runs(1),
+    Told::Ranges(&[(3, 6)]),
+    Told::Runs(1),
+    Told::Ranges(&[(3, 6)]),
 ];

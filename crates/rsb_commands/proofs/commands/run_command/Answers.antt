@@ -5,7 +5,7 @@ use Rattle.rsb_integer.specs.Selection.{difference, intersection, symmetric_diff
 use Rattle.range_set_blaze.specs.Order.{HasOrder}
 use Rattle.range_set_blaze.specs.OrderLaws.{order-holds}
 use Rattle.range_set_blaze.specs.Set.{only}
-use Rattle.rsb_commands.specs.Commands.{left_out, sets_of}
+use Rattle.rsb_commands.specs.Commands.{left_out, most_of, sets_of}
 use Rattle.rsb_commands.proofs.SetsLemmas.{after-added, reply-added, sets_of-put}
 use Rattle.rsb_commands.proofs.commands.run_command.Goals as goal
 
@@ -94,3 +94,20 @@ returns-in_ok-set-in-Complement-clause-reply g c =
     (c.put_set-in-Complement.ensures.runs
     (left_out g.T.Integer.rank g.T.Integer.value_count source)
     c.in_ok-set-in-Complement.ensures.members)
+
+-- the set that is put is what lies in two of the old sets
+pub returns-in_ok-set-in-Most-clause-after : goal.returns-in_ok-set-in-Most-clause-after
+returns-in_ok-set-in-Most-clause-after g c =
+    let sets = sets_of c.args.sets.now.items in
+    rw c.in-Most.is
+    (c.put_set-in-Most.ensures.put
+    (most_of (sets c.in-Most.a) (sets c.in-Most.b) (sets c.in-Most.c))
+    c.in_ok-set-in-Most.ensures)
+
+pub returns-in_ok-set-in-Most-clause-reply : goal.returns-in_ok-set-in-Most-clause-reply
+returns-in_ok-set-in-Most-clause-reply g c =
+    let sets = sets_of c.args.sets.now.items in
+    rw c.in-Most.is
+    (c.put_set-in-Most.ensures.runs
+    (most_of (sets c.in-Most.a) (sets c.in-Most.b) (sets c.in-Most.c))
+    c.in_ok-set-in-Most.ensures)

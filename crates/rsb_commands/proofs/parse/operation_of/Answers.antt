@@ -1,8 +1,8 @@
 use Rattle.std.proofs.Common.{◌≡◌, arith, refl}
 use Rattle.std.proofs.lemmas.Grind.{common_steps}
 use Rattle.std.specs.Prelude.{codes}
-use Rattle.rsb_commands.specs.declared.command.Command.TheVariants.{Union, Intersection, Difference, SymmetricDifference, Complement, Compare}
-use Rattle.rsb_commands.proofs.SpellingLemmas.{no_arguments, three_slots_none, two_slots_none}
+use Rattle.rsb_commands.specs.declared.command.Command.TheVariants.{Union, Intersection, Difference, SymmetricDifference, Complement, Most, Compare}
+use Rattle.rsb_commands.proofs.SpellingLemmas.{four_slots_none, no_arguments, three_slots_none, two_slots_none}
 use Rattle.rsb_commands.proofs.parse.operation_of.Goals as goal
 
 pub returns-in_err-target-in-or : goal.returns-in_err-target-in-or
@@ -39,6 +39,13 @@ returns-in_err-target-in-not c =
     rw c.from_residual-in_err-target-in-not.ensures
     (no_arguments _ _ _ (Complement 0 0) refl is_not
     (two_slots_none _ c.in_err-target-in-not.ensures))
+
+pub returns-in_err-target-in-most : goal.returns-in_err-target-in-most
+returns-in_err-target-in-most c =
+    let is_most : c.args.keyword.now ≡ codes "most" = grind (arith, common_steps) in
+    rw c.from_residual-in_err-target-in-most.ensures
+    (no_arguments _ _ _ (Most 0 0 0 0) refl is_most
+    (four_slots_none _ c.in_err-target-in-most.ensures))
 
 pub returns-in_err-left-in-cmp : goal.returns-in_err-left-in-cmp
 returns-in_err-left-in-cmp c =
