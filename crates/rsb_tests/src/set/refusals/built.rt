@@ -176,13 +176,14 @@ fn touching(
         streams.items) }
 {
     let mut streams = Vec::new(alloc);
-    for set in [one, other] {
-        let ranges = Vec::from_iter(alloc, set.ranges())?;
-        let Ok(stream) = CheckSortedTouching::try_new(ranges) else {
-            return Ok(streams);
-        };
-        streams.push(stream)?;
-    }
+    let Ok(stream) = CheckSortedTouching::try_new(Vec::from_iter(alloc, one.ranges())?) else {
+        return Ok(streams);
+    };
+    streams.push(stream)?;
+    let Ok(stream) = CheckSortedTouching::try_new(Vec::from_iter(alloc, other.ranges())?) else {
+        return Ok(streams);
+    };
+    streams.push(stream)?;
     Ok(streams)
 }
 

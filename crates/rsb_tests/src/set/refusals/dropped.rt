@@ -1,16 +1,19 @@
 //! Iterators that are dropped after one item from each end that they have.
 
+use crate::set::refusals::built::{Building, built_gives};
 use crate::set::refusals::changes::HeapSet;
 use crate::set::rows::{Table, has, set_in};
+use crate::tables::set_of;
 use linked_list_allocator::LocalHeap;
-use range_set_blaze::{
-    Draw, DynSortedDisjoint, KMerge, MultiwaySortedDisjoint, MultiwaySweep, SweepEvent, UnionIter,
-};
-use std::alloc::AllocError;
+use range_set_blaze::{MultiwaySweep, RangeSetBlaze, SweepEvent};
+use std::alloc::{AllocError, Global};
 use std::test::*;
 
 /// Three runs.
 const THREE: Table<'static> = &[(1, 2), (5, 5), (7, 9)];
+
+/// Two runs, each of which shares some values with those.
+const TWO: Table<'static> = &[(2, 3), (9, 11)];
 
 /// Whether the elements and the runs of a set come from both ends, before they are dropped.
 fn begins(set: &HeapSet<'_>) -> bool {
@@ -35,33 +38,6 @@ fn sweep_begins(heap: &LocalHeap, set: &HeapSet<'_>) -> Result<bool, AllocError>
     Ok(sweep.next() == Some(SweepEvent::Start { range, input }))
 }
 
-/// Whether a stream gives the first of the three runs, before it is dropped.
-fn gives_first<I: Draw<i32>>(stream: I) -> bool
-    requires { I.can_draw stream }
-{
-    let mut stream = stream;
-    stream.draw() == Some(1..=2)
-}
-
-/// Whether the runs of a set begin by streams that hold them all.
-fn taken_begin(heap: &LocalHeap, set: &HeapSet<'_>) -> Result<bool, AllocError> {
-    Ok(
-        gives_first(DynSortedDisjoint::new(heap, set.ranges())?)
-            && gives_first(UnionIter::from_iter(heap, set.ranges())?),
-    )
-}
-
-/// Whether the runs of a set, twice, begin by streams of many.
-fn many_begin(heap: &LocalHeap, set: &HeapSet<'_>) -> Result<bool, AllocError> {
-    Ok(
-        gives_first(KMerge::new(heap, [set.ranges(), set.ranges()])?)
-            && gives_first([set.ranges(), set.ranges()].union(heap)?)
-            && gives_first([set.ranges(), set.ranges()].intersection(heap)?)
-            && gives_first([set.ranges(), set.ranges()].at_least(heap, 2)?)
-            && gives_first([set.ranges()].symmetric_difference(heap)?),
-    )
-}
-
 /// Whether the elements of a set that is given up come from both ends, before they are dropped.
 fn elements_begin(set: HeapSet<'_>) -> bool {
     let mut elements = set.into_iter();
@@ -80,8 +56,6 @@ fn all_begin(heap: &LocalHeap, set: &HeapSet<'_>) -> Result<bool, AllocError> {
         begins(set)
             && begins_between(set)?
             && sweep_begins(heap, set)?
-            && taken_begin(heap, set)?
-            && many_begin(heap, set)?
             && elements_begin(set.clone()?)
             && runs_begin(set.clone()?),
     )
@@ -94,11 +68,38 @@ fn are_dropped(heap: &LocalHeap) -> Result<bool, AllocError> {
     Ok(all_begin(heap, &set)? && has(&set, THREE) && heap.free() == free)
 }
 
+/// Builds all that is built of two sets, and drops it at its first item, where no more are wanted.
+fn begin_others(
+    alloc: Global,
+    heap: &LocalHeap,
+    one: &RangeSetBlaze<i32>,
+    other: &RangeSetBlaze<i32>,
+) -> Result<(), AllocError> {
+    let mut next = Some(Building::FIRST);
+    for _ in 0..u8::MAX {
+        let Some(building) = next else {
+            break;
+        };
+        built_gives(alloc, heap, building, one, other, &[])?;
+        next = building.after();
+    }
+    Ok(())
+}
+
+/// Whether sets that are lent to all that is built of two are as they were.
+fn others_leave(alloc: Global, heap: &LocalHeap) -> Result<bool, AllocError> {
+    let one = set_of(alloc, THREE)?;
+    let other = set_of(alloc, TWO)?;
+    begin_others(alloc, heap, &one, &other)?;
+    Ok(has(&one, THREE) && has(&other, TWO))
+}
+
 #[test]
 fn iterators_dropped_after_one_item_leave_the_set_and_all_room(
     rt: HostRuntime,
 ) -> Result<(), Fail> {
     let heap = LocalHeap::new(rt.alloc(), 8192)?;
-    assert!(rt; are_dropped(&heap)? && heap.used() == 0);
+    assert!(rt; are_dropped(&heap)? && others_leave(rt.alloc(), &heap)?);
+    assert!(rt; heap.used() == 0);
     Ok(())
 }
