@@ -6,6 +6,7 @@ mod forms;
 mod lookahead;
 mod merges;
 mod nested;
+mod sets;
 mod sweeps;
 mod thousand;
 mod touching;
