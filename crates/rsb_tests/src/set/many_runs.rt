@@ -3,7 +3,7 @@
 
 use crate::set::calls::{Change, Making, carry_out, make};
 use crate::set::rows::has;
-use range_set_blaze::RangeSetBlaze;
+use range_set_blaze::{DrawDisjoint, RangeSetBlaze};
 use rsb_commands::outside::Counted;
 use std::alloc::{AllocError, Global};
 use std::cell::Cell;
@@ -101,6 +101,7 @@ fn seventy_thousand_runs_or_values_make_sets(rt: HostRuntime) -> Result<(), Fail
 #[test]
 fn seventy_thousand_runs_are_counted_and_their_gaps_filled(rt: HostRuntime) -> Result<(), Fail> {
     let mut set = every_fifth(rt.alloc(), 0, 2)?;
+    assert!(rt; set.ranges().members_len() == 210_000);
     let (drawn, full) = (Cell::new(0), Cell::new(usize::MAX - 1));
     let runs = Counted::new(Counted::new(set.ranges(), &drawn), &full);
     assert!(rt; runs.count() == 70_000 && drawn.get() == 70_000 && full.get() == usize::MAX);

@@ -143,7 +143,7 @@ fn comes_back<T: Integer>(set: &RangeSetBlaze<T>, wanted: &[T]) -> bool {
         }
         place = place.wrapping_add(1);
     }
-    place == wanted.len() && set.iter().rev().next() == wanted.first().copied()
+    place == wanted.len()
 }
 
 /// The ranges with these ends.

@@ -1,5 +1,5 @@
-//! What is told of one stream and of two: whether they are empty, everything, equal, parts of one
-//! another, or disjoint.
+//! What is told of one stream and of two: how many members they have, and whether they are empty,
+//! everything, equal, parts of one another, or disjoint.
 
 use crate::streams::listed::stream_of;
 use rsb_commands::outside::Counted;
@@ -9,27 +9,30 @@ use std::cell::Cell;
 /// The ends of ranges.
 type Ranges = &'static [(u8, u8)];
 
-/// A stream, whether it is empty, and whether it is everything.
-static ALONE: [(Ranges, bool, bool); 6] = [
-    (&[], true, false),
-    (&[(0, 0)], false, false),
-    (&[(255, 255)], false, false),
-    (&[(0, 254)], false, false),
-    (&[(1, 255)], false, false),
-    (&[(0, 255)], false, true),
+/// A stream, how many members it has, whether it is empty, and whether it is everything.
+static ALONE: [(Ranges, u16, bool, bool); 7] = [
+    (&[], 0, true, false),
+    (&[(0, 0)], 1, false, false),
+    (&[(255, 255)], 1, false, false),
+    (&[(0, 254)], 255, false, false),
+    (&[(1, 255)], 255, false, false),
+    (&[(0, 1), (9, 9), (250, 255)], 9, false, false),
+    (&[(0, 255)], 256, false, true),
 ];
 
 #[test]
 fn questions_of_one_stream(rt: HostRuntime) {
-    for (ranges, is_empty, is_universal) in &ALONE {
-        assert_eq!(rt;
-            stream_of(ranges).is_empty(),
-            *is_empty,
+    for (ranges, members, is_empty, is_universal) in &ALONE {
+        assert!(rt;
+            stream_of(ranges).members_len() == *members,
+            "members_len of {ranges:?}"
+        );
+        assert!(rt;
+            stream_of(ranges).is_empty() == *is_empty,
             "is_empty of {ranges:?}"
         );
-        assert_eq!(rt;
-            stream_of(ranges).is_universal(),
-            *is_universal,
+        assert!(rt;
+            stream_of(ranges).is_universal() == *is_universal,
             "is_universal of {ranges:?}"
         );
     }
