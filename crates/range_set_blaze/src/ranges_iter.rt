@@ -40,6 +40,7 @@ impl<'a, T: Integer> Iterator for RangesIter<'a, T> {
 
     ghost remaining = { item_count (λ s. s) };
 
+    #[inline(always)]
     fn next(&mut self) -> Option<RangeInclusive<T>> {
         let (start, end) = self.entries.next()?;
         Some(*start..=*end)
@@ -78,6 +79,7 @@ impl<'a, T: Integer> Draw<T> for RangesIter<'a, T> {
 
     ghost may_give = { listed_may_give T.rank (λ s. s) };
 
+    #[inline(always)]
     fn draw(&mut self) -> Option<RangeInclusive<T>> {
         self.next()
     }

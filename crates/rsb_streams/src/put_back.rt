@@ -56,6 +56,7 @@ impl<T: Integer, I: Draw<T>> Draw<T> for PutBack<T, I> {
 
     ghost may_give = { (put_back T.Integer.own I.Draw).may_give };
 
+    #[inline(always)]
     fn draw(&mut self) -> Option<RangeInclusive<T>> {
         if let Some(range) = self.held.take() {
             return Some(range);
