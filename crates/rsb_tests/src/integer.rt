@@ -2,5 +2,4 @@
 
 mod characters;
 mod ends;
-mod offsets;
 mod safe_len;

@@ -50,6 +50,19 @@ pub(crate) fn gives<T: Integer, I: Draw<T>>(stream: I, wanted: &[(T, T)]) -> boo
     stream.draw().is_none()
 }
 
+/// Whether an iterator gives these items, and then nothing.
+pub(crate) fn come<E: PartialEq + Drop, I: Iterator<Item = E>>(items: I, wanted: &[E]) -> bool
+    requires { I.can_next items }
+{
+    let mut items = items;
+    for item in wanted {
+        if items.next().as_ref() != Some(item) {
+            return false;
+        }
+    }
+    items.next().is_none()
+}
+
 /// Whether a stream and a copy of it give the ranges with these ends, and then nothing.
 pub(crate) fn both_give<T: Integer, I: Draw<T> + Clone>(
     stream: I,

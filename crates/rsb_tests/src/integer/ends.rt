@@ -1,42 +1,30 @@
 //! Every call of `Integer` at both ends of each type.
 
+ghost use Rattle.std.specs.Prelude.{◌<◌, ◌≤◌};
+
 use rsb_commands::outside::{Side, Slot};
 use rsb_integer::Integer;
 use rsb_length::UIntPlusOne;
 
-/// Whether steps lead from each end of the type and back.
-fn steps_lead_back<T: Integer>() -> bool {
-    let least = T::min_value();
-    let greatest = T::max_value();
-    let next = least.add_one();
-    let mut stepped = next;
+/// Whether all four steps lead from a value to another and back.
+pub(crate) fn are_neighbors<T: Integer>(before: T, after: T) -> bool {
+    if before.checked_add_one() != Some(after) {
+        return false;
+    }
+    let mut stepped = after;
     stepped.assign_sub_one();
-    stepped == least
-        && least.checked_add_one() == Some(next)
-        && greatest.checked_add_one().is_none()
-        && next.sub_one() == least
-        && greatest.sub_one().add_one() == greatest
+    before.add_one() == after && after.sub_one() == before && stepped == before
 }
 
-/// Whether the whole length leads from each end of the type to the other.
-fn the_whole_leads_across<T: Integer>(whole: T::SafeLen) -> bool {
-    let least = T::min_value();
-    let greatest = T::max_value();
-    let length = T::safe_len(&(least..=greatest));
-    length == whole
-        && least.inclusive_end_from_start(length) == greatest
-        && greatest.start_from_inclusive_end(length) == least
-}
-
-/// Whether a length of two leads from each end of the type to the value beside it.
-fn two_lead_to_neighbors<T: Integer>(two: T::SafeLen) -> bool {
-    let least = T::min_value();
-    let greatest = T::max_value();
-    let next = least.add_one();
-    let length = T::safe_len(&(least..=next));
-    length == two
-        && least.inclusive_end_from_start(length) == next
-        && greatest.start_from_inclusive_end(length) == greatest.sub_one()
+/// Whether a range has this length, which leads from each of its ends to the other.
+pub(crate) fn leads_across<T: Integer>(first: T, last: T, length: T::SafeLen) -> bool
+    requires order { T.rank first ≤ T.rank last }
+    requires bound { T.rank last < T.value_count }
+{
+    let found = T::safe_len(&(first..=last));
+    found == length
+        && first.inclusive_end_from_start(found) == last
+        && last.start_from_inclusive_end(found) == first
 }
 
 /// Whether the range of one value gives it from the front, and then nothing from either end.
@@ -73,13 +61,20 @@ fn exhausted_gives_nothing<T: Integer>() -> bool {
 
 /// Whether all calls end well at both ends of a type, of which these are two lengths.
 fn calls_end_well<T: Integer>(two: T::SafeLen, whole: T::SafeLen) -> bool {
-    steps_lead_back::<T>()
-        && the_whole_leads_across::<T>(whole)
-        && two_lead_to_neighbors::<T>(two)
-        && comes_from_the_front(T::min_value())
-        && comes_from_the_front(T::max_value())
-        && comes_from_the_back(T::min_value())
-        && comes_from_the_back(T::max_value())
+    let least = T::min_value();
+    let greatest = T::max_value();
+    let second = least.add_one();
+    let last_but_one = greatest.sub_one();
+    greatest.checked_add_one().is_none()
+        && are_neighbors(least, second)
+        && are_neighbors(last_but_one, greatest)
+        && leads_across(least, second, two)
+        && leads_across(last_but_one, greatest, two)
+        && leads_across(least, greatest, whole)
+        && comes_from_the_front(least)
+        && comes_from_the_front(greatest)
+        && comes_from_the_back(least)
+        && comes_from_the_back(greatest)
         && all_come_from_both_ends::<T>()
         && exhausted_gives_nothing::<T>()
 }
@@ -101,4 +96,11 @@ fn calls_at_the_ends_of_each_type_end_well(rt: HostRuntime) {
     assert!(rt; calls_end_well::<i128>(UIntPlusOne::UInt(2), UIntPlusOne::MaxPlusOne));
     assert!(rt; calls_end_well::<u128>(UIntPlusOne::UInt(2), UIntPlusOne::MaxPlusOne));
     assert!(rt; calls_end_well::<char>(2, 1_112_064));
+}
+
+#[test]
+fn lengths_and_steps_cross_zero(rt: HostRuntime) {
+    assert!(rt; leads_across(-128_i8, -1, 128) && leads_across(-5_i8, 10, 16));
+    assert!(rt; are_neighbors(-1_i128, 0) && are_neighbors(0_u128, 1));
+    assert!(rt; comes_from_the_back(0_i128));
 }
