@@ -1,12 +1,12 @@
 //! Any number of streams, and of sets.
 
-mod any_types;
+pub(crate) mod any_types;
 mod at_least;
-mod forms;
+pub(crate) mod forms;
 mod lookahead;
 mod merges;
 mod nested;
-mod sets;
+pub(crate) mod sets;
 mod sweeps;
 mod thousand;
 mod touching;

@@ -1,5 +1,6 @@
 //! Tables of ranges, each by its two ends: what tests write, and compare with.
 
+ghost use Rattle.std.specs.Iterator.{IsFinite};
 ghost use Rattle.std.specs.Prelude.{◌≡◌};
 
 use range_set_blaze::RangeSetBlaze;
@@ -52,7 +53,8 @@ pub(crate) fn gives<T: Integer, I: Draw<T>>(stream: I, wanted: &[(T, T)]) -> boo
 
 /// Whether an iterator gives these items, and then nothing.
 pub(crate) fn come<E: PartialEq + Drop, I: Iterator<Item = E>>(items: I, wanted: &[E]) -> bool
-    requires { I.can_next items }
+    requires ready { I.can_next items }
+    requires finite { IsFinite (I.remaining items) }
 {
     let mut items = items;
     for item in wanted {

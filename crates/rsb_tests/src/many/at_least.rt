@@ -1,11 +1,10 @@
 //! What lies in at least so many streams, sets and lent sets, in rows worked by hand.
 
-use crate::many::forms::{Ranges, streams_of, subset};
+use crate::many::forms::{Form, Ranges, form_gives, makes_one, streams_of, subset};
+use crate::many::sets::{of_lent, of_sets};
 use crate::streams::listed::stream_of;
 use crate::tables::{gives, set_of};
-use range_set_blaze::{MultiwayRangeSetBlaze, MultiwayRangeSetBlazeRef};
 use rsb_many::MultiwaySortedDisjoint;
-use std::alloc::{AllocError, Global};
 use std::test::Fail;
 
 /// What lies in at least none, one, two, three and four of 1..=5, 3..=8 and 5..=6.
@@ -25,24 +24,15 @@ fn from_every_value_in_none_of_three_to_no_value_in_four(rt: HostRuntime) -> Res
     let c = set_of(alloc, &[(5, 6)])?;
     for k in 0..5usize {
         let wanted = DEPTHS[k];
-        let streams = MultiwaySortedDisjoint::at_least(
-            [a.ranges(), b.ranges(), c.ranges()],
-            alloc,
-            k,
-        )?;
-        assert!(rt; gives(streams, wanted));
-        let lent = MultiwayRangeSetBlazeRef::at_least([&a, &b, &c], alloc, k)?;
+        let form = Form::AtLeast(k);
+        let streams = Vec::from_array(alloc, [a.ranges(), b.ranges(), c.ranges()])?;
+        assert!(rt; form_gives(alloc, form, streams, wanted)?);
+        let lent = of_lent(alloc, form, Vec::from_array(alloc, [&a, &b, &c])?)?;
         assert!(rt; gives(lent.ranges(), wanted));
-        let copies = [a.clone()?, b.clone()?, c.clone()?];
-        assert!(rt; MultiwayRangeSetBlaze::at_least(copies, alloc, k)? == lent);
+        let copies = Vec::from_array(alloc, [a.clone()?, b.clone()?, c.clone()?])?;
+        assert!(rt; of_sets(alloc, form, copies)? == lent);
     }
     Ok(())
-}
-
-/// Whether what lies in at least so many of the streams of tables is this.
-fn makes(alloc: Global, tables: &[Ranges], k: usize, wanted: Ranges) -> Result<bool, AllocError> {
-    let deep = streams_of(alloc, tables)?.at_least(alloc, k)?;
-    Ok(gives(deep, wanted))
 }
 
 #[test]
@@ -51,9 +41,9 @@ fn touching_pieces_are_one_run_and_no_streams_have_every_value(
 ) -> Result<(), Fail> {
     let alloc = rt.alloc();
     let touching: [Ranges; 3] = [&[(1, 4)], &[(1, 2)], &[(3, 4)]];
-    assert!(rt; makes(alloc, &touching, 2, &[(1, 4)])?);
-    assert!(rt; makes(alloc, &[], 0, &[(0, 255)])?);
-    assert!(rt; makes(alloc, &[], 1, &[])?);
+    assert!(rt; makes_one(alloc, Form::AtLeast(2), &touching, &[(1, 4)])?);
+    assert!(rt; makes_one(alloc, Form::AtLeast(0), &[], &[(0, 255)])?);
+    assert!(rt; makes_one(alloc, Form::AtLeast(1), &[], &[])?);
     for one in 0..16usize {
         for other in 0..16usize {
             for third in 0..16usize {
@@ -62,15 +52,15 @@ fn touching_pieces_are_one_run_and_no_streams_have_every_value(
                 let two = subset((one & other) | (one & third) | (other & third));
                 let all = subset(one & other & third);
                 assert!(rt;
-                    makes(alloc, &tables, 1, some)?,
+                    makes_one(alloc, Form::AtLeast(1), &tables, some)?,
                     "of {one}, {other}, {third}"
                 );
                 assert!(rt;
-                    makes(alloc, &tables, 2, two)?,
+                    makes_one(alloc, Form::AtLeast(2), &tables, two)?,
                     "of {one}, {other}, {third}"
                 );
                 assert!(rt;
-                    makes(alloc, &tables, 3, all)?,
+                    makes_one(alloc, Form::AtLeast(3), &tables, all)?,
                     "of {one}, {other}, {third}"
                 );
             }

@@ -4,9 +4,10 @@ ghost use Rattle.std.specs.Prelude.{All, IfOk};
 
 use crate::streams::listed::{Listed, stream_of};
 use crate::tables::gives;
+use rsb_integer::Integer;
 use rsb_many::MultiwaySortedDisjoint;
-use rsb_streams::Draw;
-use std::alloc::{AllocError, Global};
+use rsb_streams::{Draw, DrawDisjoint};
+use std::alloc::{AllocError, Allocator, Global};
 use std::test::Fail;
 
 /// The ends of ranges.
@@ -26,22 +27,44 @@ pub(crate) fn streams_of(
     Ok(streams)
 }
 
-/// Whether what lies in some streams is this.
-fn are_in_some(alloc: Global, tables: &[Ranges], wanted: Ranges) -> Result<bool, AllocError> {
-    Ok(gives(streams_of(alloc, tables)?.union(alloc)?, wanted))
+/// What is made of many streams or sets.
+#[derive(Clone, Copy, Debug)]
+pub(crate) enum Form {
+    /// What lies in some of them.
+    Some,
+    /// What lies in all.
+    All,
+    /// What lies in an odd number.
+    Odd,
+    /// What lies in at least so many.
+    AtLeast(usize),
 }
 
-/// Whether what lies in all streams is this.
-fn are_in_all(alloc: Global, tables: &[Ranges], wanted: Ranges) -> Result<bool, AllocError> {
-    Ok(gives(streams_of(alloc, tables)?.intersection(alloc)?, wanted))
+/// Whether a form of lawful streams gives the ranges with these ends.
+pub(crate) fn form_gives<T: Integer, I: DrawDisjoint<T>, A: Allocator + Copy>(
+    alloc: A,
+    form: Form,
+    streams: Vec<I>,
+    wanted: &[(T, T)],
+) -> Result<bool, AllocError>
+    requires { All I.can_draw streams.items }
+{
+    match form {
+        Form::Some => Ok(gives(streams.union(alloc)?, wanted)),
+        Form::All => Ok(gives(streams.intersection(alloc)?, wanted)),
+        Form::Odd => Ok(gives(streams.symmetric_difference(alloc)?, wanted)),
+        Form::AtLeast(k) => Ok(gives(streams.at_least(alloc, k)?, wanted)),
+    }
 }
 
-/// Whether what lies in an odd number of streams is this.
-fn are_in_odd(alloc: Global, tables: &[Ranges], wanted: Ranges) -> Result<bool, AllocError> {
-    Ok(gives(
-        streams_of(alloc, tables)?.symmetric_difference(alloc)?,
-        wanted,
-    ))
+/// Whether a form of the streams of tables gives the ranges with these ends.
+pub(crate) fn makes_one(
+    alloc: Global,
+    form: Form,
+    tables: &[Ranges],
+    wanted: Ranges,
+) -> Result<bool, AllocError> {
+    form_gives(alloc, form, streams_of(alloc, tables)?, wanted)
 }
 
 /// Whether what lies in some, in all and in an odd number of streams are these.
@@ -53,9 +76,9 @@ fn makes(
     odd: Ranges,
 ) -> Result<bool, AllocError> {
     Ok(
-        are_in_some(alloc, tables, some)?
-            && are_in_all(alloc, tables, all)?
-            && are_in_odd(alloc, tables, odd)?,
+        makes_one(alloc, Form::Some, tables, some)?
+            && makes_one(alloc, Form::All, tables, all)?
+            && makes_one(alloc, Form::Odd, tables, odd)?,
     )
 }
 

@@ -1,8 +1,9 @@
 //! Sets made of any number of sets, which are given up or lent.
 
+use crate::many::forms::Form;
 use crate::tables::{gives, set_of};
 use range_set_blaze::{MultiwayRangeSetBlaze, MultiwayRangeSetBlazeRef, RangeSetBlaze};
-use std::alloc::{AllocError, Global};
+use std::alloc::{AllocError, Allocator};
 use std::test::Fail;
 
 /// The runs of three sets.
@@ -23,43 +24,59 @@ const ODD: &[(i32, i32)] = &[
     (21, 29),
 ];
 
-/// The three sets.
-fn three(alloc: Global) -> Result<[RangeSetBlaze<i32>; 3], AllocError> {
-    Ok([
-        set_of(alloc, ONE)?,
-        set_of(alloc, OTHER)?,
-        set_of(alloc, THIRD)?,
-    ])
+/// A set in ample memory.
+type Set = RangeSetBlaze<i32>;
+
+/// The set that a form of sets makes, which are given up.
+pub(crate) fn of_sets<A: Allocator + Copy>(
+    alloc: A,
+    form: Form,
+    sets: Vec<Set>,
+) -> Result<RangeSetBlaze<i32, A>, AllocError> {
+    match form {
+        Form::Some => MultiwayRangeSetBlaze::union(sets, alloc),
+        Form::All => MultiwayRangeSetBlaze::intersection(sets, alloc),
+        Form::Odd => MultiwayRangeSetBlaze::symmetric_difference(sets, alloc),
+        Form::AtLeast(k) => MultiwayRangeSetBlaze::at_least(sets, alloc, k),
+    }
 }
 
-/// Whether a set has these runs.
-fn has(set: &RangeSetBlaze<i32>, runs: &[(i32, i32)]) -> bool {
-    gives(set.ranges(), runs)
+/// The set that a form of sets makes, which are lent.
+pub(crate) fn of_lent<A: Allocator + Copy>(
+    alloc: A,
+    form: Form,
+    sets: Vec<&Set>,
+) -> Result<RangeSetBlaze<i32, A>, AllocError> {
+    match form {
+        Form::Some => MultiwayRangeSetBlazeRef::union(sets, alloc),
+        Form::All => MultiwayRangeSetBlazeRef::intersection(sets, alloc),
+        Form::Odd => MultiwayRangeSetBlazeRef::symmetric_difference(sets, alloc),
+        Form::AtLeast(k) => MultiwayRangeSetBlazeRef::at_least(sets, alloc, k),
+    }
 }
 
-/// Whether the three sets, given up, make what lies in some, in all and in an odd number of them.
-fn are_made_of_sets_given_up(alloc: Global) -> Result<bool, AllocError> {
-    let some = MultiwayRangeSetBlaze::union(three(alloc)?, alloc)?;
-    let all = MultiwayRangeSetBlaze::intersection(three(alloc)?, alloc)?;
-    let odd = MultiwayRangeSetBlaze::symmetric_difference(three(alloc)?, alloc)?;
-    Ok(has(&some, &[(1, 29)]) && has(&all, &[(6, 6), (8, 8), (12, 13)]) && has(&odd, ODD))
-}
-
-/// Whether they make the same, lent.
-fn are_made_of_lent_sets(alloc: Global) -> Result<bool, AllocError> {
-    let (a, b) = (set_of(alloc, ONE)?, set_of(alloc, OTHER)?);
-    let c = set_of(alloc, THIRD)?;
-    let some = MultiwayRangeSetBlazeRef::union([&a, &b, &c], alloc)?;
-    let all = MultiwayRangeSetBlazeRef::intersection([&a, &b, &c], alloc)?;
-    let odd = MultiwayRangeSetBlazeRef::symmetric_difference([&a, &b, &c], alloc)?;
-    Ok(has(&some, &[(1, 29)]) && has(&all, &[(6, 6), (8, 8), (12, 13)]) && has(&odd, ODD))
-}
+/// A form, and what it makes of the three.
+static MADE: [(Form, &[(i32, i32)]); 3] = [
+    (Form::Some, &[(1, 29)]),
+    (Form::All, &[(6, 6), (8, 8), (12, 13)]),
+    (Form::Odd, ODD),
+];
 
 #[test]
 fn sets_that_are_given_up_and_sets_that_are_lent_make_the_same(
     rt: HostRuntime,
 ) -> Result<(), Fail> {
-    assert!(rt; are_made_of_sets_given_up(rt.alloc())?);
-    assert!(rt; are_made_of_lent_sets(rt.alloc())?);
+    let alloc = rt.alloc();
+    let (a, b, c) = (
+        set_of(alloc, ONE)?,
+        set_of(alloc, OTHER)?,
+        set_of(alloc, THIRD)?,
+    );
+    for (form, wanted) in &MADE {
+        let lent = of_lent(alloc, *form, Vec::from_array(alloc, [&a, &b, &c])?)?;
+        assert!(rt; gives(lent.ranges(), wanted), "{form:?}");
+        let copies = Vec::from_array(alloc, [a.clone()?, b.clone()?, c.clone()?])?;
+        assert!(rt; of_sets(alloc, *form, copies)? == lent, "{form:?}");
+    }
     Ok(())
 }

@@ -1,9 +1,8 @@
 //! Where the ranges of many streams start and end.
 
 use crate::many::forms::{Ranges, streams_of};
-use rsb_integer::Integer;
+use crate::tables::come;
 use rsb_many::{MultiwaySweep, SweepEvent};
-use rsb_streams::Draw;
 use std::test::Fail;
 
 /// A range of the input starts.
@@ -19,31 +18,12 @@ pub(crate) fn end(at: u8, input: usize) -> SweepEvent<u8> {
     SweepEvent::End { at, input }
 }
 
-/// Whether a sweep tells these events, and then none.
-pub(crate) fn tells<T: Integer, I: Draw<T>>(
-    sweep: MultiwaySweep<T, I>,
-    events: &[SweepEvent<T>],
-) -> bool
-    requires { ⟦<MultiwaySweep<T, I> as Iterator>⟧.can_next sweep }
-{
-    let mut sweep = sweep;
-    for event in events {
-        let Some(told) = sweep.next() else {
-            return false;
-        };
-        if told != *event {
-            return false;
-        }
-    }
-    sweep.next().is_none()
-}
-
 #[test]
 fn at_one_value_starts_come_before_ends(rt: HostRuntime) -> Result<(), Fail> {
     let streams = streams_of(rt.alloc(), &[&[(1, 5)], &[(5, 6)]])?;
     let sweep = MultiwaySweep::new(rt.alloc(), streams)?;
     let events = [start(1, 5, 0), start(5, 6, 1), end(5, 0), end(6, 1)];
-    assert!(rt; tells(sweep, &events));
+    assert!(rt; come(sweep, &events));
     Ok(())
 }
 
@@ -59,6 +39,6 @@ fn a_sweep_counts_its_inputs_from_first_to_last(rt: HostRuntime) -> Result<(), F
 
     let sweep = MultiwaySweep::new(rt.alloc(), streams_of(rt.alloc(), &tables)?)?;
     let events = [start(1, 2, 0), end(2, 0), start(9, 9, 2), end(9, 2)];
-    assert!(rt; tells(sweep, &events));
+    assert!(rt; come(sweep, &events));
     Ok(())
 }

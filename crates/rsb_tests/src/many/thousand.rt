@@ -2,8 +2,7 @@
 
 ghost use Rattle.std.specs.Prelude.{All, IfOk};
 
-use crate::many::sweeps::tells;
-use crate::tables::gives;
+use crate::tables::{come, gives};
 use rsb_integer::Integer;
 use rsb_many::{MultiwaySortedDisjoint, MultiwaySweep, SweepEvent};
 use rsb_streams::{Draw, RangeOnce};
@@ -48,6 +47,6 @@ fn a_thousand_single_values_start_and_end_in_turn(rt: HostRuntime) -> Result<(),
         value = value.saturating_add(1);
     }
     let sweep = MultiwaySweep::new(rt.alloc(), numbers(rt.alloc())?)?;
-    assert!(rt; tells(sweep, &events));
+    assert!(rt; come(sweep, &events));
     Ok(())
 }

@@ -2,16 +2,18 @@
 
 ghost use Rattle.std.specs.Prelude.{All, IfOk};
 
+use crate::many::any_types::{all_of_three, odd_of_three, some_of_three};
+use crate::many::forms::{Form, form_gives};
+use crate::many::sets::{of_lent, of_sets};
 use crate::set::calls::Making;
+use crate::set::refusals::changes::HeapSet;
 use crate::set::rows::{Table, has};
 use crate::tables::gives;
 use linked_list_allocator::LocalHeap;
 use range_set_blaze::{
-    CheckSortedTouching, Draw, DrawDisjoint, DynSortedDisjoint, KMerge, MultiwayRangeSetBlaze,
-    MultiwayRangeSetBlazeRef, MultiwaySortedDisjoint, MultiwaySweep, MultiwaySymmetricDifference,
-    MultiwayUnion, RangeSetBlaze, SortedTouching, UnionIter,
+    CheckSortedTouching, Draw, DynSortedDisjoint, KMerge, MultiwaySweep,
+    MultiwaySymmetricDifference, RangeOnce, RangeSetBlaze, SortedTouching, UnionIter,
 };
-use rsb_many::{intersection_dyn, symmetric_difference_dyn, union_dyn};
 use std::alloc::{AllocError, Allocator, Global};
 use std::ops::RangeInclusive;
 use std::vec::IntoIter;
@@ -105,6 +107,20 @@ impl Building {
         }
     }
 
+    /// The form that it takes, where it is one of a form: what lies in some where it is not.
+    fn form(self) -> Form {
+        match self {
+            Building::Intersection | Building::SetsIntersection | Building::LentIntersection => {
+                Form::All
+            }
+            Building::SymmetricDifference
+            | Building::SetsSymmetricDifference
+            | Building::LentSymmetricDifference => Form::Odd,
+            Building::AtLeast | Building::SetsAtLeast | Building::LentAtLeast => Form::AtLeast(1),
+            _ => Form::Some,
+        }
+    }
+
     /// Whether it wants memory for two streams whatever they give.
     pub(crate) fn wants_room_for_streams(self) -> bool {
         !matches!(self, Building::UnionOfRanges | Building::OneType)
@@ -148,21 +164,17 @@ fn merged_gives(
     Ok(tells(sweep, runs_of_both(one, other)))
 }
 
-/// Whether a stream of streams of one type gives these runs.
+/// Whether a form of the runs of two sets gives these.
 fn streams_give(
+    alloc: Global,
     heap: &LocalHeap,
-    building: Building,
+    form: Form,
     one: &Set,
     other: &Set,
     wanted: Table<'_>,
 ) -> Result<bool, AllocError> {
-    let streams = [one.ranges(), other.ranges()];
-    match building {
-        Building::Union => Ok(gives(streams.union(heap)?, wanted)),
-        Building::Intersection => Ok(gives(streams.intersection(heap)?, wanted)),
-        Building::AtLeast => Ok(gives(streams.at_least(heap, 1)?, wanted)),
-        _ => Ok(gives(streams.symmetric_difference(heap)?, wanted)),
-    }
+    let streams = Vec::from_array(alloc, [one.ranges(), other.ranges()])?;
+    form_gives(heap, form, streams, wanted)
 }
 
 /// The runs of two sets as streams whose ranges may touch, in ample memory.
@@ -241,32 +253,18 @@ fn taken_give(
     Ok(gives(UnionIter::from_iter(heap, set.ranges())?, wanted))
 }
 
-/// What two streams have together, all ranges of which are taken first.
-fn taken_union<I: DrawDisjoint<i32>, J: DrawDisjoint<i32>, A: Allocator + Copy>(
-    alloc: A,
-    one: I,
-    other: J,
-) -> Result<MultiwayUnion<i32, DynSortedDisjoint<i32, A>, A>, AllocError>
-    requires one { I.can_draw one }
-    requires other { J.can_draw other }
-    ensures { IfOk result
-        ⟦<MultiwayUnion<i32, DynSortedDisjoint<i32, A>, A> as Draw<i32>>⟧.can_draw }
+/// No range.
+fn nothing() -> RangeOnce<i32>
+    ensures { ⟦<RangeOnce<i32> as Draw<i32>>⟧.can_draw result }
 {
-    union_dyn!(alloc, one, other)
+    RangeOnce::new(1..=0)
 }
 
-/// What one stream alone has of two, all ranges of which are taken first.
-fn taken_odd<I: DrawDisjoint<i32>, J: DrawDisjoint<i32>, A: Allocator + Copy>(
-    alloc: A,
-    one: I,
-    other: J,
-) -> Result<MultiwaySymmetricDifference<i32, DynSortedDisjoint<i32, A>, A>, AllocError>
-    requires one { I.can_draw one }
-    requires other { J.can_draw other }
-    ensures { IfOk result
-        ⟦<MultiwaySymmetricDifference<i32, DynSortedDisjoint<i32, A>, A> as Draw<i32>>⟧.can_draw }
+/// Every value.
+fn everything() -> RangeOnce<i32>
+    ensures { ⟦<RangeOnce<i32> as Draw<i32>>⟧.can_draw result }
 {
-    symmetric_difference_dyn!(alloc, one, other)
+    RangeOnce::new(i32::MIN..=i32::MAX)
 }
 
 /// Whether an operation on the ranges of two sets, which are taken first, gives these runs.
@@ -279,42 +277,38 @@ fn taken_operate(
 ) -> Result<bool, AllocError> {
     let (one, other) = (one.ranges(), other.ranges());
     match building {
-        Building::DynUnion => Ok(gives(taken_union(heap, one, other)?, wanted)),
-        Building::DynIntersection => Ok(gives(intersection_dyn!(heap, one, other)?, wanted)),
-        _ => Ok(gives(taken_odd(heap, one, other)?, wanted)),
+        Building::DynUnion => Ok(gives(some_of_three(heap, (one, other, nothing()))?, wanted)),
+        Building::DynIntersection => {
+            Ok(gives(all_of_three(heap, (one, other, everything()))?, wanted))
+        }
+        _ => Ok(gives(odd_of_three(heap, (one, other, nothing()))?, wanted)),
     }
 }
 
-/// The set that is made of two sets given up.
+/// The set that a form makes of two sets given up.
 fn made_of_sets<'a>(
+    alloc: Global,
     heap: &'a LocalHeap,
-    building: Building,
+    form: Form,
     one: &Set,
     other: &Set,
-) -> Result<RangeSetBlaze<i32, &'a LocalHeap>, AllocError> {
-    let sets = [one.clone()?, other.clone()?];
-    match building {
-        Building::SetsUnion => MultiwayRangeSetBlaze::union(sets, heap),
-        Building::SetsIntersection => MultiwayRangeSetBlaze::intersection(sets, heap),
-        Building::SetsAtLeast => MultiwayRangeSetBlaze::at_least(sets, heap, 1),
-        _ => MultiwayRangeSetBlaze::symmetric_difference(sets, heap),
-    }
+) -> Result<HeapSet<'a>, AllocError> {
+    of_sets(
+        heap,
+        form,
+        Vec::from_array(alloc, [one.clone()?, other.clone()?])?,
+    )
 }
 
-/// The set that is made of two sets lent.
+/// The set that a form makes of two sets lent.
 fn made_of_lent<'a>(
+    alloc: Global,
     heap: &'a LocalHeap,
-    building: Building,
+    form: Form,
     one: &Set,
     other: &Set,
-) -> Result<RangeSetBlaze<i32, &'a LocalHeap>, AllocError> {
-    let sets = [one, other];
-    match building {
-        Building::LentUnion => MultiwayRangeSetBlazeRef::union(sets, heap),
-        Building::LentIntersection => MultiwayRangeSetBlazeRef::intersection(sets, heap),
-        Building::LentAtLeast => MultiwayRangeSetBlazeRef::at_least(sets, heap, 1),
-        _ => MultiwayRangeSetBlazeRef::symmetric_difference(sets, heap),
-    }
+) -> Result<HeapSet<'a>, AllocError> {
+    of_lent(heap, form, Vec::from_array(alloc, [one, other])?)
 }
 
 /// Whether what is built of two sets in a heap gives these runs.
@@ -332,7 +326,7 @@ pub(crate) fn built_gives(
         Building::Union
         | Building::Intersection
         | Building::SymmetricDifference
-        | Building::AtLeast => streams_give(heap, building, one, other, wanted),
+        | Building::AtLeast => streams_give(alloc, heap, building.form(), one, other, wanted),
         Building::TouchingSweep | Building::TouchingDifference => {
             touching_gives(alloc, heap, building, one, other, wanted)
         }
@@ -342,10 +336,16 @@ pub(crate) fn built_gives(
         Building::SetsUnion
         | Building::SetsIntersection
         | Building::SetsSymmetricDifference
-        | Building::SetsAtLeast => Ok(has(&made_of_sets(heap, building, one, other)?, wanted)),
+        | Building::SetsAtLeast => {
+            let set = made_of_sets(alloc, heap, building.form(), one, other)?;
+            Ok(has(&set, wanted))
+        }
         Building::LentUnion
         | Building::LentIntersection
         | Building::LentSymmetricDifference
-        | Building::LentAtLeast => Ok(has(&made_of_lent(heap, building, one, other)?, wanted)),
+        | Building::LentAtLeast => {
+            let set = made_of_lent(alloc, heap, building.form(), one, other)?;
+            Ok(has(&set, wanted))
+        }
     }
 }
