@@ -1,6 +1,6 @@
 //! Lengths.
 
-pub(crate) mod recorder;
+pub(crate) mod hashers;
 mod safe_length;
 mod uint;
 mod uint_plus_one;

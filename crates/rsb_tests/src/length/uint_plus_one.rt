@@ -3,7 +3,7 @@
 ghost use Rattle.std.specs.Prelude.{◌≡◌, ◌≤◌};
 ghost use Rattle.rsb_length.specs.UIntPlusOne.{number_of};
 
-use crate::length::recorder::fed_by;
+use crate::length::hashers::fed_by;
 use num_traits::{One, Zero};
 use rsb_length::UIntPlusOne;
 use std::test::Fail;

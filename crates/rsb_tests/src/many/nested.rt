@@ -10,7 +10,7 @@ use crate::streams::listed::stream_of;
 use crate::tables::gives;
 use rsb_integer::Integer;
 use rsb_many::{MultiwayIntersection, MultiwaySortedDisjoint, MultiwayUnion};
-use rsb_streams::{Difference, Draw, DrawDisjoint, NotIter, SymmetricDifference};
+use rsb_streams::{Difference, Draw, DrawDisjoint, NotIter};
 use std::alloc::{AllocError, Allocator};
 use std::test::Fail;
 
@@ -29,25 +29,20 @@ fn none_of<T: Integer, I: DrawDisjoint<T>, A: Allocator + Copy>(
     Ok(union.complement())
 }
 
-/// What lies in some and not in all of the streams of two lists, or in another stream, and not in
-/// both.
-fn some_not_all_or<T: Integer, I: DrawDisjoint<T>, A: Allocator + Copy>(
+/// What lies in some and not in all of the streams of two lists.
+fn some_not_all<T: Integer, I: DrawDisjoint<T>, A: Allocator + Copy>(
     alloc: A,
     some: Vec<I, A>,
     all: Vec<I, A>,
-    other: I,
-) -> Result<
-    SymmetricDifference<T, Difference<T, MultiwayUnion<T, I, A>, MultiwayIntersection<T, I, A>>, I>,
-    AllocError,
->
+) -> Result<Difference<T, MultiwayUnion<T, I, A>, MultiwayIntersection<T, I, A>>, AllocError>
     requires some { All I.can_draw some.items }
     requires all { All I.can_draw all.items }
-    requires other { I.can_draw other }
-    ensures { IfOk result ⟦<SymmetricDifference<T, Difference<T, MultiwayUnion<T, I, A>, MultiwayIntersection<T, I, A>>, I> as Draw<T>>⟧.can_draw }
+    ensures { IfOk result
+        ⟦<Difference<T, MultiwayUnion<T, I, A>, MultiwayIntersection<T, I, A>> as Draw<T>>⟧.can_draw }
 {
     let union = some.union(alloc)?;
     let intersection = all.intersection(alloc)?;
-    Ok((union - intersection) ^ other)
+    Ok(union - intersection)
 }
 
 #[test]
@@ -59,7 +54,7 @@ fn many_streams_in_operations_on_one_and_on_two(rt: HostRuntime) -> Result<(), F
     let tables: [Ranges; 3] = [&[(0, 9), (20, 255)], &[(5, 30)], &[(7, 8), (25, 255)]];
     let some = streams_of(rt.alloc(), &tables)?;
     let each = streams_of(rt.alloc(), &tables)?;
-    let mixed = some_not_all_or(rt.alloc(), some, each, stream_of(&[(10, 12)]))?;
+    let mixed = some_not_all(rt.alloc(), some, each)? ^ stream_of(&[(10, 12)]);
     assert!(rt; gives(mixed, &[(0, 6), (9, 9), (13, 24), (31, 255)]));
     Ok(())
 }

@@ -1,6 +1,6 @@
 //! What sets feed a hasher.
 
-use crate::length::recorder::{fed_by, fed_by_bytes};
+use crate::length::hashers::{fed_by, fed_by_bytes};
 use crate::tables::slots;
 use range_set_blaze::RangeSetBlaze;
 use rsb_commands::outside::{Side, Slot};
