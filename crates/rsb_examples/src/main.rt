@@ -1,4 +1,5 @@
-//! What users do with sets of ranges: each module is a short program, which `main` runs in turn.
+//! What users do with sets of ranges: each module is a short program, which `main` runs in turn. With
+//! an argument it times the union of many sets, and runs none of them.
 #![tactic(auto)]
 
 pub mod allow_list;
@@ -6,12 +7,18 @@ pub mod calendar;
 pub mod character_classes;
 pub mod first_steps;
 pub mod free_space;
+pub mod many_sets;
 pub mod packets;
 pub mod shifts;
 
-use std::io;
+use std::{env, io};
 
 fn main(rt: HostRuntime) -> io::Result<()> {
+    let mut words = env::args(&rt)?;
+    let _program = words.next();
+    if words.next().is_some() {
+        return many_sets::time(&rt);
+    }
     println!(rt; "# first steps")?;
     first_steps::show(rt.alloc(), &rt)?;
     println!(rt; "# allow-list")?;
@@ -25,5 +32,7 @@ fn main(rt: HostRuntime) -> io::Result<()> {
     println!(rt; "# calendar")?;
     calendar::show(rt.alloc(), &rt)?;
     println!(rt; "# shifts")?;
-    shifts::show(rt.alloc(), &rt)
+    shifts::show(rt.alloc(), &rt)?;
+    println!(rt; "# many sets")?;
+    many_sets::show(rt.alloc(), &rt)
 }

@@ -1,5 +1,5 @@
 //! The union of a thousand sets of a thousand runs, by the published crate: of all at once, and one
-//! after the other. `crates/rsb_bench` does the same.
+//! after the other. `crates/rsb_examples`, run with an argument, does the same.
 
 use range_set_blaze::prelude::*;
 use std::time::Instant;

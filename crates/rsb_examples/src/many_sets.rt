@@ -1,0 +1,62 @@
+//! The union of many sets, of all at once and of one after the other: the same set, at unlike cost.
+
+use range_set_blaze::{MultiwayRangeSetBlazeRef, RangeSetBlaze};
+use std::alloc::{AllocError, Global};
+use std::io;
+use std::time::Instant;
+
+/// The union of ten sets of ten runs, made in both ways.
+pub fn show(alloc: Global, rt: &impl Print) -> io::Result<()> {
+    let sets = sets(alloc, 10)?;
+    let at_once = MultiwayRangeSetBlazeRef::union(&sets, alloc)?;
+    let in_turn = one_by_one(alloc, &sets)?;
+    println!(rt; "at once: {} runs", at_once.ranges_len())?;
+    println!(rt; "one by one: {} runs", in_turn.ranges_len())
+}
+
+/// How long both ways take with a thousand sets of a thousand runs.
+pub fn time(rt: &HostRuntime) -> io::Result<()> {
+    let alloc = rt.alloc();
+    let sets = sets(alloc, 1000)?;
+    let began = Instant::now(rt)?;
+    let at_once = MultiwayRangeSetBlazeRef::union(&sets, alloc)?;
+    let passed = began.elapsed(rt)?.as_millis();
+    println!(rt; "at once: {} runs in {passed} ms", at_once.ranges_len())?;
+
+    let began = Instant::now(rt)?;
+    let in_turn = one_by_one(alloc, &sets)?;
+    let passed = began.elapsed(rt)?.as_millis();
+    println!(rt; "one by one: {} runs in {passed} ms", in_turn.ranges_len())
+}
+
+// As many sets as are told, each of as many runs.
+fn sets(alloc: Global, many: u16) -> Result<Vec<RangeSetBlaze<i32>>, AllocError> {
+    let mut sets = Vec::new(alloc);
+    for number in 0..many {
+        sets.push(set_no(alloc, number, many)?)?;
+    }
+    Ok(sets)
+}
+
+// The set of a number: in each block of 4,096 values a run of two, which no other set's touches.
+fn set_no(alloc: Global, number: u16, many: u16) -> Result<RangeSetBlaze<i32>, AllocError> {
+    let mut set = RangeSetBlaze::new(alloc);
+    for block in 0..many {
+        let place = (i32::from(number) * 37 + i32::from(block) * 53) % 1000 * 4;
+        let start = i32::from(block) * 4096 + place;
+        set.ranges_insert(start..=start + 1)?;
+    }
+    Ok(set)
+}
+
+// The union of sets, of one after the other.
+fn one_by_one(
+    alloc: Global,
+    sets: &[RangeSetBlaze<i32>],
+) -> Result<RangeSetBlaze<i32>, AllocError> {
+    let mut all = RangeSetBlaze::new(alloc);
+    for set in sets {
+        all = all.bitor(set)?;
+    }
+    Ok(all)
+}
