@@ -1,21 +1,16 @@
 //! The five calls of `UInt`.
 
 use rsb_length::UInt;
-use std::process::Abort;
 
 /// Two numbers, and their sum, difference and product where the type has these.
 type Row<T> = (T, T, Option<T>, Option<T>, Option<T>);
 
-/// Asks for the greatest value and the text past it, and calls what takes two numbers with those of
-/// each row.
-fn calls_answer<T: UInt>(rt: &impl Abort, greatest: T, past: &str, rows: &[Row<T>]) {
-    assert!(rt; T::greatest() == greatest);
-    assert!(rt; T::one_past_text() == past);
-    for (a, b, sum, rest, product) in rows {
-        assert!(rt; a.checked_sum(*b) == *sum, "{a} + {b}");
-        assert!(rt; a.checked_difference(*b) == *rest, "{a} - {b}");
-        assert!(rt; a.checked_product(*b) == *product, "{a} * {b}");
-    }
+/// Whether what takes two numbers answers as a row says.
+fn calls_answer<T: UInt>(row: &Row<T>) -> bool {
+    let (a, b, sum, rest, product) = row;
+    a.checked_sum(*b) == *sum
+        && a.checked_difference(*b) == *rest
+        && a.checked_product(*b) == *product
 }
 
 /// Rows of bytes.
@@ -56,6 +51,12 @@ static WIDE: [Row<u128>; 7] = [
 
 #[test]
 fn calls_end_where_the_type_does(rt: HostRuntime) {
-    calls_answer(&rt, 255, "256", &CHECKED);
-    calls_answer(&rt, u128::MAX, "(u128::MAX + 1)", &WIDE);
+    assert!(rt; u8::greatest() == 255 && u8::one_past_text() == "256");
+    assert!(rt; u128::greatest() == u128::MAX && u128::one_past_text() == "(u128::MAX + 1)");
+    for row in &CHECKED {
+        assert!(rt; calls_answer(row), "of {} and {}", row.0, row.1);
+    }
+    for row in &WIDE {
+        assert!(rt; calls_answer(row), "of {} and {}", row.0, row.1);
+    }
 }

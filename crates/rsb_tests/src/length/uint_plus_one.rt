@@ -1,4 +1,5 @@
-//! `UIntPlusOne<u8>` against the numbers from 0 to 256, and the ends, copies and texts of both.
+//! `UIntPlusOne<u8>` ordered as the numbers from 0 to 256 are, and the ends, copies and texts of two
+//! lengths.
 
 ghost use Rattle.std.specs.Prelude.{◌≡◌, ◌≤◌};
 ghost use Rattle.rsb_length.specs.UIntPlusOne.{number_of};
@@ -16,29 +17,6 @@ fn from_number(number: u32) -> UIntPlusOne<u8>
     match u8::try_from(number) {
         Ok(value) => UIntPlusOne::UInt(value),
         Err(_) => UIntPlusOne::MaxPlusOne,
-    }
-}
-
-#[test]
-fn calls_are_those_of_the_numbers(rt: HostRuntime) {
-    for a in 0..=256u32 {
-        for b in 0..=256u32 {
-            let (x, y) = (from_number(a), from_number(b));
-            if a + b <= 256 {
-                let mut sum = x;
-                sum += y;
-                assert!(rt; sum == from_number(a + b), "{a} += {b}");
-                assert!(rt; x + y == from_number(a + b), "{a} + {b}");
-            }
-            if b <= a {
-                let mut rest = x;
-                rest -= y;
-                assert!(rt; rest == from_number(a - b), "{a} -= {b}");
-            }
-            if a * b <= 256 {
-                assert!(rt; x * y == from_number(a * b), "{a} * {b}");
-            }
-        }
     }
 }
 
@@ -66,6 +44,8 @@ fn one_past_the_greatest_is_reached_and_left(rt: HostRuntime) -> Result<(), Fail
     assert!(rt; format!(in rt.alloc(); "{length}")?.as_str() == "256");
     length -= UIntPlusOne::UInt(1);
     assert!(rt; length == UIntPlusOne::UInt(255));
+    let sixteen = UIntPlusOne::UInt(16u8);
+    assert!(rt; sixteen * sixteen == UIntPlusOne::MaxPlusOne);
     let zero = UIntPlusOne::<u8>::zero();
     assert!(rt; format!(in rt.alloc(); "{length} {zero}")?.as_str() == "255 0");
     Ok(())
