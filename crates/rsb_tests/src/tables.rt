@@ -1,6 +1,5 @@
 //! Tables of ranges, each by its two ends: what tests write, and compare with.
 
-ghost use Rattle.std.specs.Iterator.{IsFinite};
 ghost use Rattle.std.specs.Prelude.{◌≡◌};
 
 use range_set_blaze::RangeSetBlaze;
@@ -49,20 +48,6 @@ pub(crate) fn gives<T: Integer, I: Draw<T>>(stream: I, wanted: &[(T, T)]) -> boo
         }
     }
     stream.draw().is_none()
-}
-
-/// Whether an iterator gives these items, and then nothing.
-pub(crate) fn come<E: PartialEq + Drop, I: Iterator<Item = E>>(items: I, wanted: &[E]) -> bool
-    requires ready { I.can_next items }
-    requires finite { IsFinite (I.remaining items) }
-{
-    let mut items = items;
-    for item in wanted {
-        if items.next().as_ref() != Some(item) {
-            return false;
-        }
-    }
-    items.next().is_none()
 }
 
 /// Whether a stream and a copy of it give the ranges with these ends, and then nothing.

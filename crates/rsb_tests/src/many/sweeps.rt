@@ -1,7 +1,6 @@
 //! Where the ranges of many streams start and end.
 
 use crate::many::forms::{Ranges, streams_of};
-use crate::tables::come;
 use rsb_many::{MultiwaySweep, SweepEvent};
 use std::test::Fail;
 
@@ -23,7 +22,7 @@ fn at_one_value_starts_come_before_ends(rt: HostRuntime) -> Result<(), Fail> {
     let streams = streams_of(rt.alloc(), &[&[(1, 5)], &[(5, 6)]])?;
     let sweep = MultiwaySweep::new(rt.alloc(), streams)?;
     let events = [start(1, 5, 0), start(5, 6, 1), end(5, 0), end(6, 1)];
-    assert!(rt; come(sweep, &events));
+    assert!(rt; sweep.eq(events));
     Ok(())
 }
 
@@ -39,6 +38,6 @@ fn a_sweep_counts_its_inputs_from_first_to_last(rt: HostRuntime) -> Result<(), F
 
     let sweep = MultiwaySweep::new(rt.alloc(), streams_of(rt.alloc(), &tables)?)?;
     let events = [start(1, 2, 0), end(2, 0), start(9, 9, 2), end(9, 2)];
-    assert!(rt; come(sweep, &events));
+    assert!(rt; sweep.eq(events));
     Ok(())
 }

@@ -2,7 +2,7 @@
 
 ghost use Rattle.std.specs.Prelude.{All, IfOk};
 
-use crate::tables::{come, gives};
+use crate::tables::gives;
 use rsb_integer::Integer;
 use rsb_many::{MultiwaySortedDisjoint, MultiwaySweep, SweepEvent};
 use rsb_streams::{Draw, RangeOnce};
@@ -47,6 +47,6 @@ fn a_thousand_single_values_start_and_end_in_turn(rt: HostRuntime) -> Result<(),
         value = value.saturating_add(1);
     }
     let sweep = MultiwaySweep::new(rt.alloc(), numbers(rt.alloc())?)?;
-    assert!(rt; come(sweep, &events));
+    assert!(rt; sweep.eq(events));
     Ok(())
 }

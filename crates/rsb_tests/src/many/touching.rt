@@ -3,7 +3,7 @@
 use crate::many::forms::Ranges;
 use crate::many::sweeps::{end, start};
 use crate::streams::neighbors::neighbors_of;
-use crate::tables::{come, gives};
+use crate::tables::gives;
 use rsb_many::{MultiwaySweep, MultiwaySymmetricDifference};
 use std::test::Fail;
 
@@ -21,7 +21,7 @@ fn ranges_that_touch_are_told_apart(rt: HostRuntime) -> Result<(), Fail> {
         end(3, 1),
         end(4, 0),
     ];
-    assert!(rt; come(MultiwaySweep::new_touching(rt.alloc(), inputs)?, &events));
+    assert!(rt; MultiwaySweep::new_touching(rt.alloc(), inputs)?.eq(events));
     Ok(())
 }
 

@@ -2,7 +2,6 @@
 
 use crate::set::look_ups::lies;
 use crate::set::refusals::heaps::filled;
-use crate::tables::come;
 use linked_list_allocator::LocalHeap;
 use range_set_blaze::{RangeSetBlaze, UIntPlusOne};
 use std::test::*;
@@ -59,7 +58,7 @@ fn characters_beside_the_surrogates_are_two(rt: HostRuntime) -> Result<(), Fail>
     let mut letters = RangeSetBlaze::<char>::new(rt.alloc());
     assert!(rt; letters.ranges_insert('\u{D7FF}'..='\u{E000}')? && letters.len() == 2);
     assert!(rt; letters.first() == Some('\u{D7FF}') && letters.last() == Some('\u{E000}'));
-    assert!(rt; come(letters.iter(), &['\u{D7FF}', '\u{E000}']));
+    assert!(rt; letters.iter().eq(['\u{D7FF}', '\u{E000}']));
     assert!(rt; RangeSetBlaze::<char>::universe(rt.alloc())?.len() == 1_112_064);
     Ok(())
 }
