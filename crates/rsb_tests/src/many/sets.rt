@@ -2,7 +2,9 @@
 
 use crate::many::forms::Form;
 use crate::tables::{gives, set_of};
-use range_set_blaze::{MultiwayRangeSetBlaze, MultiwayRangeSetBlazeRef, RangeSetBlaze};
+use range_set_blaze::{
+    MultiwayRangeSetBlaze, MultiwayRangeSetBlazeRef, MultiwaySortedDisjoint, RangeSetBlaze,
+};
 use std::alloc::{AllocError, Allocator};
 use std::test::Fail;
 
@@ -78,5 +80,17 @@ fn sets_that_are_given_up_and_sets_that_are_lent_make_the_same(
         let copies = Vec::from_array(alloc, [a.clone()?, b.clone()?, c.clone()?])?;
         assert!(rt; of_sets(alloc, *form, copies)? == lent, "{form:?}");
     }
+    Ok(())
+}
+
+#[test]
+fn arrays_of_sets_and_of_their_runs_are_united(rt: HostRuntime) -> Result<(), Fail> {
+    let alloc = rt.alloc();
+    let (a, b) = (set_of(alloc, ONE)?, set_of(alloc, OTHER)?);
+    let runs = [a.ranges(), b.ranges()].union(alloc)?;
+    assert!(rt; gives(runs, &[(1, 15), (18, 29)]));
+    let lent = MultiwayRangeSetBlazeRef::union([&a, &b], alloc)?;
+    assert!(rt; gives(lent.ranges(), &[(1, 15), (18, 29)]));
+    assert!(rt; MultiwayRangeSetBlaze::union([a, b], alloc)? == lent);
     Ok(())
 }
