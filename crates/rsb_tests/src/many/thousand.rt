@@ -108,7 +108,10 @@ fn two_sets_of_seventy_thousand_runs_make_one(rt: HostRuntime) -> Result<(), Fai
     let (first, middle) = (every_fifth(alloc, 0, 2)?, every_fifth(alloc, 1, 2)?);
     for (form, runs, members) in &OF_TWO {
         let lent = of_lent(alloc, *form, Vec::from_array(alloc, [&first, &middle])?)?;
-        assert!(rt; lent.ranges_len() == *runs && lent.len() == *members, "{form:?}");
+        assert!(rt;
+            lent.ranges_len() == *runs && lent.len() == *members,
+            "{form:?}"
+        );
         let copies = Vec::from_array(alloc, [first.clone()?, middle.clone()?])?;
         assert!(rt; of_sets(alloc, *form, copies)? == lent, "{form:?}");
     }
