@@ -7,9 +7,9 @@ use crate::many::forms::{Form, form_gives};
 use crate::many::sets::{of_lent, of_sets};
 use crate::set::many_runs::every_fifth;
 use crate::tables::gives;
-use range_set_blaze::{DrawDisjoint, RangeSetBlaze};
+use range_set_blaze::RangeSetBlaze;
 use rsb_integer::Integer;
-use rsb_many::{KMerge, MultiwaySweep, SweepEvent, union_dyn};
+use rsb_many::{KMerge, MultiwaySweep, SweepEvent};
 use rsb_streams::{Draw, RangeOnce, UnionIter};
 use std::alloc::{AllocError, Global};
 use std::test::Fail;
@@ -115,7 +115,5 @@ fn two_sets_of_seventy_thousand_runs_make_one(rt: HostRuntime) -> Result<(), Fai
         let copies = Vec::from_array(alloc, [first.clone()?, middle.clone()?])?;
         assert!(rt; of_sets(alloc, *form, copies)? == lent, "{form:?}");
     }
-    let listed = union_dyn!(alloc, first.ranges())?;
-    assert!(rt; listed.equal(first.ranges()));
     Ok(())
 }
