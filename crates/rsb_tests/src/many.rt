@@ -6,6 +6,7 @@ pub(crate) mod forms;
 mod lookahead;
 mod merges;
 mod nested;
+mod operators;
 pub(crate) mod sets;
 mod sweeps;
 mod thousand;

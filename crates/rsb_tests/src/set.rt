@@ -13,7 +13,7 @@ mod laws;
 mod long_walk;
 mod look_ups;
 mod makings;
-mod many_runs;
+pub(crate) mod many_runs;
 mod operators;
 mod order;
 mod own_types;

@@ -1,11 +1,16 @@
-//! A thousand streams, each of one value.
+//! A thousand and twenty thousand streams and sets, each of one value, and two of seventy thousand
+//! runs: none gives up at a size.
 
 ghost use Rattle.std.specs.Prelude.{All, IfOk};
 
+use crate::many::forms::{Form, form_gives};
+use crate::many::sets::{of_lent, of_sets};
+use crate::set::many_runs::every_fifth;
 use crate::tables::gives;
+use range_set_blaze::RangeSetBlaze;
 use rsb_integer::Integer;
-use rsb_many::{MultiwaySortedDisjoint, MultiwaySweep, SweepEvent};
-use rsb_streams::{Draw, RangeOnce};
+use rsb_many::{KMerge, MultiwaySweep, SweepEvent};
+use rsb_streams::{Draw, RangeOnce, UnionIter};
 use std::alloc::{AllocError, Global};
 use std::test::Fail;
 
@@ -20,33 +25,95 @@ fn singles<T: Integer>(alloc: Global, values: &[T]) -> Result<Vec<RangeOnce<T>>,
     Ok(streams)
 }
 
-/// Streams of which each has its number alone.
-fn numbers(alloc: Global) -> Result<Vec<RangeOnce<i32>>, AllocError>
+/// So many streams, of which each has its number alone.
+fn numbers(alloc: Global, count: i32) -> Result<Vec<RangeOnce<i32>>, AllocError>
     ensures { IfOk result (λ streams. All ⟦<RangeOnce<i32> as Draw<i32>>⟧.can_draw streams.items) }
 {
-    let values = (0..1000i32).collect::<Vec<i32>>(alloc)?;
+    let values = (0..count).collect::<Vec<i32>>(alloc)?;
     singles(alloc, &values)
+}
+
+/// Whether some, and an odd number, of so many streams have all numbers, which are one run.
+fn are_one_run(alloc: Global, count: i32, run: (i32, i32)) -> Result<bool, AllocError> {
+    Ok(
+        form_gives(alloc, Form::Some, numbers(alloc, count)?, &[run])?
+            && form_gives(alloc, Form::Odd, numbers(alloc, count)?, &[run])?,
+    )
 }
 
 #[test]
 fn a_thousand_single_values_are_one_run(rt: HostRuntime) -> Result<(), Fail> {
-    let union = numbers(rt.alloc())?.union(rt.alloc())?;
-    let odd = numbers(rt.alloc())?.symmetric_difference(rt.alloc())?;
-    assert!(rt; gives(union, &[(0, 999)]) && gives(odd, &[(0, 999)]));
+    let alloc = rt.alloc();
+    assert!(rt; are_one_run(alloc, 1000, (0, 999))?);
+    assert!(rt; are_one_run(alloc, 20_000, (0, 19_999))?);
+    let merged = KMerge::new(alloc, numbers(alloc, 20_000)?)?;
+    assert!(rt; gives(UnionIter::new(merged), &[(0, 19_999)]));
+    for form in [Form::All, Form::AtLeast(20_000)] {
+        let alike = singles(alloc, &[7; 20_000])?;
+        assert!(rt; form_gives(alloc, form, alike, &[(7, 7)])?, "{form:?}");
+    }
     Ok(())
+}
+
+/// Whether so many single values start and end in turn.
+fn start_and_end_in_turn(alloc: Global, count: i32) -> Result<bool, AllocError> {
+    let mut events = Vec::new(alloc);
+    let mut input = 0usize;
+    for value in 0..count {
+        let range = value..=value;
+        events.push(SweepEvent::Start { range, input })?;
+        events.push(SweepEvent::End { at: value, input })?;
+        input = input.saturating_add(1);
+    }
+    let sweep = MultiwaySweep::new(alloc, numbers(alloc, count)?)?;
+    Ok(sweep.eq(events))
 }
 
 #[test]
 fn a_thousand_single_values_start_and_end_in_turn(rt: HostRuntime) -> Result<(), Fail> {
-    let mut events = Vec::new(rt.alloc());
-    let mut value = 0i32;
-    for input in 0..1000usize {
-        let range = value..=value;
-        events.push(SweepEvent::Start { range, input })?;
-        events.push(SweepEvent::End { at: value, input })?;
-        value = value.saturating_add(1);
+    assert!(rt; start_and_end_in_turn(rt.alloc(), 1000)?);
+    assert!(rt; start_and_end_in_turn(rt.alloc(), 20_000)?);
+    Ok(())
+}
+
+#[test]
+fn twenty_thousand_sets_make_one(rt: HostRuntime) -> Result<(), Fail> {
+    let alloc = rt.alloc();
+    let mut sets = Vec::new(alloc);
+    for value in 0..20_000i32 {
+        sets.push(RangeSetBlaze::from(alloc, value..=value)?)?;
     }
-    let sweep = MultiwaySweep::new(rt.alloc(), numbers(rt.alloc())?)?;
-    assert!(rt; sweep.eq(events));
+    let mut lent = Vec::new(alloc);
+    for set in &sets {
+        lent.push(set)?;
+    }
+    let all = of_lent(alloc, Form::Some, lent)?;
+    assert!(rt; gives(all.ranges(), &[(0, 19_999)]));
+    assert!(rt; of_sets(alloc, Form::Odd, sets)? == all);
+    Ok(())
+}
+
+/// A form of the first three and the middle three of each five values, how many runs it has, and how
+/// many members.
+static OF_TWO: [(Form, usize, u64); 4] = [
+    (Form::Some, 70_000, 280_000),
+    (Form::All, 70_000, 140_000),
+    (Form::Odd, 140_000, 140_000),
+    (Form::AtLeast(2), 70_000, 140_000),
+];
+
+#[test]
+fn two_sets_of_seventy_thousand_runs_make_one(rt: HostRuntime) -> Result<(), Fail> {
+    let alloc = rt.alloc();
+    let (first, middle) = (every_fifth(alloc, 0, 2)?, every_fifth(alloc, 1, 2)?);
+    for (form, runs, members) in &OF_TWO {
+        let lent = of_lent(alloc, *form, Vec::from_array(alloc, [&first, &middle])?)?;
+        assert!(rt;
+            lent.ranges_len() == *runs && lent.len() == *members,
+            "{form:?}"
+        );
+        let copies = Vec::from_array(alloc, [first.clone()?, middle.clone()?])?;
+        assert!(rt; of_sets(alloc, *form, copies)? == lent, "{form:?}");
+    }
     Ok(())
 }

@@ -11,7 +11,11 @@ use std::test::*;
 
 /// Seventy thousand runs that start at a value and each fifth from it on, and end so many values
 /// later.
-fn every_fifth(alloc: Global, first: i32, more: i32) -> Result<RangeSetBlaze<i32>, AllocError> {
+pub(crate) fn every_fifth(
+    alloc: Global,
+    first: i32,
+    more: i32,
+) -> Result<RangeSetBlaze<i32>, AllocError> {
     let runs = (0..70_000i32).map(|place| {
         let start = first.saturating_add(place.saturating_mul(5));
         start..=start.saturating_add(more)
