@@ -1,0 +1,37 @@
+-- What a kept list of runs has.
+use Rattle.std.proofs.Common.{◌≡◌, ◌↔◌, Bool, false, IsTrue, inl, inr, ℕ, ◌<◌, ◌≤◌, List, sym, arith}
+use Rattle.std.proofs.lemmas.Bool.{cases_lt}
+use Rattle.std.specs.List.{sum_by}
+use Rattle.rsb_integer.specs.Runs.{Interval, length_of, members, IsCanonicalIn}
+use Rattle.rsb_integer.specs.Selection.{count}
+use Rattle.rsb_integer.proofs.CountLemmas.{count-members, count-within}
+use Rattle.rsb_integer.proofs.ListLemmas.{not_both}
+
+-- the lengths of canonical runs in a type add up to the number of their members
+pub sum_by-canonical : (n : ℕ) (runs : List Interval) → IsCanonicalIn n runs
+    → sum_by length_of runs ≡ count n (members runs)
+sum_by-canonical n runs canonical = sym (count-members n 0 runs canonical.0 canonical.1)
+
+-- and to n at most
+pub sum_by-within : (n : ℕ) (runs : List Interval) → IsCanonicalIn n runs
+    → sum_by length_of runs ≤ n
+sum_by-within n runs canonical =
+    let sum = sum_by-canonical n runs canonical in
+    let within = count-within n (members runs) in
+    omega arith
+
+-- a test of `<` that failed tells the other order
+pub lt-fails : (test : Bool) (left right : ℕ) → IsTrue test ↔ (left < right) → test ≡ false
+    → right ≤ left
+lt-fails test left right tells fails = elim (cases_lt left right) [
+  | inl less ↦ absurd (not_both test (tells.1 less) fails)
+  | inr most ↦ most
+]
+
+-- and so does one of `≤`
+pub le-fails : (test : Bool) (left right : ℕ) → IsTrue test ↔ (left ≤ right) → test ≡ false
+    → right < left
+le-fails test left right tells fails = elim (cases_lt right left) [
+  | inl less ↦ less
+  | inr most ↦ absurd (not_both test (tells.1 most) fails)
+]

@@ -1,0 +1,81 @@
+-- What the contracts of a set say. A set is seen as the list of its runs, each the interval of its
+-- ranks.
+use Rattle.std.specs.Prelude.{◌≡◌, ℕ, ◌&&◌, ◌==◌, ◌+◌, ◌<◌, ◌≤◌, nat_le, nat_lt, List, IsTrue, IsFalse}
+use Rattle.std.specs.declared.ops.Bound.{Bound}
+use Rattle.std.specs.declared.ops.Bound.TheVariants.{Included, Excluded, Unbounded}
+use Rattle.rsb_integer.specs.Runs.{Interval, covers, members, IsMaximalRun}
+use Rattle.rsb_integer.specs.Selection.{Selection, difference, union}
+
+-- ---- selections of ranks
+
+-- the one rank
+abbrev pub only : ℕ → Selection
+only rank other = other == rank
+
+-- the least rank that a start lets in
+abbrev pub first_rank : {T : Type 0} → (T → ℕ) → Bound T → ℕ
+first_rank rank (Included value) = rank value
+first_rank rank (Excluded value) = rank value + 1
+first_rank rank Unbounded = 0
+
+-- the least rank past all that an end lets in, in a type of n values
+abbrev pub past_rank : {T : Type 0} → (T → ℕ) → ℕ → Bound T → ℕ
+past_rank rank n (Included value) = rank value + 1
+past_rank rank n (Excluded value) = rank value
+past_rank rank n Unbounded = n
+
+-- the ranks between two bounds, in a type of n values
+abbrev pub between : {T : Type 0} → (T → ℕ) → ℕ → Bound T → Bound T → Selection
+between rank n start end other = nat_le (first_rank rank start) other && nat_lt other
+    (past_rank rank n end)
+
+-- the ranks that lie between the bounds of a range, in a type of n values
+abbrev pub ranks_in : {T R : Type 0} → (T → ℕ) → ℕ → (R → Bound T) → (R → Bound T) → R → Selection
+ranks_in rank n start_bound end_bound range = between rank n (start_bound range) (end_bound range)
+
+-- ---- sets before and after a call
+
+-- the new set has the members of the old one and the added ranks, and no others
+abbrev pub Adds : List Interval → List Interval → Selection → Type 0
+Adds old new added = (rank : ℕ) → members new rank ≡ union (members old) added rank
+
+-- the new set has the members of the old one but the removed ranks, and no others
+abbrev pub Removes : List Interval → List Interval → Selection → Type 0
+Removes old new removed = (rank : ℕ) → members new rank ≡ difference (members old) removed rank
+
+-- the set has the selected ranks as its members, and no others
+abbrev pub IsSetOf : List Interval → Selection → Type 0
+IsSetOf set selected = (rank : ℕ) → members set rank ≡ selected rank
+
+-- the set has the ranks of the interval, and no others
+abbrev pub HasExactly : List Interval → Interval → Type 0
+HasExactly set run = (rank : ℕ) → members set rank ≡ covers rank run
+
+-- some selected rank is no member
+abbrev pub LacksSomeOf : List Interval → Selection → Type 0
+LacksSomeOf set selected = (rank : ℕ) × IsTrue (selected rank) × IsFalse (members set rank)
+
+-- the rank or the one before it is a member, so that a run which starts there or earlier reaches
+-- the rank
+abbrev pub IsReached : List Interval → ℕ → Type 0
+IsReached set rank = (member : ℕ) × IsTrue (members set member) × (member ≤ rank)
+    × (rank ≤ member + 1)
+
+-- ---- single ranks and runs
+
+-- the rank is the least that is selected, in a type of n values
+pub record IsLeast (n : ℕ) (selected : Selection) (rank : ℕ) : Type 0 where
+  pub in_type : rank < n
+  pub here : IsTrue (selected rank)
+  pub least : (other : ℕ) → IsTrue (selected other) → rank ≤ other
+
+-- the rank is the greatest that is selected
+pub record IsGreatest (n : ℕ) (selected : Selection) (rank : ℕ) : Type 0 where
+  pub in_type : rank < n
+  pub here : IsTrue (selected rank)
+  pub greatest : (other : ℕ) → IsTrue (selected other) → other ≤ rank
+
+-- the interval is the maximal run that has the rank
+pub record IsRunAround (n : ℕ) (selected : Selection) (rank : ℕ) (run : Interval) : Type 0 where
+  pub maximal : IsMaximalRun n selected run
+  pub around : IsTrue (covers rank run)

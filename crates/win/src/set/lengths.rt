@@ -1,0 +1,29 @@
+//! Lengths of sets, by the values of a run.
+
+ghost use Rattle.std.specs.Prelude.{◌≡◌, ◌+◌, ◌≤◌};
+ghost use Rattle.rsb_integer.specs.Runs.{length_of, IsNonEmpty};
+ghost use Rattle.win.specs.Kept.{run_of};
+
+use crate::set::run::Run;
+use rsb_integer::Integer;
+
+/// Adds the number of values of a run to a length.
+pub(crate) fn add_length<T: Integer>(length: &mut T::SafeLen, run: Run<T>)
+    requires some { IsNonEmpty (run_of T.rank run) }
+    requires fits { T.SafeLen.number length.old + length_of (run_of T.rank run) ≤ T.value_count }
+    ensures { T.SafeLen.number length.new
+        ≡ T.SafeLen.number length.old + length_of (run_of T.rank run) }
+{
+    *length += T::safe_len(&(run.start..=run.end));
+}
+
+/// Takes the number of values of a run off a length.
+pub(crate) fn take_off_length<T: Integer>(length: &mut T::SafeLen, run: Run<T>)
+    requires some { IsNonEmpty (run_of T.rank run) }
+    requires fits { T.SafeLen.number length.old ≤ T.value_count }
+    requires counted { length_of (run_of T.rank run) ≤ T.SafeLen.number length.old }
+    ensures { T.SafeLen.number length.new + length_of (run_of T.rank run)
+        ≡ T.SafeLen.number length.old }
+{
+    *length -= T::safe_len(&(run.start..=run.end));
+}

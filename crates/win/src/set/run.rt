@@ -1,0 +1,61 @@
+//! A run of values, and comparisons of values in ranks.
+
+ghost use Rattle.std.specs.Prelude.{◌≡◌, ◌↔◌, ◌+◌, ◌-◌, ◌<◌, ◌≤◌, max, min, IsTrue};
+
+use rsb_integer::Integer;
+
+/// A run: its first and its last value.
+#[derive(Clone, Copy)]
+pub(crate) struct Run<T> {
+    pub(crate) start: T,
+    pub(crate) end: T,
+}
+
+/// The value itself, which is known for a value from here on.
+pub(crate) fn known<T: Integer>(value: T) -> T
+    ensures same { result ≡ value }
+    ensures value { T.rank value < T.value_count }
+{
+    // Called for its clause alone.
+    value.checked_add_one();
+    value
+}
+
+/// The value one rank higher, or the greatest value itself.
+pub(crate) fn next_or_greatest<T: Integer>(value: T) -> T
+    ensures { T.rank result ≡ min (T.rank value + 1) (T.value_count - 1) }
+{
+    match value.checked_add_one() {
+        Some(next) => next,
+        None => value,
+    }
+}
+
+/// Whether one value is below another.
+pub(crate) fn is_below<T: Integer>(left: T, right: T) -> bool
+    requires left { T.rank left < T.value_count }
+    requires right { T.rank right < T.value_count }
+    ensures { IsTrue result ↔ (T.rank left < T.rank right) }
+{
+    left < right
+}
+
+/// Whether a run that ends at `end` overlaps or touches one that starts at `start` or before it.
+pub(crate) fn reaches<T: Integer>(end: T, start: T) -> bool
+    requires { T.rank start < T.value_count }
+    ensures { IsTrue result ↔ (T.rank start ≤ T.rank end + 1) }
+{
+    match end.checked_add_one() {
+        Some(next) => start <= next,
+        None => true,
+    }
+}
+
+/// The greater of two values.
+pub(crate) fn greater<T: Integer>(left: T, right: T) -> T
+    requires left { T.rank left < T.value_count }
+    requires right { T.rank right < T.value_count }
+    ensures { T.rank result ≡ max (T.rank left) (T.rank right) }
+{
+    if is_below(left, right) { right } else { left }
+}
