@@ -7,7 +7,7 @@ use crate::set::steps::End::{self, Back, Front};
 use crate::set::steps::is_true_of;
 use crate::tables::set_of;
 use range_set_blaze::RangeSetBlaze;
-use std::alloc::{AllocError, Global};
+use std::alloc::AllocError;
 use std::test::*;
 
 /// The ends that elements are taken from in turn, and what each then gives.
@@ -187,29 +187,16 @@ fn a_clone_gives_the_same_elements(rt: HostRuntime) -> Result<(), Fail> {
     Ok(())
 }
 
-/// The elements of a set that is lent, by a loop.
-fn looped(alloc: Global, set: &RangeSetBlaze<i32>) -> Result<Vec<i32>, AllocError> {
-    let mut elements = Vec::new(alloc);
-    for value in set {
-        elements.push(value)?;
-    }
-    Ok(elements)
-}
-
-/// The elements of a set that is given up, by a loop.
-fn looped_up(alloc: Global, set: RangeSetBlaze<i32>) -> Result<Vec<i32>, AllocError> {
-    let mut elements = Vec::new(alloc);
-    for value in set {
-        elements.push(value)?;
-    }
-    Ok(elements)
-}
-
 #[test]
 fn loops_go_over_a_set_and_over_a_reference(rt: HostRuntime) -> Result<(), Fail> {
-    let alloc = rt.alloc();
-    let set = set_of(alloc, &[(-2, -1), (1, 1), (4, 5)])?;
-    assert!(rt; looped(alloc, &set)?[..] == [-2, -1, 1, 4, 5][..]);
-    assert!(rt; looped_up(alloc, set)?[..] == [-2, -1, 1, 4, 5][..]);
+    let set = set_of(rt.alloc(), &[(-2, -1), (1, 1), (4, 5)])?;
+    let mut elements = Vec::new(rt.alloc());
+    for value in &set {
+        elements.push(value)?;
+    }
+    for value in set {
+        elements.push(value)?;
+    }
+    assert!(rt; elements[..] == [-2, -1, 1, 4, 5, -2, -1, 1, 4, 5][..]);
     Ok(())
 }
