@@ -1,18 +1,17 @@
 pub mod AlgebraLemmas
 pub mod AloneLemmas
 pub mod AnswerLemmas
-pub mod BackTurns
 pub mod BetweenLemmas
 pub mod BoundsLemmas
 pub mod BulkLemmas
 pub mod ComparedLemmas
 pub mod CutLemmas
 pub mod ElementsLeft
+pub mod elements
 pub mod EndLemmas
 pub mod EntriesLemmas
 pub mod ExtendLemmas
 pub mod FilledLemmas
-pub mod FrontTurns
 pub mod HashLemmas
 pub mod HeldLemmas
 pub mod InsertLemmas
@@ -40,7 +39,5 @@ pub mod SubsetLemmas
 pub mod SwallowLemmas
 pub mod TakeLastLemmas
 pub mod TakeOutLemmas
-pub mod TakenLemmas
 pub mod TakesLemmas
-pub mod TurnLemmas
 pub mod TurnsLemmas

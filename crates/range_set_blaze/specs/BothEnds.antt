@@ -98,20 +98,22 @@ module _ {T I : Type 0} (rank : T → ℕ) (n : ℕ) (can_draw : I → Type 0)
   unfolding ElementsReady
   elements_ready s ready = ready
 
-  -- whatever may be left after the call, something was left before it of which the item was the
-  -- least member, and the iterator may be called again
-  pub record GivesLeast (s : Iter T I) (item : Option T) (t : Iter T I) : Type 0 where
+  -- whatever may be left after the call, something was left before it of which the item was taken,
+  -- and the iterator may be called again
+  pub record Gives (Takes : Selection → Option T → Selection → Type 0) (s : Iter T I)
+      (item : Option T) (t : Iter T I) : Type 0 where
     pub ready : ElementsReady t
     pub takes : (after : List Interval) → left_between rank may_give t after
         → (before : List Interval) × left_between rank may_give s before
-        × TakesLeast rank n (members before) item (members after)
+        × Takes (members before) item (members after)
 
-  -- the same of the greatest member
-  pub record GivesGreatest (s : Iter T I) (item : Option T) (t : Iter T I) : Type 0 where
-    pub ready : ElementsReady t
-    pub takes : (after : List Interval) → left_between rank may_give t after
-        → (before : List Interval) × left_between rank may_give s before
-        × TakesGreatest rank n (members before) item (members after)
+  -- the item was the least member
+  abbrev pub GivesLeast : Iter T I → Option T → Iter T I → Type 0
+  GivesLeast = Gives (TakesLeast rank n)
+
+  -- the item was the greatest member
+  abbrev pub GivesGreatest : Iter T I → Option T → Iter T I → Type 0
+  GivesGreatest = Gives (TakesGreatest rank n)
 
   -- ---- streams that go from both ends
 

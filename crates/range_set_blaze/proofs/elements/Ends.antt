@@ -1,0 +1,317 @@
+-- Calls at the two ends of an iterator over the elements of a stream.
+use Rattle.std.proofs.Common.{◌≡◌, ◌↔◌, ℕ, true, false, cond, ◌+◌, ◌*◌, ◌<◌, ◌≤◌, List, [], ◌∷◌, ◌++◌, append-nil, append_assoc, refl, sym, ◌∙◌, ap, subst, inl, inr, arith}
+use Rattle.std.proofs.lemmas.Bool.{cases_lt}
+use Rattle.std.proofs.lemmas.Nat.{row_fits}
+use Rattle.std.specs.Prelude.{Option, Some, None, IfSome, IsNone, IsTrue, OnSome}
+use Rattle.std.specs.Iterator.{Count, IsFinite, MakesProgress, size}
+use Rattle.std.specs.declared.ops.RangeInclusive.{RangeInclusive}
+use Rattle.rsb_integer.specs.Rank.{interval_of}
+use Rattle.rsb_integer.specs.Runs.{Interval, length_of, members, IsAfterFirst, IsBeforeLast, IsCanonicalIn, IsEmpty}
+use Rattle.rsb_integer.specs.Selection.{difference, Selection, IsNothing}
+use Rattle.rsb_integer.proofs.CanonicalLemmas.{canonical-parts}
+use Rattle.rsb_integer.proofs.ListLemmas.{not_both}
+use Rattle.rsb_streams.specs.Fused.{fused_can, fused_may_give}
+use Rattle.rsb_streams.specs.Stream.{run_if_any, unless}
+use Rattle.rsb_streams.specs.declared.draw.Draw.{Ghosts as Stream}
+use Rattle.rsb_streams.proofs.CheckLemmas.{none-if_empty, one-if_some}
+use Rattle.range_set_blaze.specs.BothEnds.{between_ends, elements_left, elements_ready, is_ready, stream_of, without, ElementsReady, Gives, TakesGreatest, TakesLeast}
+use Rattle.range_set_blaze.specs.Set.{only, IsGreatest, IsLeast}
+use Rattle.range_set_blaze.specs.declared.iter.Iter.{Iter}
+use Rattle.range_set_blaze.proofs.elements.Shortened.{shorter-first, shorter-last, taken, IsShorter, IsTaken}
+
+-- a call that leaves fewer makes progress
+goes-by : {S A : Type 0} {can : S → Type 0} {left : S → Count} {s t : S} (item : Option A) → can t
+    → (IsFinite (left s) → IsFinite (left t))
+    → (IsFinite (left s) → OnSome item (size (left t) < size (left s)))
+    → MakesProgress can left s item t
+goes-by None may_call ends fewer = record { on = λ finite. tt; keeps = tt; rests = ends }
+goes-by (Some value) may_call ends fewer = record {
+  on = λ finite. (may_call, ends finite, fewer finite);
+  keeps = may_call;
+  rests = λ finite. tt;
+}
+
+-- where two counts are one, a call makes progress by both
+pub counted-alike : {S A : Type 0} {can : S → Type 0} {left other : S → Count} {s t : S}
+    {item : Option A} → ((s : S) → left s ≡ other s) → MakesProgress can left s item t
+    → MakesProgress can other s item t
+counted-alike {can = can} {s = s} {t = t} {item = item} same goes =
+    subst (λ count. MakesProgress can count s item t) (λ i each. same each i) goes
+
+-- intervals next to an end, and then others: behind these, or in front of them
+abbrev put : (List Interval → List Interval) → (List Interval → List Interval) → List Interval
+    → List Interval → List Interval
+put front back own others = front others ++ (own ++ back others)
+
+module _ {T : Type 0} (I : Type 0) (rank : T → ℕ) (n : ℕ) where
+  -- an end, at which elements are taken
+  pub record End : Type 1 where
+    -- what is held there, and at the other end
+    pub near : Iter T I → Interval
+    pub far : Iter T I → Interval
+    pub lengths : (s : Iter T I) → length_of (interval_of rank s.front)
+        + length_of (interval_of rank s.back) ≡ length_of (near s) + length_of (far s)
+    -- what comes before others, and what after them
+    pub front : List Interval → List Interval
+    pub back : List Interval → List Interval
+    pub apart : (s : Iter T I) (rest : List Interval) → between_ends rank s rest
+        ≡ put front back (run_if_any (near s)) (put front back rest (run_if_any (far s)))
+    pub nil_put : (runs : List Interval) → put front back [] runs ≡ runs
+    pub put_nil : (runs : List Interval) → put front back runs [] ≡ runs
+    pub put_put : (own next others : List Interval)
+        → put front back (put front back own next) others
+        ≡ put front back own (put front back next others)
+    -- which rank is taken of an interval, and what a call there says of the item and the rest
+    pub edge : Interval → ℕ
+    pub Pops : Interval → Option T → Interval → Type 0
+    pub none : {run rest : Interval} {item : Option T} → Pops run item rest
+        → IsNone item ↔ IsEmpty run
+    pub some : {run rest : Interval} {item : Option T} → Pops run item rest
+        → IfSome item (λ value. rank value ≡ edge run)
+    pub below : {run rest : Interval} {item : Option T} → Pops run item rest → run.last < n
+    pub shorter : {run rest : Interval} {item : Option T} → Pops run item rest
+        → IsShorter run rest (edge run)
+    -- what is taken of a set
+    pub IsFound : Selection → ℕ → Type 0
+    pub found : {run rest : Interval} {others : List Interval}
+        → IsTaken n (front others) (back others) run rest (edge run)
+        → IsFound (members (put front back (run ∷ []) others)) (edge run)
+    pub Takes : Selection → Option T → Selection → Type 0
+    pub takes : {old new : Selection} {item : Option T} → IsNone item ↔ IsNothing old
+        → IfSome item (λ value. IsFound old (rank value))
+        → ((point : ℕ) → new point ≡ without rank old item point) → Takes old item new
+
+  -- where the least element is taken
+  abbrev pub least : End
+  least = record {
+    near = λ s. interval_of rank s.front;
+    far = λ s. interval_of rank s.back;
+    lengths = λ s. refl;
+    front = λ others. [];
+    back = λ others. others;
+    apart = λ s rest. refl;
+    nil_put = λ runs. refl;
+    put_nil = append-nil;
+    put_put = append_assoc;
+    edge = λ run. run.first;
+    Pops = λ run item rest. record {
+      value : run.last < n;
+      none : IsNone item ↔ IsEmpty run;
+      first : IfSome item (λ first. rank first ≡ run.first);
+      rest : IsAfterFirst run rest;
+    };
+    none = λ pops. pops.none;
+    some = λ pops. pops.first;
+    below = λ pops. pops.value;
+    shorter = λ pops. shorter-first _ _ pops.rest;
+    IsFound = IsLeast n;
+    found = λ is. record { in_type = is.in_type; here = is.here; least = is.least refl refl };
+    Takes = TakesLeast rank n;
+    takes = λ none found rest. record { none = none; least = found; rest = rest };
+  }
+
+  -- where the greatest element is taken
+  abbrev pub greatest : End
+  greatest = record {
+    near = λ s. interval_of rank s.back;
+    far = λ s. interval_of rank s.front;
+    lengths = λ s. omega arith;
+    front = λ others. others;
+    back = λ others. [];
+    apart = λ s rest. simp (append-nil, append_assoc) refl;
+    nil_put = append-nil;
+    put_nil = append-nil;
+    put_put = λ own next others. simp (append-nil, append_assoc) refl;
+    edge = λ run. run.last;
+    Pops = λ run item rest. record {
+      value : run.last < n;
+      none : IsNone item ↔ IsEmpty run;
+      last : IfSome item (λ last. rank last ≡ run.last);
+      rest : IsBeforeLast run rest;
+    };
+    none = λ pops. pops.none;
+    some = λ pops. pops.last;
+    below = λ pops. pops.value;
+    shorter = λ pops. shorter-last _ _ pops.rest;
+    IsFound = IsGreatest n;
+    found = λ is. record { in_type = is.in_type; here = is.here; greatest = is.greatest refl refl };
+    Takes = TakesGreatest rank n;
+    takes = λ none found rest. record { none = none; greatest = found; rest = rest };
+  }
+
+module _ {T I N : Type 0} {rank : T → ℕ} {n : ℕ} (stream : Stream I T N) (e : End I rank n) where
+  -- intervals next to the end, and then others
+  abbrev placed : List Interval → List Interval → List Interval
+  placed = put e.front e.back
+
+  -- an interval of which no item is taken is empty, and stays so
+  pops-none : {run rest : Interval} {item : Option T} → e.Pops run item rest → IsNone item
+      → IsEmpty run × IsEmpty rest
+  pops-none pops lacks =
+      let empty = (e.none pops).0 lacks in
+      let within = (e.shorter pops).within in
+      (empty, grind (arith, empty, within))
+
+  -- and one of which an item is taken is not
+  pops-some : {run rest : Interval} {value : T} → e.Pops run (Some value) rest
+      → run.first ≤ run.last
+  pops-some {run = run} pops = elim (cases_lt run.last run.first) [
+    | inl empty ↦ let lacks = (e.none pops).1 empty in absurd (cc)
+    | inr some ↦ some
+  ]
+
+  -- so where there is an item, less is left
+  pops-fewer : {run rest : Interval} {P : Type 0} (item : Option T) → e.Pops run item rest
+      → (length_of rest < length_of run → P) → OnSome item P
+  pops-fewer None pops fewer = tt
+  pops-fewer (Some value) pops fewer = fewer ((e.shorter pops).fewer (pops-some pops))
+
+  -- a list of intervals, and what is left of it: canonical again, and the item is taken of it
+  abbrev Turns : List Interval → Option T → List Interval → Type 0
+  Turns old item new = IsCanonicalIn n new × e.Takes (members old) item (members new)
+
+  -- an item is taken of the interval next to the end, where that has any, and else there are no
+  -- others
+  turns : (run rest : Interval) (others : List Interval) (item : Option T) → e.Pops run item rest
+      → (IsNone item → others ≡ []) → IsCanonicalIn n (placed (run_if_any run) others)
+      → Turns (placed (run_if_any run) others) item (placed (run_if_any rest) others)
+  turns run rest others None pops alone known =
+      let none = pops-none pops refl in
+      let was : placed (run_if_any run) others ≡ [] =
+      rw (none-if_empty run none.0, alone refl) (e.nil_put []) in
+      let is : placed (run_if_any rest) others ≡ [] =
+      rw (none-if_empty rest none.1, alone refl) (e.nil_put []) in
+      rw (was, is) (
+        subst (IsCanonicalIn n) was known,
+        e.takes ((λ lacks point. refl), (λ nothing. refl)) tt (λ point. refl),
+      )
+  turns run rest others (Some value) pops alone known =
+      let one = one-if_some run (pops-some pops) in
+      let edge = e.edge run in
+      let is = taken n (e.front others) (e.back others) run rest edge (e.shorter pops) (e.below pops)
+      (subst (IsCanonicalIn n) (ap (λ own. placed own others) one) known) in
+      rw one (
+        is.canonical,
+        e.takes ((λ lacks. absurd (cc)), (λ nothing. absurd (not_both _ is.here (nothing edge))))
+            (rw (e.some pops) (e.found is)) (rw (e.some pops) is.removes),
+      )
+
+  -- what is left, with these intervals between what is held at the ends
+  abbrev left : Iter T I → List Interval → List Interval
+  left s rest = placed (run_if_any (e.near s)) (placed rest (run_if_any (e.far s)))
+
+  module _ (s t : Iter T I) (item : Option T)
+      (ready : ElementsReady rank n stream.can_draw stream.may_give s) (can : Iter T I → Type 0)
+      (again : ElementsReady rank n stream.can_draw stream.may_give t → can t) where
+    -- the item is taken, and progress is made
+    abbrev pub Turned : Type 0
+    Turned = record {
+      steps : Gives rank n stream.can_draw stream.may_give e.Takes s item t;
+      goes : MakesProgress can (elements_left rank n stream.draws_left) s item t;
+    }
+
+    -- a call is told by what might come before it
+    turned : (t.done ≡ false → stream.can_draw t.ranges)
+        → ((rest : List Interval) → unless t.done (stream.may_give t.ranges) rest
+        → (prior : List Interval) × unless s.done (stream.may_give s.ranges) prior
+        × (IsCanonicalIn n (left s prior) → Turns (left s prior) item (left t rest)))
+        → (IsFinite (stream.draws_left s.ranges) → IsFinite (stream.draws_left t.ranges))
+        → (IsFinite (stream.draws_left s.ranges) → OnSome item
+        (size (elements_left rank n stream.draws_left t)
+        < size (elements_left rank n stream.draws_left s)))
+        → Turned
+    turned callable priors ends fewer =
+        let known = (is_ready rank n stream.can_draw stream.may_give s ready).canonical in
+        let turn : (rest : List Interval) (may : unless t.done (stream.may_give t.ranges) rest)
+        → Turns (between_ends rank s (priors rest may).0) item (between_ends rank t rest) =
+        λ rest may.
+        let prior = priors rest may in
+        rw (e.apart s prior.0, e.apart t rest) (prior.2
+        (rw (← e.apart s prior.0) (known _ (prior.0, prior.1, refl)))) in
+        let may_call = elements_ready rank n stream.can_draw stream.may_give t (record {
+          callable = callable;
+          canonical = λ new at. rw at.2 (turn at.0 at.1).0;
+        }) in
+        record {
+          steps = record {
+            ready = may_call;
+            takes = λ new at.
+                let prior = priors at.0 at.1 in
+                (_, (prior.0, prior.1, refl), rw at.2 (turn at.0 at.1).1);
+          };
+          goes = goes-by item (again may_call) ends fewer;
+        }
+
+    -- the item is taken of what is held at this end
+    pub turned-held : stream_of t ≡ stream_of s → e.far t ≡ e.far s → ¬ (IsNone item)
+        → e.Pops (e.near s) item (e.near t) → Turned
+    turned-held same other some pops =
+        let is : t.ranges ≡ s.ranges = ap (λ each. each.iter) same in
+        let over : t.done ≡ s.done = ap (λ each. each.done) same in
+        turned
+        (rw (is, over) (is_ready rank n stream.can_draw stream.may_give s ready).callable)
+        (λ rest may. (
+          rest,
+          subst (λ each. fused_may_give stream.may_give each rest) same may,
+          rw other (turns (e.near s) (e.near t) (placed rest (run_if_any (e.far s))) item pops
+              (λ lacks. absurd (some lacks))),
+        ))
+        (rw is (λ finite. finite))
+        (λ finite. pops-fewer item pops (λ fewer.
+        rw (is, over) (omega (arith, fewer, e.lengths s, e.lengths t, ap length_of other))))
+
+    -- it is taken of a range that comes next at this end, where nothing is held there
+    pub turned-drawn : {ask : I → Type 0} {gone : Interval} (range : RangeInclusive T)
+        → s.done ≡ false → t.done ≡ s.done → e.far t ≡ e.far s → e.Pops (e.near s) None gone
+        → ((rest : List Interval) → stream.may_give t.ranges rest
+        → stream.may_give s.ranges (placed (interval_of rank range ∷ []) rest))
+        → (ask t.ranges → stream.can_draw t.ranges)
+        → MakesProgress ask stream.draws_left s.ranges (Some range) t.ranges
+        → e.Pops (interval_of rank range) item (e.near t) → Turned
+    turned-drawn range undone same other none answers may_draw goes pops =
+        let run = interval_of rank range in
+        let far = run_if_any (e.far s) in
+        turned (λ _. may_draw goes.keeps)
+        (λ rest may. (
+          placed (run ∷ []) rest,
+          rw undone (answers rest
+              (subst (λ each. unless each (stream.may_give t.ranges) rest) (same ∙ undone) may)),
+          rw (
+            none-if_empty _ (pops-none none refl).0,
+            e.nil_put _,
+            e.put_put (run ∷ []) rest far,
+            other,
+          ) (λ known.
+              let others = placed rest far in
+              let some = (canonical-parts 0 (e.front others) (run ∷ e.back others) known.0).1.1 in
+              let one = ap (λ own. placed own others) (one-if_some run some) in
+              subst (λ old. Turns old item (placed (run_if_any (e.near t)) others)) one
+              (turns run (e.near t) others item pops
+              (λ lacks. absurd (omega (arith, some, (e.none pops).0 lacks)))
+              (subst (IsCanonicalIn n) (sym one) known))),
+        ))
+        (λ finite. (goes.on finite).1)
+        (λ finite. pops-fewer item pops (λ fewer.
+        let fits = row_fits (size (stream.draws_left t.ranges)) n
+        (size (stream.draws_left s.ranges)) n (goes.on finite).2 (omega arith) in
+        rw (same, undone) (omega
+        (arith, fewer, e.below pops, fits, e.lengths s, e.lengths t, ap length_of other))))
+
+    -- it is taken of what is held at the other end, once the stream has ended
+    pub turned-far : t.done ≡ true → unless s.done (stream.may_give s.ranges) []
+        → (IsFinite (stream.draws_left s.ranges) → IsFinite (stream.draws_left t.ranges))
+        → e.Pops (e.near s) None (e.near t) → e.Pops (e.far s) item (e.far t) → Turned
+    turned-far ended may ends none pops =
+        let gone = pops-none none refl in
+        turned (λ going. absurd (cc))
+        (λ rest may_after.
+        let nothing : rest ≡ [] =
+        subst (λ each. unless each (stream.may_give t.ranges) rest) ended may_after in (
+          [],
+          may,
+          rw (none-if_empty _ gone.0, none-if_empty _ gone.1, nothing, e.nil_put _, e.nil_put (run_if_any (e.far s)), e.nil_put _, e.nil_put (run_if_any (e.far t)), ← e.put_nil (run_if_any (e.far s)), ← e.put_nil (run_if_any (e.far t)))
+              (turns (e.far s) (e.far t) [] item pops (λ _. refl)),
+        ))
+        ends
+        (λ finite. pops-fewer item pops (λ fewer.
+        rw ended (omega (arith, fewer, gone.1, e.lengths s, e.lengths t))))
