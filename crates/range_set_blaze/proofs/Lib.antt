@@ -6,7 +6,6 @@ pub mod BoundsLemmas
 pub mod BulkLemmas
 pub mod ComparedLemmas
 pub mod CutLemmas
-pub mod ElementsLeft
 pub mod elements
 pub mod EndLemmas
 pub mod EntriesLemmas
@@ -20,7 +19,6 @@ pub mod JoinLemmas
 pub mod KeepLemmas
 pub mod KeptLemmas
 pub mod LastTurnLemmas
-pub mod ListedElements
 pub mod LookUpLemmas
 pub mod MultiwayLemmas
 pub mod OrderLemmas
@@ -39,5 +37,4 @@ pub mod SubsetLemmas
 pub mod SwallowLemmas
 pub mod TakeLastLemmas
 pub mod TakeOutLemmas
-pub mod TakesLemmas
 pub mod TurnsLemmas

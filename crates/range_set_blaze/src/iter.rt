@@ -10,6 +10,7 @@ ghost use Rattle.range_set_blaze.specs.BothEnds.{
   ElementsReadyBack,
   GivesGreatest,
   GivesLeast,
+  IsWhole,
 };
 
 use rsb_integer::Integer;
@@ -27,6 +28,20 @@ pub struct Iter<T, I> {
     // What is left of the ranges that were taken from the two ends.
     pub(crate) front: RangeInclusive<T>,
     pub(crate) back: RangeInclusive<T>,
+}
+
+impl<T: Integer, I> Iter<T, I> {
+    // The elements of a stream of which nothing is taken yet.
+    pub(crate) fn over(ranges: I) -> Self
+        ensures { IsWhole T.rank ranges result }
+    {
+        Iter {
+            ranges,
+            done: false,
+            front: T::exhausted_range(),
+            back: T::exhausted_range(),
+        }
+    }
 }
 
 impl<T: Integer, I: SortedDisjoint<T>> Iterator for Iter<T, I> {

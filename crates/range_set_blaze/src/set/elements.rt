@@ -14,7 +14,6 @@ ghost use Rattle.range_set_blaze.specs.BothEnds.{
 ghost use Rattle.range_set_blaze.specs.Set.{ranks_in, IsSetOf};
 
 use crate::into_iter::IntoIter;
-use crate::into_ranges_iter::IntoRangesIter;
 use crate::iter::Iter;
 use crate::ranges_iter::RangesIter;
 use crate::set::RangeSetBlaze;
@@ -32,12 +31,7 @@ impl<T: Integer, A: Allocator> RangeSetBlaze<T, A> {
         ensures ready { ListedReady T.rank T.value_count result }
         ensures ready_back { ListedReadyBack T.rank T.value_count result }
     {
-        Iter {
-            ranges: self.ranges(),
-            done: false,
-            front: T::exhausted_range(),
-            back: T::exhausted_range(),
-        }
+        Iter::over(self.ranges())
     }
 }
 
@@ -50,15 +44,7 @@ impl<'a, T: Integer, A: Allocator> IntoIterator for &'a RangeSetBlaze<T, A> {
         IsOverSet T.rank T.value_count set.now elements };
 
     fn into_iter(self) -> Iter<T, RangesIter<'a, T>> {
-        let ranges = RangesIter {
-            entries: self.map.iter(),
-        };
-        Iter {
-            ranges,
-            done: false,
-            front: T::exhausted_range(),
-            back: T::exhausted_range(),
-        }
+        self.iter()
     }
 }
 
@@ -70,16 +56,8 @@ impl<T: Integer, A: Allocator> IntoIterator for RangeSetBlaze<T, A> {
     ghost into_iter_gives = { λ set elements. elements ≡ set };
 
     fn into_iter(self) -> IntoIter<T, A> {
-        let ranges = IntoRangesIter {
-            entries: self.map.into_iter(),
-        };
         IntoIter {
-            elements: Iter {
-                ranges,
-                done: false,
-                front: T::exhausted_range(),
-                back: T::exhausted_range(),
-            },
+            elements: Iter::over(self.into_ranges()),
         }
     }
 }

@@ -1,0 +1,134 @@
+-- Iterators over elements of a stream whose state shows the list of its ranges.
+use Rattle.std.proofs.Common.{◌≡◌, ◌↔◌, ℕ, Bool, true, false, not, cond, ◌&&◌, ◌+◌, ◌<◌, ◌≤◌, List, [], ◌∷◌, ◌++◌, append-nil, length, length-append, refl, sym, ◌∙◌, ap, subst, arith}
+use Rattle.std.proofs.lemmas.Bool.Decides.{nat_tests}
+use Rattle.std.proofs.lemmas.List.{length-map, map-append}
+use Rattle.std.proofs.lemmas.List.Sums.{sum_by-cons}
+use Rattle.std.specs.Iterator.{Count, MakesProgress, YieldsLast, at_most, item_count}
+use Rattle.std.specs.Iterator.SizeHint.{IsWithinCount}
+use Rattle.std.specs.List.{sum_by}
+use Rattle.std.specs.Prelude.{Option, Some, None, IfSome, ⊤}
+use Rattle.std.specs.declared.ops.RangeInclusive.{RangeInclusive}
+use Rattle.rsb_integer.specs.Rank.{interval_of, intervals_of}
+use Rattle.rsb_integer.specs.Runs.{Interval, length_of, members, IsCanonicalFrom, IsCanonicalIn}
+use Rattle.rsb_integer.specs.Selection.{Selection, count}
+use Rattle.rsb_integer.proofs.CountLemmas.{count-less, count-members}
+use Rattle.rsb_streams.specs.Listed.{listed_may_give}
+use Rattle.rsb_streams.specs.Stream.{just, unless}
+use Rattle.rsb_streams.proofs.CheckLemmas.{none-if_empty}
+use Rattle.range_set_blaze.specs.BothEnds.{between_ends, elements_ready, held, is_ready, left_between, ranges_left, runs_left, without, AnswersLast, Gives, GoesBack, IsListReady, IsOverSet, IsWhole, ListedReady}
+use Rattle.range_set_blaze.specs.Set.{only}
+use Rattle.range_set_blaze.specs.declared.iter.Iter.{Iter}
+
+-- the list that is left may be given, unless the stream has ended, and it alone
+listed-is : (done : Bool) (runs rest : List Interval)
+    → unless done (just runs) rest ↔ (rest ≡ cond done [] runs)
+listed-is true runs rest = ((λ may. may), (λ may. may))
+listed-is false runs rest = ((λ may. may), (λ may. may))
+
+-- where a member leaves a set, progress is made
+pub taken-goes : {T : Type 0} (rank : T → ℕ) {n : ℕ} {old new : List Interval} {P : T → Type 0}
+    (item : Option T) → IfSome item P
+    → ((value : T) → P value → (rank value < n) × (members old (rank value) ≡ true))
+    → ((point : ℕ) → members new point ≡ without rank (members old) item point)
+    → MakesProgress (λ _. ⊤) (λ runs. at_most (count n (members runs))) old item new
+taken-goes rank None found member rest = record { on = λ finite. tt; keeps = tt; rests = λ finite. tt }
+taken-goes rank {n = n} {old = old} {new = new} (Some value) found member rest =
+    let here = member value found in
+    let less = count-less n (members new) (members old) (λ other is. grind (arith, rest other, is))
+    (rank value) here.0 here.1 (grind (arith, nat_tests, rest (rank value))) in
+    record { on = λ finite. (tt, tt, less); keeps = tt; rests = λ finite. tt }
+
+-- a canonical list has no fewer members than intervals
+length-sum : (low : ℕ) (runs : List Interval) → IsCanonicalFrom low runs
+    → length runs ≤ sum_by length_of runs
+length-sum low [] canonical = omega arith
+length-sum low (run ∷ runs) canonical =
+    omega (arith, sum_by-cons length_of run runs, length-sum (run.last + 2) runs canonical.2, canonical.1)
+
+module _ {T : Type 0} (rank : T → ℕ) (n : ℕ) where
+  -- what may be left of the iterator is one list
+  listed-left : (s : Iter T (List (RangeInclusive T))) (runs : List Interval)
+      → left_between rank (listed_may_give rank (λ ranges. ranges)) s runs ↔ (runs ≡ runs_left rank s)
+  listed-left s runs = (
+    (λ at. at.2 ∙ ap (between_ends rank s)
+        ((listed-is s.done (intervals_of rank s.ranges) at.0).0 at.1)),
+    (λ is. (
+      cond s.done [] (intervals_of rank s.ranges),
+      (listed-is s.done (intervals_of rank s.ranges) _).1 refl,
+      is,
+    )),
+  )
+
+  -- so what a call takes is taken of it
+  pub listed-takes : {Takes : Selection → Option T → Selection → Type 0}
+      {s t : Iter T (List (RangeInclusive T))} {item : Option T}
+      → Gives rank n (IsListReady rank n) (listed_may_give rank (λ ranges. ranges)) Takes s item t
+      → Takes (members (runs_left rank s)) item (members (runs_left rank t))
+  listed-takes {s = s} {t = t} gives =
+      let taken = gives.takes (runs_left rank t) ((listed-left t (runs_left rank t)).1 refl) in
+      rw (← (listed-left s taken.0).0 taken.1) taken.2
+
+  -- it is canonical
+  pub listed-canonical : (s : Iter T (List (RangeInclusive T))) → ListedReady rank n s
+      → IsCanonicalIn n (runs_left rank s)
+  listed-canonical s ready =
+      (is_ready rank n (IsListReady rank n) (listed_may_give rank (λ ranges. ranges)) s
+      ready).canonical (runs_left rank s) ((listed-left s (runs_left rank s)).1 refl)
+
+  -- and has no fewer members than ranges that the stream still gives
+  pub hint-count : (s : Iter T (List (RangeInclusive T))) → ListedReady rank n s → (low : ℕ)
+      → IsWithinCount low (ranges_left (item_count (λ (ranges : List (RangeInclusive T)). ranges)) s)
+      → low ≤ count n (members (runs_left rank s))
+  hint-count s ready low within =
+      let canonical = listed-canonical s ready in
+      let rest = cond s.done [] (intervals_of rank s.ranges) in
+      omega (
+        arith,
+        length-sum 0 (runs_left rank s) canonical.0,
+        count-members n 0 (runs_left rank s) canonical.0 canonical.1,
+        length-append (held rank s.front) (rest ++ held rank s.back),
+        length-append rest (held rank s.back),
+        by s.done,
+        within tt,
+      )
+    where
+      -- as many intervals as ranges, by whether the stream has ended
+      by : (done : Bool) → length (cond done [] (intervals_of rank s.ranges))
+          ≡ cond done 0 (length s.ranges)
+      by true = refl
+      by false = length-map s.ranges (interval_of rank)
+
+  -- the last of the list is what may come last
+  listed-last : (s t : List (RangeInclusive T)) (item : Option (RangeInclusive T))
+      → YieldsLast (λ (ranges : List (RangeInclusive T)). ranges) s item t
+      → AnswersLast rank n (IsListReady rank n) (listed_may_give rank (λ ranges. ranges)) s item t
+  listed-last s t None call = ap (intervals_of rank) (sym call.0)
+  listed-last s t (Some range) call = λ rest at.
+      rw (at, call) (sym (map-append (interval_of rank) t (range ∷ [])))
+
+  -- an iterator of which nothing is taken yet has the runs of the list, and goes from both ends
+  pub whole-over : {ranges : List (RangeInclusive T)} {set : List Interval}
+      (s : Iter T (List (RangeInclusive T))) → IsWhole rank ranges s
+      → IsCanonicalIn n (intervals_of rank ranges) → intervals_of rank ranges ≡ set
+      → IsOverSet rank n set s
+  whole-over {ranges = ranges} {set = set} s whole canonical is =
+      let runs : runs_left rank s ≡ intervals_of rank ranges =
+      rw (none-if_empty _ whole.front, none-if_empty _ whole.back, whole.undone, whole.source)
+      (append-nil (intervals_of rank ranges)) in
+      let ready : ListedReady rank n s = elements_ready rank n (IsListReady rank n)
+      (listed_may_give rank (λ ranges. ranges)) s (record {
+        callable = λ undone. rw whole.source canonical;
+        canonical = λ left at. rw ((listed-left s left).0 at, runs) canonical;
+      }) in
+      record {
+        runs = runs ∙ is;
+        ready = ready;
+        ready_back = record {
+          both_ends = record {
+            callable = λ each can. can;
+            drawable = λ each can. can;
+            answers = listed-last;
+          };
+          ready = ready;
+        };
+      }
