@@ -1,7 +1,6 @@
 pub mod AlgebraLemmas
 pub mod AloneLemmas
 pub mod AnswerLemmas
-pub mod BetweenLemmas
 pub mod BoundsLemmas
 pub mod BulkLemmas
 pub mod ComparedLemmas
@@ -26,7 +25,6 @@ pub mod PartingLemmas
 pub mod PartsLemmas
 pub mod PointLemmas
 pub mod PutOverLemmas
-pub mod RangesLemmas
 pub mod RemoveLemmas
 pub mod RetainLemmas
 pub mod RunCountLemmas

@@ -1,3 +1,4 @@
 pub mod Ends
 pub mod Listed
+pub mod Ranges
 pub mod Shortened

@@ -1,15 +1,7 @@
-use Rattle.std.proofs.Common.{◌∙◌, ◌∷◌, [], ap, sym}
-use Rattle.std.proofs.lemmas.List.{map-append}
-use Rattle.range_set_blaze.specs.Kept.{range_of, ranges_of}
-use Rattle.range_set_blaze.proofs.RangesLemmas.{canonical-goes_back}
+use Rattle.range_set_blaze.proofs.elements.Ranges.{goes-last}
 use Rattle.range_set_blaze.proofs.into_ranges_iter.IntoRangesIterDoubleEndedIterator.next_back.Goals as goal
 
 -- what is left of canonical ranges is canonical
 pub returns-clause-goes : goal.returns-clause-goes
-returns-clause-goes g c =
-    let last : g.row.T.Denot × g.row.T.Denot = (c.in_ok-start.start, c.in_ok-start.end) in
-    let others = c.next_back.new.self in
-    canonical-goes_back g.T.Integer.rank g.T.Integer.value_count c.args.self.now
-    (ranges_of others) (range_of last) c.new.result
-    (sym c.self.view_is ∙ ap ranges_of c.in_ok-start.ensures.steps
-    ∙ map-append range_of others (last ∷ [])) c.requires
+returns-clause-goes g c = goes-last g.T.Integer.rank g.T.Integer.value_count c.next_back.new.self _
+    c.self.view_is c.requires c.in_ok-start.ensures.steps

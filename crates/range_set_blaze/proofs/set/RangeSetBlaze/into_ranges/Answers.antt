@@ -1,4 +1,4 @@
-use Rattle.range_set_blaze.proofs.RangesLemmas.{intervals_of-ranges}
+use Rattle.range_set_blaze.proofs.elements.Ranges.{intervals_of-ranges}
 use Rattle.range_set_blaze.proofs.set.RangeSetBlaze.into_ranges.Goals as goal
 
 -- the ranges have the intervals of the runs

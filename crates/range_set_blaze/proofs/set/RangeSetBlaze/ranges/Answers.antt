@@ -1,6 +1,6 @@
 use Rattle.rsb_integer.proofs.RunsLemmas.{canonical-runs}
 use Rattle.range_set_blaze.specs.Kept.{runs_of}
-use Rattle.range_set_blaze.proofs.RangesLemmas.{intervals_of-ranges}
+use Rattle.range_set_blaze.proofs.elements.Ranges.{intervals_of-ranges}
 use Rattle.range_set_blaze.proofs.set.RangeSetBlaze.ranges.Goals as goal
 
 -- the ranges have the intervals of the runs
