@@ -19,21 +19,22 @@ abbrev pub without : {T : Type 0} → (T → ℕ) → Selection → Option T →
 without rank selected None = selected
 without rank selected (Some value) = difference selected (only (rank value))
 
-module _ {T : Type 0} (rank : T → ℕ) (n : ℕ) (old : Selection) (item : Option T)
-    (new : Selection) where
-  -- the item is the least member of the old set, or `None` exactly where that has none, and the new
-  -- set is the old one without it
-  pub record TakesLeast : Type 0 where
+module _ {T : Type 0} (rank : T → ℕ) where
+  -- the item is a member that is found in the old set, or `None` exactly where that has none, and
+  -- the new set is the old one without it
+  pub record Takes (IsFound : Selection → ℕ → Type 0) (old : Selection) (item : Option T)
+      (new : Selection) : Type 0 where
     pub none : IsNone item ↔ IsNothing old
-    pub least : IfSome item (λ value. IsLeast n old (rank value))
+    pub found : IfSome item (λ value. IsFound old (rank value))
     pub rest : (point : ℕ) → new point ≡ without rank old item point
 
-  -- the item is the greatest member of the old set, or `None` exactly where that has none, and the
-  -- new set is the old one without it
-  pub record TakesGreatest : Type 0 where
-    pub none : IsNone item ↔ IsNothing old
-    pub greatest : IfSome item (λ value. IsGreatest n old (rank value))
-    pub rest : (point : ℕ) → new point ≡ without rank old item point
+  -- the item is the least member
+  abbrev pub TakesLeast : ℕ → Selection → Option T → Selection → Type 0
+  TakesLeast n = Takes (IsLeast n)
+
+  -- the item is the greatest member
+  abbrev pub TakesGreatest : ℕ → Selection → Option T → Selection → Type 0
+  TakesGreatest n = Takes (IsGreatest n)
 
 -- ---- what is left of an iterator over the elements of a stream
 
@@ -100,20 +101,20 @@ module _ {T I : Type 0} (rank : T → ℕ) (n : ℕ) (can_draw : I → Type 0)
 
   -- whatever may be left after the call, something was left before it of which the item was taken,
   -- and the iterator may be called again
-  pub record Gives (Takes : Selection → Option T → Selection → Type 0) (s : Iter T I)
-      (item : Option T) (t : Iter T I) : Type 0 where
+  pub record Gives (IsFound : Selection → ℕ → Type 0) (s : Iter T I) (item : Option T)
+      (t : Iter T I) : Type 0 where
     pub ready : ElementsReady t
     pub takes : (after : List Interval) → left_between rank may_give t after
         → (before : List Interval) × left_between rank may_give s before
-        × Takes (members before) item (members after)
+        × Takes rank IsFound (members before) item (members after)
 
   -- the item was the least member
   abbrev pub GivesLeast : Iter T I → Option T → Iter T I → Type 0
-  GivesLeast = Gives (TakesLeast rank n)
+  GivesLeast = Gives (IsLeast n)
 
   -- the item was the greatest member
   abbrev pub GivesGreatest : Iter T I → Option T → Iter T I → Type 0
-  GivesGreatest = Gives (TakesGreatest rank n)
+  GivesGreatest = Gives (IsGreatest n)
 
   -- ---- streams that go from both ends
 

@@ -14,22 +14,10 @@ use Rattle.rsb_streams.specs.Fused.{fused_can, fused_may_give}
 use Rattle.rsb_streams.specs.Stream.{run_if_any, unless}
 use Rattle.rsb_streams.specs.declared.draw.Draw.{Ghosts as Stream}
 use Rattle.rsb_streams.proofs.CheckLemmas.{none-if_empty, one-if_some}
-use Rattle.range_set_blaze.specs.BothEnds.{between_ends, elements_left, elements_ready, is_ready, stream_of, without, ElementsReady, Gives, TakesGreatest, TakesLeast}
+use Rattle.range_set_blaze.specs.BothEnds.{between_ends, elements_left, elements_ready, is_ready, stream_of, ElementsReady, Gives, Takes}
 use Rattle.range_set_blaze.specs.Set.{only, IsGreatest, IsLeast}
 use Rattle.range_set_blaze.specs.declared.iter.Iter.{Iter}
 use Rattle.range_set_blaze.proofs.elements.Shortened.{shorter-first, shorter-last, taken, IsShorter, IsTaken}
-
--- a call that leaves fewer makes progress
-goes-by : {S A : Type 0} {can : S → Type 0} {left : S → Count} {s t : S} (item : Option A) → can t
-    → (IsFinite (left s) → IsFinite (left t))
-    → (IsFinite (left s) → OnSome item (size (left t) < size (left s)))
-    → MakesProgress can left s item t
-goes-by None may_call ends fewer = record { on = λ finite. tt; keeps = tt; rests = ends }
-goes-by (Some value) may_call ends fewer = record {
-  on = λ finite. (may_call, ends finite, fewer finite);
-  keeps = may_call;
-  rests = λ finite. tt;
-}
 
 -- where two counts are one, a call makes progress by both
 pub counted-alike : {S A : Type 0} {can : S → Type 0} {left other : S → Count} {s t : S}
@@ -71,15 +59,11 @@ module _ {T : Type 0} (I : Type 0) (rank : T → ℕ) (n : ℕ) where
     pub below : {run rest : Interval} {item : Option T} → Pops run item rest → run.last < n
     pub shorter : {run rest : Interval} {item : Option T} → Pops run item rest
         → IsShorter run rest (edge run)
-    -- what is taken of a set
+    -- which member of a set is taken
     pub IsFound : Selection → ℕ → Type 0
     pub found : {run rest : Interval} {others : List Interval}
-        → IsTaken n (front others) (back others) run rest (edge run)
+        → IsTaken 0 n (front others) (back others) run rest (edge run)
         → IsFound (members (put front back (run ∷ []) others)) (edge run)
-    pub Takes : Selection → Option T → Selection → Type 0
-    pub takes : {old new : Selection} {item : Option T} → IsNone item ↔ IsNothing old
-        → IfSome item (λ value. IsFound old (rank value))
-        → ((point : ℕ) → new point ≡ without rank old item point) → Takes old item new
 
   -- where the least element is taken
   abbrev pub least : End
@@ -106,8 +90,6 @@ module _ {T : Type 0} (I : Type 0) (rank : T → ℕ) (n : ℕ) where
     shorter = λ pops. shorter-first _ _ pops.rest;
     IsFound = IsLeast n;
     found = λ is. record { in_type = is.in_type; here = is.here; least = is.least refl refl };
-    Takes = TakesLeast rank n;
-    takes = λ none found rest. record { none = none; least = found; rest = rest };
   }
 
   -- where the greatest element is taken
@@ -135,8 +117,6 @@ module _ {T : Type 0} (I : Type 0) (rank : T → ℕ) (n : ℕ) where
     shorter = λ pops. shorter-last _ _ pops.rest;
     IsFound = IsGreatest n;
     found = λ is. record { in_type = is.in_type; here = is.here; greatest = is.greatest refl refl };
-    Takes = TakesGreatest rank n;
-    takes = λ none found rest. record { none = none; greatest = found; rest = rest };
   }
 
 module _ {T I N : Type 0} {rank : T → ℕ} {n : ℕ} (stream : Stream I T N) (e : End I rank n) where
@@ -145,10 +125,9 @@ module _ {T I N : Type 0} {rank : T → ℕ} {n : ℕ} (stream : Stream I T N) (
   placed = put e.front e.back
 
   -- an interval of which no item is taken is empty, and stays so
-  pops-none : {run rest : Interval} {item : Option T} → e.Pops run item rest → IsNone item
-      → IsEmpty run × IsEmpty rest
-  pops-none pops lacks =
-      let empty = (e.none pops).0 lacks in
+  pops-none : {run rest : Interval} → e.Pops run None rest → IsEmpty run × IsEmpty rest
+  pops-none pops =
+      let empty = (e.none pops).0 refl in
       let within = (e.shorter pops).within in
       (empty, grind (arith, empty, within))
 
@@ -160,74 +139,90 @@ module _ {T I N : Type 0} {rank : T → ℕ} {n : ℕ} (stream : Stream I T N) (
     | inr some ↦ some
   ]
 
-  -- so where there is an item, less is left
-  pops-fewer : {run rest : Interval} {P : Type 0} (item : Option T) → e.Pops run item rest
-      → (length_of rest < length_of run → P) → OnSome item P
-  pops-fewer None pops fewer = tt
-  pops-fewer (Some value) pops fewer = fewer ((e.shorter pops).fewer (pops-some pops))
+  -- so a call makes progress where less of an interval is left
+  pops-goes : {S : Type 0} {can : S → Type 0} {left : S → Count} {s t : S} {run rest : Interval}
+      (item : Option T) → e.Pops run item rest → can t → (IsFinite (left s) → IsFinite (left t))
+      → (IsFinite (left s) → length_of rest < length_of run → size (left t) < size (left s))
+      → MakesProgress can left s item t
+  pops-goes None pops may_call ends fewer = record { on = λ finite. tt; keeps = tt; rests = ends }
+  pops-goes (Some value) pops may_call ends fewer = record {
+    on = λ finite.
+        (may_call, ends finite, fewer finite ((e.shorter pops).fewer (pops-some pops)));
+    keeps = may_call;
+    rests = λ finite. tt;
+  }
 
   -- a list of intervals, and what is left of it: canonical again, and the item is taken of it
   abbrev Turns : List Interval → Option T → List Interval → Type 0
-  Turns old item new = IsCanonicalIn n new × e.Takes (members old) item (members new)
+  Turns old item new = IsCanonicalIn n new × Takes rank e.IsFound (members old) item (members new)
 
   -- an item is taken of the interval next to the end, where that has any, and else there are no
   -- others
-  turns : (run rest : Interval) (others : List Interval) (item : Option T) → e.Pops run item rest
+  turns : {run rest : Interval} {others : List Interval} {item : Option T} → e.Pops run item rest
       → (IsNone item → others ≡ []) → IsCanonicalIn n (placed (run_if_any run) others)
       → Turns (placed (run_if_any run) others) item (placed (run_if_any rest) others)
-  turns run rest others None pops alone known =
-      let none = pops-none pops refl in
+  turns {run = run} {rest = rest} {others = others} {item = None} pops alone known =
+      let none = pops-none pops in
       let was : placed (run_if_any run) others ≡ [] =
       rw (none-if_empty run none.0, alone refl) (e.nil_put []) in
       let is : placed (run_if_any rest) others ≡ [] =
       rw (none-if_empty rest none.1, alone refl) (e.nil_put []) in
       rw (was, is) (
         subst (IsCanonicalIn n) was known,
-        e.takes ((λ lacks point. refl), (λ nothing. refl)) tt (λ point. refl),
+        record { none = ((λ lacks point. refl), (λ nothing. refl)); found = tt; rest = λ point. refl },
       )
-  turns run rest others (Some value) pops alone known =
+  turns {run = run} {rest = rest} {others = others} {item = Some value} pops alone known =
       let one = one-if_some run (pops-some pops) in
       let edge = e.edge run in
-      let is = taken n (e.front others) (e.back others) run rest edge (e.shorter pops) (e.below pops)
-      (subst (IsCanonicalIn n) (ap (λ own. placed own others) one) known) in
+      let is = taken n (e.back others) run rest edge (e.shorter pops) (e.below pops) 0
+      (e.front others) (subst (IsCanonicalIn n) (ap (λ own. placed own others) one) known) in
       rw one (
         is.canonical,
-        e.takes ((λ lacks. absurd (cc)), (λ nothing. absurd (not_both _ is.here (nothing edge))))
-            (rw (e.some pops) (e.found is)) (rw (e.some pops) is.removes),
+        record {
+          none = ((λ lacks. absurd (cc)), (λ nothing. absurd (not_both _ is.here (nothing edge))));
+          found = rw (e.some pops) (e.found is);
+          rest = rw (e.some pops) is.removes;
+        },
       )
 
   -- what is left, with these intervals between what is held at the ends
   abbrev left : Iter T I → List Interval → List Interval
   left s rest = placed (run_if_any (e.near s)) (placed rest (run_if_any (e.far s)))
 
-  module _ (s t : Iter T I) (item : Option T)
-      (ready : ElementsReady rank n stream.can_draw stream.may_give s) (can : Iter T I → Type 0)
-      (again : ElementsReady rank n stream.can_draw stream.may_give t → can t) where
-    -- the item is taken, and progress is made
-    abbrev pub Turned : Type 0
-    Turned = record {
-      steps : Gives rank n stream.can_draw stream.may_give e.Takes s item t;
-      goes : MakesProgress can (elements_left rank n stream.draws_left) s item t;
-    }
+  -- the iterator may be called
+  abbrev Ready : Iter T I → Type 0
+  Ready = ElementsReady rank n stream.can_draw stream.may_give
 
-    -- a call is told by what might come before it
-    turned : (t.done ≡ false → stream.can_draw t.ranges)
+  -- the item is taken, and progress is made
+  abbrev Turned : (Iter T I → Type 0) → Iter T I → Option T → Iter T I → Type 0
+  Turned can s item t = record {
+    steps : Gives rank n stream.can_draw stream.may_give e.IsFound s item t;
+    goes : MakesProgress can (elements_left rank n stream.draws_left) s item t;
+  }
+
+  module _ {can : Iter T I → Type 0} {s t : Iter T I} {item : Option T} (ready : Ready s)
+      (again : Ready t → can t) where
+    -- a call is told by what might come before it, and by the interval of which the item is taken
+    turned : {run now : Interval} → e.Pops run item now → (t.done ≡ false → stream.can_draw t.ranges)
         → ((rest : List Interval) → unless t.done (stream.may_give t.ranges) rest
         → (prior : List Interval) × unless s.done (stream.may_give s.ranges) prior
-        × (IsCanonicalIn n (left s prior) → Turns (left s prior) item (left t rest)))
+        × (IsCanonicalIn n (left s prior) → (others : List Interval)
+        × (left s prior ≡ placed (run_if_any run) others)
+        × (left t rest ≡ placed (run_if_any now) others) × (IsNone item → others ≡ [])))
         → (IsFinite (stream.draws_left s.ranges) → IsFinite (stream.draws_left t.ranges))
-        → (IsFinite (stream.draws_left s.ranges) → OnSome item
-        (size (elements_left rank n stream.draws_left t)
-        < size (elements_left rank n stream.draws_left s)))
-        → Turned
-    turned callable priors ends fewer =
+        → (IsFinite (stream.draws_left s.ranges) → length_of now < length_of run
+        → size (elements_left rank n stream.draws_left t)
+        < size (elements_left rank n stream.draws_left s))
+        → Turned can s item t
+    turned pops callable priors ends fewer =
         let known = (is_ready rank n stream.can_draw stream.may_give s ready).canonical in
         let turn : (rest : List Interval) (may : unless t.done (stream.may_give t.ranges) rest)
         → Turns (between_ends rank s (priors rest may).0) item (between_ends rank t rest) =
         λ rest may.
         let prior = priors rest may in
-        rw (e.apart s prior.0, e.apart t rest) (prior.2
-        (rw (← e.apart s prior.0) (known _ (prior.0, prior.1, refl)))) in
+        let before = subst (IsCanonicalIn n) (e.apart s prior.0) (known _ (prior.0, prior.1, refl)) in
+        let at = prior.2 before in
+        rw (e.apart s prior.0, e.apart t rest, at.1, at.2) (turns pops at.3 (subst (IsCanonicalIn n) at.1 before)) in
         let may_call = elements_ready rank n stream.can_draw stream.may_give t (record {
           callable = callable;
           canonical = λ new at. rw at.2 (turn at.0 at.1).0;
@@ -239,79 +234,82 @@ module _ {T I N : Type 0} {rank : T → ℕ} {n : ℕ} (stream : Stream I T N) (
                 let prior = priors at.0 at.1 in
                 (_, (prior.0, prior.1, refl), rw at.2 (turn at.0 at.1).1);
           };
-          goes = goes-by item (again may_call) ends fewer;
+          goes = pops-goes item pops (again may_call) ends fewer;
         }
 
-    -- the item is taken of what is held at this end
-    pub turned-held : stream_of t ≡ stream_of s → e.far t ≡ e.far s → ¬ (IsNone item)
-        → e.Pops (e.near s) item (e.near t) → Turned
-    turned-held same other some pops =
-        let is : t.ranges ≡ s.ranges = ap (λ each. each.iter) same in
-        let over : t.done ≡ s.done = ap (λ each. each.done) same in
-        turned
-        (rw (is, over) (is_ready rank n stream.can_draw stream.may_give s ready).callable)
-        (λ rest may. (
-          rest,
-          subst (λ each. fused_may_give stream.may_give each rest) same may,
-          rw other (turns (e.near s) (e.near t) (placed rest (run_if_any (e.far s))) item pops
-              (λ lacks. absurd (some lacks))),
-        ))
-        (rw is (λ finite. finite))
-        (λ finite. pops-fewer item pops (λ fewer.
-        rw (is, over) (omega (arith, fewer, e.lengths s, e.lengths t, ap length_of other))))
+  module _ {can : Iter T I → Type 0} {s t : Iter T I} (ready : Ready s) (again : Ready t → can t)
+    where
+      -- the item is taken of what is held at this end
+      pub turned-held : {value : T} → stream_of t ≡ stream_of s → e.far t ≡ e.far s
+          → e.Pops (e.near s) (Some value) (e.near t) → Turned can s (Some value) t
+      turned-held same other pops =
+          let is : t.ranges ≡ s.ranges = ap (λ each. each.iter) same in
+          let over : t.done ≡ s.done = ap (λ each. each.done) same in
+          turned ready again pops
+          (rw (is, over) (is_ready rank n stream.can_draw stream.may_give s ready).callable)
+          (λ rest may. (
+            rest,
+            subst (λ each. fused_may_give stream.may_give each rest) same may,
+            λ known. (placed rest (run_if_any (e.far s)), refl, rw other refl, λ lacks. absurd (cc)),
+          ))
+          (rw is (λ finite. finite))
+          (λ finite fewer.
+          rw (is, over) (omega (arith, fewer, e.lengths s, e.lengths t, ap length_of other)))
 
-    -- it is taken of a range that comes next at this end, where nothing is held there
-    pub turned-drawn : {ask : I → Type 0} {gone : Interval} (range : RangeInclusive T)
-        → s.done ≡ false → t.done ≡ s.done → e.far t ≡ e.far s → e.Pops (e.near s) None gone
-        → ((rest : List Interval) → stream.may_give t.ranges rest
-        → stream.may_give s.ranges (placed (interval_of rank range ∷ []) rest))
-        → (ask t.ranges → stream.can_draw t.ranges)
-        → MakesProgress ask stream.draws_left s.ranges (Some range) t.ranges
-        → e.Pops (interval_of rank range) item (e.near t) → Turned
-    turned-drawn range undone same other none answers may_draw goes pops =
-        let run = interval_of rank range in
-        let far = run_if_any (e.far s) in
-        turned (λ _. may_draw goes.keeps)
-        (λ rest may. (
-          placed (run ∷ []) rest,
-          rw undone (answers rest
-              (subst (λ each. unless each (stream.may_give t.ranges) rest) (same ∙ undone) may)),
-          rw (
-            none-if_empty _ (pops-none none refl).0,
-            e.nil_put _,
-            e.put_put (run ∷ []) rest far,
-            other,
-          ) (λ known.
-              let others = placed rest far in
-              let some = (canonical-parts 0 (e.front others) (run ∷ e.back others) known.0).1.1 in
-              let one = ap (λ own. placed own others) (one-if_some run some) in
-              subst (λ old. Turns old item (placed (run_if_any (e.near t)) others)) one
-              (turns run (e.near t) others item pops
-              (λ lacks. absurd (omega (arith, some, (e.none pops).0 lacks)))
-              (subst (IsCanonicalIn n) (sym one) known))),
-        ))
-        (λ finite. (goes.on finite).1)
-        (λ finite. pops-fewer item pops (λ fewer.
-        let fits = row_fits (size (stream.draws_left t.ranges)) n
-        (size (stream.draws_left s.ranges)) n (goes.on finite).2 (omega arith) in
-        rw (same, undone) (omega
-        (arith, fewer, e.below pops, fits, e.lengths s, e.lengths t, ap length_of other))))
+      -- it is taken of a range that comes next at this end, where nothing is held there
+      pub turned-drawn : {item : Option T} {ask : I → Type 0} {gone : Interval}
+          (range : RangeInclusive T) → s.done ≡ false → t.done ≡ s.done → e.far t ≡ e.far s
+          → e.Pops (e.near s) None gone
+          → ((rest : List Interval) → stream.may_give t.ranges rest
+          → stream.may_give s.ranges (placed (interval_of rank range ∷ []) rest))
+          → (ask t.ranges → stream.can_draw t.ranges)
+          → MakesProgress ask stream.draws_left s.ranges (Some range) t.ranges
+          → e.Pops (interval_of rank range) item (e.near t) → Turned can s item t
+      turned-drawn range undone same other none answers may_draw goes pops =
+          let run = interval_of rank range in
+          let far = run_if_any (e.far s) in
+          turned ready again pops (λ _. may_draw goes.keeps)
+          (λ rest may. (
+            placed (run ∷ []) rest,
+            rw undone (answers rest
+                (subst (λ each. unless each (stream.may_give t.ranges) rest) (same ∙ undone) may)),
+            rw (
+              none-if_empty _ (pops-none none).0,
+              e.nil_put _,
+              e.put_put (run ∷ []) rest far,
+              other,
+            ) (λ known.
+                let others = placed rest far in
+                let some = (canonical-parts 0 (e.front others) (run ∷ e.back others) known.0).1.1 in (
+                  others,
+                  ap (λ own. placed own others) (sym (one-if_some run some)),
+                  refl,
+                  λ lacks. absurd (omega (arith, some, (e.none pops).0 lacks)),
+                )),
+          ))
+          (λ finite. (goes.on finite).1)
+          (λ finite fewer.
+          let fits = row_fits (size (stream.draws_left t.ranges)) n
+          (size (stream.draws_left s.ranges)) n (goes.on finite).2 (omega arith) in
+          rw (same, undone) (omega
+          (arith, fewer, e.below pops, fits, e.lengths s, e.lengths t, ap length_of other)))
 
-    -- it is taken of what is held at the other end, once the stream has ended
-    pub turned-far : t.done ≡ true → unless s.done (stream.may_give s.ranges) []
-        → (IsFinite (stream.draws_left s.ranges) → IsFinite (stream.draws_left t.ranges))
-        → e.Pops (e.near s) None (e.near t) → e.Pops (e.far s) item (e.far t) → Turned
-    turned-far ended may ends none pops =
-        let gone = pops-none none refl in
-        turned (λ going. absurd (cc))
-        (λ rest may_after.
-        let nothing : rest ≡ [] =
-        subst (λ each. unless each (stream.may_give t.ranges) rest) ended may_after in (
-          [],
-          may,
-          rw (none-if_empty _ gone.0, none-if_empty _ gone.1, nothing, e.nil_put _, e.nil_put (run_if_any (e.far s)), e.nil_put _, e.nil_put (run_if_any (e.far t)), ← e.put_nil (run_if_any (e.far s)), ← e.put_nil (run_if_any (e.far t)))
-              (turns (e.far s) (e.far t) [] item pops (λ _. refl)),
-        ))
-        ends
-        (λ finite. pops-fewer item pops (λ fewer.
-        rw ended (omega (arith, fewer, gone.1, e.lengths s, e.lengths t))))
+      -- it is taken of what is held at the other end, once the stream has ended
+      pub turned-far : {item : Option T} → t.done ≡ true → unless s.done (stream.may_give s.ranges) []
+          → (IsFinite (stream.draws_left s.ranges) → IsFinite (stream.draws_left t.ranges))
+          → e.Pops (e.near s) None (e.near t) → e.Pops (e.far s) item (e.far t) → Turned can s item t
+      turned-far ended may ends none pops =
+          let gone = pops-none none in
+          let alone : (u : Iter T I) → IsEmpty (e.near u) → left u [] ≡ placed (run_if_any (e.far u)) [] =
+          λ u empty. rw (none-if_empty _ empty, e.nil_put (placed [] (run_if_any (e.far u))), e.nil_put _)
+          (sym (e.put_nil _)) in
+          turned ready again pops (λ going. absurd (cc))
+          (λ rest may_after.
+          let nothing : rest ≡ [] =
+          subst (λ each. unless each (stream.may_give t.ranges) rest) ended may_after in (
+            [],
+            may,
+            λ known. ([], alone s gone.0, rw nothing (alone t gone.1), λ lacks. refl),
+          ))
+          ends
+          (λ finite fewer. rw ended (omega (arith, fewer, gone.1, e.lengths s, e.lengths t)))

@@ -15,8 +15,7 @@ use Rattle.rsb_integer.proofs.CountLemmas.{count-less, count-members}
 use Rattle.rsb_streams.specs.Listed.{listed_may_give}
 use Rattle.rsb_streams.specs.Stream.{just, unless}
 use Rattle.rsb_streams.proofs.CheckLemmas.{none-if_empty}
-use Rattle.range_set_blaze.specs.BothEnds.{between_ends, elements_ready, held, is_ready, left_between, ranges_left, runs_left, without, AnswersLast, Gives, GoesBack, IsListReady, IsOverSet, IsWhole, ListedReady}
-use Rattle.range_set_blaze.specs.Set.{only}
+use Rattle.range_set_blaze.specs.BothEnds.{between_ends, elements_ready, held, is_ready, left_between, ranges_left, runs_left, AnswersLast, Gives, GoesBack, IsListReady, IsOverSet, IsWhole, ListedReady, Takes}
 use Rattle.range_set_blaze.specs.declared.iter.Iter.{Iter}
 
 -- the list that is left may be given, unless the stream has ended, and it alone
@@ -25,17 +24,18 @@ listed-is : (done : Bool) (runs rest : List Interval)
 listed-is true runs rest = ((λ may. may), (λ may. may))
 listed-is false runs rest = ((λ may. may), (λ may. may))
 
--- where a member leaves a set, progress is made
-pub taken-goes : {T : Type 0} (rank : T → ℕ) {n : ℕ} {old new : List Interval} {P : T → Type 0}
-    (item : Option T) → IfSome item P
-    → ((value : T) → P value → (rank value < n) × (members old (rank value) ≡ true))
-    → ((point : ℕ) → members new point ≡ without rank (members old) item point)
+-- where a member is taken of a set, progress is made
+pub takes-goes : {T : Type 0} {rank : T → ℕ} {n : ℕ} {IsFound : Selection → ℕ → Type 0}
+    {old new : List Interval} (item : Option T)
+    → ((point : ℕ) → IsFound (members old) point → (point < n) × (members old point ≡ true))
+    → Takes rank IsFound (members old) item (members new)
     → MakesProgress (λ _. ⊤) (λ runs. at_most (count n (members runs))) old item new
-taken-goes rank None found member rest = record { on = λ finite. tt; keeps = tt; rests = λ finite. tt }
-taken-goes rank {n = n} {old = old} {new = new} (Some value) found member rest =
-    let here = member value found in
-    let less = count-less n (members new) (members old) (λ other is. grind (arith, rest other, is))
-    (rank value) here.0 here.1 (grind (arith, nat_tests, rest (rank value))) in
+takes-goes None member takes = record { on = λ finite. tt; keeps = tt; rests = λ finite. tt }
+takes-goes {rank = rank} {n = n} {old = old} {new = new} (Some value) member takes =
+    let here = member (rank value) takes.found in
+    let less = count-less n (members new) (members old)
+    (λ other is. grind (arith, takes.rest other, is)) (rank value) here.0 here.1
+    (grind (arith, nat_tests, takes.rest (rank value))) in
     record { on = λ finite. (tt, tt, less); keeps = tt; rests = λ finite. tt }
 
 -- a canonical list has no fewer members than intervals
@@ -60,10 +60,10 @@ module _ {T : Type 0} (rank : T → ℕ) (n : ℕ) where
   )
 
   -- so what a call takes is taken of it
-  pub listed-takes : {Takes : Selection → Option T → Selection → Type 0}
-      {s t : Iter T (List (RangeInclusive T))} {item : Option T}
-      → Gives rank n (IsListReady rank n) (listed_may_give rank (λ ranges. ranges)) Takes s item t
-      → Takes (members (runs_left rank s)) item (members (runs_left rank t))
+  pub listed-takes : {IsFound : Selection → ℕ → Type 0} {s t : Iter T (List (RangeInclusive T))}
+      {item : Option T}
+      → Gives rank n (IsListReady rank n) (listed_may_give rank (λ ranges. ranges)) IsFound s item t
+      → Takes rank IsFound (members (runs_left rank s)) item (members (runs_left rank t))
   listed-takes {s = s} {t = t} gives =
       let taken = gives.takes (runs_left rank t) ((listed-left t (runs_left rank t)).1 refl) in
       rw (← (listed-left s taken.0).0 taken.1) taken.2

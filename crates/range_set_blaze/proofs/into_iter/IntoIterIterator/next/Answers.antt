@@ -1,4 +1,4 @@
-use Rattle.range_set_blaze.proofs.elements.Listed.{listed-takes, taken-goes}
+use Rattle.range_set_blaze.proofs.elements.Listed.{listed-takes, takes-goes}
 use Rattle.range_set_blaze.proofs.into_iter.IntoIterIterator.next.Goals as goal
 
 -- the least element of those that are left
@@ -7,7 +7,5 @@ returns-clause-steps g c =
     rw (← c.self.view_is) (listed-takes g.T.Integer.rank g.T.Integer.value_count c.next.ensures.steps)
 
 pub returns-clause-goes : goal.returns-clause-goes
-returns-clause-goes g c =
-    let takes = returns-clause-steps g c in
-    taken-goes g.T.Integer.rank c.next.result takes.least (λ value found. (found.in_type, found.here))
-    takes.rest
+returns-clause-goes g c = takes-goes c.next.result (λ point found. (found.in_type, found.here))
+    (returns-clause-steps g c)

@@ -13,24 +13,21 @@ next_back-requires g c =
 
 -- the last of what is held from the back
 pub returns-in-Some : goal.returns-in-Some
-returns-in-Some g c =
-    turned-held g.I.Draw (greatest _ g.T.Integer.rank g.T.Integer.value_count) _ _ (Some c.in-Some.last) c.requires.ready _
-    (λ ready. record { both_ends = c.requires.both_ends; ready = ready }) refl refl
-    (λ none. absurd (cc)) c.in-Some.ensures
+returns-in-Some g c = turned-held g.I.Draw (greatest _ g.T.Integer.rank g.T.Integer.value_count)
+    c.requires.ready (λ ready. record { both_ends = c.requires.both_ends; ready = ready }) refl refl
+    c.in-Some.ensures
 
 -- the last of what is held from the front, where the stream had ended before
 pub returns-then-self : goal.returns-then-self
-returns-then-self g c =
-    turned-far g.I.Draw (greatest _ g.T.Integer.rank g.T.Integer.value_count) _ _ c.range_next_back-then-self.result
-    c.requires.ready _ (λ ready. record { both_ends = c.requires.both_ends; ready = ready })
+returns-then-self g c = turned-far g.I.Draw (greatest _ g.T.Integer.rank g.T.Integer.value_count)
+    c.requires.ready (λ ready. record { both_ends = c.requires.both_ends; ready = ready })
     c.if-self.true (rw c.if-self.true refl) (λ finite. finite) c.in_default.ensures
     c.range_next_back-then-self.ensures
 
 -- and where it ends
 pub returns-in_default-next_back : goal.returns-in_default-next_back
 returns-in_default-next_back g c =
-    turned-far g.I.Draw (greatest _ g.T.Integer.rank g.T.Integer.value_count) _ _
-    c.range_next_back-in_default-next_back.result c.requires.ready _
+    turned-far g.I.Draw (greatest _ g.T.Integer.rank g.T.Integer.value_count) c.requires.ready
     (λ ready. record { both_ends = c.requires.both_ends; ready = ready }) refl
     (rw c.if-self.false
     (c.requires.both_ends.answers _ _ None c.in_default-next_back.ensures.steps))
@@ -40,11 +37,10 @@ returns-in_default-next_back g c =
 -- the last of the last range of the stream
 pub returns : goal.returns
 returns g c =
-    turned-drawn g.I.Draw (greatest _ g.T.Integer.rank g.T.Integer.value_count) _ _ c.range_next_back-2.result c.requires.ready _
+    turned-drawn g.I.Draw (greatest _ g.T.Integer.rank g.T.Integer.value_count) c.requires.ready
     (λ ready. record { both_ends = c.requires.both_ends; ready = ready }) c.in-Some-next_back.range
     c.if-self.false refl refl c.in_default.ensures
     (c.requires.both_ends.answers _ _ (Some c.in-Some-next_back.range)
-    c.in-Some-next_back.ensures.steps)
-    (c.requires.both_ends.drawable _)
+    c.in-Some-next_back.ensures.steps) (c.requires.both_ends.drawable _)
     (counted-alike g.met.I.SortedStarts.drawn.counts c.in-Some-next_back.ensures.goes)
     c.range_next_back-2.ensures

@@ -13,30 +13,26 @@ draw-requires g c =
 
 -- the first of what is held from the front
 pub returns-in-Some : goal.returns-in-Some
-returns-in-Some g c =
-    turned-held g.I.Draw (least _ g.T.Integer.rank g.T.Integer.value_count) _ _ (Some c.in-Some.first) c.requires _
-    (λ ready. ready) refl refl (λ none. absurd (cc)) c.in-Some.ensures
+returns-in-Some g c = turned-held g.I.Draw (least _ g.T.Integer.rank g.T.Integer.value_count)
+    c.requires (λ ready. ready) refl refl c.in-Some.ensures
 
 -- the first of what is held from the back, where the stream had ended before
 pub returns-then-self : goal.returns-then-self
-returns-then-self g c =
-    turned-far g.I.Draw (least _ g.T.Integer.rank g.T.Integer.value_count) _ _ c.range_next-then-self.result c.requires _
-    (λ ready. ready) c.if-self.true (rw c.if-self.true refl) (λ finite. finite)
+returns-then-self g c = turned-far g.I.Draw (least _ g.T.Integer.rank g.T.Integer.value_count)
+    c.requires (λ ready. ready) c.if-self.true (rw c.if-self.true refl) (λ finite. finite)
     c.in_default.ensures c.range_next-then-self.ensures
 
 -- and where it ends
 pub returns-in_default-draw : goal.returns-in_default-draw
 returns-in_default-draw g c =
-    turned-far g.I.Draw (least _ g.T.Integer.rank g.T.Integer.value_count) _ _ c.range_next-in_default-draw.result c.requires _
+    turned-far g.I.Draw (least _ g.T.Integer.rank g.T.Integer.value_count) c.requires
     (λ ready. ready) refl
     (rw c.if-self.false (g.met.I.Draw.answers _ _ None c.in_default-draw.ensures.steps))
-    c.in_default-draw.ensures.goes.rests c.in_default.ensures
-    c.range_next-in_default-draw.ensures
+    c.in_default-draw.ensures.goes.rests c.in_default.ensures c.range_next-in_default-draw.ensures
 
 -- the first of the next range of the stream
 pub returns : goal.returns
-returns g c =
-    turned-drawn g.I.Draw (least _ g.T.Integer.rank g.T.Integer.value_count) _ _ c.range_next-2.result c.requires _
+returns g c = turned-drawn g.I.Draw (least _ g.T.Integer.rank g.T.Integer.value_count) c.requires
     (λ ready. ready) c.in-Some-draw.range c.if-self.false refl refl c.in_default.ensures
     (g.met.I.Draw.answers _ _ (Some c.in-Some-draw.range) c.in-Some-draw.ensures.steps)
     (λ can. can) c.in-Some-draw.ensures.goes c.range_next-2.ensures

@@ -10,11 +10,6 @@ use Rattle.rsb_streams.proofs.CheckLemmas.{one-canonical, one-if_some}
 use Rattle.range_set_blaze.proofs.AlgebraLemmas.{intersection-of_sets}
 use Rattle.range_set_blaze.proofs.set.RangeSetBlaze.range.Goals as goal
 
--- a rank of a run lies between its bounds
-members-between : (run : Interval) (first past rank : ℕ) → run.first ≡ first → run.last + 1 ≡ past
-    → members (run ∷ []) rank ≡ (nat_le first rank && nat_lt rank past)
-members-between run first past rank from to = grind (arith, nat_tests)
-
 -- the set and the run between the bounds have these members in common
 pub returns : goal.returns
 returns g c =
@@ -38,5 +33,5 @@ returns g c =
           (λ runs at. c.new-bounds.ensures.gives runs at ∙ one) c.in_ok-set.set
           c.in_ok-set.ensures.runs) point
           ∙ ap (λ test. members set point && test)
-          (members-between run _ _ point (c.in-Some.ensures.start has) (c.in-Some.ensures.end has));
+          (grind (arith, nat_tests, c.in-Some.ensures.start has, c.in-Some.ensures.end has));
     }
