@@ -1,21 +1,19 @@
 -- Calls at the two ends of an iterator over the elements of a stream.
-use Rattle.std.proofs.Common.{◌≡◌, ◌↔◌, ℕ, true, false, cond, ◌+◌, ◌*◌, ◌<◌, ◌≤◌, List, [], ◌∷◌, ◌++◌, append-nil, append_assoc, refl, sym, ◌∙◌, ap, subst, inl, inr, arith}
-use Rattle.std.proofs.lemmas.Bool.{cases_lt}
+use Rattle.std.proofs.Common.{◌≡◌, ◌↔◌, ℕ, true, false, ◌+◌, ◌<◌, ◌≤◌, List, [], ◌∷◌, ◌++◌, append-nil, append_assoc, refl, sym, ◌∙◌, ap, subst, arith}
 use Rattle.std.proofs.lemmas.Nat.{row_fits}
-use Rattle.std.specs.Prelude.{Option, Some, None, IfSome, IsNone, IsTrue, OnSome}
+use Rattle.std.specs.Prelude.{Option, Some, None, IfSome, IsNone}
 use Rattle.std.specs.Iterator.{Count, IsFinite, MakesProgress, size}
 use Rattle.std.specs.declared.ops.RangeInclusive.{RangeInclusive}
 use Rattle.rsb_integer.specs.Rank.{interval_of}
 use Rattle.rsb_integer.specs.Runs.{Interval, length_of, members, IsAfterFirst, IsBeforeLast, IsCanonicalIn, IsEmpty}
-use Rattle.rsb_integer.specs.Selection.{difference, Selection, IsNothing}
+use Rattle.rsb_integer.specs.Selection.{Selection}
 use Rattle.rsb_integer.proofs.CanonicalLemmas.{canonical-parts}
 use Rattle.rsb_integer.proofs.ListLemmas.{not_both}
-use Rattle.rsb_streams.specs.Fused.{fused_can, fused_may_give}
 use Rattle.rsb_streams.specs.Stream.{run_if_any, unless}
 use Rattle.rsb_streams.specs.declared.draw.Draw.{Ghosts as Stream}
 use Rattle.rsb_streams.proofs.CheckLemmas.{none-if_empty, one-if_some}
-use Rattle.range_set_blaze.specs.BothEnds.{between_ends, elements_left, elements_ready, is_ready, stream_of, ElementsReady, Gives, Takes}
-use Rattle.range_set_blaze.specs.Set.{only, IsGreatest, IsLeast}
+use Rattle.range_set_blaze.specs.BothEnds.{between_ends, elements_left, elements_ready, is_ready, ElementsReady, Gives, Takes}
+use Rattle.range_set_blaze.specs.Set.{IsGreatest, IsLeast}
 use Rattle.range_set_blaze.specs.declared.iter.Iter.{Iter}
 use Rattle.range_set_blaze.proofs.elements.Shortened.{shorter-first, shorter-last, taken, IsShorter, IsTaken}
 
@@ -134,10 +132,7 @@ module _ {T I N : Type 0} {rank : T → ℕ} {n : ℕ} (stream : Stream I T N) (
   -- and one of which an item is taken is not
   pops-some : {run rest : Interval} {value : T} → e.Pops run (Some value) rest
       → run.first ≤ run.last
-  pops-some {run = run} pops = elim (cases_lt run.last run.first) [
-    | inl empty ↦ let lacks = (e.none pops).1 empty in absurd (cc)
-    | inr some ↦ some
-  ]
+  pops-some pops = grind (arith, (e.none pops).1)
 
   -- so a call makes progress where less of an interval is left
   pops-goes : {S : Type 0} {can : S → Type 0} {left : S → Count} {s t : S} {run rest : Interval}
@@ -185,10 +180,6 @@ module _ {T I N : Type 0} {rank : T → ℕ} {n : ℕ} (stream : Stream I T N) (
         },
       )
 
-  -- what is left, with these intervals between what is held at the ends
-  abbrev left : Iter T I → List Interval → List Interval
-  left s rest = placed (run_if_any (e.near s)) (placed rest (run_if_any (e.far s)))
-
   -- the iterator may be called
   abbrev Ready : Iter T I → Type 0
   Ready = ElementsReady rank n stream.can_draw stream.may_give
@@ -203,12 +194,13 @@ module _ {T I N : Type 0} {rank : T → ℕ} {n : ℕ} (stream : Stream I T N) (
   module _ {can : Iter T I → Type 0} {s t : Iter T I} {item : Option T} (ready : Ready s)
       (again : Ready t → can t) where
     -- a call is told by what might come before it, and by the interval of which the item is taken
-    turned : {run now : Interval} → e.Pops run item now → (t.done ≡ false → stream.can_draw t.ranges)
+    turned : {run now : Interval} → e.Pops run item now
+        → (t.done ≡ false → stream.can_draw t.ranges)
         → ((rest : List Interval) → unless t.done (stream.may_give t.ranges) rest
         → (prior : List Interval) × unless s.done (stream.may_give s.ranges) prior
-        × (IsCanonicalIn n (left s prior) → (others : List Interval)
-        × (left s prior ≡ placed (run_if_any run) others)
-        × (left t rest ≡ placed (run_if_any now) others) × (IsNone item → others ≡ [])))
+        × (IsCanonicalIn n (between_ends rank s prior) → (others : List Interval)
+        × (between_ends rank s prior ≡ placed (run_if_any run) others)
+        × (between_ends rank t rest ≡ placed (run_if_any now) others) × (IsNone item → others ≡ [])))
         → (IsFinite (stream.draws_left s.ranges) → IsFinite (stream.draws_left t.ranges))
         → (IsFinite (stream.draws_left s.ranges) → length_of now < length_of run
         → size (elements_left rank n stream.draws_left t)
@@ -220,9 +212,9 @@ module _ {T I N : Type 0} {rank : T → ℕ} {n : ℕ} (stream : Stream I T N) (
         → Turns (between_ends rank s (priors rest may).0) item (between_ends rank t rest) =
         λ rest may.
         let prior = priors rest may in
-        let before = subst (IsCanonicalIn n) (e.apart s prior.0) (known _ (prior.0, prior.1, refl)) in
-        let at = prior.2 before in
-        rw (e.apart s prior.0, e.apart t rest, at.1, at.2) (turns pops at.3 (subst (IsCanonicalIn n) at.1 before)) in
+        let canonical = known _ (prior.0, prior.1, refl) in
+        let at = prior.2 canonical in
+        rw (at.1, at.2) (turns pops at.3 (subst (IsCanonicalIn n) at.1 canonical)) in
         let may_call = elements_ready rank n stream.can_draw stream.may_give t (record {
           callable = callable;
           canonical = λ new at. rw at.2 (turn at.0 at.1).0;
@@ -237,79 +229,71 @@ module _ {T I N : Type 0} {rank : T → ℕ} {n : ℕ} (stream : Stream I T N) (
           goes = pops-goes item pops (again may_call) ends fewer;
         }
 
-  module _ {can : Iter T I → Type 0} {s t : Iter T I} (ready : Ready s) (again : Ready t → can t)
-    where
-      -- the item is taken of what is held at this end
-      pub turned-held : {value : T} → stream_of t ≡ stream_of s → e.far t ≡ e.far s
-          → e.Pops (e.near s) (Some value) (e.near t) → Turned can s (Some value) t
-      turned-held same other pops =
-          let is : t.ranges ≡ s.ranges = ap (λ each. each.iter) same in
-          let over : t.done ≡ s.done = ap (λ each. each.done) same in
-          turned ready again pops
-          (rw (is, over) (is_ready rank n stream.can_draw stream.may_give s ready).callable)
-          (λ rest may. (
-            rest,
-            subst (λ each. fused_may_give stream.may_give each rest) same may,
-            λ known. (placed rest (run_if_any (e.far s)), refl, rw other refl, λ lacks. absurd (cc)),
-          ))
-          (rw is (λ finite. finite))
-          (λ finite fewer.
-          rw (is, over) (omega (arith, fewer, e.lengths s, e.lengths t, ap length_of other)))
+    -- the item is taken of what is held at this end
+    pub turned-held : t.ranges ≡ s.ranges → t.done ≡ s.done → e.far t ≡ e.far s → ¬ (IsNone item)
+        → e.Pops (e.near s) item (e.near t) → Turned can s item t
+    turned-held same over other some pops = turned pops
+        (rw (same, over) (is_ready rank n stream.can_draw stream.may_give s ready).callable)
+        (λ rest may. (
+          rest,
+          rw (← over, ← same) may,
+          λ known. (_, e.apart s rest, rw (← other) (e.apart t rest), λ lacks. absurd (some lacks)),
+        ))
+        (rw same (λ finite. finite))
+        (λ finite fewer. rw (same, over)
+        (omega (arith, fewer, e.lengths s, e.lengths t, ap length_of other)))
 
-      -- it is taken of a range that comes next at this end, where nothing is held there
-      pub turned-drawn : {item : Option T} {ask : I → Type 0} {gone : Interval}
-          (range : RangeInclusive T) → s.done ≡ false → t.done ≡ s.done → e.far t ≡ e.far s
-          → e.Pops (e.near s) None gone
-          → ((rest : List Interval) → stream.may_give t.ranges rest
-          → stream.may_give s.ranges (placed (interval_of rank range ∷ []) rest))
-          → (ask t.ranges → stream.can_draw t.ranges)
-          → MakesProgress ask stream.draws_left s.ranges (Some range) t.ranges
-          → e.Pops (interval_of rank range) item (e.near t) → Turned can s item t
-      turned-drawn range undone same other none answers may_draw goes pops =
-          let run = interval_of rank range in
-          let far = run_if_any (e.far s) in
-          turned ready again pops (λ _. may_draw goes.keeps)
-          (λ rest may. (
-            placed (run ∷ []) rest,
-            rw undone (answers rest
-                (subst (λ each. unless each (stream.may_give t.ranges) rest) (same ∙ undone) may)),
-            rw (
-              none-if_empty _ (pops-none none).0,
-              e.nil_put _,
-              e.put_put (run ∷ []) rest far,
-              other,
-            ) (λ known.
-                let others = placed rest far in
-                let some = (canonical-parts 0 (e.front others) (run ∷ e.back others) known.0).1.1 in (
-                  others,
-                  ap (λ own. placed own others) (sym (one-if_some run some)),
-                  refl,
-                  λ lacks. absurd (omega (arith, some, (e.none pops).0 lacks)),
-                )),
-          ))
-          (λ finite. (goes.on finite).1)
-          (λ finite fewer.
-          let fits = row_fits (size (stream.draws_left t.ranges)) n
-          (size (stream.draws_left s.ranges)) n (goes.on finite).2 (omega arith) in
-          rw (same, undone) (omega
-          (arith, fewer, e.below pops, fits, e.lengths s, e.lengths t, ap length_of other)))
+    -- it is taken of a range that comes next at this end, where nothing is held there
+    pub turned-drawn : {ask : I → Type 0} {gone : Interval} (range : RangeInclusive T)
+        → s.done ≡ false → t.done ≡ s.done → e.far t ≡ e.far s → e.Pops (e.near s) None gone
+        → ((rest : List Interval) → stream.may_give t.ranges rest
+        → stream.may_give s.ranges (placed (interval_of rank range ∷ []) rest))
+        → (ask t.ranges → stream.can_draw t.ranges)
+        → MakesProgress ask stream.draws_left s.ranges (Some range) t.ranges
+        → e.Pops (interval_of rank range) item (e.near t) → Turned can s item t
+    turned-drawn range undone same other none answers may_draw goes pops =
+        let run = interval_of rank range in
+        let far = run_if_any (e.far s) in
+        turned pops (λ _. may_draw goes.keeps)
+        (λ rest may.
+        let prior = placed (run ∷ []) rest in
+        let others = placed rest far in
+        let was : between_ends rank s prior ≡ placed (run ∷ []) others =
+        rw (e.apart s prior, none-if_empty _ (pops-none none).0, e.nil_put _) (e.put_put (run ∷ []) rest far) in (
+          prior,
+          rw undone (answers rest
+              (subst (λ each. unless each (stream.may_give t.ranges) rest) (same ∙ undone) may)),
+          λ known.
+              let parts = canonical-parts 0 (e.front others) (run ∷ e.back others) (subst (IsCanonicalIn n) was known).0 in
+              let some = parts.1.1 in (
+                others,
+                rw was (ap (λ own. placed own others) (sym (one-if_some run some))),
+                rw (← other) (e.apart t rest),
+                λ lacks. absurd (omega (arith, some, (e.none pops).0 lacks)),
+              ),
+        ))
+        (λ finite. (goes.on finite).1)
+        (λ finite fewer.
+        let fits = row_fits (size (stream.draws_left t.ranges)) n
+        (size (stream.draws_left s.ranges)) n (goes.on finite).2 (omega arith) in
+        rw (same, undone) (omega
+        (arith, fewer, e.below pops, fits, e.lengths s, e.lengths t, ap length_of other)))
 
-      -- it is taken of what is held at the other end, once the stream has ended
-      pub turned-far : {item : Option T} → t.done ≡ true → unless s.done (stream.may_give s.ranges) []
-          → (IsFinite (stream.draws_left s.ranges) → IsFinite (stream.draws_left t.ranges))
-          → e.Pops (e.near s) None (e.near t) → e.Pops (e.far s) item (e.far t) → Turned can s item t
-      turned-far ended may ends none pops =
-          let gone = pops-none none in
-          let alone : (u : Iter T I) → IsEmpty (e.near u) → left u [] ≡ placed (run_if_any (e.far u)) [] =
-          λ u empty. rw (none-if_empty _ empty, e.nil_put (placed [] (run_if_any (e.far u))), e.nil_put _)
-          (sym (e.put_nil _)) in
-          turned ready again pops (λ going. absurd (cc))
-          (λ rest may_after.
-          let nothing : rest ≡ [] =
-          subst (λ each. unless each (stream.may_give t.ranges) rest) ended may_after in (
-            [],
-            may,
-            λ known. ([], alone s gone.0, rw nothing (alone t gone.1), λ lacks. refl),
-          ))
-          ends
-          (λ finite fewer. rw ended (omega (arith, fewer, gone.1, e.lengths s, e.lengths t)))
+    -- it is taken of what is held at the other end, once the stream has ended
+    pub turned-far : t.done ≡ true → unless s.done (stream.may_give s.ranges) []
+        → (IsFinite (stream.draws_left s.ranges) → IsFinite (stream.draws_left t.ranges))
+        → e.Pops (e.near s) None (e.near t) → e.Pops (e.far s) item (e.far t) → Turned can s item t
+    turned-far ended may ends none pops =
+        let gone = pops-none none in
+        let alone : (u : Iter T I) → IsEmpty (e.near u)
+        → between_ends rank u [] ≡ placed (run_if_any (e.far u)) [] =
+        λ u empty. rw (e.apart u [], none-if_empty _ empty, e.nil_put (placed [] (run_if_any (e.far u))), e.nil_put _) (sym (e.put_nil _)) in
+        turned pops (λ going. absurd (cc))
+        (λ rest may_after.
+        let nothing : rest ≡ [] = grind (arith, ended, may_after) in (
+          [],
+          may,
+          λ known. ([], alone s gone.0, rw nothing (alone t gone.1), λ lacks. refl),
+        ))
+        ends
+        (λ finite fewer. rw ended (omega (arith, fewer, gone.1, e.lengths s, e.lengths t)))

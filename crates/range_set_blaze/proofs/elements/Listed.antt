@@ -1,12 +1,12 @@
 -- Iterators over elements of a stream whose state shows the list of its ranges.
-use Rattle.std.proofs.Common.{◌≡◌, ◌↔◌, ℕ, Bool, true, false, not, cond, ◌&&◌, ◌+◌, ◌<◌, ◌≤◌, List, [], ◌∷◌, ◌++◌, append-nil, length, length-append, refl, sym, ◌∙◌, ap, subst, arith}
+use Rattle.std.proofs.Common.{◌≡◌, ◌↔◌, ℕ, Bool, true, false, cond, ◌+◌, ◌<◌, ◌≤◌, List, [], ◌∷◌, ◌++◌, append-nil, length, length-append, refl, sym, ◌∙◌, ap, arith}
 use Rattle.std.proofs.lemmas.Bool.Decides.{nat_tests}
 use Rattle.std.proofs.lemmas.List.{length-map, map-append}
 use Rattle.std.proofs.lemmas.List.Sums.{sum_by-cons}
-use Rattle.std.specs.Iterator.{Count, MakesProgress, YieldsLast, at_most, item_count}
+use Rattle.std.specs.Iterator.{MakesProgress, YieldsLast, at_most, item_count}
 use Rattle.std.specs.Iterator.SizeHint.{IsWithinCount}
 use Rattle.std.specs.List.{sum_by}
-use Rattle.std.specs.Prelude.{Option, Some, None, IfSome, ⊤}
+use Rattle.std.specs.Prelude.{Option, Some, None, ⊤}
 use Rattle.std.specs.declared.ops.RangeInclusive.{RangeInclusive}
 use Rattle.rsb_integer.specs.Rank.{interval_of, intervals_of}
 use Rattle.rsb_integer.specs.Runs.{Interval, length_of, members, IsCanonicalFrom, IsCanonicalIn}
@@ -15,14 +15,8 @@ use Rattle.rsb_integer.proofs.CountLemmas.{count-less, count-members}
 use Rattle.rsb_streams.specs.Listed.{listed_may_give}
 use Rattle.rsb_streams.specs.Stream.{just, unless}
 use Rattle.rsb_streams.proofs.CheckLemmas.{none-if_empty}
-use Rattle.range_set_blaze.specs.BothEnds.{between_ends, elements_ready, held, is_ready, left_between, ranges_left, runs_left, AnswersLast, Gives, GoesBack, IsListReady, IsOverSet, IsWhole, ListedReady, Takes}
+use Rattle.range_set_blaze.specs.BothEnds.{between_ends, elements_ready, held, is_ready, left_between, ranges_left, runs_left, AnswersLast, Gives, IsListReady, IsOverSet, IsWhole, ListedReady, Takes}
 use Rattle.range_set_blaze.specs.declared.iter.Iter.{Iter}
-
--- the list that is left may be given, unless the stream has ended, and it alone
-listed-is : (done : Bool) (runs rest : List Interval)
-    → unless done (just runs) rest ↔ (rest ≡ cond done [] runs)
-listed-is true runs rest = ((λ may. may), (λ may. may))
-listed-is false runs rest = ((λ may. may), (λ may. may))
 
 -- where a member is taken of a set, progress is made
 pub takes-goes : {T : Type 0} {rank : T → ℕ} {n : ℕ} {IsFound : Selection → ℕ → Type 0}
@@ -50,13 +44,8 @@ module _ {T : Type 0} (rank : T → ℕ) (n : ℕ) where
   listed-left : (s : Iter T (List (RangeInclusive T))) (runs : List Interval)
       → left_between rank (listed_may_give rank (λ ranges. ranges)) s runs ↔ (runs ≡ runs_left rank s)
   listed-left s runs = (
-    (λ at. at.2 ∙ ap (between_ends rank s)
-        ((listed-is s.done (intervals_of rank s.ranges) at.0).0 at.1)),
-    (λ is. (
-      cond s.done [] (intervals_of rank s.ranges),
-      (listed-is s.done (intervals_of rank s.ranges) _).1 refl,
-      is,
-    )),
+    (λ at. let may = at.1 in let is = at.2 in grind (arith, may, is)),
+    (λ is. (cond s.done [] (intervals_of rank s.ranges), grind arith, is)),
   )
 
   -- so what a call takes is taken of it
@@ -81,22 +70,10 @@ module _ {T : Type 0} (rank : T → ℕ) (n : ℕ) where
       → low ≤ count n (members (runs_left rank s))
   hint-count s ready low within =
       let canonical = listed-canonical s ready in
-      let rest = cond s.done [] (intervals_of rank s.ranges) in
-      omega (
-        arith,
-        length-sum 0 (runs_left rank s) canonical.0,
-        count-members n 0 (runs_left rank s) canonical.0 canonical.1,
-        length-append (held rank s.front) (rest ++ held rank s.back),
-        length-append rest (held rank s.back),
-        by s.done,
-        within tt,
-      )
-    where
-      -- as many intervals as ranges, by whether the stream has ended
-      by : (done : Bool) → length (cond done [] (intervals_of rank s.ranges))
-          ≡ cond done 0 (length s.ranges)
-      by true = refl
-      by false = length-map s.ranges (interval_of rank)
+      let least = length-sum 0 (runs_left rank s) canonical.0 in
+      let all = count-members n 0 (runs_left rank s) canonical.0 canonical.1 in
+      let some = within tt in
+      grind (arith, length-append, length-map, least, all, some)
 
   -- the last of the list is what may come last
   listed-last : (s t : List (RangeInclusive T)) (item : Option (RangeInclusive T))

@@ -3,7 +3,7 @@ use Rattle.std.proofs.Common.{◌≡◌, ℕ, true, cond, ◌+◌, ◌<◌, ◌�
 use Rattle.std.proofs.lemmas.Bool.{cases_lt}
 use Rattle.std.proofs.lemmas.Bool.Decides.{nat_tests}
 use Rattle.std.proofs.lemmas.List.Elements.{All-cons, All-head, All-tail}
-use Rattle.rsb_integer.specs.Runs.{Interval, cover, covers, length_of, members, AllEndBelow, IsAfterFirst, IsBeforeLast, IsCanonicalFrom, IsCanonicalIn}
+use Rattle.rsb_integer.specs.Runs.{Interval, cover, covers, length_of, members, AllEndBelow, IsAfterFirst, IsBeforeLast, IsCanonicalFrom}
 use Rattle.rsb_integer.proofs.CanonicalLemmas.{canonical-lower}
 use Rattle.rsb_integer.proofs.MembersLemmas.{members-below}
 use Rattle.rsb_streams.specs.Stream.{run_if_any}
@@ -58,34 +58,19 @@ module _ (n : ℕ) (after : List Interval) (run rest : Interval) (point : ℕ)
       → IsCanonicalBetween low n (before ++ run ∷ after) → IsTaken low n before after run rest point
   taken low [] known =
       let some = known.0.1 in
-      let later = members-below (run.last + 2) after in
+      let lower = λ (lower : ℕ). canonical-lower (run.last + 2) lower after in
+      let later = λ (other : ℕ). members-below (run.last + 2) after other known.0.2 in
       let ends = All-tail (λ (each : Interval). each.last < n) run after known.1 in
-      let left : IsCanonicalBetween low n (run_if_any rest ++ after) × ((other : ℕ)
-      → cover (run_if_any rest ++ after) other ≡ cond (covers other rest) 1 0 + cover after other) =
-      elim (cases_lt rest.last rest.first) [
-        | inl empty ↦
-            let lower = canonical-lower (run.last + 2) low after (omega (arith, known.0.0, some)) known.0.2 in
-            rw (none-if_empty rest empty) ((lower, ends), λ other. grind (arith, nat_tests))
-        | inr left ↦
-            let within = shorter.within left in
-            let later = canonical-lower (run.last + 2) (rest.last + 2) after (omega (arith, within.1)) known.0.2 in
-            rw (one-if_some rest left) (
-              (
-                (omega (arith, known.0.0, within.0), left, later),
-                All-cons (λ (each : Interval). each.last < n) rest after (omega (arith, below, within.1)) ends,
-              ),
-              λ other. refl,
-            )
-      ] in
       record {
         starts = grind (arith, nat_tests, shorter.same some point, known.0.0);
-        canonical = left.0;
-        removes = λ other.
-            grind (arith, nat_tests, left.1 other, shorter.same some other, later other known.0.2);
+        canonical = (
+          grind (arith, nat_tests, known.0.0, some, known.0.2, shorter.within, lower),
+          grind (arith, nat_tests, ends, below, shorter.within, All-cons),
+        );
+        removes = λ other. grind (arith, nat_tests, shorter.same some other, later other);
         in_type = grind (arith, nat_tests, shorter.same some point, below);
         here = grind (arith, nat_tests, shorter.same some point);
-        least = λ none edge other member.
-            grind (arith, nat_tests, edge, some, member, later other known.0.2);
+        least = λ none edge other member. grind (arith, nat_tests, edge, some, member, later other);
         greatest = λ none edge other member.
             grind (arith, nat_tests, edge, member, ap (λ runs. cover runs other) none);
       }
@@ -98,10 +83,7 @@ module _ (n : ℕ) (after : List Interval) (run rest : Interval) (point : ℕ)
         starts = omega (arith, known.0.0, known.0.1, tail.starts);
         canonical = (
           (known.0.0, known.0.1, tail.canonical.0),
-          All-cons (λ (each : Interval). each.last < n) first
-              (before ++ (run_if_any rest ++ after))
-              (All-head (λ (each : Interval). each.last < n) first (before ++ run ∷ after) known.1)
-              tail.canonical.1,
+          grind (arith, All-cons, All-head, known.1, tail.canonical.1),
         );
         removes = λ other. grind (arith, nat_tests, tail.removes other, tail.starts);
         in_type = tail.in_type;

@@ -15,7 +15,7 @@ next_back-requires g c =
 pub returns-in-Some : goal.returns-in-Some
 returns-in-Some g c = turned-held g.I.Draw (greatest _ g.T.Integer.rank g.T.Integer.value_count)
     c.requires.ready (λ ready. record { both_ends = c.requires.both_ends; ready = ready }) refl refl
-    c.in-Some.ensures
+    refl (λ lacks. absurd (cc)) c.in-Some.ensures
 
 -- the last of what is held from the front, where the stream had ended before
 pub returns-then-self : goal.returns-then-self

@@ -1,6 +1,5 @@
 use Rattle.std.proofs.Common.{refl}
 use Rattle.std.specs.Prelude.{None, Some}
-use Rattle.rsb_streams.specs.Stream.{unless}
 use Rattle.range_set_blaze.specs.BothEnds.{is_ready}
 use Rattle.range_set_blaze.proofs.elements.Ends.{least, turned-drawn, turned-far, turned-held}
 use Rattle.range_set_blaze.proofs.iter.IterIterator.next.Goals as goal
@@ -14,7 +13,7 @@ draw-requires g c =
 -- the first of what is held from the front
 pub returns-in-Some : goal.returns-in-Some
 returns-in-Some g c = turned-held g.I.Draw (least _ g.T.Integer.rank g.T.Integer.value_count)
-    c.requires (λ ready. ready) refl refl c.in-Some.ensures
+    c.requires (λ ready. ready) refl refl refl (λ lacks. absurd (cc)) c.in-Some.ensures
 
 -- the first of what is held from the back, where the stream had ended before
 pub returns-then-self : goal.returns-then-self

@@ -1,6 +1,6 @@
-use Rattle.std.proofs.Common.{ℕ, ◌≤◌, arith}
+use Rattle.std.proofs.Common.{◌≤◌, arith}
 use Rattle.std.proofs.lemmas.Nat.{mul-le}
-use Rattle.std.specs.Iterator.{IsFinite, size}
+use Rattle.std.specs.Iterator.{size}
 use Rattle.range_set_blaze.proofs.iter.IterIterator.size_hint.Goals as goal
 
 -- each range has an element
