@@ -30,7 +30,7 @@ nat_cmp-less a b less = grind (arith, nat_tests)
 pub nat_cmp-greater : (a b : ℕ) → a < b → nat_cmp b a ≡ Greater
 nat_cmp-greater a b less = grind (arith, nat_tests)
 
-nat_cmp-same : (a : ℕ) → nat_cmp a a ≡ Equal
+pub nat_cmp-same : (a : ℕ) → nat_cmp a a ≡ Equal
 nat_cmp-same a = grind (arith, nat_tests)
 
 -- ---- `==`

@@ -1,4 +1,4 @@
-use Rattle.range_set_blaze.proofs.EndLemmas.{nothing-kept}
+use Rattle.range_set_blaze.proofs.order.EndRuns.{nothing-kept}
 use Rattle.range_set_blaze.proofs.set.RangeSetBlaze.is_empty.Goals as goal
 
 -- a run that is kept has a member

@@ -1,6 +1,6 @@
 use Rattle.std.proofs.Common.{◌≡◌, ◌∙◌, arith, sym}
 use Rattle.rsb_integer.specs.Runs.{members}
-use Rattle.range_set_blaze.proofs.EndLemmas.{count-everything}
+use Rattle.range_set_blaze.proofs.order.EndRuns.{count-everything}
 use Rattle.range_set_blaze.proofs.set.RangeSetBlaze.is_universal.Goals as goal
 
 -- the length is that of the whole type exactly where every value is a member

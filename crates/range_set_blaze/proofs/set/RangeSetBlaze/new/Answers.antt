@@ -1,5 +1,5 @@
 use Rattle.std.proofs.Common.{◌∙◌, ap}
-use Rattle.range_set_blaze.proofs.EndLemmas.{kept-nil}
+use Rattle.range_set_blaze.proofs.order.EndRuns.{kept-nil}
 use Rattle.range_set_blaze.proofs.set.RangeSetBlaze.new.Goals as goal
 
 -- no run is kept, and the length is 0

@@ -2,7 +2,7 @@ use Rattle.std.proofs.Common.{◌++◌}
 use Rattle.std.specs.Hash.{fed_along, fed_then}
 use Rattle.std.specs.Prelude.{flat_map}
 use Rattle.rsb_integer.proofs.RangeLemmas.{value_at-rank}
-use Rattle.range_set_blaze.proofs.HashLemmas.{kept-fed}
+use Rattle.range_set_blaze.proofs.order.FedRuns.{kept-fed}
 use Rattle.range_set_blaze.proofs.set.hash.RangeSetBlazeHash.hash.Goals as goal
 
 -- the length and the entries feed what the list of runs does
