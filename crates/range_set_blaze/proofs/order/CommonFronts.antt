@@ -1,19 +1,19 @@
 -- The order of two lists of runs, by their elements.
-use Rattle.std.proofs.Common.{◌≡◌, ℕ, zero, suc, true, false, cond, ◌+◌, ◌-◌, ◌*◌, ◌<◌, ◌≤◌, nat_lt, List, [], ◌∷◌, ◌++◌, length, refl, sym, ◌∙◌, ap, subst, arith}
+use Rattle.std.proofs.Common.{◌≡◌, ℕ, zero, suc, true, false, cond, ◌+◌, ◌-◌, ◌<◌, ◌≤◌, nat_lt, List, [], ◌∷◌, ◌++◌, length, length-append, append_assoc, refl, sym, ◌∙◌, ap, arith}
 use Rattle.std.proofs.lemmas.Bool.Decides.{nat_tests}
+use Rattle.std.proofs.lemmas.Grind.{flat_map-append}
 use Rattle.std.proofs.lemmas.Cmp.{nat_list_cmp_total, ranked}
-use Rattle.std.proofs.lemmas.List.Elements.{All-head, All-tail}
+use Rattle.std.proofs.lemmas.List.Elements.{All-head}
 use Rattle.std.specs.List.{flat_map}
-use Rattle.std.specs.Prelude.{Option, Some, None, MatchOption, is_some}
 use Rattle.std.specs.Cmp.Lexicographic.{slice_cmp}
-use Rattle.std.specs.Ordering.{bool_cmp, is_ne, nat_cmp, ordering_reverse, ordering_then, MatchOrdering}
+use Rattle.std.specs.Ordering.{is_ne, nat_cmp, ordering_reverse, ordering_then, MatchOrdering}
 use Rattle.std.specs.declared.cmp.Ordering.{Ordering}
 use Rattle.std.specs.declared.cmp.Ordering.TheVariants.{Less, Equal, Greater}
-use Rattle.rsb_integer.specs.Runs.{Interval, members, AllEndBelow, IsCanonicalFrom, IsCanonicalIn}
+use Rattle.rsb_integer.specs.Runs.{Interval, members, IsCanonicalFrom, IsCanonicalIn}
 use Rattle.rsb_integer.specs.Selection.{Selection}
 use Rattle.rsb_integer.proofs.CanonicalLemmas.{canonical-lower, canonical-tail}
 use Rattle.rsb_integer.proofs.MembersLemmas.{covers-inside, same_interval}
-use Rattle.range_set_blaze.specs.Kept.{entry_of, run_of, runs_of}
+use Rattle.range_set_blaze.specs.Kept.{run_of, runs_of}
 use Rattle.range_set_blaze.specs.declared.set.run.Run.{Run}
 use Rattle.range_set_blaze.specs.Order.{elements_from, order, start_alike, AreTurns}
 use Rattle.range_set_blaze.specs.OrderLaws.{nat_cmp-greater, nat_cmp-same}
@@ -52,7 +52,7 @@ pub elements_from-members : (n : ℕ) (runs : List Interval) → IsCanonicalIn n
     → elements_from 0 n (members runs) ≡ elements_of runs
 unfolding elements_from
 elements_from-members n runs canonical =
-    made-canonical (λ low more. elements_from low more (members runs)) n runs ranks_of canonical
+    made-canonical (λ low more. elements_from low more (members runs)) n runs canonical ranks_of
     (λ low. refl) (λ rank left lacks. rw lacks refl)
     (λ run maximal.
     let ordered = maximal.in_order in
@@ -68,97 +68,93 @@ slice_cmp-front [] left right = refl
 slice_cmp-front (rank ∷ front) left right =
     rw (nat_cmp-same rank) (slice_cmp-front front left right)
 
--- what is first to end is less where nothing follows, and greater where something does
-slice_cmp-shorter : (low count most : ℕ) (runs : List Interval) (others : List ℕ) → count < most
-    → IsCanonicalFrom (low + count + 1) runs
-    → slice_cmp nat_cmp (ranks_from low count ++ elements_of runs) (ranks_from low most ++ others)
-    ≡ cond (nat_lt 0 (length runs)) Greater Less
-unfolding elements_from
-slice_cmp-shorter low count zero runs others fewer canonical = absurd (omega arith)
-slice_cmp-shorter low zero (suc most) [] others fewer canonical = refl
-slice_cmp-shorter low zero (suc most) (run ∷ runs) others fewer canonical =
-    let starts = canonical.0 in
-    rw (nat_cmp-greater low run.first (omega arith)) (grind (arith, nat_tests))
-slice_cmp-shorter low (suc count) (suc most) runs others fewer canonical =
-    rw (nat_cmp-same low) (slice_cmp-shorter (suc low) count most runs others (omega arith)
-    (canonical-lower _ _ runs (omega arith) canonical))
+module _ {T : Type 0} (rank : T → ℕ) where
+  -- what is first to end is less where nothing follows, and greater where something does
+  slice_cmp-shorter : (low count most : ℕ) (entries : List (T × T)) (others : List ℕ)
+      → count < most → IsCanonicalFrom (low + count + 1) (runs_of rank entries)
+      → slice_cmp nat_cmp (ranks_from low count ++ elements_of (runs_of rank entries))
+      (ranks_from low most ++ others)
+      ≡ cond (nat_lt 0 (length entries)) Greater Less
+  unfolding elements_from
+  slice_cmp-shorter low count zero entries others fewer canonical = absurd (omega arith)
+  slice_cmp-shorter low zero (suc most) [] others fewer canonical = refl
+  slice_cmp-shorter low zero (suc most) (entry ∷ entries) others fewer canonical =
+      let starts = canonical.0 in
+      rw (nat_cmp-greater low (rank entry.0) (omega arith)) (grind (arith, nat_tests))
+  slice_cmp-shorter low (suc count) (suc most) entries others fewer canonical =
+      rw (nat_cmp-same low) (slice_cmp-shorter (suc low) count most entries others (omega arith)
+      (canonical-lower _ _ (runs_of rank entries) (omega arith) canonical))
 
--- ---- turns
+  -- of first runs that start alike, the one that ends first is less where no other follows it
+  shorter-first : (n : ℕ) (run : Run T) (other : Interval) (left : List (T × T))
+      (right : List Interval) → IsCanonicalIn n (run_of rank run ∷ runs_of rank left)
+      → rank run.start ≡ other.first → rank run.end < other.last
+      → cond (nat_lt 0 (length left)) Greater Less
+      ≡ slice_cmp nat_cmp (elements_of (run_of rank run ∷ runs_of rank left))
+      (elements_of (other ∷ right))
+  shorter-first n run other left right canonical starts ends =
+      let ordered = canonical.0.1 in
+      rw (← starts, nat_cmp-same (rank run.start))
+      (sym (slice_cmp-shorter (suc (rank run.start)) (rank run.end - rank run.start)
+      (other.last - rank run.start) left (elements_of right) (omega arith)
+      (canonical-lower (rank run.end + 2) _ (runs_of rank left) (omega arith) canonical.0.2)))
+
+-- ---- what the loop that compares two lists has passed
 
 -- the lists do not begin with the same run
 abbrev pub AreApart : List Interval → List Interval → Type 0
-AreApart left right = (run : Interval) (runs others : List Interval) → left ≡ run ∷ runs
-    → ¬ (right ≡ run ∷ others)
+AreApart [] right = Unit {0}
+AreApart (run ∷ left) [] = Unit {0}
+AreApart (run ∷ left) (other ∷ right) = run.first ≡ other.first → ¬ (run.last ≡ other.last)
 
--- no front of both has an item, where they are
-apart-front : (left right other one two : List Interval) → AreApart left right
-    → left ≡ other ++ one → right ≡ other ++ two → length other ≤ 0
-apart-front left right [] one two apart is also = omega arith
-apart-front left right (run ∷ other) one two apart is also =
-    absurd (apart run (other ++ one) (other ++ two) is also)
-
--- and a list's first run and one of its fronts
-turns-apart : (left right : List Interval) (turns : ℕ) → AreApart left right
-    → turns ≡ cond (start_alike left right) 2 1 → AreTurns left right turns
-turns-apart left right turns apart counted = record {
-  front = [];
-  left_rest = left;
-  right_rest = right;
-  left_parts = refl;
-  right_parts = refl;
-  longest = λ other one two.
-      apart-front left right other one.rest two.rest apart one.parts two.parts;
-  counted = omega (arith, counted);
-}
-
--- a front of lists that begin with the same run is that run and a front of theirs
-longer-front : (run : Interval) (left right other one two : List Interval) (most : ℕ)
-    → ((front one two : List Interval) → left ≡ front ++ one → right ≡ front ++ two
-    → length front ≤ most)
-    → run ∷ left ≡ other ++ one → run ∷ right ≡ other ++ two → length other ≤ suc most
-longer-front run left right [] one two most longest is also = omega arith
-longer-front run left right (item ∷ other) one two most longest is also =
-    let shorter = longest other one two (cc) (cc) in
+-- a common front is no longer than one behind which the lists are apart
+longest-front : (front left right : List Interval) → AreApart left right
+    → (other one two : List Interval) → front ++ left ≡ other ++ one → front ++ right ≡ other ++ two
+    → length other ≤ length front
+longest-front front left right apart [] one two is also = omega arith
+longest-front [] left right apart (run ∷ other) one two is also =
+    absurd ((rw (is, also) at apart) refl refl)
+longest-front (head ∷ front) left right apart (run ∷ other) one two is also =
+    let shorter = longest-front front left right apart other one two (cc) (cc) in
     omega (arith, shorter)
 
--- one turn more passes a run of both
-turns-more : (run : Interval) (left right : List Interval) (turns : ℕ)
-    → AreTurns left right turns → AreTurns (run ∷ left) (run ∷ right) (suc turns)
-turns-more run left right turns are =
-    let counted = are.counted in
+-- so many turns passed a common front of two canonical lists
+pub record IsPassing (n : ℕ) (whole total left right : List Interval) (turns : ℕ) : Type 0 where
+  pub front : List Interval
+  pub left_parts : whole ≡ front ++ left
+  pub right_parts : total ≡ front ++ right
+  pub counted : turns + length left ≡ length whole
+  pub left_rest : IsCanonicalIn n left
+  pub right_rest : IsCanonicalIn n right
+
+-- at first it passed nothing
+pub passing-none : (n : ℕ) (whole total : List Interval) → IsCanonicalIn n whole
+    → IsCanonicalIn n total → IsPassing n whole total whole total 0
+passing-none n whole total left right = record {
+  front = [];
+  left_parts = refl;
+  right_parts = refl;
+  counted = omega arith;
+  left_rest = left;
+  right_rest = right;
+}
+
+-- a run of both is passed in one turn
+passing-more : (n : ℕ) (whole total : List Interval) (run other : Interval)
+    (left right : List Interval) (turns : ℕ) → run ≡ other
+    → IsPassing n whole total (run ∷ left) (other ∷ right) turns
+    → IsPassing n whole total left right (turns + 1)
+passing-more n whole total run other left right turns same passing =
+    let counted = passing.counted in
     record {
-      front = run ∷ are.front;
-      left_rest = are.left_rest;
-      right_rest = are.right_rest;
-      left_parts = ap (λ runs. run ∷ runs) are.left_parts;
-      right_parts = ap (λ runs. run ∷ runs) are.right_parts;
-      longest = λ other one two.
-          longer-front run left right other one.rest two.rest (length are.front)
-          (λ front rest others is also. are.longest front (record { rest = rest; parts = is })
-          (record { rest = others; parts = also }))
-          one.parts two.parts;
+      front = passing.front ++ run ∷ [];
+      left_parts = passing.left_parts ∙ sym (append_assoc passing.front (run ∷ []) left);
+      right_parts = passing.right_parts ∙ ap (λ each. passing.front ++ each ∷ right) (sym same)
+          ∙ sym (append_assoc passing.front (run ∷ []) right);
       counted = omega (arith, counted);
+      left_rest = canonical-tail n run left passing.left_rest;
+      right_rest = canonical-tail n other right passing.right_rest;
     }
-
--- ---- the loop that compares two lists
-
--- a list of runs in a type of n values has half as many as there are values, and one more at most
-canonical-short : (n low : ℕ) (runs : List Interval) → IsCanonicalFrom low runs
-    → AllEndBelow n runs → 2 * length runs ≤ n + 1 - low
-canonical-short n low [] canonical below = omega arith
-canonical-short n low (run ∷ runs) canonical below =
-    let starts = canonical.0 in
-    let ordered = canonical.1 in
-    let ends = All-head (λ (each : Interval). each.last < n) run runs below in
-    let rest = canonical-short n (run.last + 2) runs canonical.2
-    (All-tail (λ (each : Interval). each.last < n) run runs below) in
-    omega (arith, ends, rest)
-
--- so two lists compare, and so many turns tell it
-abbrev pub IsTold : List Interval → List Interval → Ordering → ℕ → Type 0
-IsTold left right ordering turns =
-    (ordering ≡ slice_cmp nat_cmp (elements_of left) (elements_of right))
-    × AreTurns left right turns
 
 -- the sets of two lists have this order, and it takes so many turns
 abbrev pub Tells : ℕ → List Interval → List Interval → Ordering → ℕ → Type 0
@@ -167,138 +163,47 @@ Tells n whole total ordering turns = record {
   turns : AreTurns whole total turns;
 }
 
--- how what so many turns left of two canonical lists compares tells how these do
-pub record IsPassing (n : ℕ) (whole total left right : List Interval) (turns : ℕ) : Type 0 where
-  pub left_rest : IsCanonicalIn n left
-  pub right_rest : IsCanonicalIn n right
-  pub few : 2 * (turns + length left) ≤ n + 1
-  pub tells : (ordering : Ordering) (more all : ℕ) → IsTold left right ordering more
-      → turns + more ≡ all → Tells n whole total ordering all
-
--- at first both lists are left
-pub passing-none : (n : ℕ) (whole total : List Interval) → IsCanonicalIn n whole
-    → IsCanonicalIn n total → IsPassing n whole total whole total 0
-passing-none n whole total left right =
-    let short = canonical-short n 0 whole left.0 left.1 in
+-- what is left tells, where it begins apart
+pub passing-tells : (n : ℕ) (whole total left right : List Interval) (turns all : ℕ)
+    (ordering : Ordering) → IsCanonicalIn n whole → IsCanonicalIn n total
+    → IsPassing n whole total left right turns → AreApart left right
+    → ordering ≡ slice_cmp nat_cmp (elements_of left) (elements_of right)
+    → turns + cond (start_alike left right) 2 1 ≡ all → Tells n whole total ordering all
+passing-tells n whole total left right turns all ordering one two passing apart is told =
+    let counted = passing.counted in
+    let front = passing.front in
+    let length = ap length passing.left_parts ∙ length-append front left in
     record {
-      left_rest = left;
-      right_rest = right;
-      few = omega (arith, short);
-      tells = λ ordering more all told counted.
-          let same : more ≡ all = omega (arith, counted) in
-          record {
-            order =
-                rw (elements_from-members n whole left, elements_from-members n total right) told.0;
-            turns = subst (AreTurns whole total) same told.1;
-          };
+      order =
+          rw (
+            elements_from-members n whole one,
+            elements_from-members n total two,
+            passing.left_parts,
+            passing.right_parts,
+            flat_map-append ranks_of front left,
+            flat_map-append ranks_of front right,
+            slice_cmp-front (elements_of front) (elements_of left) (elements_of right),
+          )
+          is;
+      turns = record {
+        front = front;
+        left_rest = left;
+        right_rest = right;
+        left_parts = passing.left_parts;
+        right_parts = passing.right_parts;
+        longest = λ other more rest.
+            longest-front front left right apart other more.rest rest.rest
+            (sym passing.left_parts ∙ more.parts) (sym passing.right_parts ∙ rest.parts);
+        counted = omega (arith, counted, length, told);
+      };
     }
-
--- a run of both is passed in one turn
-passing-more : (n : ℕ) (whole total : List Interval) (run other : Interval)
-    (left right : List Interval) (turns : ℕ) → run ≡ other
-    → IsPassing n whole total (run ∷ left) (other ∷ right) turns
-    → IsPassing n whole total left right (turns + 1)
-passing-more n whole total run other left right turns same passing =
-    let few = passing.few in
-    record {
-      left_rest = canonical-tail n run left passing.left_rest;
-      right_rest = canonical-tail n other right passing.right_rest;
-      few = omega (arith, few);
-      tells = λ ordering more all told counted.
-          passing.tells ordering (suc more) all
-          (rw (← same) (
-            told.0 ∙ sym (slice_cmp-front (ranks_of run) (elements_of left) (elements_of right)),
-            turns-more run left right more told.1,
-          ))
-          (omega (arith, counted));
-    }
-
--- ---- the last turn
-
--- where the right list alone has ended, the left one is greater
-pub told-none : (run : Interval) (left : List Interval) → IsTold (run ∷ left) [] Greater 1
-told-none run left = (refl, turns-apart (run ∷ left) [] 1 (λ item runs others one two. absurd (cc)) refl)
-
--- where the left list has ended, the right one tells
-pub told-ended : {T : Type 0} (rank : T → ℕ) (right after : List (T × T)) (next : Option (Run T))
-    → MatchOption next (right ≡ []) (λ run. right ≡ entry_of run ∷ after)
-    → IsTold [] (runs_of rank right) (bool_cmp false (is_some next)) 1
-told-ended rank right after None is =
-    rw is (refl, turns-apart [] [] 1 (λ run runs others one two. absurd (cc)) refl)
-told-ended rank right after (Some run) is =
-    rw is (refl, turns-apart [] _ 1 (λ run runs others one two. absurd (cc)) refl)
-
--- lists with unlike first runs are apart
-heads-apart : (run other : Interval) (left right : List Interval) → ¬ (run ≡ other)
-    → AreApart (run ∷ left) (other ∷ right)
-heads-apart run other left right differ item runs others one two = differ (cc)
-
--- first runs that start apart tell
-told-starts : (run other : Interval) (left right : List Interval) (ordering : Ordering)
-    → ordering ≡ nat_cmp run.first other.first → true ≡ is_ne ordering
-    → IsTold (run ∷ left) (other ∷ right) ordering 1
-told-starts run other left right ordering is apart =
-    let differ : ¬ (run.first ≡ other.first) =
-    λ same. let level = nat_cmp-same run.first in absurd (cc) in (
-      rw (← is) (then-ne ordering _ apart),
-      turns-apart (run ∷ left) (other ∷ right) 1
-          (heads-apart run other left right
-          (λ same. differ (ap (λ (each : Interval). each.first) same)))
-          (grind (arith, nat_tests)),
-    )
-  where
-    then-ne : (ordering more : Ordering) → true ≡ is_ne ordering
-        → ordering ≡ ordering_then ordering more
-    then-ne Less more apart = refl
-    then-ne Equal more apart = absurd (cc)
-    then-ne Greater more apart = refl
-
--- of first runs that start alike, the one that ends first tells, and whether others follow it
-told-ends : (n : ℕ) (run other : Interval) (left right : List Interval)
-    → IsCanonicalIn n (run ∷ left) → run.first ≡ other.first → run.last < other.last
-    → IsTold (run ∷ left) (other ∷ right) (cond (nat_lt 0 (length left)) Greater Less) 2
-told-ends n run other left right canonical starts ends =
-    let ordered = canonical.0.1 in (
-      rw (← starts, nat_cmp-same run.first)
-          (sym (slice_cmp-shorter (suc run.first) (run.last - run.first)
-          (other.last - run.first) left (elements_of right) (omega arith)
-          (canonical-lower (run.last + 2) _ left (omega arith) canonical.0.2))),
-      turns-apart (run ∷ left) (other ∷ right) 2
-          (heads-apart run other left right (λ same.
-          let last = ap (λ (each : Interval). each.last) same in absurd (omega (arith, last))))
-          (grind (arith, nat_tests)),
-    )
-
--- what is told of two lists is told of them the other way round
-told-turned : (left right : List Interval) (ordering : Ordering) (turns : ℕ)
-    → IsTold left right ordering turns → IsTold right left (ordering_reverse ordering) turns
-told-turned left right ordering turns told =
-    let are = told.1 in (
-      ap ordering_reverse told.0
-          ∙ sym (nat_list_cmp_total.antisymm (elements_of right) (elements_of left)),
-      record {
-        front = are.front;
-        left_rest = are.right_rest;
-        right_rest = are.left_rest;
-        left_parts = are.right_parts;
-        right_parts = are.left_parts;
-        longest = λ other one two. are.longest other two one;
-        counted = are.counted ∙ alike-turned are.left_rest are.right_rest (length are.front);
-      },
-    )
-  where
-    alike-turned : (left right : List Interval) (front : ℕ)
-        → front + cond (start_alike left right) 2 1 ≡ front + cond (start_alike right left) 2 1
-    alike-turned [] [] front = refl
-    alike-turned [] (run ∷ right) front = refl
-    alike-turned (run ∷ left) [] front = refl
-    alike-turned (run ∷ left) (other ∷ right) front = grind (arith, nat_tests)
 
 -- ---- a turn
 
 module _ {T : Type 0} (rank : T → ℕ) (n : ℕ) (cmp : T → T → Ordering)
     (in_order : (x y : T) → rank x < n → rank y < n → cmp x y ≡ nat_cmp (rank x) (rank y))
-    (whole total : List Interval) (run other : Run T) (left right : List (T × T)) (turns : ℕ)
+    (whole total : List Interval) (one : IsCanonicalIn n whole) (two : IsCanonicalIn n total)
+    (run other : Run T) (left right : List (T × T)) (turns : ℕ)
     (passing : IsPassing n whole total (run_of rank run ∷ runs_of rank left)
     (run_of rank other ∷ runs_of rank right) turns)
     (starts : Ordering) (starts_by : starts ≡ cmp run.start other.start) where
@@ -321,35 +226,45 @@ module _ {T : Type 0} (rank : T → ℕ) (n : ℕ) (cmp : T → T → Ordering)
   -- runs that start apart tell
   pub starts-tell : true ≡ is_ne starts → Tells n whole total starts (turns + 1)
   starts-tell apart =
-      passing.tells starts 1 _ (told-starts _ _ _ _ starts heads-ranked.0 apart) refl
+      let by = heads-ranked.0 in
+      let differ : ¬ (rank run.start ≡ rank other.start) = grind (arith, nat_tests) in
+      passing-tells n whole total _ _ turns _ starts one two passing (λ same. absurd (differ same))
+      (rw (← by) (then-ne starts _ apart)) (grind (arith, nat_tests))
+    where
+      then-ne : (ordering more : Ordering) → true ≡ is_ne ordering
+          → ordering ≡ ordering_then ordering more
+      then-ne Less more apart = refl
+      then-ne Equal more apart = absurd (cc)
+      then-ne Greater more apart = refl
 
   module _ (level : false ≡ is_ne starts) where
     -- they start alike
     same_start : rank run.start ≡ rank other.start
-    same_start = same starts heads-ranked.0 level
-      where
-        same : (ordering : Ordering) → ordering ≡ nat_cmp (rank run.start) (rank other.start)
-            → false ≡ is_ne ordering → rank run.start ≡ rank other.start
-        same Less is level = absurd (cc)
-        same Equal is level = ranked _ _ Equal is
-        same Greater is level = absurd (cc)
+    same_start = let by = heads-ranked.0 in grind (arith, nat_tests)
 
     -- a run of the left list that ends first tells
     pub left-tells : Less ≡ cmp run.end other.end → Tells n whole total
-        (cond (nat_lt 0 (length (runs_of rank left))) Greater Less) (turns + 1 + 1)
+        (cond (nat_lt 0 (length left)) Greater Less) (turns + 1 + 1)
     left-tells is =
-        passing.tells _ 2 _
-        (told-ends n _ _ _ _ passing.left_rest same_start (heads-ranked.1 Less is)) (omega arith)
+        let ends = heads-ranked.1 Less is in
+        let starts = same_start in
+        passing-tells n whole total _ _ turns _ _ one two passing (λ same alike. absurd (omega arith))
+        (shorter-first rank n run _ left (runs_of rank right) passing.left_rest same_start ends)
+        (grind (arith, nat_tests))
 
     -- or one of the right list
     pub right-tells : Greater ≡ cmp run.end other.end → Tells n whole total
-        (ordering_reverse (cond (nat_lt 0 (length (runs_of rank right))) Greater Less))
+        (ordering_reverse (cond (nat_lt 0 (length right)) Greater Less))
         (turns + 1 + 1)
     right-tells is =
-        passing.tells _ 2 _
-        (told-turned _ _ _ 2 (told-ends n _ _ _ (runs_of rank left) passing.right_rest
-        (sym same_start) (heads-ranked.1 Greater is)))
-        (omega arith)
+        let ends = heads-ranked.1 Greater is in
+        let starts = same_start in
+        passing-tells n whole total _ _ turns _ _ one two passing (λ same alike. absurd (omega arith))
+        (ap ordering_reverse (shorter-first rank n other _ right (runs_of rank left) passing.right_rest
+        (sym same_start) ends)
+        ∙ sym (nat_list_cmp_total.antisymm (elements_of (run_of rank run ∷ runs_of rank left))
+        (elements_of (run_of rank other ∷ runs_of rank right))))
+        (grind (arith, nat_tests))
 
     -- and where they end alike, they are passed
     pub alike-passed : Equal ≡ cmp run.end other.end

@@ -96,13 +96,10 @@ module _ {T : Type 0} (rank : T → ℕ) (n : ℕ) where
   pub nothing-kept : (entries : List (T × T)) → IsCanonical (runs_of rank entries)
       → (length entries ≡ 0) ↔ IsNothing (members (runs_of rank entries))
   nothing-kept [] canonical = ((λ none point. refl), (λ nothing. refl))
-  nothing-kept (run ∷ entries) canonical = (
-    (λ none. absurd (omega (arith, none))),
-    (λ nothing. absurd (not_both _
-        (members-head (entry_run rank run) (runs_of rank entries) (rank run.0) (omega arith)
-        canonical.1)
-        (nothing (rank run.0)))),
-  )
+  nothing-kept (run ∷ entries) canonical =
+      let here = members-head (entry_run rank run) (runs_of rank entries) (rank run.0) (omega arith)
+      canonical.1 in
+      ((λ none. absurd (omega (arith, none))), (λ nothing. absurd (not_both _ here (nothing _))))
 
 -- a set counts as many ranks as there are exactly where it has each of them
 pub count-everything : (n : ℕ) (selected : Selection)
@@ -113,8 +110,7 @@ count-everything n selected = (
     | inr lacks ↦
         let less = count-less n selected (λ other. true) (λ other member. refl) rank below refl lacks
         in
-        let most = count-within n (λ other. true) in
-        absurd (omega (arith, less, most, all))
+        absurd (omega (arith, less, count-within n (λ other. true), all))
   ]),
-  (λ everything. count-all n selected everything),
+  count-all n selected,
 )

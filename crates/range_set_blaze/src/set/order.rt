@@ -56,8 +56,8 @@ impl<T: Integer, A: Allocator> Ord for RangeSetBlaze<T, A> {
     }
 }
 
-/// The order of two sets, as `cmp` answers it, and how many turns its loop took. A turn looks at
-/// one run of each set, and steps to the next one of each at most once. (Own.)
+/// The order of two sets, as `cmp` answers it, and how many turns it took. A turn looks at one run
+/// of each set, and steps to the next one of each at most once. (Own.)
 pub fn cmp_counted<T: Integer, A: Allocator, B: Allocator>(
     a: &RangeSetBlaze<T, A>,
     b: &RangeSetBlaze<T, B>,
@@ -103,7 +103,10 @@ fn compare_runs<T: Integer, A: Allocator, B: Allocator>(
     loop {
         turns += 1;
         let Some(run) = next_run(&mut left) else {
-            return (false.cmp(&next_run(&mut right).is_some()), turns);
+            let Some(_) = next_run(&mut right) else {
+                return (Ordering::Equal, turns);
+            };
+            return (Ordering::Less, turns);
         };
         let Some(other) = next_run(&mut right) else {
             return (Ordering::Greater, turns);
