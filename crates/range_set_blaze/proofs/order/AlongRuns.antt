@@ -1,6 +1,6 @@
 -- A list that is made rank by rank is made run by run, where a canonical list has the ranks.
 use Rattle.std.proofs.Common.{◌≡◌, ℕ, zero, suc, false, ◌+◌, ◌-◌, ◌<◌, ◌≤◌, List, [], ◌∷◌, ◌++◌, ◌∙◌, refl, ap, inr, arith}
-use Rattle.std.proofs.lemmas.List.Elements.{All-head, All-tail}
+use Rattle.std.proofs.lemmas.List.Elements.{All-tail}
 use Rattle.std.specs.Prelude.{flat_map, All}
 use Rattle.rsb_integer.specs.Runs.{Interval, members, IsCanonicalFrom, IsCanonicalIn, IsMaximalRun}
 use Rattle.rsb_integer.proofs.CanonicalLemmas.{canonical-lower}
@@ -41,7 +41,7 @@ module _ (made : ℕ → ℕ → List ℕ) where
         ∙ ended n
     made-from low more (run ∷ runs) all from maximal same =
         let starts = from.0 in
-        let here = All-head (IsMaximalRun n (members whole)) run runs maximal in
+        let here = maximal 0 run (omega arith) in
         let below = here.in_type in
         let ordered = here.in_order in
         made-passed low more (run.first - low) run.first (n - run.first) (omega arith) (omega arith)

@@ -3,15 +3,14 @@ use Rattle.std.proofs.Common.{◌≡◌, ℕ, zero, suc, true, false, cond, ◌+
 use Rattle.std.proofs.lemmas.Bool.Decides.{nat_tests}
 use Rattle.std.proofs.lemmas.Grind.{flat_map-append}
 use Rattle.std.proofs.lemmas.Cmp.{nat_list_cmp_total, ranked}
-use Rattle.std.proofs.lemmas.List.Elements.{All-head}
 use Rattle.std.specs.List.{flat_map}
 use Rattle.std.specs.Cmp.Lexicographic.{slice_cmp}
-use Rattle.std.specs.Ordering.{is_ne, nat_cmp, ordering_reverse, ordering_then, MatchOrdering}
+use Rattle.std.specs.Ordering.{is_ne, nat_cmp, ordering_reverse}
 use Rattle.std.specs.declared.cmp.Ordering.{Ordering}
 use Rattle.std.specs.declared.cmp.Ordering.TheVariants.{Less, Equal, Greater}
 use Rattle.rsb_integer.specs.Runs.{Interval, members, IsCanonicalFrom, IsCanonicalIn}
 use Rattle.rsb_integer.specs.Selection.{Selection}
-use Rattle.rsb_integer.proofs.CanonicalLemmas.{canonical-lower, canonical-tail}
+use Rattle.rsb_integer.proofs.CanonicalLemmas.{canonical-tail}
 use Rattle.rsb_integer.proofs.MembersLemmas.{covers-inside, same_interval}
 use Rattle.range_set_blaze.specs.Kept.{run_of, runs_of}
 use Rattle.range_set_blaze.specs.declared.set.run.Run.{Run}
@@ -68,36 +67,24 @@ slice_cmp-front [] left right = refl
 slice_cmp-front (rank ∷ front) left right =
     rw (nat_cmp-same rank) (slice_cmp-front front left right)
 
-module _ {T : Type 0} (rank : T → ℕ) where
-  -- what is first to end is less where nothing follows, and greater where something does
-  slice_cmp-shorter : (low count most : ℕ) (entries : List (T × T)) (others : List ℕ)
-      → count < most → IsCanonicalFrom (low + count + 1) (runs_of rank entries)
-      → slice_cmp nat_cmp (ranks_from low count ++ elements_of (runs_of rank entries))
-      (ranks_from low most ++ others)
-      ≡ cond (nat_lt 0 (length entries)) Greater Less
-  unfolding elements_from
-  slice_cmp-shorter low count zero entries others fewer canonical = absurd (omega arith)
-  slice_cmp-shorter low zero (suc most) [] others fewer canonical = refl
-  slice_cmp-shorter low zero (suc most) (entry ∷ entries) others fewer canonical =
-      let starts = canonical.0 in
-      rw (nat_cmp-greater low (rank entry.0) (omega arith)) (grind (arith, nat_tests))
-  slice_cmp-shorter low (suc count) (suc most) entries others fewer canonical =
-      rw (nat_cmp-same low) (slice_cmp-shorter (suc low) count most entries others (omega arith)
-      (canonical-lower _ _ (runs_of rank entries) (omega arith) canonical))
-
-  -- of first runs that start alike, the one that ends first is less where no other follows it
-  shorter-first : (n : ℕ) (run : Run T) (other : Interval) (left : List (T × T))
-      (right : List Interval) → IsCanonicalIn n (run_of rank run ∷ runs_of rank left)
-      → rank run.start ≡ other.first → rank run.end < other.last
-      → cond (nat_lt 0 (length left)) Greater Less
-      ≡ slice_cmp nat_cmp (elements_of (run_of rank run ∷ runs_of rank left))
-      (elements_of (other ∷ right))
-  shorter-first n run other left right canonical starts ends =
-      let ordered = canonical.0.1 in
-      rw (← starts, nat_cmp-same (rank run.start))
-      (sym (slice_cmp-shorter (suc (rank run.start)) (rank run.end - rank run.start)
-      (other.last - rank run.start) left (elements_of right) (omega arith)
-      (canonical-lower (rank run.end + 2) _ (runs_of rank left) (omega arith) canonical.0.2)))
+-- what is first to end is less where nothing follows, and greater where something does
+slice_cmp-shorter : {T : Type 0} (rank : T → ℕ) (low lower count most bound : ℕ)
+    (entries : List (T × T)) (others : List ℕ) → low ≡ lower → count < most → low + count < bound
+    → IsCanonicalFrom bound (runs_of rank entries)
+    → cond (nat_lt 0 (length entries)) Greater Less
+    ≡ slice_cmp nat_cmp (ranks_from low count ++ elements_of (runs_of rank entries))
+    (ranks_from lower most ++ others)
+unfolding elements_from
+slice_cmp-shorter rank low lower count zero bound entries others same fewer past rest =
+    absurd (omega arith)
+slice_cmp-shorter rank low lower zero (suc most) bound [] others same fewer past rest = refl
+slice_cmp-shorter rank low lower zero (suc most) bound (entry ∷ entries) others same fewer past rest =
+    let starts = rest.0 in
+    rw (nat_cmp-greater lower (rank entry.0) (omega arith)) (grind (arith, nat_tests))
+slice_cmp-shorter rank low lower (suc count) (suc most) bound entries others same fewer past rest =
+    rw (same, nat_cmp-same lower)
+    (slice_cmp-shorter rank (suc lower) (suc lower) count most bound entries others refl (omega arith)
+    (omega arith) rest)
 
 -- ---- what the loop that compares two lists has passed
 
@@ -208,60 +195,54 @@ module _ {T : Type 0} (rank : T → ℕ) (n : ℕ) (cmp : T → T → Ordering)
     (run_of rank other ∷ runs_of rank right) turns)
     (starts : Ordering) (starts_by : starts ≡ cmp run.start other.start) where
   -- first runs compare as their ranks do
-  heads-ranked : (starts ≡ nat_cmp (rank run.start) (rank other.start))
-      × ((ends : Ordering) → ends ≡ cmp run.end other.end → MatchOrdering ends
-      (rank run.end < rank other.end) (rank run.end ≡ rank other.end)
-      (rank other.end < rank run.end))
+  heads-ranked : (cmp run.start other.start ≡ nat_cmp (rank run.start) (rank other.start))
+      × (cmp run.end other.end ≡ nat_cmp (rank run.end) (rank other.end))
   heads-ranked =
       let ordered = passing.left_rest.0.1 in
       let order = passing.right_rest.0.1 in
-      let below = All-head (λ (each : Interval). each.last < n) (run_of rank run)
-      (runs_of rank left) passing.left_rest.1 in
-      let also = All-head (λ (each : Interval). each.last < n) (run_of rank other)
-      (runs_of rank right) passing.right_rest.1 in (
-        starts_by ∙ in_order _ _ (omega arith) (omega arith),
-        λ ends is. ranked _ _ ends (is ∙ in_order _ _ below also),
-      )
+      let below = passing.left_rest.1 0 (run_of rank run) (omega arith) in
+      let also = passing.right_rest.1 0 (run_of rank other) (omega arith) in
+      (in_order _ _ (omega arith) (omega arith), in_order _ _ below also)
 
   -- runs that start apart tell
   pub starts-tell : true ≡ is_ne starts → Tells n whole total starts (turns + 1)
   starts-tell apart =
-      let by = heads-ranked.0 in
+      let by = starts_by ∙ heads-ranked.0 in
       let differ : ¬ (rank run.start ≡ rank other.start) = grind (arith, nat_tests) in
       passing-tells n whole total _ _ turns _ starts one two passing (λ same. absurd (differ same))
-      (rw (← by) (then-ne starts _ apart)) (grind (arith, nat_tests))
-    where
-      then-ne : (ordering more : Ordering) → true ≡ is_ne ordering
-          → ordering ≡ ordering_then ordering more
-      then-ne Less more apart = refl
-      then-ne Equal more apart = absurd (cc)
-      then-ne Greater more apart = refl
+      (rw (← by) (grind (arith, apart))) (grind (arith, nat_tests))
 
   module _ (level : false ≡ is_ne starts) where
     -- they start alike
     same_start : rank run.start ≡ rank other.start
-    same_start = let by = heads-ranked.0 in grind (arith, nat_tests)
+    same_start = let by = starts_by ∙ heads-ranked.0 in grind (arith, nat_tests)
 
     -- a run of the left list that ends first tells
     pub left-tells : Less ≡ cmp run.end other.end → Tells n whole total
         (cond (nat_lt 0 (length left)) Greater Less) (turns + 1 + 1)
+    unfolding elements_from
     left-tells is =
-        let ends = heads-ranked.1 Less is in
+        let ordered = passing.left_rest.0.1 in
+        let ends : rank run.end < rank other.end = ranked _ _ Less (is ∙ heads-ranked.1) in
         let starts = same_start in
         passing-tells n whole total _ _ turns _ _ one two passing (λ same alike. absurd (omega arith))
-        (shorter-first rank n run _ left (runs_of rank right) passing.left_rest same_start ends)
+        (slice_cmp-shorter rank _ _ (suc (rank run.end - rank run.start))
+        (suc (rank other.end - rank other.start)) _ left (elements_of (runs_of rank right)) starts
+        (omega arith) (omega arith) passing.left_rest.0.2)
         (grind (arith, nat_tests))
 
     -- or one of the right list
     pub right-tells : Greater ≡ cmp run.end other.end → Tells n whole total
-        (ordering_reverse (cond (nat_lt 0 (length right)) Greater Less))
-        (turns + 1 + 1)
+        (ordering_reverse (cond (nat_lt 0 (length right)) Greater Less)) (turns + 1 + 1)
+    unfolding elements_from
     right-tells is =
-        let ends = heads-ranked.1 Greater is in
+        let ordered = passing.right_rest.0.1 in
+        let ends : rank other.end < rank run.end = ranked _ _ Greater (is ∙ heads-ranked.1) in
         let starts = same_start in
         passing-tells n whole total _ _ turns _ _ one two passing (λ same alike. absurd (omega arith))
-        (ap ordering_reverse (shorter-first rank n other _ right (runs_of rank left) passing.right_rest
-        (sym same_start) ends)
+        (ap ordering_reverse (slice_cmp-shorter rank _ _ (suc (rank other.end - rank other.start))
+        (suc (rank run.end - rank run.start)) _ right (elements_of (runs_of rank left)) (sym starts)
+        (omega arith) (omega arith) passing.right_rest.0.2)
         ∙ sym (nat_list_cmp_total.antisymm (elements_of (run_of rank run ∷ runs_of rank left))
         (elements_of (run_of rank other ∷ runs_of rank right))))
         (grind (arith, nat_tests))
@@ -271,4 +252,4 @@ module _ {T : Type 0} (rank : T → ℕ) (n : ℕ) (cmp : T → T → Ordering)
         → IsPassing n whole total (runs_of rank left) (runs_of rank right) (turns + 1)
     alike-passed is =
         passing-more n whole total _ _ (runs_of rank left) (runs_of rank right) turns
-        (same_interval _ _ same_start (heads-ranked.1 Equal is)) passing
+        (same_interval _ _ same_start (ranked _ _ Equal (is ∙ heads-ranked.1))) passing

@@ -72,13 +72,13 @@ module _ {T : Type 0} (rank : T → ℕ) (n : ℕ) where
       → IsGreatest n (members (runs_of rank entries)) (rank run.1)
   last-greatest entries run canonical found =
       let runs = runs_of rank entries in
-      let some = slice_get_within entries (length entries - 1) run found in
-      let long = length-map entries (entry_run rank) in
-      let at : get_or runs (length entries - 1) (entry_run rank run) ≡ entry_run rank run =
-      get_or-map (entry_run rank) entries (length entries - 1) run _ some
-      ∙ ap (entry_run rank) (get_or_from_slice_get entries (length entries - 1) run run found) in
       let i = length entries - 1 in
       let last = entry_run rank run in
+      let some = slice_get_within entries i run found in
+      let long = length-map entries (entry_run rank) in
+      let at : get_or runs i last ≡ last =
+      get_or-map (entry_run rank) entries i run _ some
+      ∙ ap (entry_run rank) (get_or_from_slice_get entries i run run found) in
       let within : i < length runs = omega (arith, some, long) in
       let maximal = canonical-maximal n 0 runs canonical.0 canonical.1 i last within in
       let ends = ends-last 0 i runs last canonical.0 (omega (arith, some, long)) in

@@ -1,8 +1,9 @@
 -- What a set that is kept as its runs feeds a hasher.
-use Rattle.std.proofs.Common.{◌≡◌, ℕ, zero, suc, true, false, not, cond, ◌+◌, ◌-◌, ◌<◌, ◌≤◌, List, [], ◌∷◌, ◌++◌, append_assoc, refl, sym, ap, ◌∙◌, inl, inr, arith}
+use Rattle.std.proofs.Common.{◌≡◌, ℕ, Bool, zero, suc, true, false, not, cond, ◌+◌, ◌-◌, ◌<◌, ◌≤◌, List, [], ◌∷◌, ◌++◌, append_assoc, refl, sym, ap, ◌∙◌, inl, inr, arith}
 use Rattle.std.proofs.lemmas.Bool.{cases_lt}
 use Rattle.std.proofs.lemmas.Bool.Decides.{nat_tests}
-use Rattle.std.proofs.lemmas.List.Elements.{All-head, All-tail}
+use Rattle.std.proofs.lemmas.List.{append-nil}
+use Rattle.std.proofs.lemmas.List.Elements.{All-tail}
 use Rattle.std.specs.Hash.{HashWrites}
 use Rattle.std.specs.Prelude.{flat_map, All}
 use Rattle.rsb_integer.specs.Runs.{Interval, members, AllEndBelow, IsCanonicalIn, IsMaximalRun}
@@ -34,46 +35,31 @@ module _ (n : ℕ) (runs : List Interval) (canonical : IsCanonicalIn n runs) (ru
     | inr most ↦ members-end n runs (suc run.last) canonical.1 most
   ]
 
-  -- from a later rank of the run on, it has one bound
-  rest-bounds : (count low : ℕ) → low + count ≡ run.last → run.first ≤ low
-      → before (members runs) low ≡ true
-      → bounds_from (members runs) low (n - low)
-      ≡ run.last ∷ bounds_from (members runs) (suc run.last) (n - suc run.last)
+  -- from a rank of the run on, the bounds are that rank, where the run begins there, and the last
+  run-bounds : (count low : ℕ) (begun : Bool) → low + count ≡ run.last → run.first ≤ low
+      → before (members runs) low ≡ begun
+      → bounds_from (members runs) low (n - low) ≡ cond (not begun) (low ∷ []) []
+      ++ run.last ∷ bounds_from (members runs) (suc run.last) (n - suc run.last)
   unfolding bounds_from
-  rest-bounds zero low ends from later =
+  run-bounds zero low begun ends from is =
       let below = maximal.in_type in
       let more : n - low ≡ suc (n - suc run.last) = omega arith in
       let at : low ≡ run.last = omega arith in
       ap (bounds_from (members runs) low) more
-      ∙ rw (later, at, here run.last (omega arith) (omega arith), stops) refl
-  rest-bounds (suc count) low ends from later =
+      ∙ rw (is, at, here run.last (omega arith) (omega arith), stops)
+      (append_assoc (cond (not begun) (run.last ∷ []) []) (run.last ∷ []) _)
+  run-bounds (suc count) low begun ends from is =
       let below = maximal.in_type in
       let more : n - low ≡ suc (n - suc low) = omega arith in
       ap (bounds_from (members runs) low) more
-      ∙ rw (later, here low from (omega arith), here (suc low) (omega arith) (omega arith))
-      (rest-bounds count (suc low) (omega arith) (omega arith) (here low from (omega arith)))
-
-  -- a maximal run's bounds are its first and its last rank
-  run-bounds : (count : ℕ) → run.first + count ≡ run.last
-      → bounds_from (members runs) run.first (n - run.first)
-      ≡ run.first ∷ run.last ∷ bounds_from (members runs) (suc run.last) (n - suc run.last)
-  unfolding bounds_from
-  run-bounds count ends =
-      let below = maximal.in_type in
-      let more : n - run.first ≡ suc (n - suc run.first) = omega arith in
-      ap (bounds_from (members runs) run.first) more
-      ∙ rw (here run.first (omega arith) (omega arith), begins run.first refl) (by count ends)
-    where
-      by : (count : ℕ) → run.first + count ≡ run.last
-          → (run.first ∷ cond (not (members runs (suc run.first))) (run.first ∷ []) [])
-          ++ bounds_from (members runs) (suc run.first) (n - suc run.first)
-          ≡ run.first ∷ run.last ∷ bounds_from (members runs) (suc run.last) (n - suc run.last)
-      by zero ends = let one : run.first ≡ run.last = omega arith in rw (one, stops) refl
-      by (suc count) ends =
-          rw (here (suc run.first) (omega arith) (omega arith))
-          (ap (λ bounds. run.first ∷ bounds)
-          (rest-bounds count (suc run.first) (omega arith) (omega arith)
-          (here run.first (omega arith) (omega arith))))
+      ∙ rw (
+        is,
+        here low from (omega arith),
+        here (suc low) (omega arith) (omega arith),
+        append-nil (cond (not begun) (low ∷ []) []),
+        run-bounds count (suc low) true (omega arith) (omega arith) (here low from (omega arith)),
+      )
+      refl
 
 -- every member of a list in a type of n values is below n
 below-members : (n : ℕ) (runs : List Interval) → AllEndBelow n runs → (rank : ℕ)
@@ -92,8 +78,10 @@ run_bounds-canonical n runs canonical =
     (λ i rank. below-members n runs canonical.1 rank i)
     ∙ made-canonical (bounds_from (members runs)) n runs canonical
     (λ run. run.first ∷ run.last ∷ []) (λ low. refl) (λ rank left lacks. rw lacks refl)
-    (λ run maximal. run-bounds n runs canonical run maximal (run.last - run.first)
-    (let ordered = maximal.in_order in omega arith))
+    (λ run maximal.
+    let ordered = maximal.in_order in
+    run-bounds n runs canonical run maximal (run.last - run.first) run.first false (omega arith)
+    (omega arith) (begins n runs canonical run maximal run.first refl))
 
 module _ {T : Type 0} (rank : T → ℕ) (n : ℕ) (value_at : ℕ → T)
     (placed : (x : T) → rank x < n → value_at (rank x) ≡ x) (fed : T → HashWrites) where
@@ -105,7 +93,7 @@ module _ {T : Type 0} (rank : T → ℕ) (n : ℕ) (value_at : ℕ → T)
   entries-fed selected [] maximal = refl
   entries-fed selected (entry ∷ entries) maximal =
       let run = entry_run rank entry in
-      let here = All-head (IsMaximalRun n selected) run (runs_of rank entries) maximal in
+      let here = maximal 0 run (omega arith) in
       let ordered = here.in_order in
       let below = here.in_type in
       let start = sym (ap fed (placed entry.0 (omega arith))) in
