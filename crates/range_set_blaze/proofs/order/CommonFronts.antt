@@ -51,9 +51,9 @@ pub elements_from-members : (n : ℕ) (runs : List Interval) → IsCanonicalIn n
     → elements_from 0 n (members runs) ≡ elements_of runs
 unfolding elements_from
 elements_from-members n runs canonical =
-    made-canonical (λ low more. elements_from low more (members runs)) n runs canonical ranks_of
+    made-canonical (λ low more. elements_from low more (members runs)) n runs ranks_of canonical
     (λ low. refl) (λ rank left lacks. rw lacks refl)
-    (λ run maximal.
+    (λ run maximal stops.
     let ordered = maximal.in_order in
     let below = maximal.in_type in
     elements_from-inside (members runs) run.first (suc (run.last - run.first))
@@ -126,23 +126,6 @@ passing-none n whole total left right = record {
   right_rest = right;
 }
 
--- a run of both is passed in one turn
-passing-more : (n : ℕ) (whole total : List Interval) (run other : Interval)
-    (left right : List Interval) (turns : ℕ) → run ≡ other
-    → IsPassing n whole total (run ∷ left) (other ∷ right) turns
-    → IsPassing n whole total left right (turns + 1)
-passing-more n whole total run other left right turns same passing =
-    let counted = passing.counted in
-    record {
-      front = passing.front ++ run ∷ [];
-      left_parts = passing.left_parts ∙ sym (append_assoc passing.front (run ∷ []) left);
-      right_parts = passing.right_parts ∙ ap (λ each. passing.front ++ each ∷ right) (sym same)
-          ∙ sym (append_assoc passing.front (run ∷ []) right);
-      counted = omega (arith, counted);
-      left_rest = canonical-tail n run left passing.left_rest;
-      right_rest = canonical-tail n other right passing.right_rest;
-    }
-
 -- the sets of two lists have this order, and it takes so many turns
 abbrev pub Tells : ℕ → List Interval → List Interval → Ordering → ℕ → Type 0
 Tells n whole total ordering turns = record {
@@ -151,12 +134,12 @@ Tells n whole total ordering turns = record {
 }
 
 -- what is left tells, where it begins apart
-pub passing-tells : (n : ℕ) (whole total left right : List Interval) (turns all : ℕ)
-    (ordering : Ordering) → IsCanonicalIn n whole → IsCanonicalIn n total
+pub passing-tells : {n : ℕ} {whole total left right : List Interval} {turns all : ℕ}
+    {ordering : Ordering} → IsCanonicalIn n whole → IsCanonicalIn n total
     → IsPassing n whole total left right turns → AreApart left right
     → ordering ≡ slice_cmp nat_cmp (elements_of left) (elements_of right)
     → turns + cond (start_alike left right) 2 1 ≡ all → Tells n whole total ordering all
-passing-tells n whole total left right turns all ordering one two passing apart is told =
+passing-tells {n} {whole} {total} {left} {right} one two passing apart is told =
     let counted = passing.counted in
     let front = passing.front in
     let length = ap length passing.left_parts ∙ length-append front left in
@@ -187,13 +170,13 @@ passing-tells n whole total left right turns all ordering one two passing apart 
 
 -- ---- a turn
 
-module _ {T : Type 0} (rank : T → ℕ) (n : ℕ) (cmp : T → T → Ordering)
+module _ {T : Type 0} {rank : T → ℕ} {n : ℕ} {cmp : T → T → Ordering}
     (in_order : (x y : T) → rank x < n → rank y < n → cmp x y ≡ nat_cmp (rank x) (rank y))
-    (whole total : List Interval) (one : IsCanonicalIn n whole) (two : IsCanonicalIn n total)
-    (run other : Run T) (left right : List (T × T)) (turns : ℕ)
+    {whole total : List Interval} (one : IsCanonicalIn n whole) (two : IsCanonicalIn n total)
+    {run other : Run T} (left right : List (T × T)) {turns : ℕ}
     (passing : IsPassing n whole total (run_of rank run ∷ runs_of rank left)
     (run_of rank other ∷ runs_of rank right) turns)
-    (starts : Ordering) (starts_by : starts ≡ cmp run.start other.start) where
+    {starts : Ordering} (starts_by : starts ≡ cmp run.start other.start) where
   -- first runs compare as their ranks do
   heads-ranked : (cmp run.start other.start ≡ nat_cmp (rank run.start) (rank other.start))
       × (cmp run.end other.end ≡ nat_cmp (rank run.end) (rank other.end))
@@ -209,7 +192,7 @@ module _ {T : Type 0} (rank : T → ℕ) (n : ℕ) (cmp : T → T → Ordering)
   starts-tell apart =
       let by = starts_by ∙ heads-ranked.0 in
       let differ : ¬ (rank run.start ≡ rank other.start) = grind (arith, nat_tests) in
-      passing-tells n whole total _ _ turns _ starts one two passing (λ same. absurd (differ same))
+      passing-tells one two passing (λ same. absurd (differ same))
       (rw (← by) (grind (arith, apart))) (grind (arith, nat_tests))
 
   module _ (level : false ≡ is_ne starts) where
@@ -225,7 +208,7 @@ module _ {T : Type 0} (rank : T → ℕ) (n : ℕ) (cmp : T → T → Ordering)
         let ordered = passing.left_rest.0.1 in
         let ends : rank run.end < rank other.end = ranked _ _ Less (is ∙ heads-ranked.1) in
         let starts = same_start in
-        passing-tells n whole total _ _ turns _ _ one two passing (λ same alike. absurd (omega arith))
+        passing-tells one two passing (λ same alike. absurd (omega arith))
         (slice_cmp-shorter rank _ _ (suc (rank run.end - rank run.start))
         (suc (rank other.end - rank other.start)) _ left (elements_of (runs_of rank right)) starts
         (omega arith) (omega arith) passing.left_rest.0.2)
@@ -239,7 +222,7 @@ module _ {T : Type 0} (rank : T → ℕ) (n : ℕ) (cmp : T → T → Ordering)
         let ordered = passing.right_rest.0.1 in
         let ends : rank other.end < rank run.end = ranked _ _ Greater (is ∙ heads-ranked.1) in
         let starts = same_start in
-        passing-tells n whole total _ _ turns _ _ one two passing (λ same alike. absurd (omega arith))
+        passing-tells one two passing (λ same alike. absurd (omega arith))
         (ap ordering_reverse (slice_cmp-shorter rank _ _ (suc (rank other.end - rank other.start))
         (suc (rank run.end - rank run.start)) _ right (elements_of (runs_of rank left)) (sym starts)
         (omega arith) (omega arith) passing.right_rest.0.2)
@@ -251,5 +234,18 @@ module _ {T : Type 0} (rank : T → ℕ) (n : ℕ) (cmp : T → T → Ordering)
     pub alike-passed : Equal ≡ cmp run.end other.end
         → IsPassing n whole total (runs_of rank left) (runs_of rank right) (turns + 1)
     alike-passed is =
-        passing-more n whole total _ _ (runs_of rank left) (runs_of rank right) turns
-        (same_interval _ _ same_start (ranked _ _ Equal (is ∙ heads-ranked.1))) passing
+        let same : run_of rank run ≡ run_of rank other =
+        same_interval _ _ same_start (ranked _ _ Equal (is ∙ heads-ranked.1)) in
+        let front = passing.front in
+        let counted = passing.counted in
+        let both = run_of rank run ∷ [] in
+        record {
+          front = front ++ both;
+          left_parts = passing.left_parts ∙ sym (append_assoc front both (runs_of rank left));
+          right_parts = passing.right_parts
+              ∙ ap (λ each. front ++ each ∷ runs_of rank right) (sym same)
+              ∙ sym (append_assoc front both (runs_of rank right));
+          counted = omega (arith, counted);
+          left_rest = canonical-tail n _ (runs_of rank left) passing.left_rest;
+          right_rest = canonical-tail n _ (runs_of rank right) passing.right_rest;
+        }

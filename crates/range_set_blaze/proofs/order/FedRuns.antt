@@ -13,53 +13,45 @@ use Rattle.range_set_blaze.specs.Hash.{before, below, bounds_from, ends_of, run_
 use Rattle.range_set_blaze.specs.Kept.{entry_run, runs_of}
 use Rattle.range_set_blaze.proofs.order.AlongRuns.{made-canonical}
 
-module _ (n : ℕ) (runs : List Interval) (canonical : IsCanonicalIn n runs) (run : Interval)
-    (maximal : IsMaximalRun n (members runs) run) where
-  -- the run's ranks are members
-  here : (rank : ℕ) → run.first ≤ rank → rank ≤ run.last → members runs rank ≡ true
-  here rank from to = maximal.whole rank (covers-inside rank run from to)
+module _ (n : ℕ) (runs : List Interval) (run : Interval)
+    (maximal : IsMaximalRun n (members runs) run) (stops : members runs (suc run.last) ≡ false)
+  where
+    -- the run's ranks are members
+    here : (rank : ℕ) → run.first ≤ rank → rank ≤ run.last → members runs rank ≡ true
+    here rank from to = maximal.whole rank (covers-inside rank run from to)
 
-  -- and no rank comes right before the first
-  begins : (rank : ℕ) → rank ≡ run.first → before (members runs) rank ≡ false
-  begins zero is = refl
-  begins (suc rank) is =
-      let at : run.first - 1 ≡ rank = omega arith in
-      ap (members runs) (sym at) ∙ maximal.begins_here (omega arith)
+    -- and no rank comes right before the first
+    begins : (rank : ℕ) → rank ≡ run.first → before (members runs) rank ≡ false
+    begins zero is = refl
+    begins (suc rank) is =
+        let at : run.first - 1 ≡ rank = omega arith in
+        ap (members runs) (sym at) ∙ maximal.begins_here (omega arith)
 
-  -- and the last has none after it
-  stops : members runs (suc run.last) ≡ false
-  stops = elim (cases_lt (suc run.last) n) [
-    | inl more ↦
-        let next : run.last + 1 ≡ suc run.last = omega arith in
-        ap (members runs) (sym next) ∙ maximal.ends_here (omega arith)
-    | inr most ↦ members-end n runs (suc run.last) canonical.1 most
-  ]
-
-  -- from a rank of the run on, the bounds are that rank, where the run begins there, and the last
-  run-bounds : (count low : ℕ) (begun : Bool) → low + count ≡ run.last → run.first ≤ low
-      → before (members runs) low ≡ begun
-      → bounds_from (members runs) low (n - low) ≡ cond (not begun) (low ∷ []) []
-      ++ run.last ∷ bounds_from (members runs) (suc run.last) (n - suc run.last)
-  unfolding bounds_from
-  run-bounds zero low begun ends from is =
-      let below = maximal.in_type in
-      let more : n - low ≡ suc (n - suc run.last) = omega arith in
-      let at : low ≡ run.last = omega arith in
-      ap (bounds_from (members runs) low) more
-      ∙ rw (is, at, here run.last (omega arith) (omega arith), stops)
-      (append_assoc (cond (not begun) (run.last ∷ []) []) (run.last ∷ []) _)
-  run-bounds (suc count) low begun ends from is =
-      let below = maximal.in_type in
-      let more : n - low ≡ suc (n - suc low) = omega arith in
-      ap (bounds_from (members runs) low) more
-      ∙ rw (
-        is,
-        here low from (omega arith),
-        here (suc low) (omega arith) (omega arith),
-        append-nil (cond (not begun) (low ∷ []) []),
-        run-bounds count (suc low) true (omega arith) (omega arith) (here low from (omega arith)),
-      )
-      refl
+    -- from a rank of the run on, the bounds are that rank, where the run begins there, and the last
+    run-bounds : (count low : ℕ) (begun : Bool) → low + count ≡ run.last → run.first ≤ low
+        → before (members runs) low ≡ begun
+        → bounds_from (members runs) low (n - low) ≡ cond (not begun) (low ∷ []) []
+        ++ run.last ∷ bounds_from (members runs) (suc run.last) (n - suc run.last)
+    unfolding bounds_from
+    run-bounds zero low begun ends from is =
+        let below = maximal.in_type in
+        let more : n - low ≡ suc (n - suc run.last) = omega arith in
+        let at : low ≡ run.last = omega arith in
+        ap (bounds_from (members runs) low) more
+        ∙ rw (is, at, here run.last (omega arith) (omega arith), stops)
+        (append_assoc (cond (not begun) (run.last ∷ []) []) (run.last ∷ []) _)
+    run-bounds (suc count) low begun ends from is =
+        let below = maximal.in_type in
+        let more : n - low ≡ suc (n - suc low) = omega arith in
+        ap (bounds_from (members runs) low) more
+        ∙ rw (
+          is,
+          here low from (omega arith),
+          here (suc low) (omega arith) (omega arith),
+          append-nil (cond (not begun) (low ∷ []) []),
+          run-bounds count (suc low) true (omega arith) (omega arith) (here low from (omega arith)),
+        )
+        refl
 
 -- every member of a list in a type of n values is below n
 below-members : (n : ℕ) (runs : List Interval) → AllEndBelow n runs → (rank : ℕ)
@@ -76,12 +68,11 @@ unfolding bounds_from
 run_bounds-canonical n runs canonical =
     ap (λ selected. bounds_from selected 0 n)
     (λ i rank. below-members n runs canonical.1 rank i)
-    ∙ made-canonical (bounds_from (members runs)) n runs canonical
-    (λ run. run.first ∷ run.last ∷ []) (λ low. refl) (λ rank left lacks. rw lacks refl)
-    (λ run maximal.
+    ∙ made-canonical (bounds_from (members runs)) n runs (λ run. run.first ∷ run.last ∷ [])
+    canonical (λ low. refl) (λ rank left lacks. rw lacks refl) (λ run maximal stops.
     let ordered = maximal.in_order in
-    run-bounds n runs canonical run maximal (run.last - run.first) run.first false (omega arith)
-    (omega arith) (begins n runs canonical run maximal run.first refl))
+    run-bounds n runs run maximal stops (run.last - run.first) run.first false (omega arith)
+    (omega arith) (begins n runs run maximal stops run.first refl))
 
 module _ {T : Type 0} (rank : T → ℕ) (n : ℕ) (value_at : ℕ → T)
     (placed : (x : T) → rank x < n → value_at (rank x) ≡ x) (fed : T → HashWrites) where

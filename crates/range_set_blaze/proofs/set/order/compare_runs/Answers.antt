@@ -20,51 +20,47 @@ overflow_add-turns g c =
 -- both lists have ended
 pub returns-in_default-next_run : goal.returns-in_default-next_run
 returns-in_default-next_run g c =
-    passing-tells g.T.Integer.value_count _ _ _ _ _ _ _ c.requires.left c.requires.right
+    passing-tells c.requires.left c.requires.right
     (rw (c.in_default.ensures, c.in_default-next_run.ensures) at c.loop-run.invariant) tt refl refl
 
 -- the left one alone has
 pub returns-in_default : goal.returns-in_default
 returns-in_default g c =
-    passing-tells g.T.Integer.value_count _ _ _ _ _ _ _ c.requires.left c.requires.right
+    passing-tells c.requires.left c.requires.right
     (rw (c.in_default.ensures, c.in-Some-next_run.ensures) at c.loop-run.invariant) tt refl refl
 
 -- or the right one
 pub returns-in_default-next_run-2 : goal.returns-in_default-next_run-2
 returns-in_default-next_run-2 g c =
-    passing-tells g.T.Integer.value_count _ _ _ _ _ _ _ c.requires.left c.requires.right
+    passing-tells c.requires.left c.requires.right
     (rw (c.in-Some.ensures, c.in_default-next_run-2.ensures) at c.loop-run.invariant) tt refl refl
 
 -- the runs start apart
 pub returns-then-is_ne : goal.returns-then-is_ne
 returns-then-is_ne g c =
-    starts-tell g.T.Integer.rank g.T.Integer.value_count g.T.Ord.cmp g.met.T.Integer.in_order _ _
-    c.requires.left c.requires.right _ _ _ _ _
-    (rw (c.in-Some.ensures, c.in-Some-next_run-2.ensures) at c.loop-run.invariant) _
+    starts-tell g.met.T.Integer.in_order c.requires.left c.requires.right _ _
+    (rw (c.in-Some.ensures, c.in-Some-next_run-2.ensures) at c.loop-run.invariant)
     c.cmp-starts.ensures c.if-is_ne.ensures
 
 -- the run of the left list ends first
 pub returns-in-Less : goal.returns-in-Less
 returns-in-Less g c =
     rw c.order_by_rest.ensures
-    (left-tells g.T.Integer.rank g.T.Integer.value_count g.T.Ord.cmp g.met.T.Integer.in_order _ _
-    c.requires.left c.requires.right _ _ _ _ _
-    (rw (c.in-Some.ensures, c.in-Some-next_run-2.ensures) at c.loop-run.invariant) _
+    (left-tells g.met.T.Integer.in_order c.requires.left c.requires.right _ _
+    (rw (c.in-Some.ensures, c.in-Some-next_run-2.ensures) at c.loop-run.invariant)
     c.cmp-starts.ensures c.if-is_ne.ensures c.in-Less.ensures)
 
 -- both end alike
 pub loop-run-preserved : goal.loop-run-preserved
 loop-run-preserved g c =
-    alike-passed g.T.Integer.rank g.T.Integer.value_count g.T.Ord.cmp g.met.T.Integer.in_order _ _
-    c.requires.left c.requires.right _ _ _ _ _
-    (rw (c.in-Some.ensures, c.in-Some-next_run-2.ensures) at c.loop-run.invariant) _
+    alike-passed g.met.T.Integer.in_order c.requires.left c.requires.right _ _
+    (rw (c.in-Some.ensures, c.in-Some-next_run-2.ensures) at c.loop-run.invariant)
     c.cmp-starts.ensures c.if-is_ne.ensures c.in-Equal.ensures
 
 -- the run of the right list ends first
 pub returns-in-Greater : goal.returns-in-Greater
 returns-in-Greater g c =
     rw (c.reverse.ensures, c.order_by_rest-in-Greater.ensures)
-    (right-tells g.T.Integer.rank g.T.Integer.value_count g.T.Ord.cmp g.met.T.Integer.in_order _ _
-    c.requires.left c.requires.right _ _ _ _ _
-    (rw (c.in-Some.ensures, c.in-Some-next_run-2.ensures) at c.loop-run.invariant) _
+    (right-tells g.met.T.Integer.in_order c.requires.left c.requires.right _ _
+    (rw (c.in-Some.ensures, c.in-Some-next_run-2.ensures) at c.loop-run.invariant)
     c.cmp-starts.ensures c.if-is_ne.ensures c.in-Greater.ensures)
