@@ -10,16 +10,13 @@ AllAnswer n wanted left right = (rank : ℕ) → rank < n → members left rank 
     → members right rank ≡ wanted
 
 -- what a test tells of lists that may be given, it tells of the two that are
-pub known-test : (n : ℕ) (wanted : Bool) (left right one two : List Interval) (test : Bool)
-    → left ≡ one → right ≡ two
+pub known-test : (n : ℕ) (wanted : Bool) (left right : List Interval) (test : Bool)
     → SomeOutcomes (just left) (just right)
     (λ these those. (test ≡ true) ↔ AllAnswer n wanted these those)
-    → (test ≡ true) ↔ AllAnswer n wanted one two
-known-test n wanted left right one two test is also some = (
-  (λ passes rank below here. settled-same (members two rank) wanted
-      (λ fails. some (λ these those same too told. fails
-      ((rw (same, too, is, also) at told).0 passes rank below here)))),
-  (λ all. settled-same test true
-      (λ fails. some (λ these those same too told. fails
-      ((rw (same, too, is, also) at told).1 all)))),
+    → (test ≡ true) ↔ AllAnswer n wanted left right
+known-test n wanted left right test some = (
+  (λ passes rank below here. settled-same (members right rank) wanted (λ fails.
+      some (λ these those is also told. fails ((rw (is, also) at told).0 passes rank below here)))),
+  (λ all. settled-same test true (λ fails.
+      some (λ these those is also told. fails ((rw (is, also) at told).1 all)))),
 )

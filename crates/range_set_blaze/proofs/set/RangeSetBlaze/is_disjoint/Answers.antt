@@ -5,5 +5,5 @@ use Rattle.range_set_blaze.proofs.set.RangeSetBlaze.is_disjoint.Goals as goal
 -- the streams give the runs of the sets
 pub returns : goal.returns
 returns g c =
-    known-test g.T.Integer.value_count false _ _ c.args.self.now c.args.other.now c.is_disjoint.result
-    c.ranges-2.ensures.ranges c.ranges-3.ensures.ranges c.is_disjoint.ensures
+    rw (← c.ranges-2.ensures.ranges, ← c.ranges-3.ensures.ranges)
+    (known-test g.T.Integer.value_count false _ _ c.is_disjoint.result c.is_disjoint.ensures)
