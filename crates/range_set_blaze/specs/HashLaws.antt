@@ -11,7 +11,7 @@ use Rattle.range_set_blaze.specs.Hash.{below, bounds_from, hashed_runs}
 use Rattle.range_set_blaze.specs.OrderLaws.{set_eq, same-agree}
 
 -- a rank from n on is not below n
-pub nat_lt-past : (rank n : ℕ) → n ≤ rank → nat_lt rank n ≡ false
+nat_lt-past : (rank n : ℕ) → n ≤ rank → nat_lt rank n ≡ false
 nat_lt-past rank n most = grind (arith, nat_tests)
 
 -- sets that agree have the same ranks below n

@@ -30,7 +30,7 @@ nat_cmp-less a b less = grind (arith, nat_tests)
 pub nat_cmp-greater : (a b : ℕ) → a < b → nat_cmp b a ≡ Greater
 nat_cmp-greater a b less = grind (arith, nat_tests)
 
-nat_cmp-same : (a : ℕ) → nat_cmp a a ≡ Equal
+pub nat_cmp-same : (a : ℕ) → nat_cmp a a ≡ Equal
 nat_cmp-same a = grind (arith, nat_tests)
 
 -- ---- `==`
@@ -193,7 +193,7 @@ differs-not n rank left right differs all =
     not_both (right rank) (sym (all rank differs.in_type) ∙ differs.here) differs.lacks
 
 -- a set that is less than another does not agree with it
-pub less-not : (n : ℕ) (left right : Selection) → IsLess n left right → ¬ Agree n left right
+less-not : (n : ℕ) (left right : Selection) → IsLess n left right → ¬ Agree n left right
 less-not n left right (inl less) all =
     differs-not n less.rank left right less.differs all
 less-not n left right (inr less) all =

@@ -1,6 +1,7 @@
 //! How sets compare.
 
-ghost use Rattle.std.specs.Prelude.{◌≡◌, ◌↔◌, ℕ, ◌+◌, ◌≤◌, List, [], ◌∷◌, length, min, refl, IsTrue, MatchOption, Some};
+ghost use Rattle.std.specs.Prelude.{◌≡◌, ◌↔◌, ℕ, ◌+◌, ◌≤◌, List, [], ◌∷◌, length, min, refl, IsTrue, MatchOption, Some, cond, nat_lt};
+ghost use Rattle.std.specs.declared.cmp.Ordering.TheVariants.{Greater, Less};
 ghost use Rattle.rsb_integer.specs.Runs.{Interval, members, IsCanonicalIn};
 ghost use Rattle.rsb_integer.specs.Selection.{Agree};
 ghost use Rattle.range_set_blaze.specs.Kept.{entry_of, runs_of};
@@ -51,12 +52,12 @@ impl<T: Integer, A: Allocator> Ord for RangeSetBlaze<T, A> {
     ghost matches_eq = { sets_ties T.value_count };
 
     fn cmp(&self, other: &Self) -> Ordering {
-        cmp_counted(self, other).0
+        compare_runs(&self.map, &other.map).0
     }
 }
 
-/// The order of two sets, as `cmp` answers it, and how many turns its loop took. A turn looks at
-/// one run of each set, and steps to the next one of each at most once. (Own.)
+/// The order of two sets, as `cmp` answers it, and how many turns it took. A turn looks at one run
+/// of each set, and steps to the next one of each at most once. (Own.)
 pub fn cmp_counted<T: Integer, A: Allocator, B: Allocator>(
     a: &RangeSetBlaze<T, A>,
     b: &RangeSetBlaze<T, B>,
@@ -90,34 +91,46 @@ fn compare_runs<T: Integer, A: Allocator, B: Allocator>(
 ) -> (Ordering, u128)
     requires left { IsCanonicalIn T.value_count (runs_of T.rank left.now.entries) }
     requires right { IsCanonicalIn T.value_count (runs_of T.rank right.now.entries) }
-    ensures order { HasOrder T.value_count (members (runs_of T.rank left.now.entries))
-        (members (runs_of T.rank right.now.entries)) result.0 }
+    ensures order { result.0 ≡ set_cmp T.value_count (runs_of T.rank left.now.entries)
+        (runs_of T.rank right.now.entries) }
     ensures turns { AreTurns (runs_of T.rank left.now.entries)
         (runs_of T.rank right.now.entries) result.1 }
 {
     let mut left = left.iter();
     let mut right = right.iter();
-    let mut first = next_run(&mut left);
-    let mut second = next_run(&mut right);
     let mut turns = 0;
-    'turns: loop {
+    // Runs that stand in both are passed.
+    loop {
         turns += 1;
-        let (Some(run), Some(other)) = (first, second) else {
-            return (first.is_some().cmp(&second.is_some()), turns);
+        let Some(run) = next_run(&mut left) else {
+            let Some(_) = next_run(&mut right) else {
+                return (Ordering::Equal, turns);
+            };
+            return (Ordering::Less, turns);
+        };
+        let Some(other) = next_run(&mut right) else {
+            return (Ordering::Greater, turns);
         };
         let starts = run.start.cmp(&other.start);
         if starts.is_ne() {
             return (starts, turns);
         }
-        // The run that ends first is passed, or both where they end alike.
         match run.end.cmp(&other.end) {
-            Ordering::Less => first = next_run(&mut left),
-            Ordering::Equal => {
-                first = next_run(&mut left);
-                second = next_run(&mut right);
-            }
-            Ordering::Greater => second = next_run(&mut right),
+            Ordering::Less => return (order_by_rest(&mut left), turns + 1),
+            Ordering::Equal => {}
+            Ordering::Greater => return (order_by_rest(&mut right).reverse(), turns + 1),
         }
+    }
+}
+
+// How a set whose last run was a front of a run of the other compares: what it still has is later
+// than the rest of that run.
+fn order_by_rest<T>(rest: &mut Iter<'_, T, T>) -> Ordering
+    ensures { result ≡ cond (nat_lt 0 (length rest.old)) Greater Less }
+{
+    match rest.next() {
+        Some(_) => Ordering::Greater,
+        None => Ordering::Less,
     }
 }
 

@@ -1,10 +1,8 @@
-use Rattle.std.proofs.Common.{◌∙◌, ap}
-use Rattle.range_set_blaze.proofs.EndLemmas.{kept-nil}
+use Rattle.range_set_blaze.proofs.order.EndRuns.{kept-nil}
 use Rattle.range_set_blaze.proofs.set.RangeSetBlaze.clear.Goals as goal
 
 -- no run is kept, and the length is 0
 pub invariant_of-self : goal.invariant_of-self
 invariant_of-self g c =
-    rw c.clear.ensures.empty (kept-nil g.T.Integer.rank g.T.Integer.value_count _
-    (ap g.T.SafeLen.SafeLength.number c.zero-self-inside.ensures
-    ∙ g.met.T.SafeLen.SafeLength.zero_is_0))
+    rw (c.clear.ensures.empty, c.zero-self-inside.ensures) (kept-nil g.T.Integer.rank g.T.Integer.value_count _
+    g.met.T.SafeLen.SafeLength.zero_is_0)

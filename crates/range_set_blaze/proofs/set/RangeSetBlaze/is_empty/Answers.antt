@@ -1,4 +1,5 @@
-use Rattle.range_set_blaze.proofs.EndLemmas.{nothing-kept}
+use Rattle.std.proofs.Common.{arith}
+use Rattle.range_set_blaze.proofs.order.EndRuns.{nothing-kept}
 use Rattle.range_set_blaze.proofs.set.RangeSetBlaze.is_empty.Goals as goal
 
 -- a run that is kept has a member
@@ -6,7 +7,4 @@ pub returns : goal.returns
 returns g c =
     let nothing = nothing-kept g.T.Integer.rank g.T.Integer.value_count c.self.inside.map.entries
     c.self.invariant.canonical.0 in
-    rw (← c.self.view_is) (
-      (λ empty. nothing.0 (c.is_empty.ensures.0 empty)),
-      (λ none. c.is_empty.ensures.1 (nothing.1 none)),
-    )
+    rw (← c.self.view_is) (grind (arith, nothing))

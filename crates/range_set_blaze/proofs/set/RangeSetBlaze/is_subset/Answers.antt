@@ -1,10 +1,9 @@
-use Rattle.std.proofs.Common.{◌∙◌}
-use Rattle.range_set_blaze.proofs.SubsetLemmas.{subset-of_lists}
+use Rattle.std.proofs.Common.{true}
+use Rattle.range_set_blaze.proofs.order.KnownTests.{known-test}
 use Rattle.range_set_blaze.proofs.set.RangeSetBlaze.is_subset.Goals as goal
 
 -- the streams give the runs of the sets
 pub returns : goal.returns
 returns g c =
-    subset-of_lists g.T.Integer.value_count c.args.self.now c.args.other.now c.is_subset.result
-    (λ nothing. c.is_subset.ensures (λ left right is also.
-    nothing left right (is ∙ c.ranges-2.ensures.ranges) (also ∙ c.ranges-3.ensures.ranges)))
+    rw (← c.ranges-2.ensures.ranges, ← c.ranges-3.ensures.ranges)
+    (known-test g.T.Integer.value_count true _ _ c.is_subset.result c.is_subset.ensures)

@@ -1,9 +1,8 @@
-use Rattle.std.proofs.Common.{◌∙◌, ap}
-use Rattle.range_set_blaze.proofs.EndLemmas.{kept-nil}
+use Rattle.range_set_blaze.proofs.order.EndRuns.{kept-nil}
 use Rattle.range_set_blaze.proofs.set.RangeSetBlaze.new.Goals as goal
 
 -- no run is kept, and the length is 0
 pub invariant_of-result : goal.invariant_of-result
 invariant_of-result g c =
-    rw c.new.ensures.empty (kept-nil g.T.Integer.rank g.T.Integer.value_count _
-    (ap g.T.SafeLen.SafeLength.number c.zero.ensures ∙ g.met.T.SafeLen.SafeLength.zero_is_0))
+    rw (c.new.ensures.empty, c.zero.ensures) (kept-nil g.T.Integer.rank g.T.Integer.value_count _
+    g.met.T.SafeLen.SafeLength.zero_is_0)

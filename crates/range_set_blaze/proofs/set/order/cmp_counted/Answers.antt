@@ -1,14 +1,7 @@
-use Rattle.range_set_blaze.proofs.TurnsLemmas.{turns-bound}
+use Rattle.range_set_blaze.specs.OrderLaws.{order-holds}
 use Rattle.range_set_blaze.proofs.set.order.cmp_counted.Goals as goal
 
+-- the order of two sets by their elements is that by their least difference
 pub returns-clause-order : goal.returns-clause-order
 returns-clause-order g c =
-    rw (← c.a.view_is, ← c.b.view_is) c.compare_runs.ensures.order
-
-pub returns-clause-turns : goal.returns-clause-turns
-returns-clause-turns g c =
-    rw (← c.a.view_is, ← c.b.view_is) c.compare_runs.ensures.turns
-
-pub returns-clause-bound : goal.returns-clause-bound
-returns-clause-bound g c =
-    rw (← c.a.view_is, ← c.b.view_is) (turns-bound _ _ _ c.compare_runs.ensures.turns)
+    rw (c.compare_runs.ensures.order, c.a.view_is, c.b.view_is) (order-holds _ _ _)

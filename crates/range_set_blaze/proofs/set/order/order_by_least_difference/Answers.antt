@@ -1,15 +1,10 @@
-use Rattle.rsb_integer.specs.Runs.{members}
 use Rattle.range_set_blaze.specs.OrderLaws.{agree-same, order-holds, same-agree}
 use Rattle.range_set_blaze.proofs.set.order.order_by_least_difference.Goals as goal
 
 -- `==` tells whether some rank differs
 pub returns-clause-equal : goal.returns-clause-equal
-returns-clause-equal g c left right = (
-  same-agree g.T.Integer.value_count (members left) (members right),
-  agree-same g.T.Integer.value_count (members left) (members right),
-)
+returns-clause-equal g c left right = (same-agree _ _ _, agree-same _ _ _)
 
 -- and `cmp` which set has the least
 pub returns-clause-order : goal.returns-clause-order
-returns-clause-order g c left right =
-    order-holds g.T.Integer.value_count (members left) (members right)
+returns-clause-order g c left right = order-holds _ _ _

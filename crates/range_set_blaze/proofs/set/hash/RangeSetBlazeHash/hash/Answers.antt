@@ -1,8 +1,11 @@
-use Rattle.std.proofs.Common.{◌++◌}
-use Rattle.std.specs.Hash.{fed_along, fed_then}
-use Rattle.std.specs.Prelude.{flat_map}
+use Rattle.std.proofs.Common.{arith}
+use Rattle.std.specs.Hash.{fed_then}
+use Rattle.rsb_integer.specs.Runs.{members}
+use Rattle.rsb_integer.proofs.CountLemmas.{count-within}
 use Rattle.rsb_integer.proofs.RangeLemmas.{value_at-rank}
-use Rattle.range_set_blaze.proofs.HashLemmas.{kept-fed}
+use Rattle.rsb_integer.proofs.RunsLemmas.{canonical-maximal}
+use Rattle.range_set_blaze.specs.Kept.{runs_of}
+use Rattle.range_set_blaze.proofs.order.FedRuns.{entries-fed, run_bounds-canonical}
 use Rattle.range_set_blaze.proofs.set.hash.RangeSetBlazeHash.hash.Goals as goal
 
 -- the length and the entries feed what the list of runs does
@@ -10,17 +13,17 @@ pub returns : goal.returns
 returns g c =
     let rank = g.T.Integer.rank in
     let n = g.T.Integer.value_count in
-    let value_at = g.T.Integer.value_at in
     let laws = g.met.T.Integer in
-    let placed = value_at-rank rank n g.T.Ord.cmp laws.exact laws.in_order value_at laws.ranks in
-    let fed = g.T.Hash.hash_input in
-    let length = g.T.SafeLen.Hash.hash_input c.self.inside.length in
-    let entries = flat_map (λ entry. fed entry.0 ++ fed entry.1) c.self.inside.map.entries in
-    rw (← c.self.view_is)
-    (fed_along g.H.Hasher.write _ _
-    (kept-fed rank n value_at placed fed g.T.SafeLen.SafeLength.number g.T.SafeLen.SafeLength.limit
-    g.T.SafeLen.SafeLength.length_at g.met.T.SafeLen.SafeLength.lengths
-    laws.lengths_suffice g.T.SafeLen.Hash.hash_input c.self.inside.map.entries
-    c.self.inside.length c.self.invariant)
-    (fed_then g.H.Hasher.write c.args.state.now c.hash.new.state c.feed_runs.new.state length
-    entries c.hash.ensures c.feed_runs.ensures))
+    let runs = runs_of rank c.self.inside.map.entries in
+    let canonical = c.self.invariant.canonical in
+    let counted = c.self.invariant.length in
+    let few = count-within n (members runs) in
+    let placed = value_at-rank rank n g.T.Ord.cmp laws.exact laws.in_order g.T.Integer.value_at laws.ranks in
+    rw (
+      ← c.self.view_is,
+      ← counted,
+      g.met.T.SafeLen.SafeLength.lengths c.self.inside.length (omega (arith, few, counted, laws.lengths_suffice)),
+      run_bounds-canonical n runs canonical,
+      ← entries-fed rank n g.T.Integer.value_at placed g.T.Hash.hash_input (members runs) c.self.inside.map.entries (canonical-maximal n 0 runs canonical.0 canonical.1),
+    )
+    (fed_then g.H.Hasher.write _ c.hash.new.state _ (g.T.SafeLen.Hash.hash_input _) _ c.hash.ensures c.feed_runs.ensures)
