@@ -18,7 +18,6 @@ pub mod HeldLemmas
 pub mod InsertLemmas
 pub mod InsertedLemmas
 pub mod JoinLemmas
-pub mod KeepLemmas
 pub mod KeptLemmas
 pub mod LastTurnLemmas
 pub mod ListedElements
@@ -44,3 +43,4 @@ pub mod TakenLemmas
 pub mod TakesLemmas
 pub mod TurnLemmas
 pub mod TurnsLemmas
+pub mod gathering

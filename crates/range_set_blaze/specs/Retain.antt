@@ -1,5 +1,5 @@
 -- What `retain` asks about, and what it keeps.
-use Rattle.std.specs.Prelude.{◌≡◌, ℕ, zero, suc, Bool, false, ◌||◌, ◌+◌, ◌<◌, List, [], ◌∷◌, ◌++◌, map, Option, None, Some}
+use Rattle.std.specs.Prelude.{◌≡◌, ℕ, zero, suc, Bool, false, ◌||◌, ◌+◌, ◌<◌, ◌≤◌, List, [], ◌∷◌, ◌++◌, map, Option, None, Some}
 use Rattle.std.specs.Fn.{AlwaysReturns, CalledAt, Mut}
 use Rattle.std.specs.List.{FoldsTo, sum_by}
 use Rattle.std.specs.Range.{range_inclusive_start, range_inclusive_end, range_inclusive_exhausted}
@@ -69,10 +69,18 @@ module _ {T : Type 0} (rank : T → ℕ) where
   with_piece set None other = members set other
   with_piece set (Some run) other = members set other || covers other (run_of rank run)
 
+  -- the least rank past a piece, or 0
+  abbrev pub past_piece : Option (Run T) → ℕ
+  past_piece None = 0
+  past_piece (Some run) = rank run.end + 1
+
+-- the runs are canonical from a rank on, in a type of n values
+abbrev pub IsCanonicalBelow : ℕ → ℕ → List Interval → Type 0
+IsCanonicalBelow n low [] = Unit {0}
+IsCanonicalBelow n low (run ∷ runs) = (low ≤ run.first) × (run.first ≤ run.last) × (run.last < n)
+    × IsCanonicalBelow n (run.last + 2) runs
+
 -- the new runs have what the old ones have past their first rank
 pub record IsPastFirst (n : ℕ) (old new : List Interval) (first : ℕ) : Type 0 where
-  pub canonical : IsCanonicalFrom (first + 1) new
-  pub below : AllEndBelow n new
-  pub has : (other : ℕ) → members old other ≡ union (only first) (members new) other
-  pub fewer : sum_by length_of new + 1 ≡ sum_by length_of old
+  pub canonical : IsCanonicalBelow n (first + 1) new
   pub listed : ascending_ranks old ≡ first ∷ ascending_ranks new
