@@ -15,16 +15,6 @@ use Rattle.range_set_blaze.specs.Set.{only, IsSetOf}
 use Rattle.range_set_blaze.specs.Singles.{range_of_one, singles_steps}
 use Rattle.range_set_blaze.specs.declared.set.singles.Singles.{Singles}
 
--- the runs of a selection that ends in the type are the set of it
-pub set-of_runs : (n : ℕ) (selected : Selection) (set : List Interval)
-    → ((place : ℕ) → n ≤ place → selected place ≡ false) → AreRuns n selected set
-    → IsSetOf set selected
-set-of_runs n selected set ends are place = elim (cases_lt place n) [
-  | inl below ↦ runs-members n selected set are place below
-  | inr past ↦
-      members-end n set place (runs-canonical n selected set are).1 past ∙ sym (ends place past)
-]
-
 module _ {T I : Type 0} (steps : I → Option T → I → Type 0) where
   -- the calls that gave ranges gave their values inside
   singles-yields : (ranges : List (RangeInclusive T)) (s t : Singles I)
