@@ -1,16 +1,15 @@
 -- What `retain` asks about, and what it keeps.
 use Rattle.std.specs.Prelude.{◌≡◌, ℕ, zero, suc, Bool, false, ◌||◌, ◌+◌, ◌<◌, ◌≤◌, List, [], ◌∷◌, ◌++◌, map, Option, None, Some}
 use Rattle.std.specs.Fn.{AlwaysReturns, CalledAt, Mut}
-use Rattle.std.specs.List.{FoldsTo, sum_by}
+use Rattle.std.specs.List.{FoldsTo}
 use Rattle.std.specs.Range.{range_inclusive_start, range_inclusive_end, range_inclusive_exhausted}
 use Rattle.std.specs.declared.ops.RangeInclusive.{RangeInclusive}
 use denote.Ref.{Bor}
 use Rattle.rsb_integer.specs.Front.{IsFrontOf}
 use Rattle.rsb_integer.specs.Rank.{interval_of, intervals_of}
-use Rattle.rsb_integer.specs.Runs.{Interval, covers, length_of, members, AllEndBelow, IsCanonicalFrom}
-use Rattle.rsb_integer.specs.Selection.{Selection, union}
+use Rattle.rsb_integer.specs.Runs.{Interval, covers, length_of, members}
+use Rattle.rsb_integer.specs.Selection.{Selection}
 use Rattle.range_set_blaze.specs.Kept.{run_of, runs_of}
-use Rattle.range_set_blaze.specs.Set.{only}
 use Rattle.range_set_blaze.specs.declared.set.run.Run.{Run}
 
 -- as many ranks as the number, from the first one on

@@ -102,11 +102,12 @@ fn union_of<T: Integer, A: Allocator + Copy, L: DrawDisjoint<T>, R: DrawDisjoint
 }
 
 // The set of what two streams both have.
-pub(super) fn intersection_of<T: Integer, A: Allocator + Copy, L: DrawDisjoint<T>, R: DrawDisjoint<T>>(
-    alloc: A,
-    left: L,
-    right: R,
-) -> Result<RangeSetBlaze<T, A>, AllocError>
+pub(super) fn intersection_of<
+    T: Integer,
+    A: Allocator + Copy,
+    L: DrawDisjoint<T>,
+    R: DrawDisjoint<T>,
+>(alloc: A, left: L, right: R) -> Result<RangeSetBlaze<T, A>, AllocError>
     requires left { L.can_draw left }
     requires right { R.can_draw right }
     ensures runs { IfOk result (λ set.

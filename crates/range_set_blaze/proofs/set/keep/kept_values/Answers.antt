@@ -1,6 +1,6 @@
-use Rattle.std.proofs.Common.{◌≡◌, ◌+◌, ◌<◌, ◌≤◌, ◌++◌, ◌∷◌, ◌∙◌, [], ap, append-nil, arith, length, refl, sym}
+use Rattle.std.proofs.Common.{◌≡◌, ◌+◌, ◌<◌, ◌++◌, ◌∷◌, ◌∙◌, [], ap, append-nil, arith, length, refl}
 use Rattle.range_set_blaze.specs.Kept.{runs_of}
-use Rattle.range_set_blaze.specs.Retain.{left_runs, past_piece, ascending_ranks, with_piece}
+use Rattle.range_set_blaze.specs.Retain.{left_runs, past_piece}
 use Rattle.range_set_blaze.proofs.gathering.AskedValues.{answered-all, answered-next, below-lower, canonical-below, left_runs-next, listed-next}
 use Rattle.range_set_blaze.proofs.set.keep.kept_values.Goals as goal
 use Rattle.range_set_blaze.proofs.set.keep.kept_values.Goals.{then-f+in_ok-grown, else-f}
