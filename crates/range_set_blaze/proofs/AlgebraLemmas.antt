@@ -28,11 +28,11 @@ set-of_runs n selected set ends are rank = elim (cases_lt rank n) [
 module _ (n : ℕ) {E : Type 0} (result : Result (List Interval) E) (gives : Outcomes)
     (made : IfOk result gives) where
   -- what is made of the gaps of a set is its complement, with one run more at most
-  pub made-complement : {P : Outcomes} (given : List Interval) → P ⊆ just given
+  pub set-of_complement : {P : Outcomes} (given : List Interval) → P ⊆ just given
       → AreRuns n (members given) given → gives ⊆ runs_by n complement P
       → IfOk result (λ set. IsComplementOf n set given)
       × IfOk result (λ set. HasOneRunMoreAtMost given set)
-  made-complement given is one gaps =
+  set-of_complement given is one gaps =
       let are : (set : List Interval) → gives set → AreRuns n (complement (members given)) set =
       λ set may. settled_runs n (complement (members given)) set (λ fails.
       gaps set may (λ runs at all. fails (rw (is runs at) at all))) in (
@@ -50,14 +50,14 @@ module _ (n : ℕ) {E : Type 0} (result : Result (List Interval) E) (gives : Out
       (also : Q ⊆ just those) (one : AreRuns n (members these) these)
       (other : AreRuns n (members those) those) where
     -- what is made of two sets by an operation that selects nothing of nothing
-    made-of_two : (operation : Selection → Selection → Selection) (Bound : List Interval → Type 0)
+    set-of_two : (operation : Selection → Selection → Selection) (Bound : List Interval → Type 0)
         → ((rank : ℕ) → members these rank ≡ false → members those rank ≡ false
         → operation (members these) (members those) rank ≡ false)
         → ((set : List Interval) → AreRuns n (operation (members these) (members those)) set
         → Bound set) → gives ⊆ runs_by_two n operation P Q
         → IfOk result (λ set. IsSetOf set (operation (members these) (members those)))
         × IfOk result Bound
-    made-of_two operation Bound nothing bounds by_two =
+    set-of_two operation Bound nothing bounds by_two =
         let selected = operation (members these) (members those) in
         let are : (set : List Interval) → gives set → AreRuns n selected set = λ set may.
         settled_runs n selected set (λ fails. by_two set may (λ first second at too all.
@@ -70,21 +70,21 @@ module _ (n : ℕ) {E : Type 0} (result : Result (List Interval) E) (gives : Out
         )
 
     -- rank by rank, it has at most as many runs as both together
-    pub made-by : (op : Bool → Bool → Bool) → op false false ≡ false
+    pub set-of_operation : (op : Bool → Bool → Bool) → op false false ≡ false
         → gives ⊆ runs_by_two n (λ lefts rights rank. op (lefts rank) (rights rank)) P Q
         → IfOk result (λ set. IsSetOf set (λ rank. op (members these rank) (members those rank)))
         × IfOk result (HasRunsOfBothAtMost these those)
-    made-by op none = made-of_two (λ lefts rights rank. op (lefts rank) (rights rank))
+    set-of_operation op none = set-of_two (λ lefts rights rank. op (lefts rank) (rights rank))
         (HasRunsOfBothAtMost these those) (λ rank here there. rw (here, there) none)
         (λ set. runs-of_one op none n (members these) (members those) these those set one other)
 
     -- and what both have has fewer
-    pub made-intersection : gives ⊆ runs_by_two n intersection P Q
+    pub set-of_intersection : gives ⊆ runs_by_two n intersection P Q
         → IfOk result (λ set. IsSetOf set (intersection (members these) (members those)))
         × IfOk result (HasFewerRunsThanBoth these those)
-    made-intersection =
+    set-of_intersection =
         let both = intersection (members these) (members those) in
-        made-of_two intersection (HasFewerRunsThanBoth these those)
+        set-of_two intersection (HasFewerRunsThanBoth these those)
         (λ rank here there. rw here refl) (λ set are. (
           runs-none n (members these) both these set one are
               (λ rank has. (and_parts (members these rank) (members those rank) has).0),

@@ -56,10 +56,4 @@ runs_of-taken {T} rank runs new run range is starts ends ordered =
 -- the members of one interval are its ranks
 pub members-run_if_any : (run : Interval) (rank : ℕ) → members (run_if_any run) rank
     ≡ covers rank run
-members-run_if_any run rank = by (nat_le run.first run.last) refl
-  where
-    -- the same, by whether the interval has a rank
-    by : (some : Bool) → nat_le run.first run.last ≡ some
-        → members (cond some (run ∷ []) []) rank ≡ covers rank run
-    by true is = members-cons run [] rank ∙ or-false (covers rank run)
-    by false is = grind (arith, nat_tests, is)
+members-run_if_any run rank = grind (arith, nat_tests)

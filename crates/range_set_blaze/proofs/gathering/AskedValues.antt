@@ -81,16 +81,6 @@ left_runs-next rank (Some run) old new is = sym (ap (runs_of rank) is)
 
 -- ---- what a test has answered
 
--- what is selected by an answer was asked about
-selected-within : (answer has here among : Bool) → (has ≡ true → among ≡ true)
-    → cond answer (has || here) has ≡ true → (among || here) ≡ true
-selected-within answer has here among within member = grind (arith, nat_tests)
-
--- and is what a test that answers by the value says
-selected-exact : (answer has here among keeps : Bool) → has ≡ (among && keeps)
-    → (here ≡ true → answer ≡ keeps) → cond answer (has || here) has ≡ ((among || here) && keeps)
-selected-exact answer has here among keeps exact said = grind (arith, nat_tests)
-
 module _ {F T : Type 0} (rank : T → ℕ) (n : ℕ) (g : Mut F (Bor T × Unit {0}) Bool) (f : F) where
   -- calls at these values lead to a state of the test, and those with true are selected
   pub record HasAnswered (asked : List T) (now : F) (has : Selection) : Type 0 where
@@ -117,8 +107,10 @@ module _ {F T : Type 0} (rank : T → ℕ) (n : ℕ) (g : Mut F (Bor T × Unit {
         calls = FoldsTo-push _ _ _ _ _ _ before.calls
             (answer, record { shown = shown; shows = refl; called = called });
         within = λ point member.
-            among point ∙ selected-within answer (has point) (only value point)
-            (ranks_of rank asked point) (before.within point) (sym (grown point) ∙ member);
+            let all = among point in
+            let gives = grown point in
+            let old = before.within point in
+            grind (arith, nat_tests);
         exact = λ keeps answers.
             let exact = before.exact keeps answers in
             let said : answer ≡ keeps value =
@@ -127,9 +119,10 @@ module _ {F T : Type 0} (rank : T → ℕ) (n : ℕ) (g : Mut F (Bor T × Unit {
               λ point.
                   let here : only value point ≡ true → answer ≡ keeps point = λ is.
                   let same : value ≡ point = grind (arith, nat_tests, is) in said ∙ ap keeps same in
-                  grown point ∙ selected-exact answer (has point) (only value point)
-                  (ranks_of rank asked point) (keeps point) (exact.1 point) here
-                  ∙ ap (λ test. test && keeps point) (sym (among point)),
+                  let all = among point in
+                  let gives = grown point in
+                  let old = exact.1 point in
+                  grind (arith, nat_tests),
             );
       }
 

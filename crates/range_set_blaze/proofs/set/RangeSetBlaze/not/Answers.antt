@@ -1,11 +1,11 @@
 use Rattle.std.proofs.Common.{◌∙◌}
-use Rattle.range_set_blaze.proofs.AlgebraLemmas.{made-complement}
+use Rattle.range_set_blaze.proofs.AlgebraLemmas.{set-of_complement}
 use Rattle.range_set_blaze.proofs.set.RangeSetBlaze.not.Goals as goal
 
 -- the stream gives the runs of the gaps
 pub returns : goal.returns
 returns g c =
-    let made = made-complement g.T.Integer.value_count c.from_sorted_disjoint.result _
+    let made = set-of_complement g.T.Integer.value_count c.from_sorted_disjoint.result _
     c.from_sorted_disjoint.ensures.runs c.args.self.now (λ runs at. at ∙ c.ranges-2.ensures.ranges)
     c.ranges-2.ensures.runs c.complement.ensures.made.gives in
     record { members = made.0; run_count = made.1 }

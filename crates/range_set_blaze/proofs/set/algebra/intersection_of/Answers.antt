@@ -1,5 +1,5 @@
 use Rattle.std.proofs.lemmas.Result.{IfOk-weaker}
-use Rattle.range_set_blaze.proofs.AlgebraLemmas.{made-intersection}
+use Rattle.range_set_blaze.proofs.AlgebraLemmas.{set-of_intersection}
 use Rattle.range_set_blaze.proofs.set.algebra.intersection_of.Goals as goal
 
 -- the stream gives nothing but such runs
@@ -10,11 +10,11 @@ returns-clause-runs g c = IfOk-weaker c.from_sorted_disjoint.result _ _
 -- it is the set of what the operation selects
 pub returns-clause-members : goal.returns-clause-members
 returns-clause-members g c these those is also one other =
-    (made-intersection g.T.Integer.value_count c.from_sorted_disjoint.result _ c.from_sorted_disjoint.ensures.runs
+    (set-of_intersection g.T.Integer.value_count c.from_sorted_disjoint.result _ c.from_sorted_disjoint.ensures.runs
     these those is also one other c.intersection.ensures.made.gives).0
 
 -- with so many runs at most
 pub returns-clause-run_count : goal.returns-clause-run_count
 returns-clause-run_count g c these those is also one other =
-    (made-intersection g.T.Integer.value_count c.from_sorted_disjoint.result _ c.from_sorted_disjoint.ensures.runs
+    (set-of_intersection g.T.Integer.value_count c.from_sorted_disjoint.result _ c.from_sorted_disjoint.ensures.runs
     these those is also one other c.intersection.ensures.made.gives).1
