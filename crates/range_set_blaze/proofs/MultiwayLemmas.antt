@@ -66,24 +66,28 @@ module _ {S : Type 0} (n : ℕ) (may_give : S → Outcomes) (given : S → List 
       known-made = made-each (IsMadeOf n operation) (λ set may.
           runs-members n (operation (map members (map given streams))) set (these-runs set may))
 
-    module _ (least : ℕ) (positive : 0 < least) where
-      -- it is exactly what lies in at least so many, where these are some
-      pub known-exact : GivesByAll (at_least least) n may_give streams gives
-          → All (λ s. IsCanonicalIn n (given s)) streams → IfOk result (λ set.
-          GaveRun becomes steps value (λ items. IsSetOf set (at_least least (map members (shown items)))))
-      known-exact by_all canonical =
-          made-each (λ sets set. IsSetOf set (at_least least (map members sets))) (λ set may.
+    -- what lies in at least so many is exactly that where these are some, with at most as many
+    -- runs as the sets have, where an operation is bounded so
+    pub known-at_least : (least : ℕ) → All (λ s. IsCanonicalIn n (given s)) streams
+        → GivesByAll (at_least least) n may_give streams gives
+        → (0 < least → GivesRunsOfAllAtMost least n may_give streams gives)
+        → IfOk result (λ set.
+        GaveRun becomes steps value (λ items. IsMadeOf n (at_least least) (shown items) set))
+        × (0 < least → IfOk result (λ set.
+        GaveRun becomes steps value (λ items. IsSetOf set (at_least least (map members (shown items))))))
+        × (0 < least → IfOk result (λ set.
+        GaveRun becomes steps value (λ items. HasRunsOfAllAtMost (shown items) set)))
+    known-at_least least canonical by_all few = (
+      known-made (at_least least) by_all,
+      λ positive. made-each (λ sets set. IsSetOf set (at_least least (map members sets))) (λ set may.
           set-of_runs n (at_least least (map members (map given streams))) set
           (λ rank past.
           let none = how_many-end rank streams canonical past in grind (arith, nat_tests))
-          (these-runs (at_least least) by_all set may))
-
-      -- with at most as many runs as they have, where an operation is bounded so
-      pub known-few : GivesRunsOfAllAtMost least n may_give streams gives → IfOk result (λ set.
-          GaveRun becomes steps value (λ items. HasRunsOfAllAtMost (shown items) set))
-      known-few few = made-each HasRunsOfAllAtMost (λ set may.
+          (these-runs (at_least least) by_all set may)),
+      λ positive. made-each HasRunsOfAllAtMost (λ set may.
           few-these n least may_give streams (map given streams) set (give-these streams)
-          (few-one n least may_give streams gives few set may))
+          (few-one n least may_give streams gives (few positive) set may)),
+    )
 
 module _ {S X : Type 0} (steps : S → Option X → S → Type 0) (items_of : S → List X) where
   -- a whole run of what shows the items that are left gave all of them

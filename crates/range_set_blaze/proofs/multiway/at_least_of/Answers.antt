@@ -1,8 +1,7 @@
 use Rattle.std.proofs.lemmas.List.Elements.{All-weaker}
 use Rattle.rsb_integer.specs.Runs.{IsCanonicalIn}
-use Rattle.rsb_integer.specs.Selection.{at_least}
 use Rattle.rsb_many.specs.MultiwayAtLeast.{multiway_at_least, GivesRunsOfAllAtMost, MakesMultiwayAtLeast}
-use Rattle.range_set_blaze.proofs.MultiwayLemmas.{given-list, known-exact, known-few, known-made}
+use Rattle.range_set_blaze.proofs.MultiwayLemmas.{given-list, known-at_least}
 use Rattle.range_set_blaze.proofs.multiway.at_least_of.Goals as goal
 
 -- the stream gives nothing but such runs, and at most as many as all streams together
@@ -17,23 +16,13 @@ returns g c =
     let gave = c.in_ok-deep.ensures.made in
     let made = given-list streams gave.0 (λ each. MakesMultiwayAtLeast g.T.Integer stream c.args.k deep
     each c.in_ok-deep.deep) gave.1.0 gave.1.3 gave.2 in
-    record {
-      members = known-made n stream.may_give given g.met.S.GivesRuns.known
-          g.K.IntoIterator.into_iter_gives g.K.IntoIter.Iterator.next_gives c.args.sets
-          g.S.GivesRuns.shown streams c.in_ok-streams.ensures.given c.from_sorted_disjoint.result gives
-          c.from_sorted_disjoint.ensures.runs (at_least c.args.k) made.gives;
-      exactly = λ positive. known-exact n stream.may_give given g.met.S.GivesRuns.known
-          g.K.IntoIterator.into_iter_gives g.K.IntoIter.Iterator.next_gives c.args.sets
-          g.S.GivesRuns.shown streams c.in_ok-streams.ensures.given c.from_sorted_disjoint.result gives
-          c.from_sorted_disjoint.ensures.runs c.args.k positive made.gives
-          (All-weaker stream.can_draw (λ s. IsCanonicalIn n (given s)) g.met.S.GivesRuns.canonical
-          streams c.in_ok-streams.ensures.ready);
-      run_count = λ positive.
-          let also = c.in_ok-deep.ensures.run_count positive in
-          known-few n stream.may_give given g.met.S.GivesRuns.known
-          g.K.IntoIterator.into_iter_gives g.K.IntoIter.Iterator.next_gives c.args.sets
-          g.S.GivesRuns.shown streams c.in_ok-streams.ensures.given c.from_sorted_disjoint.result gives
-          c.from_sorted_disjoint.ensures.runs c.args.k positive
-          (given-list streams also.0 (λ each. GivesRunsOfAllAtMost c.args.k n stream.may_give each gives)
-          also.1.0 also.1.3 also.2);
-    }
+    let known = known-at_least n stream.may_give given g.met.S.GivesRuns.known
+    g.K.IntoIterator.into_iter_gives g.K.IntoIter.Iterator.next_gives c.args.sets g.S.GivesRuns.shown
+    streams c.in_ok-streams.ensures.given c.from_sorted_disjoint.result gives
+    c.from_sorted_disjoint.ensures.runs c.args.k
+    (All-weaker stream.can_draw (λ s. IsCanonicalIn n (given s)) g.met.S.GivesRuns.canonical streams
+    c.in_ok-streams.ensures.ready) made.gives (λ positive.
+    let few = c.in_ok-deep.ensures.run_count positive in
+    given-list streams few.0 (λ each. GivesRunsOfAllAtMost c.args.k n stream.may_give each gives)
+    few.1.0 few.1.3 few.2) in
+    record { members = known.0; exactly = known.1; run_count = known.2 }

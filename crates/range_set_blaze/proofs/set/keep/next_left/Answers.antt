@@ -3,7 +3,6 @@ use Rattle.rsb_integer.specs.Runs.{length_of}
 use Rattle.range_set_blaze.specs.Kept.{run_of, runs_of}
 use Rattle.range_set_blaze.specs.Retain.{ascending_ranks, ranks_from}
 use Rattle.range_set_blaze.proofs.gathering.AskedValues.{below-lower, left_runs-next, ranks_from-first}
-use Rattle.range_set_blaze.proofs.KeptLemmas.{lt-fails}
 use Rattle.range_set_blaze.proofs.set.keep.next_left.Goals as goal
 
 -- the rest of the run
@@ -27,8 +26,8 @@ returns g c =
     let run = run_of rank c.args.run in
     let rest = runs_of rank c.args.entries.now in
     let order = c.requires.order in
-    let least = lt-fails c.is_below.result _ _ c.is_below.ensures c.if-is_below.false in
-    let count : length_of run ≡ suc zero = omega (arith, least, order) in
+    let count : length_of run ≡ suc zero =
+    grind (arith, order, c.is_below.ensures.1, c.if-is_below.false) in
     rw (left_runs-next rank c.next_run.result c.args.entries.now c.next_run.new.entries c.next_run.ensures)
     (record {
       canonical = below-lower g.T.Integer.value_count (run.last + 2) (run.first + 1) rest
