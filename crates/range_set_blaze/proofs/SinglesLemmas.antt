@@ -1,15 +1,15 @@
 -- Values as ranges of one.
-use Rattle.std.proofs.Common.{◌≡◌, ℕ, ◌||◌, List, [], ◌∷◌, refl, ap, ◌∙◌, arith}
+use Rattle.std.proofs.Common.{◌≡◌, ℕ, List, [], ◌∷◌, refl, ap, ◌∙◌, arith}
 use Rattle.std.proofs.lemmas.Bool.Decides.{nat_tests}
 use Rattle.std.specs.Iterator.{Yields}
 use Rattle.std.specs.Prelude.{Option}
 use Rattle.std.specs.declared.ops.RangeInclusive.{RangeInclusive}
 use Rattle.rsb_integer.specs.Rank.{interval_of, intervals_of}
-use Rattle.rsb_integer.specs.Runs.{Interval, covers, members}
+use Rattle.rsb_integer.specs.Runs.{Interval, members}
 use Rattle.rsb_integer.proofs.MembersLemmas.{members-cons}
 use Rattle.rsb_streams.specs.Items.{GaveAll}
 use Rattle.range_set_blaze.specs.Algebra.{ranks_of}
-use Rattle.range_set_blaze.specs.Set.{only, IsSetOf}
+use Rattle.range_set_blaze.specs.Set.{IsSetOf}
 use Rattle.range_set_blaze.specs.Singles.{range_of_one, singles_steps}
 use Rattle.range_set_blaze.specs.declared.set.singles.Singles.{Singles}
 
@@ -26,12 +26,10 @@ module _ {T I : Type 0} (rank : T → ℕ) (steps : I → Option T → I → Typ
         value ∷ rest.0,
         (calls.0.values, calls.1.1, rest.1),
         λ point.
-            let one : covers point (interval_of rank (range_of_one value)) ≡ only (rank value) point =
-            grind (arith, nat_tests) in
-            members-cons (interval_of rank range) (intervals_of rank ranges) point
-            ∙ ap (λ each. covers point (interval_of rank each) || members (intervals_of rank ranges) point)
-            calls.1.2
-            ∙ (λ i. one i || rest.2 point i),
+            let others = rest.2 point in
+            let first = members-cons (interval_of rank (range_of_one value)) (intervals_of rank ranges) point
+            in
+            rw calls.1.2 (grind (arith, nat_tests)),
       )
 
   -- so the set of the ranges is that of the values

@@ -147,7 +147,9 @@ module _ {F T : Type 0} (rank : T → ℕ) (n : ℕ) (g : Mut F (Bor T × Unit {
 pub listed-next : {T : Type 0} (rank : T → ℕ) (asked : List T) (value : T) (all rest more : List ℕ)
     → all ≡ map rank asked ++ rest → rest ≡ rank value ∷ more
     → all ≡ map rank (asked ++ value ∷ []) ++ more
-listed-next rank asked value all rest more listed first =
-    listed ∙ ap (λ items. map rank asked ++ items) first
-    ∙ sym (ap (λ items. items ++ more) (map-append rank asked (value ∷ []))
-    ∙ append_assoc (map rank asked) (rank value ∷ []) more)
+listed-next rank asked value all rest more listed first = rw (
+  listed,
+  first,
+  map-append rank asked (value ∷ []),
+  append_assoc (map rank asked) (rank value ∷ []) more,
+)
