@@ -1,101 +1,95 @@
 -- Sets made of one list of runs or two by an operation.
-use Rattle.std.proofs.Common.{◌≡◌, ℕ, true, false, not, ◌&&◌, nat_lt, List, refl, sym, ◌∙◌, ap, subst, inl, inr, arith}
+use Rattle.std.proofs.Common.{◌≡◌, ℕ, Bool, false, not, ◌&&◌, ◌≤◌, nat_lt, List, refl, sym, ◌∙◌, inl, inr, arith}
 use Rattle.std.specs.Prelude.{IfOk, Result}
-use Rattle.std.proofs.lemmas.Bool.{cases_lt}
+use Rattle.std.proofs.lemmas.Bool.{and_parts, cases_lt}
 use Rattle.std.proofs.lemmas.Bool.Decides.{nat_tests}
 use Rattle.std.proofs.lemmas.Result.{IfOk-weaker}
-use Rattle.rsb_integer.specs.Runs.{Interval, members, IsCanonicalIn}
-use Rattle.rsb_integer.specs.Selection.{Selection, complement, difference, intersection, symmetric_difference, union}
+use Rattle.rsb_integer.specs.Runs.{Interval, members, AreRuns}
+use Rattle.rsb_integer.specs.Selection.{Selection, complement, intersection}
 use Rattle.rsb_integer.proofs.MembersLemmas.{members-end}
-use Rattle.rsb_integer.proofs.RunsLemmas.{runs-canonical}
-use Rattle.rsb_streams.specs.StreamLaws.{settled_canonical_in}
-use Rattle.rsb_streams.specs.Stream.{Outcomes, ◌⊆◌, just, runs_by, runs_by_two}
-use Rattle.rsb_streams.proofs.CallerLemmas.{members-runs_by, members-runs_by_two}
+use Rattle.rsb_integer.proofs.RunCountLemmas.{runs-complement, runs-intersection, runs-none, runs-of_one}
+use Rattle.rsb_integer.proofs.RunsLemmas.{runs-along, runs-canonical, runs-members}
+use Rattle.rsb_streams.specs.RunCount.{HasFewerRunsThanBoth, HasOneRunMoreAtMost, HasRunsOfBothAtMost}
+use Rattle.rsb_streams.specs.Stream.{◌⊆◌, just, runs_by, runs_by_two, Outcomes}
+use Rattle.rsb_many.proofs.ManyCallers.{settled_runs}
 use Rattle.range_set_blaze.specs.Algebra.{IsComplementOf}
 use Rattle.range_set_blaze.specs.Set.{IsSetOf}
 
-module _ (n : ℕ) where
-  -- what an operation on two known lists gives is canonical
-  canonical-of_two : (operation : Selection → Selection → Selection)
-      (left right set : List Interval) → runs_by_two n operation (just left) (just right) set
-      → IsCanonicalIn n set
-  canonical-of_two operation left right set may = settled_canonical_in n set (λ fails.
-      may (λ one other is also all.
-      fails (runs-canonical n (operation (members one) (members other)) set all)))
+-- the runs of a selection that ends in the type are the set of it
+pub set-of_runs : (n : ℕ) (selected : Selection) (set : List Interval)
+    → ((rank : ℕ) → n ≤ rank → selected rank ≡ false) → AreRuns n selected set
+    → IsSetOf set selected
+set-of_runs n selected set ends are rank = elim (cases_lt rank n) [
+  | inl below ↦ runs-members n selected set are rank below
+  | inr past ↦
+      members-end n set rank (runs-canonical n selected set are).1 past ∙ sym (ends rank past)
+]
 
-  module _ (operation : Selection → Selection → Selection)
-      (nothing : (these those : Selection) (rank : ℕ) → these rank ≡ false → those rank ≡ false
-      → operation these those rank ≡ false) where
-    -- the set of what an operation that selects nothing of nothing gives on two known lists
-    set-of_two : (left right set : List Interval) → IsCanonicalIn n left → IsCanonicalIn n right
-        → runs_by_two n operation (just left) (just right) set
-        → IsSetOf set (operation (members left) (members right))
-    set-of_two left right set one other may rank = elim (cases_lt rank n) [
-      | inl below ↦ members-runs_by_two n operation left right set may rank below
-      | inr past ↦
-          members-end n set rank (canonical-of_two operation left right set may).1 past
-          ∙ sym (nothing (members left) (members right) rank
-          (members-end n left rank one.1 past) (members-end n right rank other.1 past))
-    ]
-
-    -- the same of the lists that two sets are
-    set-of_sets : (these those left right : List Interval) → left ≡ these → right ≡ those
-        → IsCanonicalIn n left → IsCanonicalIn n right → (set : List Interval)
-        → runs_by_two n operation (just left) (just right) set
-        → IsSetOf set (operation (members these) (members those))
-    set-of_sets these those left right is also one other set may =
-        rw (is, also) at (set-of_two left right set one other may)
-
-  -- the set of the gaps of a known list
-  pub set-of_gaps : (given set : List Interval) → runs_by n complement (just given) set
-      → IsComplementOf n set given
-  set-of_gaps given set may rank = elim (cases_lt rank n) [
-    | inl below ↦
-        let is : nat_lt rank n ≡ true = grind (arith, nat_tests) in
-        members-runs_by n complement given set may rank below
-        ∙ sym (ap (λ test. test && not (members given rank)) is)
-    | inr past ↦
-        let is : nat_lt rank n ≡ false = grind (arith, nat_tests) in
-        let canonical : IsCanonicalIn n set = settled_canonical_in n set (λ fails.
-        may (λ one is all. fails (runs-canonical n (complement (members one)) set all))) in
-        members-end n set rank canonical.1 past
-        ∙ sym (ap (λ test. test && not (members given rank)) is)
-  ]
-
-  -- the same of a set that is made of a stream over the ranges of a set, as the clauses say it
-  pub set-of_complement : {E : Type 0} {ranges : List Interval} (given : List Interval)
-      (gaps : Outcomes) (result : Result (List Interval) E) → ranges ≡ given
-      → gaps ⊆ runs_by n complement (just ranges) → IfOk result gaps
+module _ (n : ℕ) {E : Type 0} (result : Result (List Interval) E) (gives : Outcomes)
+    (made : IfOk result gives) where
+  -- what is made of the gaps of a set is its complement, with one run more at most
+  pub set-of_complement : {P : Outcomes} (given : List Interval) → P ⊆ just given
+      → AreRuns n (members given) given → gives ⊆ runs_by n complement P
       → IfOk result (λ set. IsComplementOf n set given)
-  set-of_complement given gaps result is gives = IfOk-weaker result _ _ (λ set may.
-      set-of_gaps given set
-      (subst (λ (runs : List Interval). runs_by n complement (just runs) set) is (gives set may)))
+      × IfOk result (λ set. HasOneRunMoreAtMost given set)
+  set-of_complement given is one gaps =
+      let are : (set : List Interval) → gives set → AreRuns n (complement (members given)) set =
+      λ set may. settled_runs n (complement (members given)) set (λ fails.
+      gaps set may (λ runs at all. fails (rw (is runs at) at all))) in (
+        IfOk-weaker result _ _ (λ set may. set-of_runs n
+            (λ rank. nat_lt rank n && not (members given rank)) set
+            (λ rank past. grind (arith, nat_tests))
+            (runs-along n (complement (members given))
+            (λ rank. nat_lt rank n && not (members given rank)) set
+            (λ rank below. grind (arith, nat_tests)) (are set may))) made,
+        IfOk-weaker result _ _ (λ set may.
+            runs-complement n (members given) given set one (are set may)) made,
+      )
 
-  -- the set of what lies in either of two
-  pub union-of_sets : (these those left right : List Interval) → left ≡ these → right ≡ those
-      → IsCanonicalIn n left → IsCanonicalIn n right → (set : List Interval)
-      → runs_by_two n union (just left) (just right) set
-      → IsSetOf set (union (members these) (members those))
-  union-of_sets = set-of_sets union (λ these those rank none no. rw (none, no) refl)
+  module _ {P Q : Outcomes} (these those : List Interval) (is : P ⊆ just these)
+      (also : Q ⊆ just those) (one : AreRuns n (members these) these)
+      (other : AreRuns n (members those) those) where
+    -- what is made of two sets by an operation that selects nothing of nothing
+    set-of_two : (operation : Selection → Selection → Selection) (Bound : List Interval → Type 0)
+        → ((rank : ℕ) → members these rank ≡ false → members those rank ≡ false
+        → operation (members these) (members those) rank ≡ false)
+        → ((set : List Interval) → AreRuns n (operation (members these) (members those)) set
+        → Bound set) → gives ⊆ runs_by_two n operation P Q
+        → IfOk result (λ set. IsSetOf set (operation (members these) (members those)))
+        × IfOk result Bound
+    set-of_two operation Bound nothing bounds by_two =
+        let selected = operation (members these) (members those) in
+        let are : (set : List Interval) → gives set → AreRuns n selected set = λ set may.
+        settled_runs n selected set (λ fails. by_two set may (λ first second at too all.
+        fails (rw (is first at, also second too) at all))) in (
+          IfOk-weaker result _ _ (λ set may. set-of_runs n selected set (λ rank past. nothing rank
+              (members-end n these rank (runs-canonical n (members these) these one).1 past)
+              (members-end n those rank (runs-canonical n (members those) those other).1 past))
+              (are set may)) made,
+          IfOk-weaker result _ _ (λ set may. bounds set (are set may)) made,
+        )
 
-  -- of what both have
-  pub intersection-of_sets : (these those left right : List Interval) → left ≡ these
-      → right ≡ those → IsCanonicalIn n left → IsCanonicalIn n right → (set : List Interval)
-      → runs_by_two n intersection (just left) (just right) set
-      → IsSetOf set (intersection (members these) (members those))
-  intersection-of_sets = set-of_sets intersection (λ these those rank none no. rw none refl)
+    -- rank by rank, it has at most as many runs as both together
+    pub set-of_operation : (op : Bool → Bool → Bool) → op false false ≡ false
+        → gives ⊆ runs_by_two n (λ lefts rights rank. op (lefts rank) (rights rank)) P Q
+        → IfOk result (λ set. IsSetOf set (λ rank. op (members these rank) (members those rank)))
+        × IfOk result (HasRunsOfBothAtMost these those)
+    set-of_operation op none = set-of_two (λ lefts rights rank. op (lefts rank) (rights rank))
+        (HasRunsOfBothAtMost these those) (λ rank here there. rw (here, there) none)
+        (λ set. runs-of_one op none n (members these) (members those) these those set one other)
 
-  -- of what the one has and the other lacks
-  pub difference-of_sets : (these those left right : List Interval) → left ≡ these
-      → right ≡ those → IsCanonicalIn n left → IsCanonicalIn n right → (set : List Interval)
-      → runs_by_two n difference (just left) (just right) set
-      → IsSetOf set (difference (members these) (members those))
-  difference-of_sets = set-of_sets difference (λ these those rank none no. rw none refl)
-
-  -- and of what lies in one of them alone
-  pub symmetric_difference-of_sets : (these those left right : List Interval) → left ≡ these
-      → right ≡ those → IsCanonicalIn n left → IsCanonicalIn n right → (set : List Interval)
-      → runs_by_two n symmetric_difference (just left) (just right) set
-      → IsSetOf set (symmetric_difference (members these) (members those))
-  symmetric_difference-of_sets =
-      set-of_sets symmetric_difference (λ these those rank none no. rw (none, no) refl)
+    -- and what both have has fewer
+    pub set-of_intersection : gives ⊆ runs_by_two n intersection P Q
+        → IfOk result (λ set. IsSetOf set (intersection (members these) (members those)))
+        × IfOk result (HasFewerRunsThanBoth these those)
+    set-of_intersection =
+        let both = intersection (members these) (members those) in
+        set-of_two intersection (HasFewerRunsThanBoth these those)
+        (λ rank here there. rw here refl) (λ set are. (
+          runs-none n (members these) both these set one are
+              (λ rank has. (and_parts (members these rank) (members those rank) has).0),
+          runs-none n (members those) both those set other are
+              (λ rank has. (and_parts (members these rank) (members those rank) has).1),
+          λ some more.
+              runs-intersection n (members these) (members those) these those set one other are some,
+        ))

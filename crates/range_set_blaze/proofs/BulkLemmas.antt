@@ -1,6 +1,5 @@
 -- Runs that are taken from a stream, one after the other.
-use Rattle.std.proofs.Common.{◌≡◌, ℕ, Bool, true, false, cond, nat_le, ◌+◌, ◌≤◌, List, [], ◌∷◌, ◌++◌, append_assoc, refl, sym, ap, ◌∙◌, subst, arith}
-use Rattle.std.proofs.Math.Bool.{or-false}
+use Rattle.std.proofs.Common.{◌≡◌, ℕ, ◌+◌, ◌≤◌, List, [], ◌∷◌, ◌++◌, append_assoc, sym, ap, ◌∙◌, subst, arith}
 use Rattle.std.proofs.lemmas.Bool.Decides.{nat_tests}
 use Rattle.std.proofs.lemmas.List.{map-append}
 use Rattle.std.proofs.lemmas.List.Sums.{sum_by-append}
@@ -11,7 +10,6 @@ use Rattle.rsb_integer.specs.Rank.{interval_of}
 use Rattle.rsb_integer.specs.Runs.{Interval, covers, length_of, members, IsCanonicalIn}
 use Rattle.rsb_integer.proofs.RangeLemmas.{interval_of-some}
 use Rattle.rsb_integer.proofs.CanonicalLemmas.{canonical-front, canonical-parts}
-use Rattle.rsb_integer.proofs.MembersLemmas.{members-cons}
 use Rattle.rsb_streams.specs.StreamLaws.{settled_canonical_in}
 use Rattle.rsb_streams.specs.Stream.{Outcomes, ◌⊆◌, run_if_any, HasOutcome}
 use Rattle.range_set_blaze.specs.Kept.{entry_run, runs_of}
@@ -56,10 +54,4 @@ runs_of-taken {T} rank runs new run range is starts ends ordered =
 -- the members of one interval are its ranks
 pub members-run_if_any : (run : Interval) (rank : ℕ) → members (run_if_any run) rank
     ≡ covers rank run
-members-run_if_any run rank = by (nat_le run.first run.last) refl
-  where
-    -- the same, by whether the interval has a rank
-    by : (some : Bool) → nat_le run.first run.last ≡ some
-        → members (cond some (run ∷ []) []) rank ≡ covers rank run
-    by true is = members-cons run [] rank ∙ or-false (covers rank run)
-    by false is = grind (arith, nat_tests, is)
+members-run_if_any run rank = grind (arith, nat_tests)

@@ -10,7 +10,6 @@ pub mod FilledLemmas
 pub mod InsertLemmas
 pub mod InsertedLemmas
 pub mod JoinLemmas
-pub mod KeepLemmas
 pub mod KeptLemmas
 pub mod LookUpLemmas
 pub mod MultiwayLemmas
@@ -28,4 +27,5 @@ pub mod SwallowLemmas
 pub mod TakeLastLemmas
 pub mod TakeOutLemmas
 pub mod elements
+pub mod gathering
 pub mod order

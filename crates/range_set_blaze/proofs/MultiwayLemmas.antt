@@ -1,91 +1,93 @@
 -- Sets made of any number of sets, by the streams of their ranges.
-use Rattle.std.proofs.Common.{◌≡◌, ℕ, ◌+◌, ◌<◌, ◌≤◌, false, cond, List, [], ◌∷◌, ◌++◌, ◌∙◌, length, map, nat_le, refl, sym, ap, subst, inl, inr, arith}
-use Rattle.std.proofs.lemmas.Bool.{cases_lt}
+use Rattle.std.proofs.Common.{◌≡◌, ℕ, ◌+◌, ◌<◌, ◌≤◌, cond, List, [], ◌∷◌, ◌∙◌, map, refl, ap, subst, arith}
 use Rattle.std.proofs.lemmas.Bool.Decides.{nat_tests}
-use Rattle.std.proofs.lemmas.List.{map-append}
 use Rattle.std.proofs.lemmas.List.Elements.{All-head, All-tail}
+use Rattle.std.proofs.lemmas.Result.{IfOk-weaker}
 use Rattle.std.specs.Iterator.Runs.{EveryRun, ItemsAre, Run, WholeRun}
-use Rattle.std.specs.Prelude.{All, Option}
+use Rattle.std.specs.Prelude.{All, IfOk, Option, Result}
 use Rattle.std.specs.Vec.Iter.{into_iter_items, into_iter_steps}
 use Rattle.std.specs.declared.vec.IntoIter.{IntoIter}
-use Rattle.rsb_integer.specs.Runs.{Interval, IsCanonicalIn, members}
+use Rattle.rsb_integer.specs.Runs.{Interval, AreRuns, IsCanonicalIn, members}
 use Rattle.rsb_integer.specs.Selection.{Selection, at_least, how_many}
 use Rattle.rsb_integer.proofs.MembersLemmas.{members-end}
-use Rattle.rsb_integer.proofs.RunsLemmas.{runs-canonical, runs-members}
+use Rattle.rsb_integer.proofs.RunsLemmas.{runs-members}
+use Rattle.rsb_streams.specs.Items.{GaveRun}
 use Rattle.rsb_streams.specs.Stream.{◌⊆◌, just, Outcomes}
-use Rattle.rsb_streams.specs.StreamLaws.{settled_canonical_in}
-use Rattle.rsb_many.specs.Many.{may_give_at, runs_by_all}
 use Rattle.rsb_many.specs.MultiwayAtLeast.{GivesRunsOfAllAtMost}
-use Rattle.rsb_many.proofs.MultiwayAtLeastLemmas.{few-these}
+use Rattle.rsb_many.specs.MultiwayResults.{GivesByAll}
+use Rattle.rsb_many.proofs.HandedInLemmas.{gave-each}
+use Rattle.rsb_many.proofs.MultiwayAtLeastLemmas.{few-one, few-these}
 use Rattle.rsb_many.proofs.ManyCallers.{runs_by_all-these, GiveThese}
 use Rattle.range_set_blaze.specs.Multiway.{HasRunsOfAllAtMost, IsMadeOf}
 use Rattle.range_set_blaze.specs.Set.{IsSetOf}
+use Rattle.range_set_blaze.proofs.AlgebraLemmas.{set-of_runs}
 
--- so many are more than none
-above-none : (least many : ℕ) → 0 < least → many ≡ 0 → nat_le least many ≡ false
-above-none least many positive none = grind (arith, nat_tests)
-
-module _ {S : Type 0} (may_give : S → Outcomes) (runs_of : S → List Interval)
-    (known : (s : S) → may_give s ⊆ just (runs_of s)) where
+module _ {S : Type 0} (n : ℕ) (may_give : S → Outcomes) (given : S → List Interval)
+    (known : (s : S) → may_give s ⊆ just (given s)) where
   -- so many streams give these lists
-  give-these : (streams : List S) → GiveThese may_give streams (map runs_of streams)
+  give-these : (streams : List S) → GiveThese may_give streams (map given streams)
   give-these [] = tt
   give-these (s ∷ streams) = (known s, give-these streams)
 
-  -- and the set of an operation on them is made of these
-  pub known-made : (n : ℕ) (operation : List Selection → Selection) (streams : List S)
-      (sets : List (List Interval)) (set : List Interval) → map runs_of streams ≡ sets
-      → runs_by_all n operation (length streams) (may_give_at may_give streams) set
-      → IsMadeOf n operation sets set
-  known-made n operation streams sets set same may =
-      runs-members n (operation (map members sets)) set
-      (runs_by_all-these n operation may_give streams sets
-      (subst (GiveThese may_give streams) same (give-these streams)) set may)
-
   -- none of them has a rank past the type's end
-  how_many-end : (n rank : ℕ) (streams : List S) → All (λ s. IsCanonicalIn n (runs_of s)) streams
-      → n ≤ rank → how_many (map members (map runs_of streams)) rank ≡ 0
-  how_many-end n rank [] canonical past = refl
-  how_many-end n rank (s ∷ streams) canonical past =
-      let Can : S → Type 0 = λ s. IsCanonicalIn n (runs_of s) in
-      let first = members-end n (runs_of s) rank (All-head Can s streams canonical).1 past in
-      let rest = how_many-end n rank streams (All-tail Can s streams canonical) past in
+  how_many-end : (rank : ℕ) (streams : List S) → All (λ s. IsCanonicalIn n (given s)) streams
+      → n ≤ rank → how_many (map members (map given streams)) rank ≡ 0
+  how_many-end rank [] canonical past = refl
+  how_many-end rank (s ∷ streams) canonical past =
+      let Can : S → Type 0 = λ s. IsCanonicalIn n (given s) in
+      let first = members-end n (given s) rank (All-head Can s streams canonical).1 past in
+      let rest = how_many-end rank streams (All-tail Can s streams canonical) past in
       λ i. cond (first i) 1 0 + rest i
 
-  -- so the set is exactly what lies in at least so many, where these are some
-  pub known-exact : (n least : ℕ) (streams : List S) (sets : List (List Interval))
-      (set : List Interval) → 0 < least → All (λ s. IsCanonicalIn n (runs_of s)) streams
-      → map runs_of streams ≡ sets
-      → runs_by_all n (at_least least) (length streams) (may_give_at may_give streams) set
-      → IsSetOf set (at_least least (map members sets))
-  known-exact n least streams sets set positive canonical same may rank = elim (cases_lt rank n) [
-    | inl below ↦ known-made n (at_least least) streams sets set same may rank below
-    | inr past ↦
-        let in_type : IsCanonicalIn n set = settled_canonical_in n set (λ fails.
-        may (λ lists each all.
-        fails (runs-canonical n (at_least least (map members lists)) set all))) in
-        let none : how_many (map members sets) rank ≡ 0 =
-        subst (λ (all : List (List Interval)). how_many (map members all) rank ≡ 0) same
-        (how_many-end n rank streams canonical past) in
-        members-end n set rank in_type.1 past
-        ∙ sym (above-none least (how_many (map members sets) rank) positive none)
-  ]
+  -- some sets that came have the lists that the streams give, and a set is made of the streams
+  module _ {J I X E : Type 0} (becomes : J → I → Type 0) (steps : I → Option X → I → Type 0)
+      (value : J) (shown : List X → List (List Interval)) (streams : List S)
+      (came : GaveRun becomes steps value (λ items. map given streams ≡ shown items))
+      (result : Result (List Interval) E) (gives : Outcomes) (made : IfOk result gives) where
+    -- what is known of the set and of the lists is known of the sets that came
+    made-each : (Fact : List (List Interval) → List Interval → Type 0)
+        → ((set : List Interval) → gives set → Fact (map given streams) set)
+        → IfOk result (λ set. GaveRun becomes steps value (λ items. Fact (shown items) set))
+    made-each Fact follows = IfOk-weaker result _ _ (λ set may. gave-each becomes steps value
+        (λ items. map given streams ≡ shown items) (λ items. Fact (shown items) set)
+        (λ items same. subst (λ sets. Fact sets set) same (follows set may)) came) made
 
-  -- with at most as many runs as they have, where an operation is bounded so
-  pub known-few : (n least : ℕ) (streams : List S) (sets : List (List Interval))
-      (set : List Interval) → map runs_of streams ≡ sets
-      → GivesRunsOfAllAtMost least n may_give streams (just set) → HasRunsOfAllAtMost sets set
-  known-few n least streams sets set same may =
-      few-these n least may_give streams sets set
-      (subst (GiveThese may_give streams) same (give-these streams)) may
+    module _ (operation : List Selection → Selection)
+        (by_all : GivesByAll operation n may_give streams gives) where
+      -- what comes are the runs of what the operation selects on the lists
+      these-runs : (set : List Interval) → gives set
+          → AreRuns n (operation (map members (map given streams))) set
+      these-runs set may = runs_by_all-these n operation may_give streams (map given streams)
+          (give-these streams) set (by_all set may)
 
--- with the runs of one set more, streams have the runs of one set more
-pub map-more : {X Y : Type 0} (f : X → Y) (values : List X) (value : X) (results : List Y) (result : Y)
-    → map f values ≡ results → f value ≡ result
-    → map f (values ++ value ∷ []) ≡ results ++ result ∷ []
-map-more f values value results result kept same =
-    map-append f values (value ∷ []) ∙ ap (λ first. first ++ f value ∷ []) kept
-    ∙ ap (λ last. results ++ last ∷ []) same
+      -- so the set is made of the sets by the operation
+      pub known-made : IfOk result (λ set. GaveRun becomes steps value
+          (λ items. IsMadeOf n operation (shown items) set))
+      known-made = made-each (IsMadeOf n operation) (λ set may.
+          runs-members n (operation (map members (map given streams))) set (these-runs set may))
+
+    -- what lies in at least so many is exactly that where these are some, with at most as many
+    -- runs as the sets have, where an operation is bounded so
+    pub known-at_least : (least : ℕ) → All (λ s. IsCanonicalIn n (given s)) streams
+        → GivesByAll (at_least least) n may_give streams gives
+        → (0 < least → GivesRunsOfAllAtMost least n may_give streams gives)
+        → IfOk result (λ set.
+        GaveRun becomes steps value (λ items. IsMadeOf n (at_least least) (shown items) set))
+        × (0 < least → IfOk result (λ set.
+        GaveRun becomes steps value (λ items. IsSetOf set (at_least least (map members (shown items))))))
+        × (0 < least → IfOk result (λ set.
+        GaveRun becomes steps value (λ items. HasRunsOfAllAtMost (shown items) set)))
+    known-at_least least canonical by_all few = (
+      known-made (at_least least) by_all,
+      λ positive. made-each (λ sets set. IsSetOf set (at_least least (map members sets))) (λ set may.
+          set-of_runs n (at_least least (map members (map given streams))) set
+          (λ rank past.
+          let none = how_many-end rank streams canonical past in grind (arith, nat_tests))
+          (these-runs (at_least least) by_all set may)),
+      λ positive. made-each HasRunsOfAllAtMost (λ set may.
+          few-these n least may_give streams (map given streams) set (give-these streams)
+          (few-one n least may_give streams gives (few positive) set may)),
+    )
 
 module _ {S X : Type 0} (steps : S → Option X → S → Type 0) (items_of : S → List X) where
   -- a whole run of what shows the items that are left gave all of them

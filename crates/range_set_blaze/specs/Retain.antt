@@ -1,16 +1,15 @@
 -- What `retain` asks about, and what it keeps.
-use Rattle.std.specs.Prelude.{◌≡◌, ℕ, zero, suc, Bool, false, ◌||◌, ◌+◌, ◌<◌, List, [], ◌∷◌, ◌++◌, map, Option, None, Some}
+use Rattle.std.specs.Prelude.{◌≡◌, ℕ, zero, suc, Bool, false, ◌||◌, ◌+◌, ◌<◌, ◌≤◌, List, [], ◌∷◌, ◌++◌, map, Option, None, Some}
 use Rattle.std.specs.Fn.{AlwaysReturns, CalledAt, Mut}
-use Rattle.std.specs.List.{FoldsTo, sum_by}
+use Rattle.std.specs.List.{FoldsTo}
 use Rattle.std.specs.Range.{range_inclusive_start, range_inclusive_end, range_inclusive_exhausted}
 use Rattle.std.specs.declared.ops.RangeInclusive.{RangeInclusive}
 use denote.Ref.{Bor}
 use Rattle.rsb_integer.specs.Front.{IsFrontOf}
 use Rattle.rsb_integer.specs.Rank.{interval_of, intervals_of}
-use Rattle.rsb_integer.specs.Runs.{Interval, covers, length_of, members, AllEndBelow, IsCanonicalFrom}
-use Rattle.rsb_integer.specs.Selection.{Selection, union}
+use Rattle.rsb_integer.specs.Runs.{Interval, covers, length_of, members}
+use Rattle.rsb_integer.specs.Selection.{Selection}
 use Rattle.range_set_blaze.specs.Kept.{run_of, runs_of}
-use Rattle.range_set_blaze.specs.Set.{only}
 use Rattle.range_set_blaze.specs.declared.set.run.Run.{Run}
 
 -- as many ranks as the number, from the first one on
@@ -69,10 +68,18 @@ module _ {T : Type 0} (rank : T → ℕ) where
   with_piece set None other = members set other
   with_piece set (Some run) other = members set other || covers other (run_of rank run)
 
+  -- the least rank past a piece, or 0
+  abbrev pub past_piece : Option (Run T) → ℕ
+  past_piece None = 0
+  past_piece (Some run) = rank run.end + 1
+
+-- the runs are canonical from a rank on, in a type of n values
+abbrev pub IsCanonicalBelow : ℕ → ℕ → List Interval → Type 0
+IsCanonicalBelow n low [] = Unit {0}
+IsCanonicalBelow n low (run ∷ runs) = (low ≤ run.first) × (run.first ≤ run.last) × (run.last < n)
+    × IsCanonicalBelow n (run.last + 2) runs
+
 -- the new runs have what the old ones have past their first rank
 pub record IsPastFirst (n : ℕ) (old new : List Interval) (first : ℕ) : Type 0 where
-  pub canonical : IsCanonicalFrom (first + 1) new
-  pub below : AllEndBelow n new
-  pub has : (other : ℕ) → members old other ≡ union (only first) (members new) other
-  pub fewer : sum_by length_of new + 1 ≡ sum_by length_of old
+  pub canonical : IsCanonicalBelow n (first + 1) new
   pub listed : ascending_ranks old ≡ first ∷ ascending_ranks new

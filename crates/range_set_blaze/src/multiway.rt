@@ -1,13 +1,12 @@
 //! Set algebra over any number of sets.
 
-ghost use Rattle.std.specs.Prelude.{◌≡◌, ◌<◌, length, map, All, IfOk};
+ghost use Rattle.std.proofs.Common.{refl};
+ghost use Rattle.std.specs.Prelude.{◌≡◌, ◌<◌, List, [], ◌∷◌, ◌++◌, map, All, IfOk};
 ghost use Rattle.rsb_integer.specs.Rank.{intervals_of};
-ghost use Rattle.rsb_integer.specs.Runs.{members};
+ghost use Rattle.rsb_integer.specs.Runs.{members, Interval, IsCanonicalIn};
 ghost use Rattle.rsb_integer.specs.Selection.{all_of, any_of, at_least, odd_of};
-ghost use Rattle.rsb_many.specs.Many.{may_give_at, runs_by_all};
-ghost use Rattle.rsb_many.specs.MultiwayAtLeast.{GivesRunsOfAllAtMost};
 ghost use Rattle.rsb_streams.specs.Items.{GaveRun, IsEnding};
-ghost use Rattle.rsb_streams.specs.Stream.{just};
+ghost use Rattle.rsb_streams.specs.Stream.{◌⊆◌, just};
 ghost use Rattle.range_set_blaze.specs.Multiway.{HasRunsOfAllAtMost, IsMadeOf};
 ghost use Rattle.range_set_blaze.specs.Set.{IsSetOf};
 
@@ -33,8 +32,7 @@ pub trait MultiwayRangeSetBlaze<T: Integer, S: Allocator>: IntoIterator<
             GaveRun Self.into_iter_gives Self.IntoIter.next_gives self
             (λ sets. IsMadeOf T.value_count any_of sets set)) }
     {
-        let streams = given_up(alloc, self)?;
-        union_of(alloc, streams)
+        union_of(alloc, self)
     }
 
     /// What lies in all of the sets: every value, of none. (`MultiwayRangeSetBlaze::intersection`.)
@@ -49,8 +47,7 @@ pub trait MultiwayRangeSetBlaze<T: Integer, S: Allocator>: IntoIterator<
             GaveRun Self.into_iter_gives Self.IntoIter.next_gives self
             (λ sets. IsMadeOf T.value_count all_of sets set)) }
     {
-        let streams = given_up(alloc, self)?;
-        intersection_of(alloc, streams)
+        intersection_of(alloc, self)
     }
 
     /// What lies in an odd number of the sets: nothing, of none.
@@ -66,8 +63,7 @@ pub trait MultiwayRangeSetBlaze<T: Integer, S: Allocator>: IntoIterator<
             GaveRun Self.into_iter_gives Self.IntoIter.next_gives self
             (λ sets. IsMadeOf T.value_count odd_of sets set)) }
     {
-        let streams = given_up(alloc, self)?;
-        symmetric_difference_of(alloc, streams)
+        symmetric_difference_of(alloc, self)
     }
 
     /// What lies in at least `k` of the sets: every value for `k` of 0, and nothing where there are
@@ -91,8 +87,7 @@ pub trait MultiwayRangeSetBlaze<T: Integer, S: Allocator>: IntoIterator<
             GaveRun Self.into_iter_gives Self.IntoIter.next_gives self
             (λ sets. HasRunsOfAllAtMost sets set)) }
     {
-        let streams = given_up(alloc, self)?;
-        at_least_of(alloc, streams, k)
+        at_least_of(alloc, self, k)
     }
 }
 
@@ -115,8 +110,7 @@ pub trait MultiwayRangeSetBlazeRef<'a, T: Integer + 'a, S: Allocator + 'a>: Into
             GaveRun Self.into_iter_gives Self.IntoIter.next_gives self
             (λ sets. IsMadeOf T.value_count any_of (map (λ lent. lent.now) sets) set)) }
     {
-        let streams = lent_ranges(alloc, self)?;
-        union_of(alloc, streams)
+        union_of(alloc, self)
     }
 
     /// What lies in all of the sets: every value, of none.
@@ -132,8 +126,7 @@ pub trait MultiwayRangeSetBlazeRef<'a, T: Integer + 'a, S: Allocator + 'a>: Into
             GaveRun Self.into_iter_gives Self.IntoIter.next_gives self
             (λ sets. IsMadeOf T.value_count all_of (map (λ lent. lent.now) sets) set)) }
     {
-        let streams = lent_ranges(alloc, self)?;
-        intersection_of(alloc, streams)
+        intersection_of(alloc, self)
     }
 
     /// What lies in an odd number of the sets: nothing, of none.
@@ -149,8 +142,7 @@ pub trait MultiwayRangeSetBlazeRef<'a, T: Integer + 'a, S: Allocator + 'a>: Into
             GaveRun Self.into_iter_gives Self.IntoIter.next_gives self
             (λ sets. IsMadeOf T.value_count odd_of (map (λ lent. lent.now) sets) set)) }
     {
-        let streams = lent_ranges(alloc, self)?;
-        symmetric_difference_of(alloc, streams)
+        symmetric_difference_of(alloc, self)
     }
 
     /// What lies in at least `k` of the sets: every value for `k` of 0, and nothing where there are
@@ -174,8 +166,7 @@ pub trait MultiwayRangeSetBlazeRef<'a, T: Integer + 'a, S: Allocator + 'a>: Into
             GaveRun Self.into_iter_gives Self.IntoIter.next_gives self
             (λ sets. HasRunsOfAllAtMost (map (λ lent. lent.now) sets) set)) }
     {
-        let streams = lent_ranges(alloc, self)?;
-        at_least_of(alloc, streams, k)
+        at_least_of(alloc, self, k)
     }
 }
 
@@ -186,98 +177,145 @@ impl<
     K: IntoIterator<Item = &'a RangeSetBlaze<T, S>>,
 > MultiwayRangeSetBlazeRef<'a, T, S> for K {}
 
-// The ranges of sets that are given up.
-fn given_up<T: Integer, S: Allocator, A: Allocator, K: IntoIterator<Item = RangeSetBlaze<T, S>>>(
+// A set whose runs come as a stream: one that is given up, or one that stays as it is.
+trait GivesRuns<T: Integer>: Sized {
+    type Stream: DrawDisjoint<T>;
+
+    // What such a stream gives.
+    ghost given: { Self.Stream → List Interval };
+
+    // The runs of some sets.
+    ghost shown: { List Self → List (List Interval) };
+
+    // The runs of the set.
+    fn stream(self) -> Self::Stream
+        ensures ready { Self.Stream.can_draw result }
+        ensures one_more { (sets : List Self)
+            → shown (sets ++ self ∷ []) ≡ shown sets ++ given result ∷ [] };
+
+    ghost none: { shown [] ≡ [] };
+
+    ghost known: { (s : Self.Stream) → Self.Stream.may_give s ⊆ just (given s) };
+
+    ghost canonical: { (s : Self.Stream) → Self.Stream.can_draw s
+        → IsCanonicalIn T.value_count (given s) };
+}
+
+impl<T: Integer, S: Allocator> GivesRuns<T> for RangeSetBlaze<T, S> {
+    type Stream = IntoRangesIter<T, S>;
+
+    ghost given = { intervals_of T.rank };
+
+    ghost shown = { λ sets. sets };
+
+    fn stream(self) -> IntoRangesIter<T, S> {
+        self.into_ranges()
+    }
+
+    ghost none = { refl };
+
+    ghost known = { λ s runs is. is };
+
+    ghost canonical = { λ s canonical. canonical };
+}
+
+impl<'a, T: Integer + 'a, S: Allocator + 'a> GivesRuns<T> for &'a RangeSetBlaze<T, S> {
+    type Stream = RangesIter<'a, T>;
+
+    ghost given = { intervals_of T.rank };
+
+    ghost shown = { map (λ lent. lent.now) };
+
+    fn stream(self) -> RangesIter<'a, T> {
+        self.ranges()
+    }
+
+    ghost none = { refl };
+
+    ghost known = { λ s runs is. is };
+
+    ghost canonical = { λ s canonical. canonical };
+}
+
+// The runs of each of some sets, as streams.
+fn streams_of<T: Integer, S: GivesRuns<T>, A: Allocator, K: IntoIterator<Item = S>>(
     alloc: A,
     sets: K,
-) -> Result<Vec<IntoRangesIter<T, S>, A>, AllocError>
+) -> Result<Vec<S::Stream, A>, AllocError>
     requires { IsEnding K.into_iter_gives K.IntoIter.can_next K.IntoIter.remaining sets }
-    ensures ready { IfOk result (λ streams.
-        All ⟦<IntoRangesIter<T, S> as Draw<T>>⟧.can_draw streams.items) }
-    ensures kept { IfOk result (λ streams.
+    ensures ready { IfOk result (λ streams. All S.Stream.can_draw streams.items) }
+    ensures given { IfOk result (λ streams.
         GaveRun K.into_iter_gives K.IntoIter.next_gives sets
-        (λ items. map (intervals_of T.rank) streams.items ≡ items)) }
+        (λ items. map S.given streams.items ≡ S.shown items)) }
 {
     let mut streams = Vec::new(alloc);
     for set in sets {
-        streams.push(set.into_ranges())?;
+        streams.push(set.stream())?;
     }
     Ok(streams)
 }
 
-// The ranges of sets that stay as they are.
-fn lent_ranges<
-    'a,
-    T: Integer + 'a,
-    S: Allocator + 'a,
-    A: Allocator,
-    K: IntoIterator<Item = &'a RangeSetBlaze<T, S>>,
->(alloc: A, sets: K) -> Result<Vec<RangesIter<'a, T>, A>, AllocError>
-    requires { IsEnding K.into_iter_gives K.IntoIter.can_next K.IntoIter.remaining sets }
-    ensures ready { IfOk result (λ streams.
-        All ⟦<RangesIter<'a, T> as Draw<T>>⟧.can_draw streams.items) }
-    ensures kept { IfOk result (λ streams.
-        GaveRun K.into_iter_gives K.IntoIter.next_gives sets
-        (λ items. map (intervals_of T.rank) streams.items ≡ map (λ lent. lent.now) items)) }
-{
-    let mut streams = Vec::new(alloc);
-    for set in sets {
-        streams.push(set.ranges())?;
-    }
-    Ok(streams)
-}
-
-// The set of what lies in some of the streams, which may be drawn from.
-fn union_of<T: Integer, I: DrawDisjoint<T>, A: Allocator + Copy>(
+// The set of what lies in some of the sets.
+fn union_of<T: Integer, S: GivesRuns<T>, A: Allocator + Copy, K: IntoIterator<Item = S>>(
     alloc: A,
-    streams: Vec<I, A>,
+    sets: K,
 ) -> Result<RangeSetBlaze<T, A>, AllocError>
-    requires { All I.can_draw streams.items }
-    ensures { IfOk result (runs_by_all T.value_count any_of (length streams.items)
-        (may_give_at I.may_give streams.items)) }
+    requires { IsEnding K.into_iter_gives K.IntoIter.can_next K.IntoIter.remaining sets }
+    ensures { IfOk result (λ set. GaveRun K.into_iter_gives K.IntoIter.next_gives sets
+        (λ items. IsMadeOf T.value_count any_of (S.shown items) set)) }
 {
+    let streams = streams_of(alloc, sets)?;
     let union = streams.union(alloc)?;
     RangeSetBlaze::from_sorted_disjoint(alloc, union)
 }
 
-// The set of what lies in all of the streams, which may be drawn from.
-fn intersection_of<T: Integer, I: DrawDisjoint<T>, A: Allocator + Copy>(
+// The set of what lies in all of the sets.
+fn intersection_of<T: Integer, S: GivesRuns<T>, A: Allocator + Copy, K: IntoIterator<Item = S>>(
     alloc: A,
-    streams: Vec<I, A>,
+    sets: K,
 ) -> Result<RangeSetBlaze<T, A>, AllocError>
-    requires { All I.can_draw streams.items }
-    ensures { IfOk result (runs_by_all T.value_count all_of (length streams.items)
-        (may_give_at I.may_give streams.items)) }
+    requires { IsEnding K.into_iter_gives K.IntoIter.can_next K.IntoIter.remaining sets }
+    ensures { IfOk result (λ set. GaveRun K.into_iter_gives K.IntoIter.next_gives sets
+        (λ items. IsMadeOf T.value_count all_of (S.shown items) set)) }
 {
+    let streams = streams_of(alloc, sets)?;
     let intersection = streams.intersection(alloc)?;
     RangeSetBlaze::from_sorted_disjoint(alloc, intersection)
 }
 
-// The set of what lies in an odd number of the streams, which may be drawn from.
-fn symmetric_difference_of<T: Integer, I: DrawDisjoint<T>, A: Allocator + Copy>(
-    alloc: A,
-    streams: Vec<I, A>,
-) -> Result<RangeSetBlaze<T, A>, AllocError>
-    requires { All I.can_draw streams.items }
-    ensures { IfOk result (runs_by_all T.value_count odd_of (length streams.items)
-        (may_give_at I.may_give streams.items)) }
+// The set of what lies in an odd number of the sets.
+fn symmetric_difference_of<
+    T: Integer,
+    S: GivesRuns<T>,
+    A: Allocator + Copy,
+    K: IntoIterator<Item = S>,
+>(alloc: A, sets: K) -> Result<RangeSetBlaze<T, A>, AllocError>
+    requires { IsEnding K.into_iter_gives K.IntoIter.can_next K.IntoIter.remaining sets }
+    ensures { IfOk result (λ set. GaveRun K.into_iter_gives K.IntoIter.next_gives sets
+        (λ items. IsMadeOf T.value_count odd_of (S.shown items) set)) }
 {
+    let streams = streams_of(alloc, sets)?;
     let difference = streams.symmetric_difference(alloc)?;
     RangeSetBlaze::from_sorted_disjoint(alloc, difference)
 }
 
-// The set of what lies in at least `k` of the streams, which may be drawn from.
-fn at_least_of<T: Integer, I: DrawDisjoint<T>, A: Allocator + Copy>(
+// The set of what lies in at least `k` of the sets.
+fn at_least_of<T: Integer, S: GivesRuns<T>, A: Allocator + Copy, K: IntoIterator<Item = S>>(
     alloc: A,
-    streams: Vec<I, A>,
+    sets: K,
     k: usize,
 ) -> Result<RangeSetBlaze<T, A>, AllocError>
-    requires { All I.can_draw streams.items }
-    ensures members { IfOk result (runs_by_all T.value_count (at_least k) (length streams.items)
-        (may_give_at I.may_give streams.items)) }
+    requires { IsEnding K.into_iter_gives K.IntoIter.can_next K.IntoIter.remaining sets }
+    ensures members { IfOk result (λ set. GaveRun K.into_iter_gives K.IntoIter.next_gives sets
+        (λ items. IsMadeOf T.value_count (at_least k) (S.shown items) set)) }
+    ensures exactly { 0 < k → IfOk result (λ set.
+        GaveRun K.into_iter_gives K.IntoIter.next_gives sets
+        (λ items. IsSetOf set (at_least k (map members (S.shown items))))) }
     ensures run_count { 0 < k → IfOk result (λ set.
-        GivesRunsOfAllAtMost k T.value_count I.may_give streams.items (just set)) }
+        GaveRun K.into_iter_gives K.IntoIter.next_gives sets
+        (λ items. HasRunsOfAllAtMost (S.shown items) set)) }
 {
+    let streams = streams_of(alloc, sets)?;
     let deep = streams.at_least(alloc, k)?;
     RangeSetBlaze::from_sorted_disjoint(alloc, deep)
 }

@@ -1,14 +1,14 @@
 //! Sets made of one set or two.
 
-ghost use Rattle.std.specs.Prelude.{◌≡◌, IfOk};
-ghost use Rattle.rsb_integer.specs.Runs.{members};
+ghost use Rattle.std.specs.Prelude.{◌≡◌, List, IfOk};
+ghost use Rattle.rsb_integer.specs.Runs.{members, AreRuns, Interval};
 ghost use Rattle.rsb_integer.specs.Selection.{
   difference,
   intersection,
   symmetric_difference,
   union,
 };
-ghost use Rattle.rsb_streams.specs.Stream.{runs_by_two};
+ghost use Rattle.rsb_streams.specs.Stream.{◌⊆◌, just, runs_by_two};
 ghost use Rattle.range_set_blaze.specs.Algebra.{IsComplementOf};
 ghost use Rattle.rsb_streams.specs.RunCount.{HasFewerRunsThanBoth, HasOneRunMoreAtMost, HasRunsOfBothAtMost};
 ghost use Rattle.range_set_blaze.specs.Set.{IsSetOf};
@@ -89,8 +89,14 @@ fn union_of<T: Integer, A: Allocator + Copy, L: DrawDisjoint<T>, R: DrawDisjoint
 ) -> Result<RangeSetBlaze<T, A>, AllocError>
     requires left { L.can_draw left }
     requires right { R.can_draw right }
-    ensures runs { IfOk result (λ set.
-        runs_by_two T.value_count union (L.may_give left) (R.may_give right) set) }
+    ensures members { (these those : List Interval) → L.may_give left ⊆ just these
+        → R.may_give right ⊆ just those → AreRuns T.value_count (members these) these
+        → AreRuns T.value_count (members those) those
+        → IfOk result (λ set. IsSetOf set (union (members these) (members those))) }
+    ensures run_count { (these those : List Interval) → L.may_give left ⊆ just these
+        → R.may_give right ⊆ just those → AreRuns T.value_count (members these) these
+        → AreRuns T.value_count (members those) those
+        → IfOk result (HasRunsOfBothAtMost these those) }
 {
     RangeSetBlaze::from_sorted_disjoint(alloc, left.union(right))
 }
@@ -106,6 +112,14 @@ pub(super) fn intersection_of<
     requires right { R.can_draw right }
     ensures runs { IfOk result (λ set.
         runs_by_two T.value_count intersection (L.may_give left) (R.may_give right) set) }
+    ensures members { (these those : List Interval) → L.may_give left ⊆ just these
+        → R.may_give right ⊆ just those → AreRuns T.value_count (members these) these
+        → AreRuns T.value_count (members those) those
+        → IfOk result (λ set. IsSetOf set (intersection (members these) (members those))) }
+    ensures run_count { (these those : List Interval) → L.may_give left ⊆ just these
+        → R.may_give right ⊆ just those → AreRuns T.value_count (members these) these
+        → AreRuns T.value_count (members those) those
+        → IfOk result (HasFewerRunsThanBoth these those) }
 {
     RangeSetBlaze::from_sorted_disjoint(alloc, left.intersection(right))
 }
@@ -118,8 +132,14 @@ fn difference_of<T: Integer, A: Allocator + Copy, L: DrawDisjoint<T>, R: DrawDis
 ) -> Result<RangeSetBlaze<T, A>, AllocError>
     requires left { L.can_draw left }
     requires right { R.can_draw right }
-    ensures runs { IfOk result (λ set.
-        runs_by_two T.value_count difference (L.may_give left) (R.may_give right) set) }
+    ensures members { (these those : List Interval) → L.may_give left ⊆ just these
+        → R.may_give right ⊆ just those → AreRuns T.value_count (members these) these
+        → AreRuns T.value_count (members those) those
+        → IfOk result (λ set. IsSetOf set (difference (members these) (members those))) }
+    ensures run_count { (these those : List Interval) → L.may_give left ⊆ just these
+        → R.may_give right ⊆ just those → AreRuns T.value_count (members these) these
+        → AreRuns T.value_count (members those) those
+        → IfOk result (HasRunsOfBothAtMost these those) }
 {
     RangeSetBlaze::from_sorted_disjoint(alloc, left.difference(right))
 }
@@ -132,8 +152,14 @@ fn symmetric_difference_of<T: Integer, A: Allocator + Copy, L: DrawDisjoint<T>, 
 ) -> Result<RangeSetBlaze<T, A>, AllocError>
     requires left { L.can_draw left }
     requires right { R.can_draw right }
-    ensures runs { IfOk result (λ set.
-        runs_by_two T.value_count symmetric_difference (L.may_give left) (R.may_give right) set) }
+    ensures members { (these those : List Interval) → L.may_give left ⊆ just these
+        → R.may_give right ⊆ just those → AreRuns T.value_count (members these) these
+        → AreRuns T.value_count (members those) those
+        → IfOk result (λ set. IsSetOf set (symmetric_difference (members these) (members those))) }
+    ensures run_count { (these those : List Interval) → L.may_give left ⊆ just these
+        → R.may_give right ⊆ just those → AreRuns T.value_count (members these) these
+        → AreRuns T.value_count (members those) those
+        → IfOk result (HasRunsOfBothAtMost these those) }
 {
     RangeSetBlaze::from_sorted_disjoint(alloc, left.symmetric_difference(right))
 }

@@ -1,15 +1,15 @@
 //! Additions of many ranges and values.
 
-ghost use Rattle.std.specs.Prelude.{◌≡◌, ◌↔◌, [], IfOk, IsTrue, OnErr, OnOk};
+ghost use Rattle.std.specs.Prelude.{◌≡◌, [], IfOk, OnErr, OnOk};
 ghost use Rattle.std.specs.Iterator.{ExtendsWithItems};
 ghost use Rattle.rsb_integer.specs.Rank.{interval_of, intervals_of};
-ghost use Rattle.rsb_integer.specs.Runs.{covers, members, IsNonEmpty};
+ghost use Rattle.rsb_integer.specs.Runs.{covers, members};
 ghost use Rattle.rsb_streams.specs.Items.{GaveAll, GaveRun, IsEnding};
 ghost use Rattle.range_set_blaze.specs.Algebra.{ranks_of, AddsFrontOf, AddsItems, AddsValues};
 ghost use Rattle.range_set_blaze.specs.Set.{Adds, IsSetOf};
 
 use crate::set::RangeSetBlaze;
-use crate::set::run::known;
+use crate::set::run::{Run, known};
 use crate::set::singles::Singles;
 use rsb_integer::Integer;
 use rsb_streams::UnionIter;
@@ -57,8 +57,10 @@ impl<T: Integer, A: Allocator + Clone> RangeSetBlaze<T, A> {
             (Adds self.old self.new (λ rank. covers rank (interval_of T.rank range))) }
         ensures err { OnErr result (self.new ≡ self.old) }
     {
-        if has_members(&range) {
-            self.ranges_insert(range)?;
+        let start = known(*range.start());
+        let end = known(*range.end());
+        if !range.is_empty() {
+            self.insert_run(Run { start, end })?;
         }
         Ok(())
     }
@@ -155,16 +157,6 @@ impl<T: Integer, A: Allocator + Copy> RangeSetBlaze<T, A> {
         other.clear();
         Ok(())
     }
-}
-
-// Whether a range is non-empty.
-fn has_members<T: Integer>(range: &RangeInclusive<T>) -> bool
-    ensures { IsTrue result ↔ IsNonEmpty (interval_of T.rank range.now) }
-{
-    // Its ends are known for values from here on.
-    known(*range.start());
-    known(*range.end());
-    !range.is_empty()
 }
 
 // Whether to insert some runs one by one among others costs less than one pass over all.

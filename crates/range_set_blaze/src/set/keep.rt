@@ -1,10 +1,10 @@
 //! Values that are kept by a test.
 
-ghost use Rattle.std.specs.Prelude.{◌≡◌, ◌<◌, ◌≤◌, ℕ, [], ◌∷◌, None, Some, IfOk, IfSome, IsOk, IsTrue, OnErr, OnOk};
+ghost use Rattle.std.specs.Prelude.{◌≡◌, ◌+◌, ◌<◌, ◌≤◌, ℕ, [], ◌∷◌, None, Some, IfOk, IfSome, IsOk, IsTrue, OnErr, OnOk};
 ghost use Rattle.rsb_integer.specs.Runs.{members, IsCanonicalIn};
 ghost use Rattle.rsb_integer.specs.Selection.{intersection, union, Selection};
 ghost use Rattle.range_set_blaze.specs.Kept.{run_of, runs_of};
-ghost use Rattle.range_set_blaze.specs.Retain.{left_runs, with_piece, AnswersByRank, AsksAll, AsksFront, IsPastFirst};
+ghost use Rattle.range_set_blaze.specs.Retain.{left_runs, past_piece, with_piece, AnswersByRank, AsksAll, AsksFront, IsCanonicalBelow, IsPastFirst};
 ghost use Rattle.range_set_blaze.specs.Set.{only, IsSetOf};
 
 use crate::set::RangeSetBlaze;
@@ -52,7 +52,9 @@ pub(crate) fn kept_values<T: Integer, A: Allocator + Copy, F: FnMut(&T) -> bool>
 
 // What is left of some runs once the first value of the first one is out.
 fn next_left<T: Integer>(entries: &mut Iter<'_, T, T>, run: Run<T>) -> Option<Run<T>>
-    requires { IsCanonicalIn T.value_count (run_of T.rank run ∷ runs_of T.rank entries.old) }
+    requires order { T.rank run.start ≤ T.rank run.end }
+    requires value { T.rank run.end < T.value_count }
+    requires later { IsCanonicalBelow T.value_count (T.rank run.end + 2) (runs_of T.rank entries.old) }
     ensures { IsPastFirst T.value_count (run_of T.rank run ∷ runs_of T.rank entries.old)
         (left_runs T.rank result entries.new) (T.rank run.start) }
 {
@@ -72,7 +74,7 @@ fn grow<T: Integer, A: Allocator + Clone>(
     value: T,
 ) -> Result<Run<T>, AllocError>
     requires order { IfSome piece (λ run. T.rank run.start ≤ T.rank run.end) }
-    requires later { IfSome piece (λ run. T.rank run.end < T.rank value) }
+    requires later { past_piece T.rank piece ≤ T.rank value }
     requires value { T.rank value < T.value_count }
     ensures order { IfOk result (λ run. T.rank run.start ≤ T.rank run.end) }
     ensures last { IfOk result (λ run. T.rank run.end ≡ T.rank value) }
@@ -104,7 +106,7 @@ fn put_last<T: Integer, A: Allocator + Clone>(
     piece: Option<Run<T>>,
 ) -> Result<(), AllocError>
     requires order { IfSome piece (λ run. T.rank run.start ≤ T.rank run.end) }
-    requires value { IfSome piece (λ run. T.rank run.end < T.value_count) }
+    requires value { past_piece T.rank piece ≤ T.value_count }
     ensures added { OnOk result (IsSetOf kept.new (with_piece T.rank kept.old piece)) }
     ensures none { piece ≡ None → IsOk result }
 {

@@ -1,14 +1,17 @@
-use Rattle.std.proofs.lemmas.Result.{IfOk-weaker}
+use Rattle.range_set_blaze.proofs.MultiwayLemmas.{given-list, known-made}
+use Rattle.rsb_integer.specs.Selection.{any_of}
 use Rattle.rsb_many.specs.MultiwayResults.{MakesMultiwayUnion}
 use Rattle.rsb_many.specs.MultiwayUnion.{multiway_union}
-use Rattle.range_set_blaze.proofs.MultiwayLemmas.{given-list}
 use Rattle.range_set_blaze.proofs.multiway.union_of.Goals as goal
 
 -- the union gives nothing but such runs
 pub returns : goal.returns
 returns g c =
+    let streams = c.in_ok-streams.streams.items in
     let gave = c.in_ok-union.ensures.made in
-    let made = given-list c.args.streams.items gave.0
-    (λ streams. MakesMultiwayUnion g.T.Integer g.I.Draw (multiway_union g.T.Integer g.I.Draw) streams
-    c.in_ok-union.union) gave.1.0 gave.1.3 gave.2 in
-    IfOk-weaker c.from_sorted_disjoint.result _ _ made.gives c.from_sorted_disjoint.ensures.runs
+    let made = given-list streams gave.0 (λ each. MakesMultiwayUnion g.T.Integer g.S.Stream.Draw
+    (multiway_union g.T.Integer g.S.Stream.Draw) each c.in_ok-union.union) gave.1.0 gave.1.3 gave.2 in
+    known-made g.T.Integer.value_count g.S.Stream.Draw.may_give g.S.GivesRuns.given g.met.S.GivesRuns.known
+    g.K.IntoIterator.into_iter_gives g.K.IntoIter.Iterator.next_gives c.args.sets g.S.GivesRuns.shown
+    streams c.in_ok-streams.ensures.given c.from_sorted_disjoint.result _
+    c.from_sorted_disjoint.ensures.runs any_of made.gives

@@ -1,6 +1,5 @@
-use Rattle.std.proofs.Common.{◌^◌}
-use Rattle.std.proofs.lemmas.Result.{IfOk-weaker}
-use Rattle.range_set_blaze.proofs.AlgebraLemmas.{difference-of_sets}
+use Rattle.std.proofs.Common.{◌&&◌, ◌∙◌, ◌^◌, not, refl}
+use Rattle.range_set_blaze.proofs.AlgebraLemmas.{set-of_operation}
 use Rattle.rsb_examples.proofs.packets.missing.Goals as goal
 
 -- the set is a list that the difference of two known lists may give
@@ -8,7 +7,7 @@ pub returns : goal.returns
 returns c =
     let sent = c.ranges-2.ensures in
     let acked = c.ranges-3.ensures in
-    IfOk-weaker c.into_range_set_blaze.result _ _
-    (λ set may. difference-of_sets (2 ^ 32) c.args.sent.now c.args.acked.now _ _
-    sent.ranges acked.ranges sent.ready acked.ready set (c.difference-unanswered.ensures.made.gives set may))
-    c.into_range_set_blaze.ensures.runs
+    (set-of_operation (2 ^ 32) c.into_range_set_blaze.result _ c.into_range_set_blaze.ensures.runs
+    c.args.sent.now c.args.acked.now (λ runs at. at ∙ sent.ranges) (λ runs at. at ∙ acked.ranges)
+    sent.runs acked.runs (λ left right. left && not right) refl
+    c.difference-unanswered.ensures.made.gives).0

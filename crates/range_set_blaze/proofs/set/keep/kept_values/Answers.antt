@@ -1,12 +1,7 @@
-use Rattle.std.proofs.Common.{◌≡◌, ◌+◌, ◌<◌, ◌++◌, ◌∷◌, ◌∙◌, [], ap, arith, false, refl, subst, sym, true, IsTrue, List}
-use Rattle.std.proofs.lemmas.Fn.{FoldsTo-push}
-use denote.Param.Always.{mut_next}
-use Rattle.rsb_integer.specs.Runs.{Interval, members, IsCanonicalFrom}
-use Rattle.rsb_integer.proofs.ListLemmas.{not_both}
-use Rattle.range_set_blaze.specs.Kept.{run_of, runs_of}
-use Rattle.range_set_blaze.specs.Retain.{left_runs, ascending_ranks, with_piece}
-use Rattle.range_set_blaze.proofs.AnswerLemmas.{computes-next}
-use Rattle.range_set_blaze.proofs.KeepLemmas.{exact-false, exact-none, exact-true, first-left, grown-within, head-order, left-canonical, left-later, left-listed, left-next, left-within, piece-below, piece-none}
+use Rattle.std.proofs.Common.{◌≡◌, ◌+◌, ◌<◌, ◌++◌, ◌∷◌, ◌∙◌, [], ap, append-nil, arith, length, refl}
+use Rattle.range_set_blaze.specs.Kept.{runs_of}
+use Rattle.range_set_blaze.specs.Retain.{left_runs, past_piece}
+use Rattle.range_set_blaze.proofs.gathering.AskedValues.{answered-all, answered-next, below-lower, canonical-below, left_runs-next, listed-next}
 use Rattle.range_set_blaze.proofs.set.keep.kept_values.Goals as goal
 use Rattle.range_set_blaze.proofs.set.keep.kept_values.Goals.{then-f+in_ok-grown, else-f}
 
@@ -15,128 +10,82 @@ pub loop-left-init : goal.loop-left-init
 loop-left-init g c =
     let rank = g.T.Integer.rank in
     let old = runs_of rank c.args.map.now.entries in
-    let todo = left_runs rank c.next_run-left.result c.next_run-left.new.entries in
-    let all : todo ≡ old =
-    left-next rank c.next_run-left.result c.iter-entries.result c.next_run-left.new.entries
+    let canonical = c.requires.canonical in
+    let all : left_runs rank c.next_run-left.result c.next_run-left.new.entries ≡ old =
+    left_runs-next rank c.next_run-left.result c.iter-entries.result c.next_run-left.new.entries
     c.next_run-left.ensures ∙ ap (runs_of rank) c.iter-entries.ensures.rest in
-    record {
-      callable = λ always. always;
-      canonical = rw all c.requires.canonical;
+    rw (all, c.new-kept.ensures) (record {
+      canonical = canonical-below g.T.Integer.value_count 0 old canonical.0 canonical.1;
       order = tt;
-      value = tt;
-      later = tt;
-      todo_within = λ point member. subst (λ runs. IsTrue (members runs point)) all member;
-      within = λ point member. absurd (not_both _ member
-          (ap (λ (set : List Interval). members set point) c.new-kept.ensures));
-      exact = λ keeps answers.
-          (answers, exact-none old todo c.new-kept.result keeps c.new-kept.ensures all);
+      value = omega arith;
+      empty = λ none. (none, refl);
       asked = [];
-      calls = refl;
-      listed = ap ascending_ranks (sym all);
-    }
+      answered = record {
+        callable = λ always. always;
+        calls = refl;
+        within = λ point member. member;
+        exact = λ keeps answers. (answers, λ point. refl);
+      };
+      listed = refl;
+    })
 
--- the next value lies in the type
-pub grow-requires-clause-value : goal.grow-requires-clause-value
-grow-requires-clause-value g c =
-    let rank = g.T.Integer.rank in
-    let order = head-order g.T.Integer.value_count (run_of rank c.in-Some.run')
-    (runs_of rank c.loop-left.entries) (rw c.in-Some.is at c.loop-left.invariant.canonical) in
-    omega (arith, order.0, order.1)
-
--- what is left is canonical
-pub next_left-left-requires : goal.next_left-left-requires
-next_left-left-requires g c =
-    rw c.in-Some.is at c.loop-left.invariant.canonical
-
--- the empty set has none
-pub returns-in_err-grown-clause-empty : goal.returns-in_err-grown-clause-empty
-returns-in_err-grown-clause-empty g c none =
-    let rank = g.T.Integer.rank in
-    let first = rank c.in-Some.run'.start in
-    let here = first-left g.T.Integer.value_count (run_of rank c.in-Some.run')
-    (runs_of rank c.loop-left.entries) (rw c.in-Some.is at c.loop-left.invariant.canonical) in
-    absurd (not_both _
-    ((rw c.in-Some.is at c.loop-left.invariant.todo_within) first here)
-    (ap (λ (runs : List Interval). members runs first) none))
-
-pub returns-in_err-put_last-clause-empty : goal.returns-in_err-put_last-clause-empty
-returns-in_err-put_last-clause-empty g c none =
-    let rank = g.T.Integer.rank in
-    absurd (not_both false
-    (c.in_err-put_last.ensures.none
-    (piece-none rank (runs_of rank c.args.map.now.entries) c.loop-left.kept c.loop-left.piece
-    c.loop-left.invariant.order c.loop-left.invariant.within none)) refl)
-
--- the value is the first that is left
+-- the first of what is left is asked about
 pub loop-left-preserved : goal.loop-left-preserved
 loop-left-preserved g c =
     let rank = g.T.Integer.rank in
     let n = g.T.Integer.value_count in
-    let old = runs_of rank c.args.map.now.entries in
-    let run = run_of rank c.in-Some.run' in
-    let after = runs_of rank c.loop-left.entries in
-    let todo = run ∷ after in
+    let value = c.in-Some.run'.start in
     let rest = left_runs rank c.next_left-left.result c.next_left-left.new.entries in
     let past = c.next_left-left.ensures in
-    let first = rank c.in-Some.run'.start in
-    let canonical = rw c.in-Some.is at c.loop-left.invariant.canonical in
-    let todo_within = rw c.in-Some.is at c.loop-left.invariant.todo_within in
-    let later = rw c.in-Some.is at c.loop-left.invariant.later in
-    let exact = rw c.in-Some.is at c.loop-left.invariant.exact in
-    let listed = rw c.in-Some.is at c.loop-left.invariant.listed in
-    let within = c.loop-left.invariant.within in
-    let order = head-order n run after canonical in
-    let in_type : first < n = omega (arith, order.0, order.1) in
-    let inside : members old first ≡ true = todo_within first (first-left n run after canonical) in
-    let has = with_piece rank c.loop-left.kept c.loop-left.piece in
+    let before = c.loop-left.invariant in
+    let canonical = rw c.in-Some.is at before.canonical in
+    let some = rw c.in-Some.is at before.empty in
+    let in_type : rank value < n = omega (arith, canonical.1, canonical.2) in
+    let listed = listed-next rank before.asked value _ _ _ (rw c.in-Some.is at before.listed) past.listed
+    in
     elim c.if-f.branch [
       | then-f+in_ok-grown w ↦ rw (w.kept-is, w.piece-is) (
           let grown = w.in_ok-grown.ensures in
           record {
-            callable = λ always. mut_next g.F.FnMut _ _ _ _ _ c.f.ensures refl
-                (c.loop-left.invariant.callable always);
-            canonical = left-canonical n todo rest first past;
+            canonical = rw grown.last past.canonical;
             order = grown.order;
             value = omega (arith, grown.last, in_type);
-            later = subst (λ end. IsCanonicalFrom (end + 1) rest) (sym grown.last) past.canonical;
-            todo_within = λ point member.
-                todo_within point (left-within n todo rest first past point member);
-            within = grown-within old first has _ inside within grown.added;
-            exact = λ keeps answers.
-                let before = exact keeps answers in
-                let next = computes-next g.F.FnMut _ _ _ _ _ c.f.ensures before.0 in (
-                  next.1,
-                  exact-true n old todo rest first past inside keeps has before.1 _ grown.added
-                      (sym (next.0 in_type) ∙ w.if-f.true),
-                );
-            asked = c.loop-left.invariant.asked ++ c.in-Some.run'.start ∷ [];
-            calls = FoldsTo-push _ _ _ _ _ _ c.loop-left.invariant.calls
-                (c.f.result, record { shown = _; shows = refl; called = c.f.ensures });
-            listed = left-listed n todo rest first past rank old c.loop-left.invariant.asked
-                c.in-Some.run'.start refl listed;
+            empty = λ none. absurd (cc (some none).0);
+            asked = before.asked ++ value ∷ [];
+            answered = answered-next rank n g.F.FnMut c.args.f c.f.new.self _ _ c.f.result
+                before.answered c.f.ensures in_type (rw w.if-f.true grown.added);
+            listed = listed;
           })
       | else-f w ↦ rw (w.kept-is, w.piece-is) (record {
-        callable = λ always. mut_next g.F.FnMut _ _ _ _ _ c.f.ensures refl
-            (c.loop-left.invariant.callable always);
-        canonical = left-canonical n todo rest first past;
-        order = c.loop-left.invariant.order;
-        value = c.loop-left.invariant.value;
-        later = left-later n todo rest first past rank c.loop-left.piece
-            (piece-below rank c.loop-left.piece run after later);
-        todo_within = λ point member.
-            todo_within point (left-within n todo rest first past point member);
-        within = within;
-        exact = λ keeps answers.
-            let before = exact keeps answers in
-            let next = computes-next g.F.FnMut _ _ _ _ _ c.f.ensures before.0 in (
-              next.1,
-              exact-false n old todo rest first past inside keeps has before.1
-                  (sym (next.0 in_type) ∙ w.if-f.false),
-            );
-        asked = c.loop-left.invariant.asked ++ c.in-Some.run'.start ∷ [];
-        calls = FoldsTo-push _ _ _ _ _ _ c.loop-left.invariant.calls
-            (c.f.result, record { shown = _; shows = refl; called = c.f.ensures });
-        listed = left-listed n todo rest first past rank old c.loop-left.invariant.asked
-            c.in-Some.run'.start refl listed;
+        canonical = below-lower n (rank value + 1) (past_piece rank c.loop-left.piece) rest
+            (omega (arith, canonical.0)) past.canonical;
+        order = before.order;
+        value = before.value;
+        empty = λ none. absurd (cc (some none).0);
+        asked = before.asked ++ value ∷ [];
+        answered = answered-next rank n g.F.FnMut c.args.f c.f.new.self _ _ c.f.result before.answered
+            c.f.ensures in_type (rw w.if-f.false (λ point. refl));
+        listed = listed;
       })
     ]
+
+-- so fewer are left
+pub loop-left-smaller : goal.loop-left-smaller
+loop-left-smaller g c =
+    let fewer = ap length c.next_left-left.ensures.listed in
+    rw c.in-Some.is (omega (arith, fewer))
+
+-- all members were asked about
+pub returns : goal.returns
+returns g c =
+    let listed = rw c.in_default.is at c.loop-left.invariant.listed in
+    let all = answered-all g.T.Integer.rank g.T.Integer.value_count g.F.FnMut c.args.f
+    (runs_of g.T.Integer.rank c.args.map.now.entries) c.put_last.new.kept
+    c.loop-left.invariant.answered (listed ∙ append-nil _) c.in_ok-put_last.ensures.added in
+    record {
+      within = all.0;
+      exact = all.1;
+      asked = all.2;
+      err = tt;
+      empty = λ none. refl;
+    }

@@ -1,35 +1,36 @@
-use Rattle.std.proofs.Common.{arith, refl}
+use Rattle.std.proofs.Common.{◌≡◌, ◌+◌, ◌++◌, ap, arith, suc, zero}
+use Rattle.rsb_integer.specs.Runs.{length_of}
 use Rattle.range_set_blaze.specs.Kept.{run_of, runs_of}
-use Rattle.range_set_blaze.proofs.KeepLemmas.{head-order, left-next, past-more, past-one}
-use Rattle.range_set_blaze.proofs.KeptLemmas.{lt-fails}
+use Rattle.range_set_blaze.specs.Retain.{ascending_ranks, ranks_from}
+use Rattle.range_set_blaze.proofs.gathering.AskedValues.{below-lower, left_runs-next, ranks_from-first}
 use Rattle.range_set_blaze.proofs.set.keep.next_left.Goals as goal
-
--- the run lies in the type
-pub is_below-requires-clause-left : goal.is_below-requires-clause-left
-is_below-requires-clause-left g c =
-    let order = head-order g.T.Integer.value_count _ _ c.requires in
-    omega (arith, order.0, order.1)
-
-pub is_below-requires-clause-right : goal.is_below-requires-clause-right
-is_below-requires-clause-right g c =
-    (head-order g.T.Integer.value_count _ _ c.requires).1
-
-pub add_one-requires : goal.add_one-requires
-add_one-requires g c =
-    let order = head-order g.T.Integer.value_count _ _ c.requires in
-    omega (arith, order.1, c.is_below.ensures.0 c.if-is_below.true)
 
 -- the rest of the run
 pub returns-then-is_below : goal.returns-then-is_below
 returns-then-is_below g c =
     let rank = g.T.Integer.rank in
-    past-more g.T.Integer.value_count (run_of rank c.args.run) (runs_of rank c.args.entries.now)
-    c.requires (c.is_below.ensures.0 c.if-is_below.true) _ c.add_one.ensures refl
+    let rest = runs_of rank c.args.entries.now in
+    let more = c.is_below.ensures.0 c.if-is_below.true in
+    let next = c.add_one.ensures in
+    record {
+      canonical = (omega (arith, next), omega (arith, next, more), c.requires.value, c.requires.later);
+      listed = rw next (ap (λ ranks. ranks ++ ascending_ranks rest)
+          (ranks_from-first (rank c.args.run.start) (rank c.args.run.end) c.requires.order));
+    }
 
 -- or the next one
 pub returns : goal.returns
+unfolding ranks_from
 returns g c =
     let rank = g.T.Integer.rank in
-    rw (left-next rank c.next_run.result c.args.entries.now c.next_run.new.entries c.next_run.ensures)
-    (past-one g.T.Integer.value_count (run_of rank c.args.run) (runs_of rank c.args.entries.now)
-    c.requires (lt-fails c.is_below.result _ _ c.is_below.ensures c.if-is_below.false))
+    let run = run_of rank c.args.run in
+    let rest = runs_of rank c.args.entries.now in
+    let order = c.requires.order in
+    let count : length_of run ≡ suc zero =
+    grind (arith, order, c.is_below.ensures.1, c.if-is_below.false) in
+    rw (left_runs-next rank c.next_run.result c.args.entries.now c.next_run.new.entries c.next_run.ensures)
+    (record {
+      canonical = below-lower g.T.Integer.value_count (run.last + 2) (run.first + 1) rest
+          (omega (arith, order)) c.requires.later;
+      listed = ap (λ count. ranks_from run.first count ++ ascending_ranks rest) count;
+    })

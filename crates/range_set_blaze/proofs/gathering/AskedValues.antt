@@ -1,0 +1,155 @@
+-- Values that a test is asked about one after the other, and those that are kept.
+use Rattle.std.proofs.Common.{◌≡◌, ℕ, zero, suc, Bool, true, ◌&&◌, ◌||◌, cond, nat_le, nat_lt, ◌+◌, ◌-◌, ◌<◌, ◌≤◌, List, [], ◌∷◌, ◌++◌, map, Option, None, Some, MatchOption, append_assoc, refl, sym, ap, ◌∙◌, arith}
+use Rattle.std.proofs.lemmas.Bool.Decides.{nat_tests}
+use Rattle.std.proofs.lemmas.Fn.{FoldsTo-push}
+use Rattle.std.proofs.lemmas.List.{map-append}
+use Rattle.std.proofs.lemmas.List.Elements.{All-head, All-tail}
+use Rattle.std.proofs.lemmas.Simd.{map-map}
+use denote.Param.Always.{always_mut, mut_next}
+use denote.Param.Members.{Called, Mut}
+use denote.Ref.{Bor}
+use Rattle.rsb_integer.specs.Runs.{Interval, length_of, members, AllEndBelow, IsCanonicalFrom}
+use Rattle.rsb_integer.specs.Selection.{Selection, any_of, intersection, union}
+use Rattle.rsb_integer.proofs.AnyOfLemmas.{any_of-one_more}
+use Rattle.rsb_integer.proofs.MembersLemmas.{members-cons}
+use Rattle.range_set_blaze.specs.Algebra.{ranks_of}
+use Rattle.range_set_blaze.specs.Kept.{entry_of, runs_of}
+use Rattle.range_set_blaze.specs.Retain.{left_runs, ranks_from, ascending_ranks, AnswersByRank, AsksAll, IsAsked, IsCanonicalBelow}
+use Rattle.range_set_blaze.specs.Set.{only, IsSetOf}
+use Rattle.range_set_blaze.specs.declared.set.run.Run.{Run}
+
+-- ---- canonical runs in a type
+
+-- a canonical list that ends below n is such a list
+pub canonical-below : (n low : ℕ) (runs : List Interval) → IsCanonicalFrom low runs
+    → AllEndBelow n runs → IsCanonicalBelow n low runs
+canonical-below n low [] canonical below = tt
+canonical-below n low (run ∷ runs) canonical below =
+    let Ends : Interval → Type 0 = λ each. each.last < n in (
+      canonical.0,
+      canonical.1,
+      All-head Ends run runs below,
+      canonical-below n (run.last + 2) runs canonical.2 (All-tail Ends run runs below),
+    )
+
+-- it may be asked to start earlier
+pub below-lower : (n low lower : ℕ) (runs : List Interval) → lower ≤ low
+    → IsCanonicalBelow n low runs → IsCanonicalBelow n lower runs
+below-lower n low lower [] less canonical = tt
+below-lower n low lower (run ∷ runs) less canonical = (
+  omega (arith, canonical.0),
+  canonical.1,
+  canonical.2,
+  canonical.3,
+)
+
+-- ---- members in ascending order
+
+-- so many ranks, and then others
+ranks_from-then : (first many : ℕ) (others : List ℕ) (point : ℕ)
+    → any_of (map only (ranks_from first many ++ others)) point
+    ≡ ((nat_le first point && nat_lt point (first + many)) || any_of (map only others) point)
+unfolding ranks_from
+ranks_from-then first zero others point = grind (arith, nat_tests)
+ranks_from-then first (suc many) others point =
+    let more = ranks_from-then (first + 1) many others point in grind (arith, nat_tests, more)
+
+-- the members of a list are those that come in ascending order
+members-ascending : (runs : List Interval) (point : ℕ)
+    → any_of (map only (ascending_ranks runs)) point ≡ members runs point
+members-ascending [] point = refl
+members-ascending (run ∷ runs) point =
+    let rest = members-ascending runs point in
+    let first = members-cons run runs point in
+    let front = ranks_from-then run.first (length_of run) (ascending_ranks runs) point in
+    grind (arith, nat_tests, rest, first, front)
+
+-- a run that has more than its first rank has the next one, too
+pub ranks_from-first : (first last : ℕ) → first ≤ last → ranks_from first (last + 1 - first)
+    ≡ first ∷ ranks_from (first + 1) (last + 1 - (first + 1))
+unfolding ranks_from
+ranks_from-first first last ordered =
+    let count : last + 1 - first ≡ suc (last + 1 - (first + 1)) = omega arith in
+    ap (ranks_from first) count
+
+-- the next entry is the first of those that are left
+pub left_runs-next : {T : Type 0} (rank : T → ℕ) (next : Option (Run T)) (old new : List (T × T))
+    → MatchOption next (old ≡ []) (λ run. old ≡ entry_of run ∷ new)
+    → left_runs rank next new ≡ runs_of rank old
+left_runs-next rank None old new is = sym (ap (runs_of rank) is)
+left_runs-next rank (Some run) old new is = sym (ap (runs_of rank) is)
+
+-- ---- what a test has answered
+
+module _ {F T : Type 0} (rank : T → ℕ) (n : ℕ) (g : Mut F (Bor T × Unit {0}) Bool) (f : F) where
+  -- calls at these values lead to a state of the test, and those with true are selected
+  pub record HasAnswered (asked : List T) (now : F) (has : Selection) : Type 0 where
+    pub callable : always_mut g f → always_mut g now
+    pub calls : IsAsked g f asked now
+    pub within : (point : ℕ) → has point ≡ true → ranks_of rank asked point ≡ true
+    pub exact : (keeps : Selection) → AnswersByRank rank n g keeps f
+        → AnswersByRank rank n g keeps now
+        × ((point : ℕ) → has point ≡ intersection (ranks_of rank asked) keeps point)
+
+  -- one more
+  pub answered-next : {asked : List T} {now : F} {has : Selection} (next : F) (more : Selection)
+      (shown : Bor T) (answer : Bool) → HasAnswered asked now has
+      → Called g now (shown, tt) answer next
+      → rank shown.now < n → ((point : ℕ)
+      → more point ≡ cond answer (union has (only (rank shown.now)) point) (has point))
+      → HasAnswered (asked ++ shown.now ∷ []) next more
+  answered-next {asked} {now} {has} next more shown answer before called in_type grown =
+      let value = rank shown.now in
+      let among = any_of-one_more (λ (each : T). only (rank each)) asked shown.now in
+      record {
+        callable = λ always. mut_next g now (shown, tt) answer next next called refl
+            (before.callable always);
+        calls = FoldsTo-push _ _ _ _ _ _ before.calls
+            (answer, record { shown = shown; shows = refl; called = called });
+        within = λ point member.
+            let all = among point in
+            let gives = grown point in
+            let old = before.within point in
+            grind (arith, nat_tests);
+        exact = λ keeps answers.
+            let exact = before.exact keeps answers in
+            let said : answer ≡ keeps value =
+            (exact.0.at ((shown, tt) ∷ []) answer next called).0 in_type in (
+              record { at = λ items. (exact.0.at ((shown, tt) ∷ items) answer next called).1 },
+              λ point.
+                  let here : only value point ≡ true → answer ≡ keeps point = λ is.
+                  let same : value ≡ point = grind (arith, nat_tests, is) in said ∙ ap keeps same in
+                  let all = among point in
+                  let gives = grown point in
+                  let old = exact.1 point in
+                  grind (arith, nat_tests),
+            );
+      }
+
+  -- once all members were asked about
+  pub answered-all : {asked : List T} {now : F} {has : Selection} (old set : List Interval)
+      → HasAnswered asked now has → ascending_ranks old ≡ map rank asked → IsSetOf set has
+      → ((point : ℕ) → members set point ≡ true → members old point ≡ true)
+      × ((keeps : Selection) → AnswersByRank rank n g keeps f
+      → IsSetOf set (intersection (members old) keeps)) × AsksAll rank g f old
+  answered-all {asked} {now} {has} old set answered listed is =
+      let all : (point : ℕ) → ranks_of rank asked point ≡ members old point = λ point.
+      ap (λ sets. any_of sets point) (sym (map-map only rank asked))
+      ∙ ap (λ ranks. any_of (map only ranks) point) (sym listed) ∙ members-ascending old point in (
+        λ point member. sym (all point) ∙ answered.within point (sym (is point) ∙ member),
+        λ keeps answers point.
+            is point ∙ (answered.exact keeps answers).1 point
+            ∙ ap (λ test. test && keeps point) (all point),
+        (asked, now, answered.calls, sym listed),
+      )
+
+-- members that come after those that were asked about, the first of which is asked about next
+pub listed-next : {T : Type 0} (rank : T → ℕ) (asked : List T) (value : T) (all rest more : List ℕ)
+    → all ≡ map rank asked ++ rest → rest ≡ rank value ∷ more
+    → all ≡ map rank (asked ++ value ∷ []) ++ more
+listed-next rank asked value all rest more listed first = rw (
+  listed,
+  first,
+  map-append rank asked (value ∷ []),
+  append_assoc (map rank asked) (rank value ∷ []) more,
+)
