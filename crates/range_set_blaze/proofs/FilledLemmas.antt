@@ -14,7 +14,8 @@ use Rattle.std.specs.List.Sorted.{IsStrictlySortedBy}
 use Rattle.std.specs.Map.{keys_of, lookup, update_all}
 use Rattle.std.specs.Ordering.{eq_by_cmp, nat_cmp, is_eq, ordering_reverse}
 use Rattle.std.specs.declared.cmp.Ordering.{Ordering}
-use Rattle.range_set_blaze.specs.Kept.{IsAscendingFrom}
+use Rattle.range_set_blaze.specs.Kept.{runs_of}
+use Rattle.range_set_blaze.specs.Starts.{IsAscendingFrom}
 use Rattle.range_set_blaze.specs.OrderLaws.{nat_cmp-less}
 
 -- two look-ups that find the same find the same values
@@ -32,7 +33,7 @@ module _ {T : Type 0} (cmp : T → T → Ordering) (order : IsTotalOrder cmp) (r
     (exact : CmpEqualImpliesEq cmp) where
   -- entries that ascend past a value are past it in the order of keys
   later : (value : T) (low : ℕ) (entries : List (T × T)) → rank value < n → rank value < low
-      → IsAscendingFrom rank n low entries
+      → IsAscendingFrom n low (runs_of rank entries)
       → AllByRecursion (λ key. cmp value key ≡ Less) (keys_of entries)
   later value low [] valued below ascending = tt
   later value low (entry ∷ entries) valued below ascending =
@@ -43,7 +44,7 @@ module _ {T : Type 0} (cmp : T → T → Ordering) (order : IsTotalOrder cmp) (r
       )
 
   -- so the keys of entries that ascend do
-  sorted-keys : (low : ℕ) (entries : List (T × T)) → IsAscendingFrom rank n low entries
+  sorted-keys : (low : ℕ) (entries : List (T × T)) → IsAscendingFrom n low (runs_of rank entries)
       → IsStrictlySortedBy cmp (keys_of entries)
   unfolding IsStrictlySortedBy
   sorted-keys low [] ascending = tt
@@ -54,7 +55,7 @@ module _ {T : Type 0} (cmp : T → T → Ordering) (order : IsTotalOrder cmp) (r
 
   -- two lists of entries in order that no look-up tells apart are the same
   same-entries : (low : ℕ) (entries others : List (T × T))
-      → IsStrictlySortedBy cmp (keys_of entries) → IsAscendingFrom rank n low others
+      → IsStrictlySortedBy cmp (keys_of entries) → IsAscendingFrom n low (runs_of rank others)
       → ((key : T) → lookup (is_at (cmp key)) entries ≡ lookup (is_at (cmp key)) others)
       → entries ≡ others
   same-entries low [] [] sorted ascending same = refl
@@ -123,7 +124,7 @@ module _ {T : Type 0} (cmp : T → T → Ordering) (order : IsTotalOrder cmp) (r
 
   -- so a map that was made of entries in order has these
   pub made-entries : (items entries : List (T × T)) (made : BTreeMap T T)
-      → IsFromIterResult cmp items made → items ≡ entries → IsAscendingFrom rank n 0 entries
+      → IsFromIterResult cmp items made → items ≡ entries → IsAscendingFrom n 0 (runs_of rank entries)
       → made.entries ≡ entries
   made-entries items entries made from is ascending =
       same-entries 0 made.entries entries from.1 ascending (λ key.

@@ -35,9 +35,3 @@ pub record IsKept {T : Type 0} (rank : T → ℕ) (n : ℕ) (entries : List (T �
   where
     pub canonical : IsCanonicalIn n (runs_of rank entries)
     pub length : kept ≡ count n (members (runs_of rank entries))
-
--- the starts of the entries are among n values, and ascend from `low` on
-abbrev pub IsAscendingFrom : {T : Type 0} → (T → ℕ) → ℕ → ℕ → List (T × T) → Type 0
-IsAscendingFrom rank n low [] = Unit {0}
-IsAscendingFrom rank n low (entry ∷ entries) =
-    (low ≤ rank entry.0) × (rank entry.0 < n) × IsAscendingFrom rank n (rank entry.0 + 1) entries

@@ -2,12 +2,14 @@ pub mod Algebra
 pub mod BothEnds
 pub mod Hash
 pub mod HashLaws
+pub mod Joining
 pub mod Kept
 pub mod Multiway
 pub mod Order
 pub mod OrderLaws
-pub mod Places
+pub mod Removal
 pub mod Retain
 pub mod Set
 pub mod Singles
 pub mod Split
+pub mod Starts

@@ -1,15 +1,13 @@
 //! Runs as entries of an ordered map, from starts to ends.
 
-ghost use Rattle.std.specs.Prelude.{◌≡◌, ◌<◌, ◌≤◌, [], ◌∷◌, ◌++◌, IfSome, IsNone, MatchOption};
-ghost use Rattle.std.specs.BTreeMap.{is_at};
-ghost use Rattle.std.specs.Map.{set_value};
-ghost use Rattle.rsb_integer.specs.Runs.{IsCanonicalIn};
-ghost use Rattle.range_set_blaze.specs.Kept.{entry_of, runs_of, IsAscendingFrom};
-ghost use Rattle.range_set_blaze.specs.Places.{past, up_to, EndsWith, EndsWithTwo, IsFree, IsReaching, StartsWith};
+ghost use Rattle.std.specs.Prelude.{◌≡◌, ℕ, ◌+◌, ◌<◌, [], ◌∷◌, ◌++◌, Contains, IfOk, IsOk, MatchOption, OnErr, OnOk};
+ghost use Rattle.rsb_integer.specs.Runs.{Interval};
+ghost use Rattle.range_set_blaze.specs.Kept.{entry_of, run_of, runs_of};
+ghost use Rattle.range_set_blaze.specs.Starts.{below, past, starting_from, with_run, without_start, IsAscendingFrom, IsLastBelow, NoneBelow, StartsWith};
 
-use crate::set::run::{Run, reaches};
+use crate::set::run::Run;
 use rsb_integer::Integer;
-use std::alloc::Allocator;
+use std::alloc::{AllocError, Allocator};
 use std::collections::BTreeMap;
 use std::collections::btree_map::{Iter, Range};
 use std::ops::Bound;
@@ -40,8 +38,8 @@ pub(crate) fn next_run<T: Integer>(entries: &mut Iter<'_, T, T>) -> Option<Run<T
 
 /// The first of all runs.
 pub(crate) fn first_run<T: Integer, A: Allocator>(map: &BTreeMap<T, T, A>) -> Option<Run<T>>
-    ensures { MatchOption result (map.now.entries ≡ [])
-        (λ run. StartsWith map.now.entries (entry_of run)) }
+    ensures { MatchOption result (runs_of T.rank map.now.entries ≡ [])
+        (λ run. StartsWith (runs_of T.rank map.now.entries) (run_of T.rank run)) }
 {
     let mut entries = map.iter();
     let (start, end) = entries.next()?;
@@ -56,10 +54,11 @@ pub(crate) fn run_up_to<T: Integer, A: Allocator>(
     map: &BTreeMap<T, T, A>,
     value: T,
 ) -> Option<Run<T>>
-    requires ascending { IsAscendingFrom T.rank T.value_count 0 map.now.entries }
+    requires ascending { IsAscendingFrom T.value_count 0 (runs_of T.rank map.now.entries) }
     requires value { T.rank value < T.value_count }
-    ensures { MatchOption result (up_to T.rank (T.rank value) map.now.entries ≡ [])
-        (λ run. EndsWith (up_to T.rank (T.rank value) map.now.entries) (entry_of run)) }
+    ensures { MatchOption result (NoneBelow (runs_of T.rank map.now.entries) (T.rank value + 1))
+        (λ run. IsLastBelow (runs_of T.rank map.now.entries) (T.rank value + 1)
+        (run_of T.rank run)) }
 {
     let mut entries = map.range(..=value);
     last_run(&mut entries)
@@ -70,10 +69,11 @@ pub(crate) fn run_after<T: Integer, A: Allocator>(
     map: &BTreeMap<T, T, A>,
     value: T,
 ) -> Option<Run<T>>
-    requires ascending { IsAscendingFrom T.rank T.value_count 0 map.now.entries }
+    requires ascending { IsAscendingFrom T.value_count 0 (runs_of T.rank map.now.entries) }
     requires value { T.rank value < T.value_count }
-    ensures { MatchOption result (past T.rank (T.rank value) map.now.entries ≡ [])
-        (λ run. StartsWith (past T.rank (T.rank value) map.now.entries) (entry_of run)) }
+    ensures { MatchOption result (past (T.rank value) (runs_of T.rank map.now.entries) ≡ [])
+        (λ run. StartsWith (past (T.rank value) (runs_of T.rank map.now.entries))
+        (run_of T.rank run)) }
 {
     let (start, end) = map
         .range((Bound::Excluded(value), Bound::Unbounded))
@@ -84,36 +84,48 @@ pub(crate) fn run_after<T: Integer, A: Allocator>(
     })
 }
 
-/// The last of the runs that start at a point or before it, with the run before it, or `None` where
-/// it doesn't reach the start.
-pub(crate) fn last_reaching<T: Integer, A: Allocator>(
-    map: &BTreeMap<T, T, A>,
-    start: T,
-    point: T,
-) -> Option<(Run<T>, Option<Run<T>>)>
-    requires canonical { IsCanonicalIn T.value_count (runs_of T.rank map.now.entries) }
-    requires start { T.rank start ≤ T.rank point }
-    requires point { T.rank point < T.value_count }
-    ensures none { IsNone result →
-        IsFree T.rank (T.rank start) (T.rank point) map.now.entries }
-    ensures found { IfSome result (λ reached.
-        IsReaching T.rank (T.rank start) (T.rank point) map.now.entries reached.0) }
-    ensures before { IfSome result (λ reached. EndsWithTwo
-        (up_to T.rank (T.rank point) map.now.entries) reached.0 reached.1) }
+/// Puts a run at its place, and takes out one that starts where it does. Without memory nothing is
+/// changed.
+pub(crate) fn put_entry<T: Integer, A: Allocator + Clone>(
+    map: &mut BTreeMap<T, T, A>,
+    run: Run<T>,
+) -> Result<(), AllocError>
+    requires ascending { IsAscendingFrom T.value_count 0 (runs_of T.rank map.old.entries) }
+    requires value { T.rank run.start < T.value_count }
+    ensures runs { OnOk result (runs_of T.rank map.new.entries
+        ≡ with_run (run_of T.rank run) (runs_of T.rank map.old.entries)) }
+    ensures err { OnErr result (map.new.entries ≡ map.old.entries) }
+    ensures succeeds { (other : Interval) → Contains (runs_of T.rank map.old.entries) other
+        → other.first ≡ T.rank run.start → IsOk result }
 {
-    let mut entries = map.range(..=point);
-    let last = last_run(&mut entries)?;
-    if !reaches(last.end, start) {
-        return None;
-    }
-    Some((last, last_run(&mut entries)))
+    map.insert(run.start, run.end)?;
+    Ok(())
 }
 
-/// Moves the end of the run that begins at a start.
-pub(crate) fn move_end<T: Integer, A: Allocator>(map: &mut BTreeMap<T, T, A>, start: T, end: T)
-    ensures { map.new.entries ≡ set_value (is_at (T.cmp start)) map.old.entries end }
+/// Takes out the run that starts at a value.
+pub(crate) fn take_entry<T: Integer, A: Allocator>(map: &mut BTreeMap<T, T, A>, start: T)
+    requires ascending { IsAscendingFrom T.value_count 0 (runs_of T.rank map.old.entries) }
+    requires value { T.rank start < T.value_count }
+    ensures { runs_of T.rank map.new.entries
+        ≡ without_start (T.rank start) (runs_of T.rank map.old.entries) }
 {
-    if let Some(kept) = map.get_mut(&start) {
-        *kept = end;
-    }
+    map.remove(&start);
+}
+
+/// Takes out the runs that start at a value or past it, and gives them. Without memory nothing is
+/// changed.
+pub(crate) fn split_entries<T: Integer, A: Allocator + Clone>(
+    map: &mut BTreeMap<T, T, A>,
+    key: T,
+) -> Result<BTreeMap<T, T, A>, AllocError>
+    requires ascending { IsAscendingFrom T.value_count 0 (runs_of T.rank map.old.entries) }
+    requires value { T.rank key < T.value_count }
+    ensures low { OnOk result (runs_of T.rank map.new.entries
+        ≡ below (T.rank key) (runs_of T.rank map.old.entries)) }
+    ensures high { IfOk result (λ high. runs_of T.rank high.entries
+        ≡ starting_from (T.rank key) (runs_of T.rank map.old.entries)) }
+    ensures err { OnErr result (map.new.entries ≡ map.old.entries) }
+{
+    let high = map.split_off(&key)?;
+    Ok(high)
 }

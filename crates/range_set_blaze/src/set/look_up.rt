@@ -1,11 +1,11 @@
 //! Where a value lies in a set.
 
-ghost use Rattle.std.specs.Prelude.{◌≡◌, ◌↔◌, ◌+◌, ◌<◌, ◌≤◌, ℕ, IfSome, IsFalse, IsNone, IsSome, IsTrue};
+ghost use Rattle.std.specs.Prelude.{◌≡◌, ◌↔◌, ◌<◌, IfSome, IsFalse, IsNone, IsSome, IsTrue};
 ghost use Rattle.rsb_integer.specs.Rank.{interval_of};
 ghost use Rattle.rsb_integer.specs.Runs.{members, IsCanonicalIn};
 ghost use Rattle.rsb_integer.specs.Selection.{complement, IsEverything};
 ghost use Rattle.range_set_blaze.specs.Kept.{run_of, runs_of};
-ghost use Rattle.range_set_blaze.specs.Places.{past};
+ghost use Rattle.range_set_blaze.specs.Starts.{IsGapEnd};
 ghost use Rattle.range_set_blaze.specs.Set.{IsRunAround};
 
 use crate::set::RangeSetBlaze;
@@ -98,13 +98,9 @@ fn run_at<T: Integer, A: Allocator>(map: &BTreeMap<T, T, A>, value: T) -> Option
 fn gap_end<T: Integer, A: Allocator>(map: &BTreeMap<T, T, A>, value: T) -> T
     requires canonical { IsCanonicalIn T.value_count (runs_of T.rank map.now.entries) }
     requires value { T.rank value < T.value_count }
-    ensures from { T.rank value ≤ T.rank result }
-    ensures value { T.rank result < T.value_count }
-    ensures free { (rank : ℕ) → T.rank value < rank → rank ≤ T.rank result
-        → IsFalse (members (runs_of T.rank (past T.rank (T.rank value) map.now.entries)) rank) }
-    ensures ends { T.rank result + 1 < T.value_count → IsTrue
-        (members (runs_of T.rank (past T.rank (T.rank value) map.now.entries))
-        (T.rank result + 1)) }
+    requires gap { IsFalse (members (runs_of T.rank map.now.entries) (T.rank value)) }
+    ensures { IsGapEnd T.value_count (runs_of T.rank map.now.entries) (T.rank value)
+        (T.rank result) }
 {
     match run_after(map, value) {
         Some(run) => run.start.sub_one(),

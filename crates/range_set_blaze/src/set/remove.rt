@@ -1,15 +1,15 @@
 //! Removals.
 
-ghost use Rattle.std.specs.Prelude.{◌≡◌, ◌↔◌, ◌+◌, ◌<◌, ◌≤◌, ℕ, [], IfOk, IfSome, IsFalse, IsNone, IsOk, IsSome, IsTrue, OnErr, OnOk};
+ghost use Rattle.std.specs.Prelude.{◌≡◌, ◌↔◌, ◌+◌, ◌<◌, ◌≤◌, ℕ, [], Contains, IfOk, IfSome, IsFalse, IsNone, IsOk, IsSome, IsTrue, OnErr, OnOk};
 ghost use Rattle.rsb_integer.specs.Runs.{members, IsCanonicalIn};
 ghost use Rattle.range_set_blaze.specs.BothEnds.{TakesGreatest, TakesLeast};
-ghost use Rattle.range_set_blaze.specs.Kept.{entry_of, runs_of, IsKept};
-ghost use Rattle.range_set_blaze.specs.Places.{up_to, EndsWith, IsRemoved};
+ghost use Rattle.range_set_blaze.specs.Kept.{run_of, runs_of, IsKept};
+ghost use Rattle.range_set_blaze.specs.Removal.{IsCutAbove, IsRemoved};
 ghost use Rattle.rsb_streams.specs.RunCount.{HasOneRunMoreAtMost};
 ghost use Rattle.range_set_blaze.specs.Set.{only, IsLeast, Removes};
 
 use crate::set::RangeSetBlaze;
-use crate::set::entries::{move_end, run_up_to};
+use crate::set::entries::{put_entry, run_up_to, take_entry};
 use crate::set::lengths::take_off_length;
 use crate::set::run::{Run, is_below, known};
 use rsb_integer::Integer;
@@ -110,8 +110,8 @@ fn take_value<T: Integer, A: Allocator + Clone>(
         → IsTrue (members (runs_of T.rank map.old.entries) (T.rank value))) }
     ensures kept { IfOk result (λ found. IfSome found (λ length.
         IsKept T.rank T.value_count map.new.entries (T.SafeLen.number length))) }
-    ensures removed { IfOk result (λ found. IsSome found →
-        IsRemoved T.rank T.value_count map.old.entries map.new.entries (T.rank value)) }
+    ensures removed { IfOk result (λ found. IsSome found → IsRemoved T.value_count
+        (runs_of T.rank map.old.entries) (runs_of T.rank map.new.entries) (T.rank value)) }
     ensures err { OnErr result (map.new.entries ≡ map.old.entries) }
     ensures absent { IsFalse (members (runs_of T.rank map.old.entries) (T.rank value))
         → IsOk result }
@@ -143,21 +143,45 @@ fn cut<T: Integer, A: Allocator + Clone>(
     value: T,
 ) -> Result<(), AllocError>
     requires canonical { IsCanonicalIn T.value_count (runs_of T.rank map.old.entries) }
-    requires last { EndsWith (up_to T.rank (T.rank value) map.old.entries) (entry_of run) }
-    requires within { T.rank value ≤ T.rank run.end }
-    ensures removed { OnOk result
-        (IsRemoved T.rank T.value_count map.old.entries map.new.entries (T.rank value)) }
+    requires among { Contains (runs_of T.rank map.old.entries) (run_of T.rank run) }
+    requires from { T.rank run.start ≤ T.rank value }
+    requires to { T.rank value ≤ T.rank run.end }
+    ensures removed { OnOk result (IsRemoved T.value_count (runs_of T.rank map.old.entries)
+        (runs_of T.rank map.new.entries) (T.rank value)) }
+    ensures err { OnErr result (map.new.entries ≡ map.old.entries) }
+    ensures succeeds { T.rank run.end ≤ T.rank value → IsOk result }
+{
+    // What lies above the value comes first, since it may find no memory.
+    put_above(map, run, value)?;
+    if is_below(run.start, value) {
+        let end = value.sub_one();
+        let start = run.start;
+        put_entry(map, Run { start, end }).unwrap();
+    } else {
+        take_entry(map, run.start);
+    }
+    Ok(())
+}
+
+// Puts in what a run has above one of its values.
+fn put_above<T: Integer, A: Allocator + Clone>(
+    map: &mut BTreeMap<T, T, A>,
+    run: Run<T>,
+    value: T,
+) -> Result<(), AllocError>
+    requires canonical { IsCanonicalIn T.value_count (runs_of T.rank map.old.entries) }
+    requires among { Contains (runs_of T.rank map.old.entries) (run_of T.rank run) }
+    requires from { T.rank run.start ≤ T.rank value }
+    requires to { T.rank value ≤ T.rank run.end }
+    ensures above { OnOk result (IsCutAbove T.value_count (runs_of T.rank map.old.entries)
+        (run_of T.rank run) (T.rank value) (runs_of T.rank map.new.entries)) }
     ensures err { OnErr result (map.new.entries ≡ map.old.entries) }
     ensures succeeds { T.rank run.end ≤ T.rank value → IsOk result }
 {
     if is_below(value, run.end) {
-        // The new entry comes first, since it may find no memory.
-        map.insert(value.add_one(), run.end)?;
-    }
-    if is_below(run.start, value) {
-        move_end(map, run.start, value.sub_one());
-    } else {
-        map.remove(&run.start);
+        let start = value.add_one();
+        let end = run.end;
+        put_entry(map, Run { start, end })?;
     }
     Ok(())
 }

@@ -10,7 +10,7 @@ ghost use Rattle.range_set_blaze.specs.Retain.{AnswersByRank, AnswersByRun, Asks
 ghost use Rattle.range_set_blaze.specs.Set.{IsSetOf};
 
 use crate::set::RangeSetBlaze;
-use crate::set::entries::{first_run, run_after};
+use crate::set::entries::{first_run, run_after, take_entry};
 use crate::set::keep::kept_values;
 use crate::set::lengths::take_off_length;
 use rsb_integer::Integer;
@@ -83,7 +83,7 @@ fn retain_runs<T: Integer, A: Allocator, F: FnMut(&RangeInclusive<T>) -> bool>(
     while let Some(run) = next {
         if !f(&(run.start..=run.end)) {
             take_off_length(&mut length, run);
-            map.remove(&run.start);
+            take_entry(map, run.start);
         }
         next = run_after(map, run.end);
     }

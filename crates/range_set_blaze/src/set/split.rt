@@ -1,15 +1,14 @@
 //! A set that is parted at a value.
 
-ghost use Rattle.std.specs.Prelude.{◌≡◌, ◌+◌, ◌-◌, ◌<◌, ◌≤◌, IfOk, IfSome, IsFalse, IsNone, IsOk, IsSome, OnErr, OnOk};
+ghost use Rattle.std.specs.Prelude.{◌≡◌, ◌+◌, ◌<◌, ◌≤◌, Contains, IfOk, IsFalse, IsOk, MatchOption, OnErr, OnOk};
 ghost use Rattle.rsb_integer.specs.Runs.{members, IsCanonicalIn};
 ghost use Rattle.rsb_integer.specs.Selection.{count, intersection, IsNothing};
-ghost use Rattle.range_set_blaze.specs.Kept.{entry_of, runs_of};
-ghost use Rattle.range_set_blaze.specs.Places.{up_to, EndsWith, IsFree};
+ghost use Rattle.range_set_blaze.specs.Kept.{run_of, runs_of};
 ghost use Rattle.range_set_blaze.specs.Set.{IsSetOf, Removes};
-ghost use Rattle.range_set_blaze.specs.Split.{from_on, IsParting};
+ghost use Rattle.range_set_blaze.specs.Split.{from_on, IsParting, NoneOver};
 
 use crate::set::RangeSetBlaze;
-use crate::set::entries::{move_end, next_run, run_up_to};
+use crate::set::entries::{next_run, put_entry, run_up_to, split_entries, take_entry};
 use crate::set::lengths::add_length;
 use crate::set::run::{Run, is_below, known};
 use num_traits::Zero;
@@ -70,14 +69,15 @@ fn part<T: Integer, A: Allocator + Clone>(
 ) -> Result<BTreeMap<T, T, A>, AllocError>
     requires canonical { IsCanonicalIn T.value_count (runs_of T.rank map.old.entries) }
     requires value { T.rank key < T.value_count }
-    ensures parting { IfOk result (λ high. IsParting T.rank T.value_count
-        map.old.entries map.new.entries high.entries (T.rank key)) }
-    ensures err { OnErr result (map.new.entries ≡ map.old.entries) }
+    ensures parting { IfOk result (λ high. IsParting T.value_count (runs_of T.rank map.old.entries)
+        (runs_of T.rank map.new.entries) (runs_of T.rank high.entries) (T.rank key)) }
+    ensures err { OnErr result
+        (runs_of T.rank map.new.entries ≡ runs_of T.rank map.old.entries) }
 {
     if let Some(run) = run_over(map, key) {
         return part_within(map, run, key);
     }
-    let high = map.split_off(&key)?;
+    let high = split_entries(map, key)?;
     Ok(high)
 }
 
@@ -85,12 +85,9 @@ fn part<T: Integer, A: Allocator + Clone>(
 fn run_over<T: Integer, A: Allocator>(map: &BTreeMap<T, T, A>, key: T) -> Option<Run<T>>
     requires canonical { IsCanonicalIn T.value_count (runs_of T.rank map.now.entries) }
     requires value { T.rank key < T.value_count }
-    ensures none { IsNone result → 0 < T.rank key
-        → IsFree T.rank (T.rank key + 1) (T.rank key - 1) map.now.entries }
-    ensures above { IsSome result → 0 < T.rank key }
-    ensures last { IfSome result (λ run.
-        EndsWith (up_to T.rank (T.rank key - 1) map.now.entries) (entry_of run)) }
-    ensures within { IfSome result (λ run. T.rank key ≤ T.rank run.end) }
+    ensures { MatchOption result (NoneOver (runs_of T.rank map.now.entries) (T.rank key))
+        (λ run. Contains (runs_of T.rank map.now.entries) (run_of T.rank run)
+        × (T.rank run.start < T.rank key) × (T.rank key ≤ T.rank run.end)) }
 {
     if !is_below(T::min_value(), key) {
         return None;
@@ -109,22 +106,27 @@ fn part_within<T: Integer, A: Allocator + Clone>(
     key: T,
 ) -> Result<BTreeMap<T, T, A>, AllocError>
     requires canonical { IsCanonicalIn T.value_count (runs_of T.rank map.old.entries) }
-    requires last { EndsWith (up_to T.rank (T.rank key - 1) map.old.entries) (entry_of run) }
-    requires above { 0 < T.rank key }
+    requires among { Contains (runs_of T.rank map.old.entries) (run_of T.rank run) }
+    requires above { T.rank run.start < T.rank key }
     requires within { T.rank key ≤ T.rank run.end }
-    ensures parting { IfOk result (λ high. IsParting T.rank T.value_count
-        map.old.entries map.new.entries high.entries (T.rank key)) }
-    ensures err { OnErr result (map.new.entries ≡ map.old.entries) }
+    ensures parting { IfOk result (λ high. IsParting T.value_count (runs_of T.rank map.old.entries)
+        (runs_of T.rank map.new.entries) (runs_of T.rank high.entries) (T.rank key)) }
+    ensures err { OnErr result
+        (runs_of T.rank map.new.entries ≡ runs_of T.rank map.old.entries) }
 {
     // The part of the run from the value on becomes an entry first, since it may find no memory.
-    map.insert(key, run.end)?;
-    match map.split_off(&key) {
+    let start = key;
+    let end = run.end;
+    put_entry(map, Run { start, end })?;
+    match split_entries(map, key) {
         Ok(high) => {
-            move_end(map, run.start, key.sub_one());
+            let start = run.start;
+            let end = key.sub_one();
+            put_entry(map, Run { start, end }).unwrap();
             Ok(high)
         }
         Err(error) => {
-            map.remove(&key);
+            take_entry(map, key);
             Err(error)
         }
     }

@@ -1,17 +1,18 @@
-use Rattle.std.proofs.Common.{◌≡◌, ◌∙◌, List, [], MatchOption, subst}
-use Rattle.range_set_blaze.specs.Kept.{entry_of}
-use Rattle.range_set_blaze.specs.Places.{EndsWith}
-use Rattle.range_set_blaze.proofs.AloneLemmas.{ends-with}
-use Rattle.range_set_blaze.proofs.EntriesLemmas.{between-up_to}
+use Rattle.std.proofs.Common.{◌∙◌, ◌+◌, ap}
+use Rattle.range_set_blaze.specs.Kept.{runs_of}
+use Rattle.range_set_blaze.proofs.runs.Found.{found-last}
+use Rattle.range_set_blaze.proofs.runs.Maps.{runs-up_to}
 use Rattle.range_set_blaze.proofs.set.entries.run_up_to.Goals as goal
 
--- the range has the entries up to the value
+-- the last of the range is the last up to the value
 pub returns : goal.returns
 returns g c =
+    let rank = g.T.Integer.rank in
+    let n = g.T.Integer.value_count in
     let laws = g.met.T.Integer in
-    let same = between-up_to g.T.Ord.cmp g.T.Integer.rank g.T.Integer.value_count laws.in_order
-    c.args.value c.requires.value 0 c.args.map.now.entries c.requires.ascending in
-    subst (λ (items : List (g.row.T.Denot × g.row.T.Denot)).
-    MatchOption c.last_run.result (items ≡ []) (λ run. EndsWith items (entry_of run)))
-    (c.range-entries.ensures.between tt ∙ same)
-    (ends-with c.range-entries.result c.last_run.new.entries c.last_run.result c.last_run.ensures)
+    found-last rank n (runs_of rank c.args.map.now.entries) c.requires.ascending
+    (rank c.args.value + 1) c.range-entries.result c.last_run.new.entries c.last_run.result
+    (ap (runs_of rank) (c.range-entries.ensures.between tt)
+    ∙ runs-up_to g.T.Ord.cmp rank n laws.in_order c.args.value c.requires.value
+    c.args.map.now.entries c.requires.ascending)
+    c.last_run.ensures

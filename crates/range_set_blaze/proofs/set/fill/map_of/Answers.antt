@@ -2,7 +2,8 @@ use Rattle.std.proofs.Common.{◌∙◌}
 use Rattle.std.proofs.IntoIterSteps.{All-taken}
 use Rattle.std.proofs.lemmas.Result.{IfOk-weaker}
 use Rattle.range_set_blaze.proofs.FilledLemmas.{made-entries}
-use Rattle.range_set_blaze.proofs.PointLemmas.{kept-ascending}
+use Rattle.range_set_blaze.specs.Kept.{runs_of}
+use Rattle.range_set_blaze.proofs.runs.Starts.{canonical-rises}
 use Rattle.range_set_blaze.proofs.set.fill.map_of.Goals as goal
 
 -- the entries came in order, so the map has these
@@ -16,5 +17,5 @@ returns g c =
     made-entries g.T.Ord.cmp g.met.T.Ord.total rank n laws.in_order laws.exact
     ran.1 c.args.entries.items map ran.4
     (All-taken ran.0 ran.1 (last.0, (ran.3.0, ran.3.1, last.1)) ∙ ran.2.0)
-    (kept-ascending rank n c.args.entries.items c.requires))
+    (canonical-rises n 0 (runs_of rank c.args.entries.items) c.requires.0 c.requires.1))
     c.from_iter.ensures.ran

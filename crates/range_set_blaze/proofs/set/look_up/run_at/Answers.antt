@@ -1,51 +1,48 @@
-use Rattle.range_set_blaze.proofs.KeptLemmas.{lt-fails}
+use Rattle.std.proofs.Common.{◌≡◌, ◌+◌, ◌≤◌, arith, refl}
+use Rattle.rsb_integer.specs.Runs.{members}
 use Rattle.rsb_integer.proofs.ListLemmas.{not_both}
-use Rattle.range_set_blaze.proofs.LookUpLemmas.{found-absent, found-around, found-order, found-present, none-absent}
-use Rattle.range_set_blaze.proofs.PointLemmas.{kept-ascending}
+use Rattle.range_set_blaze.specs.Kept.{runs_of}
+use Rattle.range_set_blaze.proofs.runs.Apart.{contained-members, last-gap, none-gap}
+use Rattle.range_set_blaze.proofs.KeptLemmas.{lt-fails}
+use Rattle.range_set_blaze.proofs.look_up.Gaps.{contained-around}
+use Rattle.range_set_blaze.proofs.runs.Starts.{canonical-rises}
 use Rattle.range_set_blaze.proofs.set.look_up.run_at.Goals as goal
-use Rattle.std.proofs.Common.{refl}
 
--- the starts of a set ascend
+-- the starts ascend
 pub run_up_to-requires-clause-ascending : goal.run_up_to-requires-clause-ascending
 run_up_to-requires-clause-ascending g c =
-    kept-ascending g.T.Integer.rank g.T.Integer.value_count c.args.map.now.entries
-    c.requires.canonical
+    canonical-rises _ _ _ c.requires.canonical.0 c.requires.canonical.1
 
 -- no run starts up to the value
 pub returns-in_err-run-clause-none : goal.returns-in_err-run-clause-none
 returns-in_err-run-clause-none g c =
     rw c.from_residual.ensures (
-      (λ none. none-absent g.T.Integer.rank g.T.Integer.value_count c.args.map.now.entries
-          c.requires.canonical (g.T.Integer.rank c.args.value) c.in_err-run.ensures),
+      (λ none. none-gap _ _ c.requires.canonical _ c.in_err-run.ensures _ (omega arith)),
       (λ absent. refl),
     )
 
-pub is_below-requires-clause-left : goal.is_below-requires-clause-left
-is_below-requires-clause-left g c =
-    (found-order g.T.Integer.rank g.T.Integer.value_count c.args.map.now.entries
-    c.requires.canonical (g.T.Integer.rank c.args.value) c.in_ok-run.run' c.in_ok-run.ensures).2
-
--- the last that does ends before it
+-- or the last one ends below it
 pub returns-then-is_below-clause-none : goal.returns-then-is_below-clause-none
 returns-then-is_below-clause-none g c = (
-  (λ none. found-absent g.T.Integer.rank g.T.Integer.value_count c.args.map.now.entries
-      c.requires.canonical (g.T.Integer.rank c.args.value) c.in_ok-run.run' c.in_ok-run.ensures
-      (c.is_below.ensures.0 c.if-is_below.true)),
+  (λ none. last-gap _ _ c.requires.canonical _ _ c.in_ok-run.ensures _
+      (c.is_below.ensures.0 c.if-is_below.true) (omega arith)),
   (λ absent. refl),
 )
 
 -- or has it
-pub returns-clause-none : goal.returns-clause-none
-returns-clause-none g c =
-    let within = lt-fails c.is_below.result _ _ c.is_below.ensures c.if-is_below.false in (
-      (λ none. absurd (not_both _ refl none)),
-      (λ absent. absurd (not_both _ (found-present g.T.Integer.rank g.T.Integer.value_count
-          c.args.map.now.entries c.requires.canonical (g.T.Integer.rank c.args.value)
-          c.in_ok-run.run' c.in_ok-run.ensures within) absent)),
-    )
-
 pub returns-clause-run : goal.returns-clause-run
 returns-clause-run g c =
-    found-around g.T.Integer.rank g.T.Integer.value_count c.args.map.now.entries
-    c.requires.canonical (g.T.Integer.rank c.args.value) c.in_ok-run.run' c.in_ok-run.ensures
-    (lt-fails c.is_below.result _ _ c.is_below.ensures c.if-is_below.false)
+    let starts = c.in_ok-run.ensures.starts in
+    contained-around _ _ c.requires.canonical _ _ c.in_ok-run.ensures.among
+    (omega (arith, starts)) (lt-fails c.is_below.result _ _ c.is_below.ensures c.if-is_below.false)
+
+pub returns-clause-none : goal.returns-clause-none
+returns-clause-none g c =
+    let starts = c.in_ok-run.ensures.starts in
+    let member = contained-members _ _ c.requires.canonical _ (g.T.Integer.rank c.args.value)
+    c.in_ok-run.ensures.among (omega (arith, starts))
+    (lt-fails c.is_below.result _ _ c.is_below.ensures c.if-is_below.false) in (
+      (λ none. absurd (cc)),
+      (λ absent. absurd (not_both (members (runs_of g.T.Integer.rank c.args.map.now.entries)
+          (g.T.Integer.rank c.args.value)) member absent)),
+    )

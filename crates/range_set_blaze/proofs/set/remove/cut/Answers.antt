@@ -1,84 +1,38 @@
-use Rattle.std.proofs.Common.{arith}
-use Rattle.range_set_blaze.proofs.CutLemmas.{cut-below, cut-order, cut-whole, split-none, split-some, IsSplit}
+use Rattle.std.proofs.Common.{◌≡◌, OnOk, sym, subst, refl}
+use Rattle.range_set_blaze.specs.Kept.{run_of, runs_of}
+use Rattle.range_set_blaze.specs.Removal.{IsRemoved}
+use Rattle.range_set_blaze.specs.Starts.{with_run}
+use Rattle.range_set_blaze.proofs.removal.Cuts.{cut-low, cut-none}
 use Rattle.range_set_blaze.proofs.KeptLemmas.{lt-fails}
 use Rattle.range_set_blaze.proofs.set.remove.cut.Goals as goal
-use Rattle.range_set_blaze.proofs.set.remove.cut.Goals.{then-is_below+in_ok-insert, else-is_below}
 
--- the run lies in the type
-pub is_below-requires-clause-left : goal.is_below-requires-clause-left
-is_below-requires-clause-left g c =
-    let order = cut-order g.T.Integer.rank g.T.Integer.value_count c.args.map.now.entries
-    c.requires.canonical (g.T.Integer.rank c.args.value) c.args.run c.requires.last in
-    omega (arith, order.1, c.requires.within)
+-- the run's start is there
+pub unwrap-requires : goal.unwrap-requires
+unwrap-requires g c =
+    let there = c.in_ok-put_above.ensures.above.there in
+    c.put_entry.ensures.succeeds there.0 there.1 there.2
 
-pub is_below-requires-clause-right : goal.is_below-requires-clause-right
-is_below-requires-clause-right g c =
-    (cut-order g.T.Integer.rank g.T.Integer.value_count c.args.map.now.entries
-    c.requires.canonical (g.T.Integer.rank c.args.value) c.args.run c.requires.last).1
-
--- so the value has one after it, where the run goes on
-pub add_one-requires : goal.add_one-requires
-add_one-requires g c =
-    let order = cut-order g.T.Integer.rank g.T.Integer.value_count c.args.map.now.entries
-    c.requires.canonical (g.T.Integer.rank c.args.value) c.args.run c.requires.last in
-    omega (arith, order.1, c.is_below.ensures.0 c.if-is_below.true)
-
-pub is_below-requires-2-clause-left : goal.is_below-requires-2-clause-left
-is_below-requires-2-clause-left g c =
-    let order = cut-order g.T.Integer.rank g.T.Integer.value_count c.args.map.now.entries
-    c.requires.canonical (g.T.Integer.rank c.args.value) c.args.run c.requires.last in
-    omega (arith, order.0, order.1)
-
-pub is_below-requires-2-clause-right : goal.is_below-requires-2-clause-right
-is_below-requires-2-clause-right g c =
-    let order = cut-order g.T.Integer.rank g.T.Integer.value_count c.args.map.now.entries
-    c.requires.canonical (g.T.Integer.rank c.args.value) c.args.run c.requires.last in
-    omega (arith, order.1, c.requires.within)
-
--- what lies below the value is kept
-pub returns-then-is_below-2-clause-removed : goal.returns-then-is_below-2-clause-removed
-returns-then-is_below-2-clause-removed g c =
-    let laws = g.met.T.Integer in
+-- what lies below the value takes its place
+pub returns-then-is_below-clause-removed : goal.returns-then-is_below-clause-removed
+returns-then-is_below-clause-removed g c =
     let rank = g.T.Integer.rank in
-    let n = g.T.Integer.value_count in
-    let entries = c.args.map.now.entries in
-    let point = rank c.args.value in
-    let split : IsSplit rank n entries c.requires.canonical point c.args.run c.requires.last
-    c.if-is_below.map.entries = elim c.if-is_below.branch [
-      | then-is_below+in_ok-insert w ↦ rw w.map-is
-          (split-some rank n entries c.requires.canonical point c.args.run c.requires.last
-          g.T.Ord.cmp laws.in_order (c.is_below.ensures.0 w.if-is_below.true) w.add_one.result
-          w.add_one.ensures w.insert.new.self.entries w.in_ok-insert.ensures.entries)
-      | else-is_below w ↦ rw w.map-is
-          (split-none rank n entries c.requires.canonical point c.args.run c.requires.last
-          c.requires.within
-          (lt-fails c.is_below.result _ _ c.is_below.ensures w.if-is_below.false))
-    ] in
-    cut-below rank n entries c.requires.canonical point c.args.run c.requires.last g.T.Ord.cmp
-    laws.in_order c.requires.within c.if-is_below.map.entries split c.move_end.new.map.entries
-    (c.is_below-2.ensures.0 c.if-is_below-2.true) c.sub_one.result (omega (arith, c.sub_one.ensures))
-    c.move_end.ensures
+    let mid = runs_of rank c.put_above.new.map.entries in
+    let low = run_of rank (record { start = c.args.run.start; end = c.sub_one-end.result }) in
+    let is = subst (λ result. OnOk result
+    (runs_of rank c.put_entry.new.map.entries ≡ with_run low mid)) c.unwrap.ensures
+    c.put_entry.ensures.runs in
+    subst (λ runs. IsRemoved g.T.Integer.value_count (runs_of rank c.args.map.now.entries) runs
+    (rank c.args.value)) (sym is)
+    (cut-low _ _ c.requires.canonical _ c.requires.among _ c.requires.from c.requires.to _
+    c.in_ok-put_above.ensures.above low refl c.sub_one-end.ensures
+    (c.is_below.ensures.0 c.if-is_below.true))
 
--- nothing does
-pub returns-else-is_below-2-clause-removed : goal.returns-else-is_below-2-clause-removed
-returns-else-is_below-2-clause-removed g c =
-    let laws = g.met.T.Integer in
-    let rank = g.T.Integer.rank in
-    let n = g.T.Integer.value_count in
-    let entries = c.args.map.now.entries in
-    let point = rank c.args.value in
-    let split : IsSplit rank n entries c.requires.canonical point c.args.run c.requires.last
-    c.if-is_below.map.entries = elim c.if-is_below.branch [
-      | then-is_below+in_ok-insert w ↦ rw w.map-is
-          (split-some rank n entries c.requires.canonical point c.args.run c.requires.last
-          g.T.Ord.cmp laws.in_order (c.is_below.ensures.0 w.if-is_below.true) w.add_one.result
-          w.add_one.ensures w.insert.new.self.entries w.in_ok-insert.ensures.entries)
-      | else-is_below w ↦ rw w.map-is
-          (split-none rank n entries c.requires.canonical point c.args.run c.requires.last
-          c.requires.within
-          (lt-fails c.is_below.result _ _ c.is_below.ensures w.if-is_below.false))
-    ] in
-    cut-whole rank n entries c.requires.canonical point c.args.run c.requires.last g.T.Ord.cmp
-    laws.in_order c.requires.within c.if-is_below.map.entries split c.remove.new.self.entries
-    (lt-fails c.is_below-2.result _ _ c.is_below-2.ensures c.if-is_below-2.false)
-    c.remove.ensures.entries
+-- or nothing lies there
+pub returns-else-is_below-clause-removed : goal.returns-else-is_below-clause-removed
+returns-else-is_below-clause-removed g c =
+    subst (λ runs. IsRemoved g.T.Integer.value_count
+    (runs_of g.T.Integer.rank c.args.map.now.entries) runs (g.T.Integer.rank c.args.value))
+    (sym c.take_entry.ensures)
+    (cut-none _ _ c.requires.canonical _ c.requires.among _ c.requires.from c.requires.to _
+    c.in_ok-put_above.ensures.above
+    (lt-fails c.is_below.result _ _ c.is_below.ensures c.if-is_below.false))

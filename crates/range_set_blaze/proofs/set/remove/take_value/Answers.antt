@@ -1,76 +1,62 @@
-use Rattle.std.proofs.Common.{◌+◌, false, arith, inl, inr, refl}
+use Rattle.std.proofs.Common.{◌≡◌, ◌+◌, ◌<◌, ◌≤◌, arith, inl, inr}
 use Rattle.std.proofs.lemmas.Bool.{cases_lt}
+use Rattle.rsb_integer.specs.Runs.{members}
+use Rattle.rsb_integer.proofs.CountLemmas.{count-within}
 use Rattle.rsb_integer.proofs.ListLemmas.{not_both}
-use Rattle.range_set_blaze.proofs.CutLemmas.{cut-member, cut-order, cut-starts}
+use Rattle.range_set_blaze.specs.Kept.{runs_of}
+use Rattle.range_set_blaze.proofs.runs.Apart.{contained-members, last-gap, none-gap}
 use Rattle.range_set_blaze.proofs.KeptLemmas.{lt-fails}
-use Rattle.range_set_blaze.proofs.LookUpLemmas.{found-absent, none-absent}
-use Rattle.range_set_blaze.proofs.PointLemmas.{kept-ascending, kept-fits}
+use Rattle.range_set_blaze.proofs.runs.Starts.{canonical-rises}
 use Rattle.range_set_blaze.proofs.set.remove.take_value.Goals as goal
 
--- the starts of a set ascend
+-- the starts ascend
 pub run_up_to-requires-clause-ascending : goal.run_up_to-requires-clause-ascending
 run_up_to-requires-clause-ascending g c =
-    kept-ascending g.T.Integer.rank g.T.Integer.value_count c.args.map.now.entries
-    c.requires.kept.canonical
+    canonical-rises _ _ _ c.requires.kept.canonical.0 c.requires.kept.canonical.1
 
 -- no run starts up to the value
 pub returns-in_default-clause-none : goal.returns-in_default-clause-none
 returns-in_default-clause-none g c none =
-    none-absent g.T.Integer.rank g.T.Integer.value_count c.args.map.now.entries
-    c.requires.kept.canonical (g.T.Integer.rank c.args.value) c.in_default.ensures
+    none-gap _ _ c.requires.kept.canonical _ c.in_default.ensures _ (omega arith)
 
--- the last that does lies in the type
-pub is_below-requires-clause-left : goal.is_below-requires-clause-left
-is_below-requires-clause-left g c =
-    (cut-order g.T.Integer.rank g.T.Integer.value_count c.args.map.now.entries
-    c.requires.kept.canonical (g.T.Integer.rank c.args.value) c.in-Some.run' c.in-Some.ensures).1
-
--- it ends before the value
+-- or the last one ends below it
 pub returns-then-is_below-clause-none : goal.returns-then-is_below-clause-none
 returns-then-is_below-clause-none g c none =
-    found-absent g.T.Integer.rank g.T.Integer.value_count c.args.map.now.entries
-    c.requires.kept.canonical (g.T.Integer.rank c.args.value) c.in-Some.run' c.in-Some.ensures
-    (c.is_below.ensures.0 c.if-is_below.true)
+    last-gap _ _ c.requires.kept.canonical _ _ c.in-Some.ensures _
+    (c.is_below.ensures.0 c.if-is_below.true) (omega arith)
 
 -- or has it
-pub returns-in_err-cut-clause-absent : goal.returns-in_err-cut-clause-absent
-returns-in_err-cut-clause-absent g c absent =
-    let rank = g.T.Integer.rank in
-    let n = g.T.Integer.value_count in
-    let entries = c.args.map.now.entries in
-    absurd (not_both _ (cut-member rank n entries c.requires.kept.canonical (rank c.args.value)
-    c.in-Some.run' c.in-Some.ensures (rank c.args.value)
-    (cut-starts rank n entries c.requires.kept.canonical (rank c.args.value) c.in-Some.run'
-    c.in-Some.ensures)
-    (lt-fails c.is_below.result _ _ c.is_below.ensures c.if-is_below.false)) absent)
-
--- memory is wanted only where it goes on
-pub returns-in_err-cut-clause-succeeds : goal.returns-in_err-cut-clause-succeeds
-returns-in_err-cut-clause-succeeds g c absent =
-    let rank = g.T.Integer.rank in
-    let n = g.T.Integer.value_count in
-    let entries = c.args.map.now.entries in
-    let starts = cut-starts rank n entries c.requires.kept.canonical (rank c.args.value)
-    c.in-Some.run' c.in-Some.ensures in
-    elim (cases_lt (rank c.args.value) (rank c.in-Some.run'.end)) [
-      | inl more ↦ absurd (not_both _ (cut-member rank n entries c.requires.kept.canonical
-          (rank c.args.value) c.in-Some.run' c.in-Some.ensures (rank c.args.value + 1)
-          (omega (arith, starts)) (omega (arith, more))) absent)
-      | inr last ↦ absurd (not_both false (c.in_err-cut.ensures.succeeds last) refl)
-    ]
-
--- the length is within the type
-pub take_off_length-requires-clause-fits : goal.take_off_length-requires-clause-fits
-take_off_length-requires-clause-fits g c =
-    kept-fits g.T.Integer.rank g.T.Integer.value_count c.args.map.now.entries _ c.requires.kept
-
 pub returns-clause-some : goal.returns-clause-some
 returns-clause-some g c some =
+    let starts = c.in-Some.ensures.starts in
+    contained-members _ _ c.requires.kept.canonical _ _ c.in-Some.ensures.among
+    (omega (arith, starts)) (lt-fails c.is_below.result _ _ c.is_below.ensures c.if-is_below.false)
+
+-- memory is wanted of a member that is not the last of its run
+pub returns-in_err-cut-clause-absent : goal.returns-in_err-cut-clause-absent
+returns-in_err-cut-clause-absent g c absent =
+    let starts = c.in-Some.ensures.starts in
+    absurd (not_both (members (runs_of g.T.Integer.rank c.args.map.now.entries)
+    (g.T.Integer.rank c.args.value))
+    (contained-members _ _ c.requires.kept.canonical _ _ c.in-Some.ensures.among
+    (omega (arith, starts)) (lt-fails c.is_below.result _ _ c.is_below.ensures c.if-is_below.false))
+    absent)
+
+pub returns-in_err-cut-clause-succeeds : goal.returns-in_err-cut-clause-succeeds
+returns-in_err-cut-clause-succeeds g c last =
     let rank = g.T.Integer.rank in
-    let n = g.T.Integer.value_count in
-    let entries = c.args.map.now.entries in
-    cut-member rank n entries c.requires.kept.canonical (rank c.args.value)
-    c.in-Some.run' c.in-Some.ensures (rank c.args.value)
-    (cut-starts rank n entries c.requires.kept.canonical (rank c.args.value) c.in-Some.run'
-    c.in-Some.ensures)
-    (lt-fails c.is_below.result _ _ c.is_below.ensures c.if-is_below.false)
+    let starts = c.in-Some.ensures.starts in
+    elim (cases_lt (rank c.args.value) (rank c.in-Some.run'.end)) [
+      | inl more ↦ absurd (not_both (members (runs_of rank c.args.map.now.entries)
+          (rank c.args.value + 1))
+          (contained-members _ _ c.requires.kept.canonical _ _ c.in-Some.ensures.among
+          (omega (arith, starts)) (omega (arith, more))) last)
+      | inr less ↦ let fails = c.in_err-cut.ensures.succeeds less in absurd (cc)
+    ]
+
+-- what is counted is within the type
+pub take_off_length-requires-clause-fits : goal.take_off_length-requires-clause-fits
+take_off_length-requires-clause-fits g c =
+    let within = count-within g.T.Integer.value_count
+    (members (runs_of g.T.Integer.rank c.args.map.now.entries)) in
+    omega (arith, within, c.requires.kept.length)

@@ -1,165 +1,88 @@
-use Rattle.std.proofs.Common.{◌<◌, ◌∙◌, ◌∷◌, ◌++◌, [], ap, length, arith, refl, sym}
-use Rattle.std.specs.Range.{range_inclusive_start, range_inclusive_end}
-use denote.Param.Always.{mut_next}
-use Rattle.range_set_blaze.proofs.PointLemmas.{kept-ascending, kept-fits}
-use Rattle.range_set_blaze.proofs.AnswerLemmas.{asked-more, asks-more, computes-next, exact-drop, exact-keep, fewer-coming, range-run, retained-asked, retained-exact, retained-kept, retained-runs}
-use Rattle.range_set_blaze.proofs.RetainLemmas.{asked-counted, asked-order, drop-ascending, retaining-drop, retaining-keep}
+use Rattle.std.proofs.Common.{◌+◌, ◌<◌, ◌≤◌, ◌∙◌, [], ap, arith, not, ◌==◌, refl}
+use Rattle.rsb_integer.specs.Runs.{members}
+use Rattle.rsb_integer.proofs.CountLemmas.{count-within}
+use Rattle.range_set_blaze.specs.Kept.{runs_of}
+use Rattle.range_set_blaze.proofs.retaining.Retained.{fewer-to_come, next-joined, next-maximal, retaining-next}
+use Rattle.range_set_blaze.proofs.runs.Starts.{canonical-rises}
 use Rattle.range_set_blaze.proofs.set.retain.retain_runs.Goals as goal
 use Rattle.range_set_blaze.proofs.set.retain.retain_runs.Goals.{then-not-f, else-not-f}
 
 -- none was asked about at first
 pub loop-next-init : goal.loop-next-init
-loop-next-init g c =
-    let rank = g.T.Integer.rank in
-    let n = g.T.Integer.value_count in
-    let entries = c.args.map.now.entries in
-    record {
-      callable = λ always. always;
-      asked = [];
-      calls = refl;
-      runs = (
-        record {
-          done = [];
-          kept = [];
-          todo = entries;
-          old_parts = refl;
-          new_parts = refl;
-          ascending = kept-ascending rank n entries c.requires.kept.canonical;
-          sub = refl;
-          counted = omega arith;
-          fits = kept-fits rank n entries _ c.requires.kept;
-          next_is = c.first_run-next.ensures;
-        },
-        (λ keeps answers. (answers, refl)),
-        refl,
-      );
-    }
+loop-next-init g c = record {
+  done = [];
+  kept = [];
+  todo = runs_of g.T.Integer.rank c.args.map.now.entries;
+  old_parts = refl;
+  new_parts = refl;
+  sub = refl;
+  next_is = c.first_run-next.ensures;
+  canonical = c.requires.kept.canonical;
+  counted = c.requires.kept.length;
+  asked = [];
+  listed = refl;
+  callable = λ always. always;
+  calls = refl;
+  exact = λ keeps answers. (answers, refl);
+}
 
--- it has no more values than are counted
+-- the next one is a run of those that are there
 pub take_off_length-requires-clause-some : goal.take_off_length-requires-clause-some
 take_off_length-requires-clause-some g c =
-    (asked-order g.T.Integer.rank g.T.Integer.value_count _ _ _ _ c.in-Some.run'
-    c.requires.kept.canonical
-    (rw c.in-Some.is at c.loop-next.invariant.runs.0)).0
+    (next-maximal _ _ _ _ _ c.in-Some.is c.loop-next.invariant).in_order
+
+pub take_off_length-requires-clause-fits : goal.take_off_length-requires-clause-fits
+take_off_length-requires-clause-fits g c =
+    let within = count-within g.T.Integer.value_count
+    (members (runs_of g.T.Integer.rank c.loop-next.map.entries)) in
+    omega (arith, within, c.loop-next.invariant.counted)
 
 pub take_off_length-requires-clause-counted : goal.take_off_length-requires-clause-counted
 take_off_length-requires-clause-counted g c =
-    asked-counted g.T.Integer.rank g.T.Integer.value_count _ _ _ _ c.in-Some.run'
-    c.requires.kept.canonical
-    (rw c.in-Some.is at c.loop-next.invariant.runs.0) c.requires.kept.length
+    let joined = next-joined _ _ _ _ _ c.in-Some.is c.loop-next.invariant in
+    omega (arith, joined.counted, c.loop-next.invariant.counted)
+
+pub take_entry-requires-clause-ascending : goal.take_entry-requires-clause-ascending
+take_entry-requires-clause-ascending g c =
+    canonical-rises _ _ _ c.loop-next.invariant.canonical.0 c.loop-next.invariant.canonical.1
+
+pub take_entry-requires-clause-value : goal.take_entry-requires-clause-value
+take_entry-requires-clause-value g c =
+    let maximal = next-maximal _ _ _ _ _ c.in-Some.is c.loop-next.invariant in
+    omega (arith, maximal.in_order, maximal.in_type)
 
 pub run_after-next-requires-clause-ascending : goal.run_after-next-requires-clause-ascending
-run_after-next-requires-clause-ascending g c =
-    let laws = g.met.T.Integer in
-    elim c.if-not-f.branch [
-      | then-not-f w ↦ rw w.map-is
-          (drop-ascending g.T.Integer.rank g.T.Integer.value_count _ _ _ _ c.in-Some.run'
-          c.requires.kept.canonical
-          (rw c.in-Some.is at c.loop-next.invariant.runs.0) g.T.Ord.cmp laws.in_order
-          w.remove.new.self.entries w.remove.ensures.entries)
-      | else-not-f w ↦ rw w.map-is c.loop-next.invariant.runs.0.ascending
-    ]
+run_after-next-requires-clause-ascending g c = elim c.if-not-f.branch [
+  | then-not-f w ↦
+      let left = (next-joined _ _ _ _ _ c.in-Some.is c.loop-next.invariant).fewer_canonical in
+      rw (w.map-is, w.take_entry.ensures) (canonical-rises _ _ _ left.0 left.1)
+  | else-not-f w ↦
+      let all = c.loop-next.invariant.canonical in
+      rw w.map-is (canonical-rises _ _ _ all.0 all.1)
+]
 
 pub run_after-next-requires-clause-value : goal.run_after-next-requires-clause-value
 run_after-next-requires-clause-value g c =
-    (asked-order g.T.Integer.rank g.T.Integer.value_count _ _ _ _ c.in-Some.run'
-    c.requires.kept.canonical
-    (rw c.in-Some.is at c.loop-next.invariant.runs.0)).1
+    (next-maximal _ _ _ _ _ c.in-Some.is c.loop-next.invariant).in_type
 
--- none is to come
-pub returns-clause-kept : goal.returns-clause-kept
-returns-clause-kept g c =
-    retained-kept g.T.Integer.rank g.T.Integer.value_count _ _ _ _ c.requires.kept
-    (rw c.in_default.is at c.loop-next.invariant.runs.0)
-
-pub returns-clause-runs : goal.returns-clause-runs
-returns-clause-runs g c =
-    retained-runs g.T.Integer.rank g.T.Integer.value_count _ _ _ _ c.requires.kept
-    (rw c.in_default.is at c.loop-next.invariant.runs.0)
-
--- one more was asked about
-pub loop-next-smaller : goal.loop-next-smaller
-loop-next-smaller g c =
-    let laws = g.met.T.Integer in
-    let rank = g.T.Integer.rank in
-    let n = g.T.Integer.value_count in
-    let before = rw c.in-Some.is at c.loop-next.invariant.runs.0 in
-    let todo = ap length before.next_is.parts in
-    elim c.if-not-f.branch [
-      | then-not-f w ↦ rw (w.map-is, c.in-Some.is)
-          (fewer-coming rank n _ c.requires.kept.canonical _ _ _ _ _ _ _ before
-          (retaining-drop rank n _ _ _ _ c.in-Some.run' c.requires.kept.canonical before
-          g.T.Ord.cmp laws.in_order w.remove.new.self.entries w.remove.ensures.entries
-          c.run_after-next.result (rw w.map-is at c.run_after-next.ensures) _
-          w.take_off_length.ensures) (omega (arith, todo)))
-      | else-not-f w ↦ rw (w.map-is, c.in-Some.is)
-          (fewer-coming rank n _ c.requires.kept.canonical _ _ _ _ _ _ _ before
-          (retaining-keep rank n _ _ _ _ c.in-Some.run' c.requires.kept.canonical before
-          c.run_after-next.result (rw w.map-is at c.run_after-next.ensures)) (omega (arith, todo)))
-    ]
-
+-- it was asked about
 pub loop-next-preserved : goal.loop-next-preserved
 loop-next-preserved g c =
-    let laws = g.met.T.Integer in
-    let rank = g.T.Integer.rank in
-    let n = g.T.Integer.value_count in
-    let held = rw c.in-Some.is at c.loop-next.invariant.runs in
-    let run = c.in-Some.run' in
-    let ranks = range-run rank c.new.result run c.new.ensures.start c.new.ensures.end
-    c.new.ensures.exhausted in
-    let order = asked-order rank n _ _ _ _ run c.requires.kept.canonical held.0 in
-    let starts : rank (range_inclusive_start c.new.result) < n =
-    rw c.new.ensures.start (omega (arith, order.0, order.1)) in
-    let ends : rank (range_inclusive_end c.new.result) < n = rw c.new.ensures.end order.1 in
-    record {
-      callable = λ always. mut_next g.F.FnMut _ _ _ _ _ c.f.ensures refl (c.loop-next.invariant.callable always);
-      asked = c.loop-next.invariant.asked ++ c.new.result ∷ [];
-      calls = asks-more g.F.FnMut _ _ _ _ _ _ c.loop-next.invariant.calls c.f.ensures;
-      runs = elim c.if-not-f.branch [
-        | then-not-f w ↦ rw (w.map-is, w.length-is) (
-          retaining-drop rank n _ _ _ _ run c.requires.kept.canonical held.0
-              g.T.Ord.cmp laws.in_order w.remove.new.self.entries w.remove.ensures.entries
-              c.run_after-next.result (rw w.map-is at c.run_after-next.ensures) _
-              w.take_off_length.ensures,
-          (λ keeps answers.
-              let before = held.1 keeps answers in
-              let next = computes-next g.F.FnMut _ _ _ _ _ c.f.ensures before.0 in
-              let answer = next.0 c.new.ensures.exhausted starts ends in (
-                next.1,
-                exact-drop rank n _ _ _ _ run held.0 keeps before.1
-                    (ap keeps (sym ranks) ∙ sym answer ∙ w.if-not-f.true),
-              )),
-          asked-more rank n _ _ _ _ run held.0 c.loop-next.invariant.asked c.new.result held.2 ranks,
-        )
-        | else-not-f w ↦ rw (w.map-is, w.length-is) (
-          retaining-keep rank n _ _ _ _ run c.requires.kept.canonical held.0
-              c.run_after-next.result (rw w.map-is at c.run_after-next.ensures),
-          (λ keeps answers.
-              let before = held.1 keeps answers in
-              let next = computes-next g.F.FnMut _ _ _ _ _ c.f.ensures before.0 in
-              let answer = next.0 c.new.ensures.exhausted starts ends in (
-                next.1,
-                exact-keep rank n _ _ _ _ run held.0 keeps before.1
-                    (ap keeps (sym ranks) ∙ sym answer ∙ w.if-not-f.false),
-              )),
-          asked-more rank n _ _ _ _ run held.0 c.loop-next.invariant.asked c.new.result held.2 ranks,
-        )
-      ];
-    }
+    let range = c.new.ensures in
+    let after = retaining-next _ _ _ _ _ c.in-Some.is c.loop-next.invariant c.f.result in
+    elim c.if-not-f.branch [
+      | then-not-f w ↦
+          after _ _ _ _ _ (rw (w.if-not-f.true, w.map-is) w.take_entry.ensures)
+          (rw (w.if-not-f.true, w.length-is) w.take_off_length.ensures)
+          range.start range.end range.exhausted c.run_after-next.ensures c.f.ensures
+      | else-not-f w ↦
+          after _ _ _ _ _ (rw (w.if-not-f.false, w.map-is) refl)
+          (rw (w.if-not-f.false, w.length-is) (omega arith))
+          range.start range.end range.exhausted c.run_after-next.ensures c.f.ensures
+    ]
 
-pub returns-clause-exact : goal.returns-clause-exact
-returns-clause-exact g c keeps answers =
-    let held = rw c.in_default.is at c.loop-next.invariant.runs in
-    retained-exact g.T.Integer.rank g.T.Integer.value_count _ _ _ _ c.requires.kept held.0
-    keeps (held.1 keeps answers).1
-
--- each was asked about
-pub returns-clause-asked : goal.returns-clause-asked
-returns-clause-asked g c =
-    let held = rw c.in_default.is at c.loop-next.invariant.runs in (
-      c.loop-next.invariant.asked,
-      c.loop-next.f,
-      c.loop-next.invariant.calls,
-      retained-asked g.T.Integer.rank g.T.Integer.value_count _ _ _ _ c.requires.kept held.0
-          c.loop-next.invariant.asked held.2,
-    )
+pub loop-next-smaller : goal.loop-next-smaller
+loop-next-smaller g c =
+    let maximal = next-maximal _ _ _ _ _ c.in-Some.is c.loop-next.invariant in
+    rw c.in-Some.is (fewer-to_come _ _ _ _ _ maximal.in_order maximal.in_type
+    c.run_after-next.ensures)

@@ -1,18 +1,14 @@
-use Rattle.std.proofs.Common.{refl}
-use Rattle.range_set_blaze.proofs.PartingLemmas.{parting-free}
-use Rattle.range_set_blaze.proofs.PointLemmas.{kept-ascending}
+use Rattle.range_set_blaze.proofs.splitting.Parting.{over-parting}
+use Rattle.range_set_blaze.proofs.runs.Starts.{canonical-rises}
 use Rattle.range_set_blaze.proofs.set.split.part.Goals as goal
+
+-- the starts ascend
+pub split_entries-requires-clause-ascending : goal.split_entries-requires-clause-ascending
+split_entries-requires-clause-ascending g c =
+    canonical-rises _ _ _ c.requires.canonical.0 c.requires.canonical.1
 
 -- no run goes on over the value
 pub returns-clause-parting : goal.returns-clause-parting
 returns-clause-parting g c =
-    let laws = g.met.T.Integer in
-    let rank = g.T.Integer.rank in
-    let n = g.T.Integer.value_count in
-    let entries = c.args.map.now.entries in
-    parting-free g.T.Ord.cmp rank n laws.in_order c.args.key c.requires.value entries
-    c.split_off.new.self.entries c.in_ok-high.high.entries
-    (kept-ascending rank n entries c.requires.canonical)
-    c.in_ok-high.ensures.parts c.in_ok-high.ensures.all_below
-    c.in_ok-high.ensures.all_from c.requires.canonical
-    (λ above. c.in_default.ensures.none refl above)
+    rw (c.in_ok-high.ensures.low, c.in_ok-high.ensures.high)
+    (over-parting _ _ c.requires.canonical _ c.in_default.ensures)

@@ -1,31 +1,75 @@
-use Rattle.std.proofs.Common.{◌∙◌, ap, arith}
-use Rattle.std.specs.BTreeMap.{is_at}
-use Rattle.std.specs.Map.{remove_entry}
-use Rattle.range_set_blaze.proofs.SplitLemmas.{parting-within, put-back}
+use Rattle.std.proofs.Common.{◌≡◌, ◌∙◌, Contains, List, OnOk, ap, refl, sym, subst}
+use Rattle.rsb_integer.specs.Runs.{Interval}
+use Rattle.range_set_blaze.specs.Kept.{run_of, runs_of}
+use Rattle.range_set_blaze.specs.Split.{IsParting}
+use Rattle.range_set_blaze.specs.Starts.{below, starting_from, with_run, without_start, IsAscendingFrom}
+use Rattle.range_set_blaze.proofs.splitting.Parting.{within-ascending, within-parting, within-there, within-without}
+use Rattle.range_set_blaze.proofs.runs.Starts.{canonical-rises, starting-ascending}
 use Rattle.range_set_blaze.proofs.set.split.part_within.Goals as goal
 
--- the run ends below the value, and its other part has an entry of its own
+-- the starts ascend
+pub put_entry-requires-clause-ascending : goal.put_entry-requires-clause-ascending
+put_entry-requires-clause-ascending g c =
+    canonical-rises _ _ _ c.requires.canonical.0 c.requires.canonical.1
+
+-- with the high part
+pub split_entries-requires-clause-ascending : goal.split_entries-requires-clause-ascending
+split_entries-requires-clause-ascending g c =
+    subst (IsAscendingFrom g.T.Integer.value_count 0) (sym c.in_ok-put_entry.ensures.runs)
+    (within-ascending _ _ c.requires.canonical _ (run_of g.T.Integer.rank c.args.run)
+    c.requires.among c.requires.above c.requires.within _ refl)
+
+-- below the value
+pub put_entry-requires-in-Ok-clause-ascending : goal.put_entry-requires-in-Ok-clause-ascending
+put_entry-requires-in-Ok-clause-ascending g c =
+    let low = c.in-Ok.ensures.low
+    ∙ ap (below (g.T.Integer.rank c.args.key)) c.in_ok-put_entry.ensures.runs in
+    subst (IsAscendingFrom g.T.Integer.value_count 0) (sym low)
+    (starting-ascending _ _ _ _
+    (within-ascending _ _ c.requires.canonical _ (run_of g.T.Integer.rank c.args.run)
+    c.requires.among c.requires.above c.requires.within _ refl))
+
+-- the run's start is there
+pub unwrap-requires : goal.unwrap-requires
+unwrap-requires g c =
+    let low = c.in-Ok.ensures.low
+    ∙ ap (below (g.T.Integer.rank c.args.key)) c.in_ok-put_entry.ensures.runs in
+    c.put_entry-in-Ok.ensures.succeeds (run_of g.T.Integer.rank c.args.run)
+    (subst (λ (runs : List Interval). Contains runs (run_of g.T.Integer.rank c.args.run)) (sym low)
+    (within-there _ _ c.requires.canonical _ (run_of g.T.Integer.rank c.args.run)
+    c.requires.among c.requires.above c.requires.within _ refl)) refl
+
+-- the parts
 pub returns-in-Ok-clause-parting : goal.returns-in-Ok-clause-parting
 returns-in-Ok-clause-parting g c =
-    let laws = g.met.T.Integer in
-    let above = c.requires.above in
-    let within = c.requires.within in
-    parting-within g.T.Integer.rank g.T.Integer.value_count c.args.map.now.entries
-    c.requires.canonical _ c.args.run c.requires.last g.T.Ord.cmp laws.in_order
-    (omega (arith, above, within)) c.args.key (omega (arith, above)) c.insert.new.self.entries
-    c.split_off.new.self.entries c.in-Ok.high.entries c.in_ok-insert.ensures.entries
-    c.in-Ok.ensures.parts c.in-Ok.ensures.all_below c.in-Ok.ensures.all_from c.sub_one.result
-    c.sub_one.ensures c.move_end.new.map.entries c.move_end.ensures
+    let rank = g.T.Integer.rank in
+    let n = g.T.Integer.value_count in
+    let old = runs_of rank c.args.map.now.entries in
+    let low = run_of rank (record { start = c.args.run.start; end = c.sub_one-end.result }) in
+    let high = run_of rank (record { start = c.args.key; end = c.args.run.end }) in
+    let put = subst (λ result. OnOk result (runs_of rank c.put_entry-in-Ok.new.map.entries
+    ≡ with_run low (runs_of rank c.split_entries.new.map.entries))) c.unwrap.ensures
+    c.put_entry-in-Ok.ensures.runs in
+    let is_low = put ∙ ap (with_run low) (c.in-Ok.ensures.low
+    ∙ ap (below (rank c.args.key)) c.in_ok-put_entry.ensures.runs) in
+    let is_high = c.in-Ok.ensures.high
+    ∙ ap (starting_from (rank c.args.key)) c.in_ok-put_entry.ensures.runs in
+    rw (is_low, is_high)
+    (within-parting n old c.requires.canonical (rank c.args.key) (run_of rank c.args.run)
+    c.requires.among c.requires.above c.requires.within low high refl c.sub_one-end.ensures refl refl)
 
--- without memory the entry goes again
+-- without memory the high part goes out again
+pub take_entry-requires-clause-ascending : goal.take_entry-requires-clause-ascending
+take_entry-requires-clause-ascending g c =
+    subst (IsAscendingFrom g.T.Integer.value_count 0)
+    (sym (ap (runs_of g.T.Integer.rank) c.in-Err.ensures.err ∙ c.in_ok-put_entry.ensures.runs))
+    (within-ascending _ _ c.requires.canonical _ (run_of g.T.Integer.rank c.args.run)
+    c.requires.among c.requires.above c.requires.within _ refl)
+
 pub returns-in-Err-clause-err : goal.returns-in-Err-clause-err
 returns-in-Err-clause-err g c =
-    let laws = g.met.T.Integer in
-    let above = c.requires.above in
-    let within = c.requires.within in
-    put-back g.T.Integer.rank g.T.Integer.value_count c.args.map.now.entries c.requires.canonical _
-    c.args.run c.requires.last g.T.Ord.cmp laws.in_order (omega (arith, above, within)) c.args.key
-    (omega (arith, above)) c.insert.new.self.entries c.remove.new.self.entries
-    c.in_ok-insert.ensures.entries
-    (c.remove.ensures.entries
-    ∙ ap (remove_entry (is_at (g.T.Ord.cmp c.args.key))) c.in-Err.ensures.err)
+    c.take_entry.ensures
+    ∙ ap (without_start (g.T.Integer.rank c.args.key))
+    (ap (runs_of g.T.Integer.rank) c.in-Err.ensures.err ∙ c.in_ok-put_entry.ensures.runs)
+    ∙ within-without _ _ c.requires.canonical _ (run_of g.T.Integer.rank c.args.run)
+    c.requires.among c.requires.above c.requires.within _ refl

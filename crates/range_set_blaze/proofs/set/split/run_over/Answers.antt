@@ -1,26 +1,27 @@
-use Rattle.std.proofs.Common.{◌≡◌, ◌-◌, arith}
-use Rattle.range_set_blaze.proofs.AloneLemmas.{ends-at}
-use Rattle.range_set_blaze.proofs.CutLemmas.{cut-order}
-use Rattle.range_set_blaze.proofs.PointLemmas.{kept-ascending}
+use Rattle.std.proofs.Common.{◌+◌, ◌<◌, ◌≤◌, arith, subst}
+use Rattle.range_set_blaze.specs.Kept.{run_of, runs_of}
+use Rattle.range_set_blaze.specs.Starts.{IsLastBelow, NoneBelow}
+use Rattle.range_set_blaze.proofs.KeptLemmas.{lt-fails}
+use Rattle.range_set_blaze.proofs.splitting.Parting.{last-over}
+use Rattle.range_set_blaze.proofs.runs.Starts.{canonical-rises}
 use Rattle.range_set_blaze.proofs.set.split.run_over.Goals as goal
 
--- the starts of a set ascend
+-- the starts ascend
 pub run_up_to-requires-clause-ascending : goal.run_up_to-requires-clause-ascending
 run_up_to-requires-clause-ascending g c =
-    kept-ascending g.T.Integer.rank g.T.Integer.value_count c.args.map.now.entries
-    c.requires.canonical
+    canonical-rises _ _ _ c.requires.canonical.0 c.requires.canonical.1
 
--- the run lies in the type
-pub is_below-requires-2-clause-left : goal.is_below-requires-2-clause-left
-is_below-requires-2-clause-left g c =
-    (cut-order g.T.Integer.rank g.T.Integer.value_count c.args.map.now.entries
-    c.requires.canonical _ c.in_ok-run.run' c.in_ok-run.ensures).1
+-- no run starts below the value
+pub returns-in_err-run : goal.returns-in_err-run
+returns-in_err-run g c =
+    rw c.from_residual.ensures
+    (λ run found starts reaches. subst (NoneBelow (runs_of g.T.Integer.rank c.args.map.now.entries))
+    c.sub_one.ensures c.in_err-run.ensures run found starts)
 
--- it ends below the value
-pub returns-then-is_below-clause-none : goal.returns-then-is_below-clause-none
-returns-then-is_below-clause-none g c none above =
-    let rank = g.T.Integer.rank in
-    let before : rank c.sub_one.result ≡ rank c.args.key - 1 = omega (arith, c.sub_one.ensures) in
-    let ends = ends-at rank _ c.in_ok-run.run' c.in_ok-run.ensures in
-    let under = c.is_below-2.ensures.0 c.if-is_below.true in
-    rw (← before) (omega (arith, ends, under))
+-- or the last one ends below it
+pub returns-then-is_below : goal.returns-then-is_below
+returns-then-is_below g c =
+    last-over _ _ c.requires.canonical _ _
+    (subst (λ bound. IsLastBelow (runs_of g.T.Integer.rank c.args.map.now.entries) bound
+    (run_of g.T.Integer.rank c.in_ok-run.run')) c.sub_one.ensures c.in_ok-run.ensures)
+    (c.is_below-2.ensures.0 c.if-is_below.true)

@@ -1,0 +1,553 @@
+-- What a run makes with those that it touches.
+use Rattle.std.proofs.Common.{◌≡◌, ◌⊎◌, ◌↔◌, ℕ, Bool, true, false, not, ◌==◌, nat_lt, ◌&&◌, ◌||◌, ◌+◌, ◌-◌, ◌<◌, ◌≤◌, min, max, List, refl, sym, ap, ◌∙◌, inl, inr, arith, subst, Option, Some, None, IfSome, IsFalse, IsSome, IsTrue, MatchOption}
+use Rattle.std.specs.List.{Contains}
+use Rattle.std.proofs.Math.Bool.{and-true}
+use Rattle.std.proofs.lemmas.Bool.{cases_lt}
+use Rattle.std.proofs.lemmas.Bool.Decides.{nat_tests}
+use Rattle.rsb_integer.specs.Runs.{Interval, covers, length_of, members, IsCanonicalIn}
+use Rattle.rsb_integer.specs.Selection.{count}
+use Rattle.rsb_integer.proofs.CountLemmas.{count-agree}
+use Rattle.rsb_integer.proofs.ListLemmas.{true_or_false, not_both}
+use Rattle.rsb_integer.proofs.MembersLemmas.{covers-bounds, covers-inside, members-end}
+use Rattle.range_set_blaze.specs.Joining.{IsHull, IsInside, IsJoining, IsOver, IsReaching, IsUnreached, KnowsInside, NoneInside}
+use Rattle.range_set_blaze.specs.Kept.{run_of}
+use Rattle.range_set_blaze.specs.Starts.{with_run, without_start, IsLastBelow, IsLastTwo, NoneBelow}
+use Rattle.range_set_blaze.specs.Set.{Adds, LacksSomeOf}
+use Rattle.range_set_blaze.specs.declared.set.insert.Joining.{Joining}
+use Rattle.range_set_blaze.specs.declared.set.run.Run.{Run}
+use Rattle.range_set_blaze.proofs.runs.Apart.{contained-after, contained-before, contained-maximal, contained-members, contained-one, contained-starts, last-gap, none-gap, starting-lacks, starting-members, with_run-members, without_start-joined}
+use Rattle.range_set_blaze.proofs.KeptLemmas.{le-fails}
+use Rattle.range_set_blaze.proofs.runs.Starts.{canonical-rises, starting-all, starting-canonical_in, starting-contains, with_run-contains, with_run-without_start, Contains-with_run}
+
+-- to add what it has is to add the run
+pub hull-adds : (runs new : List Interval) (run joined : Interval) → IsHull runs run joined
+    → Adds runs new (λ rank. covers rank joined) → Adds runs new (λ rank. covers rank run)
+hull-adds runs new run joined hull adds rank =
+    let all = adds rank in
+    elim (true_or_false (covers rank joined)) [
+      | inl here ↦ let has = hull.has rank here in grind (arith, all, here, has)
+      | inr outside ↦ elim (true_or_false (covers rank run)) [
+        | inl own ↦
+            let bounds = covers-bounds rank run own in
+            absurd (not_both (covers rank joined)
+            (covers-inside rank joined (omega (arith, hull.first, bounds.0))
+            (omega (arith, hull.last, bounds.1))) outside)
+        | inr lacks ↦ grind (arith, all, outside, lacks)
+      ]
+    ]
+
+module _ {T : Type 0} (rank : T → ℕ) (n : ℕ) (runs : List Interval)
+    (canonical : IsCanonicalIn n runs) where
+  -- ---- the joined run
+
+  module _ (run joined : Run T) (order : rank run.start ≤ rank run.end) (value : rank run.end < n)
+      (bound : ℕ) (bound_is : bound ≡ min (rank run.end + 1) (n - 1) + 1) where
+    -- it begins with the run that reaches the start, or else with the run itself
+    pub joined-begins : (first : Option (Run T))
+        → MatchOption first (IsUnreached runs (rank run.start))
+        (λ first. IsReaching runs (rank run.start) (run_of rank first))
+        → MatchOption first (joined.start ≡ run.start) (λ first. joined.start ≡ first.start)
+        → (rank joined.start ≤ rank run.start)
+        × ((point : ℕ) → point + 1 ≡ rank joined.start → members runs point ≡ false)
+        × ((point : ℕ) → rank joined.start ≤ point → point < rank run.start
+        → members runs point ≡ true)
+    joined-begins None reached is =
+        let same = ap rank is in (
+          omega (arith, same),
+          (λ point before. reached point (omega (arith, before, same)) (omega (arith, before, same))),
+          (λ point from to. absurd (omega (arith, from, to, same))),
+        )
+    joined-begins (Some first) reached is =
+        let same = ap rank is in (
+          omega (arith, same, reached.starts),
+          (λ point before. contained-before n runs canonical (run_of rank first) point reached.among
+              (before ∙ same)),
+          (λ point from to. contained-members n runs canonical (run_of rank first) point
+              reached.among (omega (arith, from, same)) (omega (arith, to, reached.reaches))),
+        )
+
+    -- it ends with the last run that it touches, or else with the run itself
+    pub joined-ends : (last before : Option (Run T))
+        → IsLastTwo rank runs bound last before
+        → MatchOption last (joined.end ≡ run.end)
+        (λ last. rank joined.end ≡ max (rank run.end) (rank last.end))
+        → (rank run.end ≤ rank joined.end) × (rank joined.end < n)
+        × (members runs (rank joined.end + 1) ≡ false)
+        × ((point : ℕ) → rank run.end < point → point ≤ rank joined.end
+        → members runs point ≡ true)
+    joined-ends None before none is =
+        let same = ap rank is in (
+          omega (arith, same),
+          omega (arith, same, value),
+          elim (cases_lt (rank joined.end + 1) n) [
+            | inl within ↦
+                none-gap n runs canonical bound none
+                (rank joined.end + 1) (omega (arith, bound_is, same, within))
+            | inr past ↦ members-end n runs (rank joined.end + 1) canonical.1 past
+          ],
+          (λ point from to. absurd (omega (arith, from, to, same))),
+        )
+    joined-ends (Some last) before two is =
+        let found = two.0 in
+        let starts = found.starts in
+        let maximal = contained-maximal n runs canonical (run_of rank last) found.among in
+        let within = maximal.in_type in
+        elim (cases_lt (rank run.end) (rank last.end)) [
+          | inl more ↦
+              let same : rank joined.end ≡ rank last.end = omega (arith, is, more) in (
+                omega (arith, same, more),
+                omega (arith, same, within),
+                contained-after n runs canonical (run_of rank last) (rank joined.end + 1) found.among
+                    (omega (arith, same)),
+                (λ point from to. contained-members n runs canonical (run_of rank last) point
+                    found.among (omega (arith, bound_is, from, starts)) (omega (arith, bound_is, to, same))),
+              )
+          | inr less ↦
+              let same : rank joined.end ≡ rank run.end = omega (arith, is, less) in (
+                omega (arith, same),
+                omega (arith, same, value),
+                elim (cases_lt (rank joined.end + 1) n) [
+                  | inl in_type ↦
+                      last-gap n runs canonical bound
+                      (run_of rank last) found (rank joined.end + 1) (omega (arith, same, less))
+                      (omega (arith, bound_is, same, in_type))
+                  | inr past ↦ members-end n runs (rank joined.end + 1) canonical.1 past
+                ],
+                (λ point from to. absurd (omega (arith, from, to, same))),
+              )
+        ]
+
+    -- the first has the whole run, where it ends no earlier
+    pub reached-has : (first : Option (Run T))
+        → MatchOption first (IsUnreached runs (rank run.start))
+        (λ first. IsReaching runs (rank run.start) (run_of rank first))
+        → (test : Bool) → MatchOption first (IsFalse test)
+        (λ first. IsTrue test ↔ (rank run.end ≤ rank first.end)) → test ≡ true
+        → (point : ℕ) → covers point (run_of rank run) ≡ true → members runs point ≡ true
+    reached-has None reached test tells is = absurd (not_both test is tells)
+    reached-has (Some first) reached test tells is = λ point here.
+        let bounds = covers-bounds point (run_of rank run) here in
+        let ends = tells.0 is in
+        contained-members n runs canonical (run_of rank first) point reached.among
+        (omega (arith, reached.starts, bounds.0)) (omega (arith, ends, bounds.1))
+
+    -- else it lacks some of it
+    pub reached-lacks : (first : Option (Run T))
+        → MatchOption first (IsUnreached runs (rank run.start))
+        (λ first. IsReaching runs (rank run.start) (run_of rank first))
+        → (test : Bool) → MatchOption first (IsFalse test)
+        (λ first. IsTrue test ↔ (rank run.end ≤ rank first.end)) → test ≡ false
+        → IfSome first (λ first. rank first.end < rank run.end)
+        × LacksSomeOf runs (λ point. covers point (run_of rank run))
+    reached-lacks None reached test tells is = (
+      tt,
+      (
+        rank run.start,
+        covers-inside (rank run.start) (run_of rank run) (omega arith) order,
+        reached (rank run.start) (omega arith) (omega arith),
+      ),
+    )
+    reached-lacks (Some first) reached test tells is =
+        let short = le-fails test (rank run.end) (rank first.end) tells is in (
+          short,
+          (
+            rank first.end + 1,
+            covers-inside (rank first.end + 1) (run_of rank run) reached.reaches
+                (omega (arith, short)),
+            contained-after n runs canonical (run_of rank first) (rank first.end + 1) reached.among
+                refl,
+          ),
+        )
+
+    module _ (first last before : Option (Run T))
+        (reached : MatchOption first (IsUnreached runs (rank run.start))
+        (λ first. IsReaching runs (rank run.start) (run_of rank first)))
+        (starts : MatchOption first (joined.start ≡ run.start) (λ first. joined.start ≡ first.start))
+        (two : IsLastTwo rank runs bound last before)
+        (ends : MatchOption last (joined.end ≡ run.end)
+        (λ last. rank joined.end ≡ max (rank run.end) (rank last.end))) where
+      -- it has what the run has and what the runs have that this touches
+      pub joined-hull : IsHull runs (run_of rank run) (run_of rank joined)
+      joined-hull =
+          let from = joined-begins first reached starts in
+          let to = joined-ends last before two ends in
+          record {
+            first = from.0;
+            last = to.0;
+            has = λ point here.
+                let bounds = covers-bounds point (run_of rank joined) here in
+                elim (cases_lt point (rank run.start)) [
+                  | inl less ↦ rw (from.2 point bounds.0 less) refl
+                  | inr reaches ↦ elim (cases_lt (rank run.end) point) [
+                    | inl more ↦ rw (to.3 point more bounds.1) refl
+                    | inr within ↦
+                        let own = covers-inside point (run_of rank run) reaches within in
+                        grind (arith, own)
+                  ]
+                ];
+            begins = from.1;
+            ends = to.2;
+          }
+
+      -- a run that starts inside it is one of those up to the last
+      inside-bound : (other : Interval) → IsInside runs (run_of rank joined) other
+          → other.first < bound
+      inside-bound other inside = by last two ends
+        where
+          by : (last : Option (Run T))
+              → IsLastTwo rank runs bound last before
+              → MatchOption last (joined.end ≡ run.end)
+              (λ last. rank joined.end ≡ max (rank run.end) (rank last.end))
+              → other.first < bound
+          by None none is =
+              let same = ap rank is in omega (arith, bound_is, same, inside.within, value)
+          by (Some last) two is =
+              let below = two.0.starts in
+              let own = (contained-maximal n runs canonical other inside.among).in_order in
+              elim (cases_lt (rank run.end) other.first) [
+                | inl more ↦ elim (cases_lt other.first (rank last.start)) [
+                  | inl less ↦ omega (arith, bound_is, below, less)
+                  | inr after ↦
+                      let start = contained-starts n runs canonical other (run_of rank last) other.first
+                      inside.among two.0.among (covers-inside other.first other (omega arith) own)
+                      (covers-inside other.first (run_of rank last) after
+                      (omega (arith, bound_is, is, more, inside.within))) in
+                      omega (arith, bound_is, below, start)
+                ]
+                | inr less ↦ omega (arith, bound_is, less, value)
+              ]
+
+      -- no other run starts inside it than the last, where the one before that does not
+      inside-only : (last : Run T) (before : Option (Run T))
+          → IsLastTwo rank runs bound (Some last) before
+          → IfSome before (λ run. rank run.start ≤ rank joined.start)
+          → (other : Interval) → IsInside runs (run_of rank joined) other
+          → other.first ≡ rank last.start
+      inside-only last before two below other inside =
+          let up = two.0.last other inside.among (inside-bound other inside) in
+          elim (cases_lt other.first (rank last.start)) [
+            | inl less ↦ absurd (by before two.1 below less)
+            | inr from ↦ omega (arith, up, from)
+          ]
+        where
+          by : (before : Option (Run T)) → MatchOption before (NoneBelow runs (rank last.start))
+              (λ earlier. IsLastBelow runs (rank last.start) (run_of rank earlier))
+              → IfSome before (λ run. rank run.start ≤ rank joined.start)
+              → other.first < rank last.start → ⊥
+          by None none below less = none other inside.among less
+          by (Some earlier) found below less =
+              let down = found.last other inside.among less in
+              omega (arith, down, below, inside.later)
+
+      -- none starts inside it where the last does not
+      inside-none : (last : Option (Run T))
+          → IsLastTwo rank runs bound last before
+          → IfSome last (λ run. rank run.start ≤ rank joined.start)
+          → NoneInside runs (run_of rank joined)
+      inside-none None none below other inside =
+          none other inside.among (inside-bound other inside)
+      inside-none (Some last) two below other inside =
+          let up = two.0.last other inside.among (inside-bound other inside) in
+          omega (arith, up, below, inside.later)
+
+      -- the runs that start inside it are known, where the last two are asked whether they do
+      pub joined-inside : (later earlier : Option (Run T))
+          → MatchOption later (IfSome last (λ run. rank run.start ≤ rank joined.start))
+          (λ later. (last ≡ Some later) × (rank joined.start < rank later.start))
+          → MatchOption earlier (IfSome before (λ run. rank run.start ≤ rank joined.start))
+          (λ earlier. (before ≡ Some earlier) × (rank joined.start < rank earlier.start))
+          → KnowsInside rank runs (run_of rank joined) later earlier
+      joined-inside None earlier is also = inside-none last two is
+      joined-inside (Some later) earlier is also = (
+        record {
+          among = last_two.0.among;
+          later = is.1;
+          within = within;
+        },
+        by earlier also,
+      )
+        where
+          -- the two that were found
+          last_two : IsLastTwo rank runs bound (Some later) before
+          last_two = subst (λ (last : Option (Run T)).
+              IsLastTwo rank runs bound last before) is.0 two
+
+          -- the last one ends in the joined run
+          within : rank later.start ≤ rank joined.end
+          within =
+              let end : rank joined.end ≡ max (rank run.end) (rank later.end) =
+              subst (λ (last : Option (Run T)). MatchOption last (joined.end ≡ run.end)
+              (λ last. rank joined.end ≡ max (rank run.end) (rank last.end))) is.0 ends in
+              let own = (contained-maximal n runs canonical (run_of rank later)
+              last_two.0.among).in_order in
+              omega (arith, end, own)
+
+          by : (earlier : Option (Run T))
+              → MatchOption earlier (IfSome before (λ run. rank run.start ≤ rank joined.start))
+              (λ earlier. (before ≡ Some earlier) × (rank joined.start < rank earlier.start))
+              → MatchOption earlier
+              ((other : Interval) → IsInside runs (run_of rank joined) other
+              → other.first ≡ rank later.start)
+              (λ other. IsInside runs (run_of rank joined) (run_of rank other)
+              × (rank other.start < rank later.start))
+          by None also = inside-only later before last_two also
+          by (Some earlier) also =
+              let found = subst (λ (before : Option (Run T)). MatchOption before
+              (NoneBelow runs (rank later.start))
+              (λ other. IsLastBelow runs (rank later.start) (run_of rank other))) also.0 last_two.1 in
+              let less = found.starts in (
+                record {
+                  among = found.among;
+                  later = also.1;
+                  within = omega (arith, less, within);
+                },
+                less,
+              )
+
+      -- the joined run touches those that were found, where the first does not have the run
+      pub joined-joining : (later earlier : Option (Run T))
+          → MatchOption later (IfSome last (λ run. rank run.start ≤ rank joined.start))
+          (λ later. (last ≡ Some later) × (rank joined.start < rank later.start))
+          → MatchOption earlier (IfSome before (λ run. rank run.start ≤ rank joined.start))
+          (λ earlier. (before ≡ Some earlier) × (rank joined.start < rank earlier.start))
+          → IfSome first (λ first. rank first.end < rank run.end)
+          → IsJoining rank n runs
+          (record { joined = joined; first = first; last = later; before = earlier })
+      joined-joining later earlier is also short =
+          let from = joined-begins first reached starts in
+          let to = joined-ends last before two ends in
+          record {
+            ordered = omega (arith, from.0, order, to.0);
+            in_type = to.1;
+            begins = from.1;
+            ends = to.2;
+            first = by first reached starts short;
+            inside = joined-inside later earlier is also;
+          }
+        where
+          by : (first : Option (Run T))
+              → MatchOption first (IsUnreached runs (rank run.start))
+              (λ first. IsReaching runs (rank run.start) (run_of rank first))
+              → MatchOption first (joined.start ≡ run.start) (λ first. joined.start ≡ first.start)
+              → IfSome first (λ first. rank first.end < rank run.end)
+              → MatchOption first
+              ((other : Interval) → Contains runs other → other.first ≡ rank joined.start → ⊥)
+              (λ first. Contains runs (run_of rank first) × (rank first.start ≡ rank joined.start)
+              × (rank first.end ≤ rank joined.end))
+          by None unreached is short = λ other found same.
+              let start = ap rank is in
+              let own = (contained-maximal n runs canonical other found).in_order in
+              not_both (members runs other.first)
+              (contained-members n runs canonical other other.first found (omega arith) own)
+              (unreached other.first (omega (arith, same, start)) (omega (arith, same, start)))
+          by (Some first) reaching is short =
+              let to = (joined-ends last before two ends).0 in (
+                reaching.among,
+                ap rank (sym is),
+                omega (arith, short, to),
+              )
+
+  -- ---- it is put over them
+
+  module _ (joining : Joining T) (is : IsJoining rank n runs joining) where
+    -- without the run that starts where it does, the runs have the same members outside it
+    first-members : (point : ℕ) → covers point (run_of rank joining.joined) ≡ false
+        → members (without_start (rank joining.joined.start) runs) point ≡ members runs point
+    first-members point outside =
+        starting-members (λ start. not (start == rank joining.joined.start)) runs point true
+        (λ run found here. by joining.first is.first run found here)
+        ∙ and-true (members runs point)
+      where
+        by : (first : Option (Run T)) → MatchOption first
+            ((run : Interval) → Contains runs run → run.first ≡ rank joining.joined.start → ⊥)
+            (λ first. Contains runs (run_of rank first)
+            × (rank first.start ≡ rank joining.joined.start)
+            × (rank first.end ≤ rank joining.joined.end))
+            → (run : Interval) → Contains runs run → covers point run ≡ true
+            → not (run.first == rank joining.joined.start) ≡ true
+        by None none run found here = elim (true_or_false (run.first == rank joining.joined.start)) [
+          | inl same ↦ absurd (none run found (grind (arith, nat_tests, same)))
+          | inr differs ↦ rw differs refl
+        ]
+        by (Some first) first_is run found here =
+            elim (true_or_false (run.first == rank joining.joined.start)) [
+              | inl same ↦
+                  let meets : run.first ≡ rank joining.joined.start = grind (arith, nat_tests, same) in
+                  let own = (contained-maximal n runs canonical run found).in_order in
+                  let start = first_is.1 in
+                  let other = (contained-maximal n runs canonical (run_of rank first)
+                  first_is.0).in_order in
+                  let one = contained-one n runs canonical run (run_of rank first) run.first found
+                  first_is.0 (covers-inside run.first run (omega arith) own)
+                  (covers-inside run.first (run_of rank first) (omega (arith, meets, start))
+                  (omega (arith, meets, start, other))) in
+                  let last = ap (λ (each : Interval). each.last) one in
+                  let bounds = covers-bounds point run here in
+                  absurd (not_both (covers point (run_of rank joining.joined))
+                  (covers-inside point (run_of rank joining.joined) (omega (arith, meets, bounds.0))
+                  (omega (arith, last, bounds.1, first_is.2))) outside)
+              | inr differs ↦ rw differs refl
+            ]
+
+    -- a run starts where it does, where a first one was found
+    pub first-there : IsSome joining.first
+        → (run : Interval) × Contains runs run × (run.first ≡ rank joining.joined.start)
+    first-there some = by joining.first is.first some
+      where
+        by : (first : Option (Run T)) → MatchOption first
+            ((run : Interval) → Contains runs run → run.first ≡ rank joining.joined.start → ⊥)
+            (λ first. Contains runs (run_of rank first)
+            × (rank first.start ≡ rank joining.joined.start)
+            × (rank first.end ≤ rank joining.joined.end)) → IsSome first
+            → (run : Interval) × Contains runs run × (run.first ≡ rank joining.joined.start)
+        by None none some = absurd (cc)
+        by (Some first) found some = (run_of rank first, found.0, found.1)
+
+    -- that run has a member, and all of its own are counted
+    pub first-some : IfSome joining.first (λ first. rank first.start ≤ rank first.end)
+    first-some = by joining.first is.first
+      where
+        by : (first : Option (Run T)) → MatchOption first
+            ((run : Interval) → Contains runs run → run.first ≡ rank joining.joined.start → ⊥)
+            (λ first. Contains runs (run_of rank first)
+            × (rank first.start ≡ rank joining.joined.start)
+            × (rank first.end ≤ rank joining.joined.end))
+            → IfSome first (λ first. rank first.start ≤ rank first.end)
+        by None none = tt
+        by (Some first) found =
+            (contained-maximal n runs canonical (run_of rank first) found.0).in_order
+
+    pub first-within : (total : ℕ) → total ≡ count n (members runs)
+        → IfSome joining.first (λ first. length_of (run_of rank first) ≤ total)
+    first-within total counted = by joining.first is.first
+      where
+        by : (first : Option (Run T)) → MatchOption first
+            ((run : Interval) → Contains runs run → run.first ≡ rank joining.joined.start → ⊥)
+            (λ first. Contains runs (run_of rank first)
+            × (rank first.start ≡ rank joining.joined.start)
+            × (rank first.end ≤ rank joining.joined.end))
+            → IfSome first (λ first. length_of (run_of rank first) ≤ total)
+        by None none = tt
+        by (Some first) found =
+            let number = (without_start-joined n runs canonical (run_of rank first) found.0).counted in
+            omega (arith, number, counted)
+
+    -- how many members there are without it
+    pub first-counted : (total others : ℕ) → total ≡ count n (members runs)
+        → MatchOption joining.first (others ≡ total)
+        (λ first. others + length_of (run_of rank first) ≡ total)
+        → others ≡ count n (members (without_start (rank joining.joined.start) runs))
+    first-counted total others counted left = by joining.first is.first left
+      where
+        by : (first : Option (Run T)) → MatchOption first
+            ((run : Interval) → Contains runs run → run.first ≡ rank joining.joined.start → ⊥)
+            (λ first. Contains runs (run_of rank first)
+            × (rank first.start ≡ rank joining.joined.start)
+            × (rank first.end ≤ rank joining.joined.end))
+            → MatchOption first (others ≡ total)
+            (λ first. others + length_of (run_of rank first) ≡ total)
+            → others ≡ count n (members (without_start (rank joining.joined.start) runs))
+        by None none left =
+            left ∙ counted
+            ∙ ap (λ (items : List Interval). count n (members items))
+            (sym (starting-all (λ start. not (start == rank joining.joined.start)) runs
+            (λ run found. elim (true_or_false (run.first == rank joining.joined.start)) [
+              | inl same ↦ absurd (none run found (grind (arith, nat_tests, same)))
+              | inr differs ↦ rw differs refl
+            ])))
+        by (Some first) found left =
+            let number = (without_start-joined n runs canonical (run_of rank first) found.0).counted in
+            subst (λ start. others ≡ count n (members (without_start start runs))) found.1
+            (omega (arith, number, left, counted))
+
+    -- it stands over the others
+    pub joining-over : (others : ℕ)
+        → others ≡ count n (members (without_start (rank joining.joined.start) runs))
+        → IsOver n (with_run (run_of rank joining.joined) runs) (run_of rank joining.joined) others
+    joining-over others counted =
+        record {
+          rest = without_start (rank joining.joined.start) runs;
+          parts = sym (with_run-without_start (run_of rank joining.joined) runs);
+          canonical = starting-canonical_in (λ start. not (start == rank joining.joined.start)) n runs
+              canonical;
+          elsewhere = λ run found same.
+              let other = (starting-contains (λ start. not (start == rank joining.joined.start)) runs
+              run found).1 in
+              grind (arith, nat_tests, other, same);
+          ordered = is.ordered;
+          in_type = is.in_type;
+          begins = λ point before.
+              starting-lacks (λ start. not (start == rank joining.joined.start)) runs point
+              (is.begins point before);
+          ends = starting-lacks (λ start. not (start == rank joining.joined.start)) runs
+              (rank joining.joined.end + 1) is.ends;
+          counted = counted;
+        }
+
+    -- with it the members are those of the runs and its own
+    pub joining-members : (point : ℕ)
+        → members (with_run (run_of rank joining.joined) runs) point
+        ≡ (members runs point || covers point (run_of rank joining.joined))
+    joining-members point =
+        let rises = canonical-rises n 0 (without_start (rank joining.joined.start) runs) in
+        let left = starting-canonical_in (λ start. not (start == rank joining.joined.start)) n runs
+        canonical in
+        ap (λ (items : List Interval). members items point)
+        (sym (with_run-without_start (run_of rank joining.joined) runs))
+        ∙ with_run-members n 0 (run_of rank joining.joined)
+        (without_start (rank joining.joined.start) runs) point (rises left.0 left.1)
+        (λ run found same.
+        let other = (starting-contains (λ start. not (start == rank joining.joined.start)) runs
+        run found).1 in grind (arith, nat_tests, other, same))
+        ∙ elim (true_or_false (covers point (run_of rank joining.joined))) [
+          | inl here ↦
+              let some = members (without_start (rank joining.joined.start) runs) point in
+              grind (arith, here)
+          | inr outside ↦
+              ap (λ test. test || covers point (run_of rank joining.joined))
+              (first-members point outside)
+        ]
+
+    -- what starts inside it is known as before
+    pub joining-inside : KnowsInside rank (with_run (run_of rank joining.joined) runs)
+        (run_of rank joining.joined) joining.last joining.before
+    joining-inside = by joining.last joining.before is.inside
+      where
+        -- the same runs start inside it
+        old : (run : Interval) → IsInside (with_run (run_of rank joining.joined) runs)
+            (run_of rank joining.joined) run → IsInside runs (run_of rank joining.joined) run
+        old run inside = elim (with_run-contains (run_of rank joining.joined) runs run inside.among) [
+          | inl same ↦
+              let later = subst (λ (each : Interval). rank joining.joined.start < each.first) (sym same)
+              inside.later in absurd (omega (arith, later))
+          | inr found ↦ record {
+            among = found.0;
+            later = inside.later;
+            within = inside.within;
+          }
+        ]
+
+        new : (run : Interval) → IsInside runs (run_of rank joining.joined) run
+            → IsInside (with_run (run_of rank joining.joined) runs) (run_of rank joining.joined) run
+        new run inside =
+            let later = inside.later in
+            record {
+              among = Contains-with_run (run_of rank joining.joined) runs run inside.among
+                  (λ same. omega (arith, same, later));
+              later = inside.later;
+              within = inside.within;
+            }
+
+        by : (last before : Option (Run T))
+            → KnowsInside rank runs (run_of rank joining.joined) last before
+            → KnowsInside rank (with_run (run_of rank joining.joined) runs)
+            (run_of rank joining.joined) last before
+        by None before none = λ run inside. none run (old run inside)
+        by (Some last) None known = (
+          new (run_of rank last) known.0,
+          λ run inside. known.1 run (old run inside),
+        )
+        by (Some last) (Some before) known = (
+          new (run_of rank last) known.0,
+          (new (run_of rank before) known.1.0, known.1.1),
+        )

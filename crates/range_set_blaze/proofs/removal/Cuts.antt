@@ -1,0 +1,136 @@
+-- A rank that is taken out of the run that has it.
+use Rattle.std.proofs.Common.{◌≡◌, ℕ, true, false, not, ◌==◌, nat_lt, ◌&&◌, ◌||◌, ◌+◌, ◌-◌, ◌<◌, ◌≤◌, List, refl, sym, ap, ◌∙◌, inl, inr, arith, subst}
+use Rattle.std.specs.List.{Contains}
+use Rattle.std.proofs.lemmas.Bool.{cases_lt}
+use Rattle.std.proofs.lemmas.Bool.Decides.{nat_tests}
+use Rattle.rsb_integer.specs.Runs.{Interval, covers, length_of, members, IsCanonicalIn}
+use Rattle.rsb_integer.specs.Selection.{count}
+use Rattle.rsb_integer.proofs.ListLemmas.{true_or_false}
+use Rattle.rsb_integer.proofs.MembersLemmas.{covers-bounds, covers-inside}
+use Rattle.range_set_blaze.specs.Removal.{IsCutAbove, IsRemoved}
+use Rattle.range_set_blaze.specs.Starts.{with_run, without_start, IsFree, IsJoined}
+use Rattle.range_set_blaze.specs.Set.{only, Removes}
+use Rattle.range_set_blaze.proofs.runs.Apart.{contained-maximal, with_run-joined, without_start-joined}
+use Rattle.range_set_blaze.proofs.runs.Starts.{canonical-rises, starting-with_run, with_run-ascending, with_run-without_start, Contains-with_run}
+
+module _ (n : ℕ) (runs : List Interval) (canonical : IsCanonicalIn n runs) (run : Interval)
+    (among : Contains runs run) (point : ℕ) (from : run.first ≤ point) (to : point ≤ run.last) where
+  -- the other runs
+  joins : IsJoined n (without_start run.first runs) run runs
+  joins = without_start-joined n runs canonical run among
+
+  -- nothing lies above the last rank
+  pub cut-last : run.last ≤ point → IsCutAbove n runs run point runs
+  cut-last ends = record {
+    ascending = canonical-rises n 0 runs canonical.0 canonical.1;
+    there = (run, among, refl);
+    canonical = joins.fewer_canonical;
+    has = λ rank. elim (true_or_false (covers rank run)) [
+      | inl here ↦
+          let bounds = covers-bounds rank run here in
+          let not_above : nat_lt point rank ≡ false = grind (arith, nat_tests, bounds.1, ends) in
+          grind (arith, not_above)
+      | inr lacks ↦ grind (arith, lacks)
+    ];
+    counted = omega (arith, ends, to);
+  }
+
+  -- what lies above another is put in
+  pub cut-above : (above : Interval) → above.first ≡ point + 1 → above.last ≡ run.last
+      → point < run.last → IsCutAbove n runs run point (with_run above runs)
+  cut-above above starts ends less =
+      let maximal = contained-maximal n runs canonical run among in
+      let rises = canonical-rises n 0 runs canonical.0 canonical.1 in
+      let test : not (above.first == run.first) ≡ true = grind (arith, nat_tests, starts, from) in
+      let moved = starting-with_run (λ start. not (start == run.first)) above runs test in
+      let put = with_run-joined n (without_start run.first runs) joins.fewer_canonical above
+      (omega (arith, starts, ends, less)) (omega (arith, ends, maximal.in_type))
+      (λ rank low high. joins.free rank (omega (arith, low, starts, from))
+      (omega (arith, high, ends))) in
+      let number = put.counted in
+      record {
+        ascending = with_run-ascending n 0 above runs rises (omega arith)
+            (omega (arith, starts, less, maximal.in_type));
+        there = (run, Contains-with_run above runs run among
+            (λ same. omega (arith, same, starts, from)), refl);
+        canonical = subst (IsCanonicalIn n) (sym moved) put.more_canonical;
+        has = λ rank.
+            ap (λ (items : List Interval). members items rank) moved ∙ put.has rank
+            ∙ ap (λ test. members (without_start run.first runs) rank || test)
+            (grind (arith, nat_tests, starts, ends, from));
+        counted =
+            ap (λ (items : List Interval). count n (members items) + point) moved
+            ∙ omega (arith, number, starts, ends, less);
+      }
+
+  -- with what lies below the rank, or nothing, the rank alone is out
+  module _ (now : List Interval) (above : IsCutAbove n runs run point now) where
+    -- each other member is one still, where the rest and what is put in are told
+    cut-removes : (new : List Interval) → ((rank : ℕ) → members new rank
+        ≡ (members (without_start run.first now) rank || (covers rank run && nat_lt rank point)))
+        → Removes runs new (only point)
+    cut-removes new is rank =
+        let all = joins.has rank in
+        let rest = above.has rank in
+        is rank
+        ∙ elim (true_or_false (covers rank run)) [
+          | inl here ↦
+              let bounds = covers-bounds rank run here in
+              let none = joins.free rank (omega (arith, bounds.0)) (omega (arith, bounds.1)) in
+              grind (arith, nat_tests, all, rest, none, here)
+          | inr lacks ↦ elim (true_or_false (rank == point)) [
+            | inl same ↦
+                let meets : rank ≡ point = grind (arith, nat_tests, same) in
+                let here = covers-inside rank run (omega (arith, meets, from))
+                (omega (arith, meets, to)) in
+                absurd (cc)
+            | inr differs ↦ grind (arith, all, rest, lacks, differs)
+          ]
+        ]
+
+    -- what lies below it takes the run's place
+    pub cut-low : (low : Interval) → low.first ≡ run.first → low.last + 1 ≡ point
+        → run.first < point → IsRemoved n runs (with_run low now) point
+    cut-low low starts ends less =
+        let maximal = contained-maximal n runs canonical run among in
+        let placed = sym (with_run-without_start low now)
+        ∙ ap (λ start. with_run low (without_start start now)) starts in
+        let free : IsFree (without_start run.first now) low.first low.last =
+        λ rank lower upper. above.has rank
+        ∙ (let none = joins.free rank (omega (arith, lower, starts))
+        (omega (arith, upper, ends, to)) in
+        let not_above : nat_lt point rank ≡ false = grind (arith, nat_tests, upper, ends) in
+        grind (arith, none, not_above)) in
+        let put = with_run-joined n (without_start run.first now) above.canonical low
+        (omega (arith, starts, ends, less)) (omega (arith, ends, to, maximal.in_type)) free in
+        let number = put.counted in
+        let rest = above.counted in
+        let all = joins.counted in
+        let old_number = ap (λ (items : List Interval). count n (members items)) placed in
+        record {
+          canonical = subst (IsCanonicalIn n) (sym placed) put.more_canonical;
+          removes = cut-removes (with_run low now) (λ rank.
+              ap (λ (items : List Interval). members items rank) placed ∙ put.has rank
+              ∙ ap (λ test. members (without_start run.first now) rank || test)
+              (grind (arith, nat_tests, starts, ends, to)));
+          counted = omega (arith, number, rest, all, old_number, starts, ends, less, to);
+        }
+
+    -- or nothing does
+    pub cut-none : point ≤ run.first → IsRemoved n runs (without_start run.first now) point
+    cut-none less =
+        let rest = above.counted in
+        let all = joins.counted in
+        record {
+          canonical = above.canonical;
+          removes = cut-removes (without_start run.first now) (λ rank.
+              elim (true_or_false (covers rank run)) [
+                | inl here ↦
+                    let bounds = covers-bounds rank run here in
+                    let not_below : nat_lt rank point ≡ false
+                    = grind (arith, nat_tests, bounds.0, less) in
+                    grind (arith, not_below)
+                | inr lacks ↦ grind (arith, lacks)
+              ]);
+          counted = omega (arith, rest, all, from, to, less);
+        }

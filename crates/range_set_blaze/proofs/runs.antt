@@ -1,0 +1,4 @@
+pub mod Apart
+pub mod Found
+pub mod Maps
+pub mod Starts

@@ -1,0 +1,20 @@
+use Rattle.std.proofs.Common.{◌∙◌, ap}
+use Rattle.range_set_blaze.specs.Kept.{runs_of}
+use Rattle.range_set_blaze.proofs.runs.Maps.{runs-below, runs-from}
+use Rattle.range_set_blaze.proofs.set.entries.split_entries.Goals as goal
+
+-- the low part stays
+pub returns-clause-low : goal.returns-clause-low
+returns-clause-low g c =
+    let laws = g.met.T.Integer in
+    ap (runs_of g.T.Integer.rank) c.in_ok-high.ensures.below
+    ∙ runs-below g.T.Ord.cmp g.T.Integer.rank g.T.Integer.value_count laws.in_order c.args.key
+    c.requires.value c.args.map.now.entries c.requires.ascending
+
+-- and the high one is given
+pub returns-clause-high : goal.returns-clause-high
+returns-clause-high g c =
+    let laws = g.met.T.Integer in
+    ap (runs_of g.T.Integer.rank) c.in_ok-high.ensures.from
+    ∙ runs-from g.T.Ord.cmp g.T.Integer.rank g.T.Integer.value_count laws.in_order c.args.key
+    c.requires.value c.args.map.now.entries c.requires.ascending

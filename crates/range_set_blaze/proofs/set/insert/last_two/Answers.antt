@@ -1,0 +1,32 @@
+use Rattle.std.proofs.Common.{◌∙◌, ◌+◌, ap, Some, None}
+use Rattle.range_set_blaze.specs.Kept.{runs_of}
+use Rattle.range_set_blaze.proofs.runs.Found.{found-last, found-two}
+use Rattle.range_set_blaze.proofs.runs.Maps.{runs-up_to}
+use Rattle.range_set_blaze.proofs.set.insert.last_two.Goals as goal
+
+-- no run is in the range
+pub returns-in_default-clause-two : goal.returns-in_default-clause-two
+returns-in_default-clause-two g c =
+    let rank = g.T.Integer.rank in
+    let n = g.T.Integer.value_count in
+    let laws = g.met.T.Integer in
+    found-last rank n (runs_of rank c.args.map.now.entries) c.requires.ascending
+    (rank c.args.value + 1) c.range-entries.result c.last_run.new.entries None
+    (ap (runs_of rank) (c.range-entries.ensures.between tt)
+    ∙ runs-up_to g.T.Ord.cmp rank n laws.in_order c.args.value c.requires.value
+    c.args.map.now.entries c.requires.ascending)
+    c.in_default.ensures
+
+-- the last two of the range are the last two up to the value
+pub returns-clause-two : goal.returns-clause-two
+returns-clause-two g c =
+    let rank = g.T.Integer.rank in
+    let n = g.T.Integer.value_count in
+    let laws = g.met.T.Integer in
+    found-two rank n (runs_of rank c.args.map.now.entries) c.requires.ascending
+    (rank c.args.value + 1) c.range-entries.result c.last_run.new.entries c.last_run-2.new.entries
+    (Some c.in-Some.last) c.last_run-2.result
+    (ap (runs_of rank) (c.range-entries.ensures.between tt)
+    ∙ runs-up_to g.T.Ord.cmp rank n laws.in_order c.args.value c.requires.value
+    c.args.map.now.entries c.requires.ascending)
+    c.in-Some.ensures c.last_run-2.ensures

@@ -1,0 +1,48 @@
+use Rattle.std.proofs.Common.{◌+◌, ◌≤◌, arith}
+use Rattle.range_set_blaze.proofs.runs.Found.{last-lower, last-value, none-lower, two-before, two-last, two-none}
+use Rattle.range_set_blaze.proofs.KeptLemmas.{lt-fails}
+use Rattle.range_set_blaze.proofs.runs.Starts.{canonical-rises}
+use Rattle.range_set_blaze.proofs.set.insert.last_up_to.Goals as goal
+
+-- the last run is of values
+pub is_below-requires-clause-right : goal.is_below-requires-clause-right
+is_below-requires-clause-right g c =
+    let two = two-last g.T.Integer.rank _ _ _ _ c.requires.two.2 c.in_ok-last.last c.in_ok-last.was in
+    (last-value g.T.Integer.rank _ _ c.requires.canonical _ c.in_ok-last.last two.0).0
+
+-- it starts up to the value
+pub returns-then-not-is_below : goal.returns-then-not-is_below
+returns-then-not-is_below g c =
+    let two = two-last g.T.Integer.rank _ _ _ _ c.requires.two.2 c.in_ok-last.last c.in_ok-last.was in
+    let starts = lt-fails c.is_below.result _ _ c.is_below.ensures c.if-not-is_below.true in
+    last-lower _ _ _ _ (omega (arith, c.requires.two.1)) (omega (arith, starts)) two.0
+
+-- it starts past the value, and none comes before it
+pub returns-in_err-before : goal.returns-in_err-before
+returns-in_err-before g c =
+    let none = two-none g.T.Integer.rank _ _ _ _ c.requires.two.2 c.in_ok-last.last c.in_ok-last.was
+    c.in_err-before.was in
+    let later = c.is_below.ensures.0 c.if-not-is_below.false in
+    rw c.from_residual-in_err-before.ensures
+    (none-lower _ _ _ (omega (arith, later)) none)
+
+-- the one before it is of values
+pub is_below-requires-2-clause-right : goal.is_below-requires-2-clause-right
+is_below-requires-2-clause-right g c =
+    (last-value g.T.Integer.rank _ _ c.requires.canonical _ c.in_ok-before.before
+    (two-before g.T.Integer.rank _ _ _ _ c.requires.two.2 c.in_ok-last.last c.in_ok-before.before
+    c.in_ok-last.was c.in_ok-before.was)).0
+
+-- it starts up to the value
+pub returns-then-not-is_below-2 : goal.returns-then-not-is_below-2
+returns-then-not-is_below-2 g c =
+    let found = two-before g.T.Integer.rank _ _ _ _ c.requires.two.2 c.in_ok-last.last c.in_ok-before.before
+    c.in_ok-last.was c.in_ok-before.was in
+    let later = c.is_below.ensures.0 c.if-not-is_below.false in
+    let starts = lt-fails c.is_below-2.result _ _ c.is_below-2.ensures c.if-not-is_below-2.true in
+    last-lower _ _ _ _ (omega (arith, later)) (omega (arith, starts)) found
+
+-- the starts ascend
+pub run_up_to-requires-clause-ascending : goal.run_up_to-requires-clause-ascending
+run_up_to-requires-clause-ascending g c =
+    canonical-rises _ _ _ c.requires.canonical.0 c.requires.canonical.1

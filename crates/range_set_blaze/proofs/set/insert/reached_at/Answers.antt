@@ -1,0 +1,28 @@
+use Rattle.std.proofs.Common.{◌+◌, ◌<◌, arith}
+use Rattle.range_set_blaze.proofs.runs.Apart.{last-gap, none-gap}
+use Rattle.range_set_blaze.proofs.KeptLemmas.{le-fails}
+use Rattle.range_set_blaze.proofs.set.insert.reached_at.Goals as goal
+
+-- none starts up to the value
+pub returns-in_err-first : goal.returns-in_err-first
+returns-in_err-first g c =
+    rw c.from_residual.ensures
+    (λ other less more. none-gap _ _ c.requires.canonical _ c.in_err-first.ensures other
+    (omega (arith, less)))
+
+-- the last of them reaches it
+pub returns-then-reaches : goal.returns-then-reaches
+returns-then-reaches g c =
+    let starts = c.in_ok-first.ensures.starts in
+    record {
+      among = c.in_ok-first.ensures.among;
+      starts = omega (arith, starts);
+      reaches = c.reaches.ensures.0 c.if-reaches.true;
+    }
+
+-- or ends before it
+pub returns-else-reaches : goal.returns-else-reaches
+returns-else-reaches g c =
+    let far = le-fails c.reaches.result _ _ c.reaches.ensures c.if-reaches.false in
+    λ other less more. last-gap _ _ c.requires.canonical _ _ c.in_ok-first.ensures other
+    (omega (arith, far, more)) (omega (arith, less))

@@ -1,0 +1,53 @@
+use Rattle.std.proofs.Common.{◌≡◌, ◌∙◌, ◌+◌, ap, refl}
+use Rattle.range_set_blaze.specs.Kept.{runs_of}
+use Rattle.range_set_blaze.proofs.insertion.Joining.{joined-hull, joined-joining, reached-has, reached-lacks}
+use Rattle.range_set_blaze.proofs.runs.Starts.{canonical-rises}
+use Rattle.range_set_blaze.proofs.set.insert.touched.Goals as goal
+
+-- the starts ascend
+pub last_two-requires-clause-ascending : goal.last_two-requires-clause-ascending
+last_two-requires-clause-ascending g c =
+    canonical-rises _ _ _ c.requires.canonical.0 c.requires.canonical.1
+
+-- the first has all values of the run
+pub returns-then-ends_in-clause-within : goal.returns-then-ends_in-clause-within
+returns-then-ends_in-clause-within g c none =
+    reached-has g.T.Integer.rank g.T.Integer.value_count (runs_of g.T.Integer.rank
+    c.args.map.now.entries) c.requires.canonical c.args.run c.args.run c.requires.order
+    c.requires.value _ refl c.reached_at-first.result c.reached_at-first.ensures c.ends_in.result
+    c.ends_in.ensures c.if-ends_in.true
+
+-- or lacks some
+pub returns-clause-lacks : goal.returns-clause-lacks
+returns-clause-lacks g c =
+    (reached-lacks g.T.Integer.rank g.T.Integer.value_count (runs_of g.T.Integer.rank
+    c.args.map.now.entries) c.requires.canonical c.args.run c.args.run c.requires.order
+    c.requires.value _ refl c.reached_at-first.result c.reached_at-first.ensures c.ends_in.result
+    c.ends_in.ensures c.if-ends_in.false).1
+
+-- the joined run
+pub returns-clause-hull : goal.returns-clause-hull
+returns-clause-hull g c =
+    joined-hull g.T.Integer.rank g.T.Integer.value_count (runs_of g.T.Integer.rank
+    c.args.map.now.entries) c.requires.canonical c.args.run
+    (record { start = c.start_of-start.result; end = c.end_of-end.result }) c.requires.order
+    c.requires.value (g.T.Integer.rank c.next_or_greatest.result + 1)
+    (ap (λ bound. bound + 1) c.next_or_greatest.ensures) c.reached_at-first.result
+    c.last_two.result.0 c.last_two.result.1 c.reached_at-first.ensures c.start_of-start.ensures
+    c.last_two.ensures.two c.end_of-end.ensures
+
+-- and what it touches
+pub returns-clause-joining : goal.returns-clause-joining
+returns-clause-joining g c =
+    let short = (reached-lacks g.T.Integer.rank g.T.Integer.value_count (runs_of g.T.Integer.rank
+    c.args.map.now.entries) c.requires.canonical c.args.run c.args.run c.requires.order
+    c.requires.value _ refl c.reached_at-first.result c.reached_at-first.ensures c.ends_in.result
+    c.ends_in.ensures c.if-ends_in.false).0 in
+    joined-joining g.T.Integer.rank g.T.Integer.value_count (runs_of g.T.Integer.rank
+    c.args.map.now.entries) c.requires.canonical c.args.run
+    (record { start = c.start_of-start.result; end = c.end_of-end.result }) c.requires.order
+    c.requires.value (g.T.Integer.rank c.next_or_greatest.result + 1)
+    (ap (λ bound. bound + 1) c.next_or_greatest.ensures) c.reached_at-first.result
+    c.last_two.result.0 c.last_two.result.1 c.reached_at-first.ensures c.start_of-start.ensures
+    c.last_two.ensures.two c.end_of-end.ensures c.past_start.result c.past_start-2.result
+    c.past_start.ensures c.past_start-2.ensures short

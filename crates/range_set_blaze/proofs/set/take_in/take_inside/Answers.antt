@@ -1,0 +1,42 @@
+use Rattle.std.proofs.Common.{◌≡◌, ◌∙◌, ◌+◌, ◌<◌, List, ap, sym, arith, subst}
+use Rattle.rsb_integer.specs.Runs.{Interval, members}
+use Rattle.range_set_blaze.specs.Joining.{IsOver}
+use Rattle.range_set_blaze.specs.Kept.{run_of}
+use Rattle.range_set_blaze.proofs.insertion.TakingIn.{inside-counted, inside-some, over-ascending, over-within, over-without, without-members}
+use Rattle.range_set_blaze.proofs.set.take_in.take_inside.Goals as goal
+
+-- the run has a member, and all of its own are counted
+pub take_off_length-requires-clause-some : goal.take_off_length-requires-clause-some
+take_off_length-requires-clause-some g c =
+    inside-some _ _ _ _ c.requires.over (run_of g.T.Integer.rank c.args.taken) c.requires.inside
+
+pub take_off_length-requires-clause-fits : goal.take_off_length-requires-clause-fits
+take_off_length-requires-clause-fits g c = over-within _ _ _ _ c.requires.over
+
+pub take_off_length-requires-clause-counted : goal.take_off_length-requires-clause-counted
+take_off_length-requires-clause-counted g c =
+    inside-counted _ _ _ _ c.requires.over (run_of g.T.Integer.rank c.args.taken) c.requires.inside
+
+-- it goes out
+pub take_entry-requires-clause-ascending : goal.take_entry-requires-clause-ascending
+take_entry-requires-clause-ascending g c = over-ascending _ _ _ _ c.requires.over
+
+pub returns-clause-over : goal.returns-clause-over
+returns-clause-over g c =
+    subst (λ (runs : List Interval). IsOver g.T.Integer.value_count runs
+    (run_of g.T.Integer.rank c.args.run) (g.T.SafeLen.SafeLength.number c.take_off_length.new.length))
+    (sym c.take_entry.ensures)
+    (over-without _ _ _ _ c.requires.over (run_of g.T.Integer.rank c.args.taken) c.requires.inside _
+    c.take_off_length.ensures)
+
+pub returns-clause-members : goal.returns-clause-members
+returns-clause-members g c rank =
+    ap (λ (runs : List Interval). members runs rank) c.take_entry.ensures
+    ∙ without-members _ _ _ _ c.requires.over (run_of g.T.Integer.rank c.args.taken)
+    c.requires.inside rank
+
+pub returns-clause-fewer : goal.returns-clause-fewer
+returns-clause-fewer g c =
+    let some = inside-some _ _ _ _ c.requires.over (run_of g.T.Integer.rank c.args.taken)
+    c.requires.inside in
+    omega (arith, some, c.take_off_length.ensures)

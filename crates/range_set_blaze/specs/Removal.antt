@@ -1,0 +1,24 @@
+-- What a removal makes of a list of runs.
+use Rattle.std.specs.Prelude.{◌≡◌, ℕ, ◌&&◌, ◌||◌, nat_lt, ◌+◌, List, Contains}
+use Rattle.rsb_integer.specs.Runs.{Interval, covers, members, IsCanonicalIn}
+use Rattle.rsb_integer.specs.Selection.{count}
+use Rattle.range_set_blaze.specs.Set.{only, Removes}
+use Rattle.range_set_blaze.specs.Starts.{without_start, IsAscendingFrom}
+
+-- the new runs are canonical, and have the members of the old ones but one, which those have
+pub record IsRemoved (n : ℕ) (old new : List Interval) (point : ℕ) : Type 0 where
+  pub canonical : IsCanonicalIn n new
+  pub removes : Removes old new (only point)
+  pub counted : count n (members new) + 1 ≡ count n (members old)
+
+-- without the run that starts where the cut one does, the runs have what the old ones have without it,
+-- and what it has past the rank
+pub record IsCutAbove (n : ℕ) (old : List Interval) (run : Interval) (point : ℕ)
+    (now : List Interval) : Type 0 where
+  pub ascending : IsAscendingFrom n 0 now
+  pub there : (other : Interval) × Contains now other × (other.first ≡ run.first)
+  pub canonical : IsCanonicalIn n (without_start run.first now)
+  pub has : (rank : ℕ) → members (without_start run.first now) rank
+      ≡ (members (without_start run.first old) rank || (covers rank run && nat_lt point rank))
+  pub counted : count n (members (without_start run.first now)) + point
+      ≡ count n (members (without_start run.first old)) + run.last

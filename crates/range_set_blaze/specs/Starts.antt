@@ -1,0 +1,93 @@
+-- Where a run lies among others by its start, and what the calls of a map make of a list of runs.
+use Rattle.std.specs.Prelude.{◌≡◌, ℕ, Bool, true, false, not, ◌||◌, nat_le, nat_lt, ◌==◌, ◌+◌, ◌<◌, ◌≤◌, List, [], ◌∷◌, ◌++◌, Option, MatchOption, Contains}
+use Rattle.std.specs.List.{filter}
+use Rattle.rsb_integer.specs.Runs.{Interval, covers, length_of, members, IsCanonicalIn}
+use Rattle.rsb_integer.specs.Selection.{count}
+use Rattle.range_set_blaze.specs.Kept.{run_of}
+use Rattle.range_set_blaze.specs.declared.set.run.Run.{Run}
+
+-- ---- parts of a list, by starts
+
+-- the runs whose starts pass a test
+abbrev pub starting : (ℕ → Bool) → List Interval → List Interval
+starting test runs = filter (λ run. test run.first) runs
+
+-- the runs that start below the rank
+abbrev pub below : ℕ → List Interval → List Interval
+below rank runs = starting (λ start. nat_lt start rank) runs
+
+-- the runs that start past the rank
+abbrev pub past : ℕ → List Interval → List Interval
+past rank runs = starting (λ start. nat_lt rank start) runs
+
+-- the runs that start at the rank or past it
+abbrev pub starting_from : ℕ → List Interval → List Interval
+starting_from rank runs = starting (λ start. nat_le rank start) runs
+
+-- the runs that start elsewhere than at the rank
+abbrev pub without_start : ℕ → List Interval → List Interval
+without_start rank runs = starting (λ start. not (start == rank)) runs
+
+-- the runs with another at its place, and none else that starts where it does
+abbrev pub with_run : Interval → List Interval → List Interval
+with_run run runs = below run.first runs ++ run ∷ past run.first runs
+
+-- the starts ascend from `low` on, below n
+abbrev pub IsAscendingFrom : ℕ → ℕ → List Interval → Type 0
+IsAscendingFrom n low [] = Unit {0}
+IsAscendingFrom n low (run ∷ runs) =
+    (low ≤ run.first) × (run.first < n) × IsAscendingFrom n (run.first + 1) runs
+
+-- ---- one run among others
+
+-- the run is the last of those that start below the rank
+pub record IsLastBelow (runs : List Interval) (bound : ℕ) (run : Interval) : Type 0 where
+  pub among : Contains runs run
+  pub starts : run.first < bound
+  pub last : (other : Interval) → Contains runs other → other.first < bound
+      → other.first ≤ run.first
+
+-- none starts below the rank
+abbrev pub NoneBelow : List Interval → ℕ → Type 0
+NoneBelow runs bound = (run : Interval) → Contains runs run → run.first < bound → ⊥
+
+-- the run is the last of those that start below the rank, if there is one, and the other the last
+-- before it, if there is one
+abbrev pub IsLastTwo : {T : Type 0} → (T → ℕ) → List Interval → ℕ → Option (Run T) → Option (Run T)
+    → Type 0
+IsLastTwo rank runs bound last before = MatchOption last (NoneBelow runs bound)
+    (λ run. IsLastBelow runs bound (run_of rank run)
+    × MatchOption before (NoneBelow runs (rank run.start))
+    (λ other. IsLastBelow runs (rank run.start) (run_of rank other)))
+
+-- the list has this item last
+pub record EndsWith {X : Type 0} (items : List X) (last : X) : Type 0 where
+  pub front : List X
+  pub parts : items ≡ front ++ last ∷ []
+
+-- the list has this item first
+pub record StartsWith {X : Type 0} (items : List X) (first : X) : Type 0 where
+  pub rest : List X
+  pub parts : items ≡ first ∷ rest
+
+-- no member is one of the ranks from first to last, or next to one
+abbrev pub IsFree : List Interval → ℕ → ℕ → Type 0
+IsFree runs first last = (rank : ℕ) → first ≤ rank + 1 → rank ≤ last + 1 → members runs rank ≡ false
+
+-- ---- one run more, or one fewer
+
+-- one list has a run that the other lacks, apart from all others, and no other difference
+pub record IsJoined (n : ℕ) (fewer : List Interval) (run : Interval) (more : List Interval) : Type 0
+  where
+    pub fewer_canonical : IsCanonicalIn n fewer
+    pub more_canonical : IsCanonicalIn n more
+    pub free : IsFree fewer run.first run.last
+    pub has : (rank : ℕ) → members more rank ≡ (members fewer rank || covers rank run)
+    pub counted : count n (members more) ≡ count n (members fewer) + length_of run
+
+-- the rank is the last of the gap that has the point: up to it no member comes after the point
+pub record IsGapEnd (n : ℕ) (runs : List Interval) (point rank : ℕ) : Type 0 where
+  pub from : point ≤ rank
+  pub in_type : rank < n
+  pub free : (other : ℕ) → point < other → other ≤ rank → members runs other ≡ false
+  pub ends : rank + 1 < n → members runs (rank + 1) ≡ true
