@@ -36,6 +36,11 @@ ends-last low (suc i) (first ∷ runs) run canonical last =
           (omega arith) rest.1,
     )
 
+-- as many runs are kept as entries
+pub length-runs_of : {T : Type 0} (rank : T → ℕ) (entries : List (T × T))
+    → length (runs_of rank entries) ≡ length entries
+length-runs_of rank entries = length-map entries (entry_run rank)
+
 module _ {T : Type 0} (rank : T → ℕ) (n : ℕ) where
   -- nothing is kept of the empty set, and its length is 0
   pub kept-nil : (kept : ℕ) → kept ≡ 0 → IsKept rank n [] kept
@@ -75,7 +80,7 @@ module _ {T : Type 0} (rank : T → ℕ) (n : ℕ) where
       let i = length entries - 1 in
       let last = entry_run rank run in
       let some = slice_get_within entries i run found in
-      let long = length-map entries (entry_run rank) in
+      let long = length-runs_of rank entries in
       let at : get_or runs i last ≡ last =
       get_or-map (entry_run rank) entries i run _ some
       ∙ ap (entry_run rank) (get_or_from_slice_get entries i run run found) in

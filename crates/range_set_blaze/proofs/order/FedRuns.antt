@@ -28,19 +28,19 @@ module _ (n : ℕ) (runs : List Interval) (run : Interval)
         ap (members runs) (sym at) ∙ maximal.begins_here (omega arith)
 
     -- from a rank of the run on, the bounds are that rank, where the run begins there, and the last
-    run-bounds : (count low : ℕ) (begun : Bool) → low + count ≡ run.last → run.first ≤ low
+    bounds_from-run : (count low : ℕ) (begun : Bool) → low + count ≡ run.last → run.first ≤ low
         → before (members runs) low ≡ begun
         → bounds_from (members runs) low (n - low) ≡ cond (not begun) (low ∷ []) []
         ++ run.last ∷ bounds_from (members runs) (suc run.last) (n - suc run.last)
     unfolding bounds_from
-    run-bounds zero low begun ends from is =
+    bounds_from-run zero low begun ends from is =
         let below = maximal.in_type in
         let more : n - low ≡ suc (n - suc run.last) = omega arith in
         let at : low ≡ run.last = omega arith in
         ap (bounds_from (members runs) low) more
         ∙ rw (is, at, here run.last (omega arith) (omega arith), stops)
         (append_assoc (cond (not begun) (run.last ∷ []) []) (run.last ∷ []) _)
-    run-bounds (suc count) low begun ends from is =
+    bounds_from-run (suc count) low begun ends from is =
         let below = maximal.in_type in
         let more : n - low ≡ suc (n - suc low) = omega arith in
         ap (bounds_from (members runs) low) more
@@ -49,7 +49,7 @@ module _ (n : ℕ) (runs : List Interval) (run : Interval)
           here low from (omega arith),
           here (suc low) (omega arith) (omega arith),
           append-nil (cond (not begun) (low ∷ []) []),
-          run-bounds count (suc low) true (omega arith) (omega arith) (here low from (omega arith)),
+          bounds_from-run count (suc low) true (omega arith) (omega arith) (here low from (omega arith)),
         )
         refl
 
@@ -71,7 +71,7 @@ run_bounds-canonical n runs canonical =
     ∙ made-canonical (bounds_from (members runs)) n runs (λ run. run.first ∷ run.last ∷ [])
     canonical (λ low. refl) (λ rank left lacks. rw lacks refl) (λ run maximal stops.
     let ordered = maximal.in_order in
-    run-bounds n runs run maximal stops (run.last - run.first) run.first false (omega arith)
+    bounds_from-run n runs run maximal stops (run.last - run.first) run.first false (omega arith)
     (omega arith) (begins n runs run maximal stops run.first refl))
 
 module _ {T : Type 0} (rank : T → ℕ) (n : ℕ) (value_at : ℕ → T)

@@ -1,7 +1,6 @@
 use Rattle.std.proofs.Common.{refl, rules}
-use Rattle.std.proofs.lemmas.List.{length-map}
-use Rattle.range_set_blaze.specs.Kept.{entry_run}
 use Rattle.range_set_blaze.proofs.order.CommonFronts.{alike-passed, left-tells, passing-none, passing-tells, right-tells, starts-tell}
+use Rattle.range_set_blaze.proofs.order.EndRuns.{length-runs_of}
 use Rattle.range_set_blaze.proofs.set.order.compare_runs.Goals as goal
 
 -- at first nothing was passed
@@ -13,7 +12,8 @@ loop-run-init g c =
 -- there are at most as many turns as runs, and one more
 pub overflow_add-turns : goal.overflow_add-turns
 overflow_add-turns g c =
-    let counted = rw (length-map c.args.left.now.entries (entry_run g.T.Integer.rank)) at c.loop-run.invariant.counted in
+    let few = length-runs_of g.T.Integer.rank c.args.left.now.entries in
+    let counted = rw few at c.loop-run.invariant.counted in
     let fits = c.iter-left.ensures.fits in
     search (rules, counted, fits)
 
