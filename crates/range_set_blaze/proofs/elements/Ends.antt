@@ -258,16 +258,17 @@ module _ {T I N : Type 0} {rank : T → ℕ} {n : ℕ} (stream : Stream I T N) (
         (λ rest may.
         let prior = placed (run ∷ []) rest in
         let others = placed rest far in
+        let empty = none-if_empty _ (pops-none none).0 in
         let was : between_ends rank s prior ≡ placed (run ∷ []) others =
-        rw (e.apart s prior, none-if_empty _ (pops-none none).0, e.nil_put _) (e.put_put (run ∷ []) rest far) in (
+        grind (arith, e.apart s prior, empty, e.nil_put, e.put_put (run ∷ []) rest far) in (
           prior,
-          rw undone (answers rest
-              (subst (λ each. unless each (stream.may_give t.ranges) rest) (same ∙ undone) may)),
+          grind (arith, undone, same, may, answers),
           λ known.
-              let parts = canonical-parts 0 (e.front others) (run ∷ e.back others) (subst (IsCanonicalIn n) was known).0 in
+              let parts = canonical-parts 0 (e.front others) (run ∷ e.back others)
+              (subst (IsCanonicalIn n) was known).0 in
               let some = parts.1.1 in (
                 others,
-                rw was (ap (λ own. placed own others) (sym (one-if_some run some))),
+                was ∙ ap (λ own. placed own others) (sym (one-if_some run some)),
                 rw (← other) (e.apart t rest),
                 λ lacks. absurd (omega (arith, some, (e.none pops).0 lacks)),
               ),
@@ -287,7 +288,7 @@ module _ {T I N : Type 0} {rank : T → ℕ} {n : ℕ} (stream : Stream I T N) (
         let gone = pops-none none in
         let alone : (u : Iter T I) → IsEmpty (e.near u)
         → between_ends rank u [] ≡ placed (run_if_any (e.far u)) [] =
-        λ u empty. rw (e.apart u [], none-if_empty _ empty, e.nil_put (placed [] (run_if_any (e.far u))), e.nil_put _) (sym (e.put_nil _)) in
+        λ u empty. grind (arith, e.apart u [], none-if_empty _ empty, e.nil_put, e.put_nil) in
         turned pops (λ going. absurd (cc))
         (λ rest may_after.
         let nothing : rest ≡ [] = grind (arith, ended, may_after) in (

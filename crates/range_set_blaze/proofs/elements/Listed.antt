@@ -57,19 +57,13 @@ module _ {T : Type 0} (rank : T → ℕ) (n : ℕ) where
       let taken = gives.takes (runs_left rank t) ((listed-left t (runs_left rank t)).1 refl) in
       rw (← (listed-left s taken.0).0 taken.1) taken.2
 
-  -- it is canonical
-  pub listed-canonical : (s : Iter T (List (RangeInclusive T))) → ListedReady rank n s
-      → IsCanonicalIn n (runs_left rank s)
-  listed-canonical s ready =
-      (is_ready rank n (IsListReady rank n) (listed_may_give rank (λ ranges. ranges)) s
-      ready).canonical (runs_left rank s) ((listed-left s (runs_left rank s)).1 refl)
-
-  -- and has no fewer members than ranges that the stream still gives
+  -- it has no fewer members than ranges that the stream still gives, since it is canonical
   pub hint-count : (s : Iter T (List (RangeInclusive T))) → ListedReady rank n s → (low : ℕ)
       → IsWithinCount low (ranges_left (item_count (λ (ranges : List (RangeInclusive T)). ranges)) s)
       → low ≤ count n (members (runs_left rank s))
   hint-count s ready low within =
-      let canonical = listed-canonical s ready in
+      let known = is_ready rank n (IsListReady rank n) (listed_may_give rank (λ ranges. ranges)) s ready in
+      let canonical = known.canonical (runs_left rank s) ((listed-left s (runs_left rank s)).1 refl) in
       let least = length-sum 0 (runs_left rank s) canonical.0 in
       let all = count-members n 0 (runs_left rank s) canonical.0 canonical.1 in
       let some = within tt in
