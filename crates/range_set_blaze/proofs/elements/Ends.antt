@@ -164,7 +164,7 @@ module _ {T I N : Type 0} {rank : T → ℕ} {n : ℕ} (stream : Stream I T N) (
       rw (none-if_empty rest none.1, alone refl) (e.nil_put []) in
       rw (was, is) (
         subst (IsCanonicalIn n) was known,
-        record { none = ((λ lacks point. refl), (λ nothing. refl)); found = tt; rest = λ point. refl },
+        record { none = ((λ no point. refl), (λ no. refl)); found = tt; rest = λ point. refl },
       )
   turns {run = run} {rest = rest} {others = others} {item = Some value} pops alone known =
       let one = one-if_some run (pops-some pops) in
@@ -200,7 +200,8 @@ module _ {T I N : Type 0} {rank : T → ℕ} {n : ℕ} (stream : Stream I T N) (
         → (prior : List Interval) × unless s.done (stream.may_give s.ranges) prior
         × (IsCanonicalIn n (between_ends rank s prior) → (others : List Interval)
         × (between_ends rank s prior ≡ placed (run_if_any run) others)
-        × (between_ends rank t rest ≡ placed (run_if_any now) others) × (IsNone item → others ≡ [])))
+        × (between_ends rank t rest ≡ placed (run_if_any now) others)
+        × (IsNone item → others ≡ [])))
         → (IsFinite (stream.draws_left s.ranges) → IsFinite (stream.draws_left t.ranges))
         → (IsFinite (stream.draws_left s.ranges) → length_of now < length_of run
         → size (elements_left rank n stream.draws_left t)

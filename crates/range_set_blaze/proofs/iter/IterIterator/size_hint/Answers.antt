@@ -1,4 +1,4 @@
-use Rattle.std.proofs.Common.{◌≤◌, arith}
+use Rattle.std.proofs.Common.{arith}
 use Rattle.std.proofs.lemmas.Nat.{mul-le}
 use Rattle.std.specs.Iterator.{size}
 use Rattle.range_set_blaze.proofs.iter.IterIterator.size_hint.Goals as goal
@@ -12,7 +12,7 @@ returns g c =
     let counts = g.met.I.SortedStarts.drawn.counts c.args.self.now.ranges in
     let within = rw counts at c.size_hint.ensures.lower in
     record {
-      lower = λ finite. let least = within finite in rw c.if-self.false (omega (arith, more, least));
+      lower = λ finite. rw c.if-self.false (omega (arith, more, within finite));
       upper = tt;
       ranges = rw c.if-self.false within;
     }

@@ -1,10 +1,10 @@
-use Rattle.std.proofs.Common.{◌≡◌, ℕ, ◌&&◌, ◌+◌, nat_le, nat_lt, [], ◌∷◌, ◌∙◌, ap, arith, refl}
+use Rattle.std.proofs.Common.{◌≡◌, ◌&&◌, [], ◌∷◌, ◌∙◌, ap, arith, refl}
 use Rattle.std.proofs.lemmas.Bool.Decides.{nat_tests}
 use Rattle.rsb_integer.specs.Rank.{interval_of}
 use Rattle.rsb_integer.specs.Runs.{members, Interval}
 use Rattle.rsb_integer.specs.Selection.{intersection}
 use Rattle.rsb_integer.proofs.RangeLemmas.{interval_of-ends}
-use Rattle.rsb_streams.specs.Stream.{just, run_if_any}
+use Rattle.rsb_streams.specs.Stream.{run_if_any}
 use Rattle.rsb_streams.proofs.CallerLemmas.{runs_by_two-within}
 use Rattle.rsb_streams.proofs.CheckLemmas.{one-canonical, one-if_some}
 use Rattle.range_set_blaze.proofs.AlgebraLemmas.{intersection-of_sets}
