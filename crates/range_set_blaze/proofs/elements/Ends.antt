@@ -1,5 +1,6 @@
 -- Calls at the two ends of an iterator over the elements of a stream.
 use Rattle.std.proofs.Common.{◌≡◌, ◌↔◌, ℕ, true, false, ◌+◌, ◌<◌, ◌≤◌, List, [], ◌∷◌, ◌++◌, append-nil, append_assoc, refl, sym, ◌∙◌, ap, subst, arith}
+use Rattle.std.proofs.lemmas.List.Elements.{All-nil}
 use Rattle.std.proofs.lemmas.Nat.{row_fits}
 use Rattle.std.specs.Prelude.{Option, Some, None, IfSome, IsNone}
 use Rattle.std.specs.Iterator.{Count, IsFinite, MakesProgress, size}
@@ -126,8 +127,7 @@ module _ {T I N : Type 0} {rank : T → ℕ} {n : ℕ} (stream : Stream I T N) (
   pops-none : {run rest : Interval} → e.Pops run None rest → IsEmpty run × IsEmpty rest
   pops-none pops =
       let empty = (e.none pops).0 refl in
-      let within = (e.shorter pops).within in
-      (empty, grind (arith, empty, within))
+      (empty, grind (arith, empty, (e.shorter pops).within))
 
   -- and one of which an item is taken is not
   pops-some : {run rest : Interval} {value : T} → e.Pops run (Some value) rest
@@ -158,12 +158,8 @@ module _ {T I N : Type 0} {rank : T → ℕ} {n : ℕ} (stream : Stream I T N) (
       → Turns (placed (run_if_any run) others) item (placed (run_if_any rest) others)
   turns {run = run} {rest = rest} {others = others} {item = None} pops alone known =
       let none = pops-none pops in
-      let was : placed (run_if_any run) others ≡ [] =
-      rw (none-if_empty run none.0, alone refl) (e.nil_put []) in
-      let is : placed (run_if_any rest) others ≡ [] =
-      rw (none-if_empty rest none.1, alone refl) (e.nil_put []) in
-      rw (was, is) (
-        subst (IsCanonicalIn n) was known,
+      rw (none-if_empty run none.0, none-if_empty rest none.1, alone refl, e.nil_put []) (
+        (tt, All-nil (λ (each : Interval). each.last < n)),
         record { none = ((λ no point. refl), (λ no. refl)); found = tt; rest = λ point. refl },
       )
   turns {run = run} {rest = rest} {others = others} {item = Some value} pops alone known =

@@ -1,7 +1,7 @@
 -- The ranges of a set, one after the other.
-use Rattle.std.proofs.Common.{◌≡◌, ℕ, List, [], ◌∷◌, ◌++◌, ◌∙◌, Some, ap, sym, arith, length-append, subst}
+use Rattle.std.proofs.Common.{◌≡◌, ℕ, List, [], ◌∷◌, ◌++◌, ◌∙◌, Some, ap, sym, arith, length, length-append, subst}
 use Rattle.std.proofs.lemmas.Simd.{map-map}
-use Rattle.std.proofs.lemmas.List.{length-map, map-append}
+use Rattle.std.proofs.lemmas.List.{map-append}
 use Rattle.std.specs.Iterator.{MakesProgress, item_count}
 use Rattle.std.specs.declared.ops.RangeInclusive.{RangeInclusive}
 use Rattle.rsb_integer.specs.Rank.{interval_of, intervals_of}
@@ -35,13 +35,9 @@ module _ {T : Type 0} (rank : T → ℕ) (n : ℕ) where
       → IsCanonicalIn n (intervals_of rank ranges) → entries ≡ others ++ entry ∷ []
       → Goes ranges item (ranges_of others)
   goes-last others entry are canonical is =
-      let last = interval_of rank (range_of entry) ∷ [] in
-      let parts : intervals_of rank _ ≡ intervals_of rank (ranges_of others) ++ last =
-      grind (arith, are, is, map-append) in
-      let rest = canonical-front n (intervals_of rank (ranges_of others)) last
-      (subst (IsCanonicalIn n) parts canonical) in
-      record {
-        on = λ finite. (rest, tt, grind (arith, are, is, length-append, length-map));
-        keeps = rest;
-        rests = λ finite. tt;
-      }
+      let parts = sym are ∙ ap ranges_of is ∙ map-append range_of others (entry ∷ []) in
+      let rest = canonical-front n (intervals_of rank (ranges_of others)) _
+      (subst (IsCanonicalIn n) (ap (intervals_of rank) parts
+      ∙ map-append (interval_of rank) (ranges_of others) (range_of entry ∷ [])) canonical) in
+      let count = ap length parts ∙ length-append (ranges_of others) (range_of entry ∷ []) in
+      record { on = λ finite. (rest, tt, omega (arith, count)); keeps = rest; rests = λ finite. tt }
