@@ -1,5 +1,6 @@
 -- Calls at the two ends of an iterator over the elements of a stream.
 use Rattle.std.proofs.Common.{◌≡◌, ◌↔◌, ℕ, true, false, ◌+◌, ◌<◌, ◌≤◌, List, [], ◌∷◌, ◌++◌, append-nil, append_assoc, refl, sym, ◌∙◌, ap, subst, arith}
+use Rattle.std.proofs.lemmas.List.Elements.{All-nil}
 use Rattle.std.proofs.lemmas.Nat.{row_fits}
 use Rattle.std.specs.Prelude.{Option, Some, None, IfSome, IsNone}
 use Rattle.std.specs.Iterator.{Count, IsFinite, MakesProgress, size}
@@ -126,8 +127,7 @@ module _ {T I N : Type 0} {rank : T → ℕ} {n : ℕ} (stream : Stream I T N) (
   pops-none : {run rest : Interval} → e.Pops run None rest → IsEmpty run × IsEmpty rest
   pops-none pops =
       let empty = (e.none pops).0 refl in
-      let within = (e.shorter pops).within in
-      (empty, grind (arith, empty, within))
+      (empty, grind (arith, empty, (e.shorter pops).within))
 
   -- and one of which an item is taken is not
   pops-some : {run rest : Interval} {value : T} → e.Pops run (Some value) rest
@@ -158,13 +158,9 @@ module _ {T I N : Type 0} {rank : T → ℕ} {n : ℕ} (stream : Stream I T N) (
       → Turns (placed (run_if_any run) others) item (placed (run_if_any rest) others)
   turns {run = run} {rest = rest} {others = others} {item = None} pops alone known =
       let none = pops-none pops in
-      let was : placed (run_if_any run) others ≡ [] =
-      rw (none-if_empty run none.0, alone refl) (e.nil_put []) in
-      let is : placed (run_if_any rest) others ≡ [] =
-      rw (none-if_empty rest none.1, alone refl) (e.nil_put []) in
-      rw (was, is) (
-        subst (IsCanonicalIn n) was known,
-        record { none = ((λ lacks point. refl), (λ nothing. refl)); found = tt; rest = λ point. refl },
+      rw (none-if_empty run none.0, none-if_empty rest none.1, alone refl, e.nil_put []) (
+        (tt, All-nil (λ (each : Interval). each.last < n)),
+        record { none = ((λ no point. refl), (λ no. refl)); found = tt; rest = λ point. refl },
       )
   turns {run = run} {rest = rest} {others = others} {item = Some value} pops alone known =
       let one = one-if_some run (pops-some pops) in
@@ -200,7 +196,8 @@ module _ {T I N : Type 0} {rank : T → ℕ} {n : ℕ} (stream : Stream I T N) (
         → (prior : List Interval) × unless s.done (stream.may_give s.ranges) prior
         × (IsCanonicalIn n (between_ends rank s prior) → (others : List Interval)
         × (between_ends rank s prior ≡ placed (run_if_any run) others)
-        × (between_ends rank t rest ≡ placed (run_if_any now) others) × (IsNone item → others ≡ [])))
+        × (between_ends rank t rest ≡ placed (run_if_any now) others)
+        × (IsNone item → others ≡ [])))
         → (IsFinite (stream.draws_left s.ranges) → IsFinite (stream.draws_left t.ranges))
         → (IsFinite (stream.draws_left s.ranges) → length_of now < length_of run
         → size (elements_left rank n stream.draws_left t)
@@ -258,16 +255,17 @@ module _ {T I N : Type 0} {rank : T → ℕ} {n : ℕ} (stream : Stream I T N) (
         (λ rest may.
         let prior = placed (run ∷ []) rest in
         let others = placed rest far in
+        let empty = none-if_empty _ (pops-none none).0 in
         let was : between_ends rank s prior ≡ placed (run ∷ []) others =
-        rw (e.apart s prior, none-if_empty _ (pops-none none).0, e.nil_put _) (e.put_put (run ∷ []) rest far) in (
+        grind (arith, e.apart s prior, empty, e.nil_put, e.put_put (run ∷ []) rest far) in (
           prior,
-          rw undone (answers rest
-              (subst (λ each. unless each (stream.may_give t.ranges) rest) (same ∙ undone) may)),
+          grind (arith, undone, same, may, answers),
           λ known.
-              let parts = canonical-parts 0 (e.front others) (run ∷ e.back others) (subst (IsCanonicalIn n) was known).0 in
+              let parts = canonical-parts 0 (e.front others) (run ∷ e.back others)
+              (subst (IsCanonicalIn n) was known).0 in
               let some = parts.1.1 in (
                 others,
-                rw was (ap (λ own. placed own others) (sym (one-if_some run some))),
+                was ∙ ap (λ own. placed own others) (sym (one-if_some run some)),
                 rw (← other) (e.apart t rest),
                 λ lacks. absurd (omega (arith, some, (e.none pops).0 lacks)),
               ),
@@ -287,7 +285,7 @@ module _ {T I N : Type 0} {rank : T → ℕ} {n : ℕ} (stream : Stream I T N) (
         let gone = pops-none none in
         let alone : (u : Iter T I) → IsEmpty (e.near u)
         → between_ends rank u [] ≡ placed (run_if_any (e.far u)) [] =
-        λ u empty. rw (e.apart u [], none-if_empty _ empty, e.nil_put (placed [] (run_if_any (e.far u))), e.nil_put _) (sym (e.put_nil _)) in
+        λ u empty. grind (arith, e.apart u [], none-if_empty _ empty, e.nil_put, e.put_nil) in
         turned pops (λ going. absurd (cc))
         (λ rest may_after.
         let nothing : rest ≡ [] = grind (arith, ended, may_after) in (

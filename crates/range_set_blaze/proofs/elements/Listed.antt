@@ -1,5 +1,5 @@
 -- Iterators over elements of a stream whose state shows the list of its ranges.
-use Rattle.std.proofs.Common.{◌≡◌, ◌↔◌, ℕ, Bool, true, false, cond, ◌+◌, ◌<◌, ◌≤◌, List, [], ◌∷◌, ◌++◌, append-nil, length, length-append, refl, sym, ◌∙◌, ap, arith}
+use Rattle.std.proofs.Common.{◌≡◌, ◌↔◌, ℕ, true, cond, ◌+◌, ◌<◌, ◌≤◌, List, [], ◌∷◌, append-nil, length, length-append, refl, sym, ◌∙◌, ap, arith}
 use Rattle.std.proofs.lemmas.Bool.Decides.{nat_tests}
 use Rattle.std.proofs.lemmas.List.{length-map, map-append}
 use Rattle.std.proofs.lemmas.List.Sums.{sum_by-cons}
@@ -13,9 +13,9 @@ use Rattle.rsb_integer.specs.Runs.{Interval, length_of, members, IsCanonicalFrom
 use Rattle.rsb_integer.specs.Selection.{Selection, count}
 use Rattle.rsb_integer.proofs.CountLemmas.{count-less, count-members}
 use Rattle.rsb_streams.specs.Listed.{listed_may_give}
-use Rattle.rsb_streams.specs.Stream.{just, unless}
+use Rattle.rsb_streams.specs.Stream.{Outcomes}
 use Rattle.rsb_streams.proofs.CheckLemmas.{none-if_empty}
-use Rattle.range_set_blaze.specs.BothEnds.{between_ends, elements_ready, held, is_ready, left_between, ranges_left, runs_left, AnswersLast, Gives, IsListReady, IsOverSet, IsWhole, ListedReady, Takes}
+use Rattle.range_set_blaze.specs.BothEnds.{elements_ready, is_ready, left_between, ranges_left, runs_left, AnswersLast, Gives, IsListReady, IsOverSet, IsWhole, ListedReady, Takes}
 use Rattle.range_set_blaze.specs.declared.iter.Iter.{Iter}
 
 -- where a member is taken of a set, progress is made
@@ -37,12 +37,17 @@ length-sum : (low : ℕ) (runs : List Interval) → IsCanonicalFrom low runs
     → length runs ≤ sum_by length_of runs
 length-sum low [] canonical = omega arith
 length-sum low (run ∷ runs) canonical =
-    omega (arith, sum_by-cons length_of run runs, length-sum (run.last + 2) runs canonical.2, canonical.1)
+    let rest = length-sum (run.last + 2) runs canonical.2 in
+    omega (arith, sum_by-cons length_of run runs, rest, canonical.1)
 
 module _ {T : Type 0} (rank : T → ℕ) (n : ℕ) where
+  -- what a list may still give
+  abbrev given : List (RangeInclusive T) → Outcomes
+  given = listed_may_give rank (λ ranges. ranges)
+
   -- what may be left of the iterator is one list
   listed-left : (s : Iter T (List (RangeInclusive T))) (runs : List Interval)
-      → left_between rank (listed_may_give rank (λ ranges. ranges)) s runs ↔ (runs ≡ runs_left rank s)
+      → left_between rank given s runs ↔ (runs ≡ runs_left rank s)
   listed-left s runs = (
     (λ at. let may = at.1 in let is = at.2 in grind (arith, may, is)),
     (λ is. (cond s.done [] (intervals_of rank s.ranges), grind arith, is)),
@@ -50,35 +55,29 @@ module _ {T : Type 0} (rank : T → ℕ) (n : ℕ) where
 
   -- so what a call takes is taken of it
   pub listed-takes : {IsFound : Selection → ℕ → Type 0} {s t : Iter T (List (RangeInclusive T))}
-      {item : Option T}
-      → Gives rank n (IsListReady rank n) (listed_may_give rank (λ ranges. ranges)) IsFound s item t
+      {item : Option T} → Gives rank n (IsListReady rank n) given IsFound s item t
       → Takes rank IsFound (members (runs_left rank s)) item (members (runs_left rank t))
   listed-takes {s = s} {t = t} gives =
       let taken = gives.takes (runs_left rank t) ((listed-left t (runs_left rank t)).1 refl) in
       rw (← (listed-left s taken.0).0 taken.1) taken.2
 
-  -- it is canonical
-  pub listed-canonical : (s : Iter T (List (RangeInclusive T))) → ListedReady rank n s
-      → IsCanonicalIn n (runs_left rank s)
-  listed-canonical s ready =
-      (is_ready rank n (IsListReady rank n) (listed_may_give rank (λ ranges. ranges)) s
-      ready).canonical (runs_left rank s) ((listed-left s (runs_left rank s)).1 refl)
-
-  -- and has no fewer members than ranges that the stream still gives
+  -- it has no fewer members than ranges that the stream still gives, since it is canonical
   pub hint-count : (s : Iter T (List (RangeInclusive T))) → ListedReady rank n s → (low : ℕ)
-      → IsWithinCount low (ranges_left (item_count (λ (ranges : List (RangeInclusive T)). ranges)) s)
+      → IsWithinCount low (ranges_left (item_count (λ (each : List (RangeInclusive T)). each)) s)
       → low ≤ count n (members (runs_left rank s))
   hint-count s ready low within =
-      let canonical = listed-canonical s ready in
-      let least = length-sum 0 (runs_left rank s) canonical.0 in
-      let all = count-members n 0 (runs_left rank s) canonical.0 canonical.1 in
+      let runs = runs_left rank s in
+      let canonical = (is_ready rank n (IsListReady rank n) given s ready).canonical runs
+      ((listed-left s runs).1 refl) in
+      let least = length-sum 0 runs canonical.0 in
+      let all = count-members n 0 runs canonical.0 canonical.1 in
       let some = within tt in
       grind (arith, length-append, length-map, least, all, some)
 
   -- the last of the list is what may come last
   listed-last : (s t : List (RangeInclusive T)) (item : Option (RangeInclusive T))
       → YieldsLast (λ (ranges : List (RangeInclusive T)). ranges) s item t
-      → AnswersLast rank n (IsListReady rank n) (listed_may_give rank (λ ranges. ranges)) s item t
+      → AnswersLast rank n (IsListReady rank n) given s item t
   listed-last s t None call = ap (intervals_of rank) (sym call.0)
   listed-last s t (Some range) call = λ rest at.
       rw (at, call) (sym (map-append (interval_of rank) t (range ∷ [])))
@@ -88,12 +87,11 @@ module _ {T : Type 0} (rank : T → ℕ) (n : ℕ) where
       (s : Iter T (List (RangeInclusive T))) → IsWhole rank ranges s
       → IsCanonicalIn n (intervals_of rank ranges) → intervals_of rank ranges ≡ set
       → IsOverSet rank n set s
-  whole-over {ranges = ranges} {set = set} s whole canonical is =
+  whole-over {ranges = ranges} s whole canonical is =
       let runs : runs_left rank s ≡ intervals_of rank ranges =
       rw (none-if_empty _ whole.front, none-if_empty _ whole.back, whole.undone, whole.source)
       (append-nil (intervals_of rank ranges)) in
-      let ready : ListedReady rank n s = elements_ready rank n (IsListReady rank n)
-      (listed_may_give rank (λ ranges. ranges)) s (record {
+      let ready = elements_ready rank n (IsListReady rank n) given s (record {
         callable = λ undone. rw whole.source canonical;
         canonical = λ left at. rw ((listed-left s left).0 at, runs) canonical;
       }) in

@@ -1,13 +1,11 @@
 -- A canonical list in which an interval loses its first or its last rank.
-use Rattle.std.proofs.Common.{◌≡◌, ℕ, true, cond, ◌+◌, ◌<◌, ◌≤◌, List, [], ◌∷◌, ◌++◌, inl, inr, refl, ap, arith}
-use Rattle.std.proofs.lemmas.Bool.{cases_lt}
+use Rattle.std.proofs.Common.{◌≡◌, ℕ, true, cond, ◌+◌, ◌<◌, ◌≤◌, List, [], ◌∷◌, ◌++◌, ap, arith}
 use Rattle.std.proofs.lemmas.Bool.Decides.{nat_tests}
 use Rattle.std.proofs.lemmas.List.Elements.{All-cons, All-head, All-tail}
 use Rattle.rsb_integer.specs.Runs.{Interval, cover, covers, length_of, members, AllEndBelow, IsAfterFirst, IsBeforeLast, IsCanonicalFrom}
 use Rattle.rsb_integer.proofs.CanonicalLemmas.{canonical-lower}
 use Rattle.rsb_integer.proofs.MembersLemmas.{members-below}
 use Rattle.rsb_streams.specs.Stream.{run_if_any}
-use Rattle.rsb_streams.proofs.CheckLemmas.{none-if_empty, one-if_some}
 use Rattle.range_set_blaze.specs.Set.{only, Removes}
 
 -- what is left of an interval without one of its ranks, if it has any

@@ -56,8 +56,9 @@ impl<T: Integer, A: Allocator> IntoIterator for RangeSetBlaze<T, A> {
     ghost into_iter_gives = { λ set elements. elements ≡ set };
 
     fn into_iter(self) -> IntoIter<T, A> {
+        let ranges = self.into_ranges();
         IntoIter {
-            elements: Iter::over(self.into_ranges()),
+            elements: Iter::over(ranges),
         }
     }
 }

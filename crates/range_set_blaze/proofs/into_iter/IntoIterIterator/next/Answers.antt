@@ -4,7 +4,8 @@ use Rattle.range_set_blaze.proofs.into_iter.IntoIterIterator.next.Goals as goal
 -- the least element of those that are left
 pub returns-clause-steps : goal.returns-clause-steps
 returns-clause-steps g c =
-    rw (← c.self.view_is) (listed-takes g.T.Integer.rank g.T.Integer.value_count c.next.ensures.steps)
+    rw (← c.self.view_is)
+    (listed-takes g.T.Integer.rank g.T.Integer.value_count c.next.ensures.steps)
 
 pub returns-clause-goes : goal.returns-clause-goes
 returns-clause-goes g c = takes-goes c.next.result (λ point found. (found.in_type, found.here))

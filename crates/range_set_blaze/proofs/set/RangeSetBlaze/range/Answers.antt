@@ -1,12 +1,11 @@
-use Rattle.std.proofs.Common.{◌≡◌, ℕ, ◌&&◌, ◌+◌, nat_le, nat_lt, [], ◌∷◌, ◌∙◌, ap, arith, refl}
+use Rattle.std.proofs.Common.{◌≡◌, ◌&&◌, [], ◌∷◌, ◌∙◌, ap, arith, refl}
 use Rattle.std.proofs.lemmas.Bool.Decides.{nat_tests}
 use Rattle.rsb_integer.specs.Rank.{interval_of}
 use Rattle.rsb_integer.specs.Runs.{members, Interval}
 use Rattle.rsb_integer.specs.Selection.{intersection}
-use Rattle.rsb_integer.proofs.RangeLemmas.{interval_of-ends}
-use Rattle.rsb_streams.specs.Stream.{just, run_if_any}
+use Rattle.rsb_streams.specs.Stream.{run_if_any}
 use Rattle.rsb_streams.proofs.CallerLemmas.{runs_by_two-within}
-use Rattle.rsb_streams.proofs.CheckLemmas.{one-canonical, one-if_some}
+use Rattle.rsb_streams.proofs.CheckLemmas.{one-canonical}
 use Rattle.range_set_blaze.proofs.AlgebraLemmas.{intersection-of_sets}
 use Rattle.range_set_blaze.proofs.set.RangeSetBlaze.range.Goals as goal
 
@@ -20,15 +19,15 @@ returns g c =
       first = g.T.Integer.rank c.in-Some.run'.start;
       last = g.T.Integer.rank c.in-Some.run'.end;
     } in
+    let order = c.in-Some.ensures.order in
     let one : run_if_any (interval_of g.T.Integer.rank c.new-2.result) ≡ run ∷ [] =
-    rw (interval_of-ends g.T.Integer.rank c.new-2.result _ _ made.start made.end made.exhausted)
-    (one-if_some run c.in-Some.ensures.order) in
+    grind (arith, nat_tests, made.start, made.end, made.exhausted, order) in
     record {
       members = λ has point.
           ap (λ runs. members runs point) c.into_iter-2.ensures.into_iter_gives
           ∙ intersection-of_sets n set (run ∷ []) _ (run ∷ []) c.ranges-2.ensures.ranges refl
           c.ranges-2.ensures.ready
-          (one-canonical n run c.in-Some.ensures.order c.in-Some.ensures.value) c.in_ok-set.set
+          (one-canonical n run order c.in-Some.ensures.value) c.in_ok-set.set
           (runs_by_two-within n intersection _ _ _ _ (λ runs at. at)
           (λ runs at. c.new-bounds.ensures.gives runs at ∙ one) c.in_ok-set.set
           c.in_ok-set.ensures.runs) point

@@ -1,5 +1,4 @@
 use Rattle.rsb_integer.proofs.RunsLemmas.{canonical-runs}
-use Rattle.range_set_blaze.specs.Kept.{runs_of}
 use Rattle.range_set_blaze.proofs.elements.Ranges.{intervals_of-ranges}
 use Rattle.range_set_blaze.proofs.set.RangeSetBlaze.ranges.Goals as goal
 
@@ -11,5 +10,6 @@ returns g c =
     record {
       ranges = rw (c.iter.ensures.rest, ← c.self.view_is) are;
       ready = rw (c.iter.ensures.rest, are) canonical;
-      runs = rw (← c.self.view_is) (canonical-runs g.T.Integer.value_count _ canonical.0 canonical.1);
+      runs = rw (← c.self.view_is)
+          (canonical-runs g.T.Integer.value_count _ canonical.0 canonical.1);
     }

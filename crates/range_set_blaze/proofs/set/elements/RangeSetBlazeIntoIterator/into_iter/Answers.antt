@@ -5,11 +5,11 @@ use Rattle.range_set_blaze.proofs.set.elements.RangeSetBlazeIntoIterator.into_it
 pub invariant_of-result : goal.invariant_of-result
 invariant_of-result g c =
     (whole-over g.T.Integer.rank g.T.Integer.value_count c.over.result c.over.ensures
-    c.into_ranges.ensures.ready c.into_ranges.ensures.ranges).ready
+    c.into_ranges-ranges.ensures.ready c.into_ranges-ranges.ensures.ranges).ready
 
 -- and are those of the set
 pub returns : goal.returns
 returns g c = record {
   into_iter_gives = (whole-over g.T.Integer.rank g.T.Integer.value_count c.over.result
-      c.over.ensures c.into_ranges.ensures.ready c.into_ranges.ensures.ranges).runs;
+      c.over.ensures c.into_ranges-ranges.ensures.ready c.into_ranges-ranges.ensures.ranges).runs;
 }
