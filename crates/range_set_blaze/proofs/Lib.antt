@@ -1,4 +1,3 @@
-pub mod AlgebraLemmas
 pub mod AloneLemmas
 pub mod AnswerLemmas
 pub mod BackTurns
@@ -10,7 +9,6 @@ pub mod CutLemmas
 pub mod ElementsLeft
 pub mod EndLemmas
 pub mod EntriesLemmas
-pub mod ExtendLemmas
 pub mod FilledLemmas
 pub mod FrontTurns
 pub mod HashLemmas
@@ -22,7 +20,6 @@ pub mod KeptLemmas
 pub mod LastTurnLemmas
 pub mod ListedElements
 pub mod LookUpLemmas
-pub mod MultiwayLemmas
 pub mod OrderLemmas
 pub mod PartingLemmas
 pub mod PartsLemmas
@@ -32,7 +29,6 @@ pub mod RangesLemmas
 pub mod RemoveLemmas
 pub mod RetainLemmas
 pub mod RunCountLemmas
-pub mod SinglesLemmas
 pub mod SplitLemmas
 pub mod SublistLemmas
 pub mod SubsetLemmas

@@ -1,1 +1,5 @@
+pub mod AddedItems
 pub mod AskedValues
+pub mod ManySets
+pub mod SetOperations
+pub mod SingleValues

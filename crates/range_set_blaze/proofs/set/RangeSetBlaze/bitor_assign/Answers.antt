@@ -1,4 +1,4 @@
-use Rattle.range_set_blaze.proofs.ExtendLemmas.{extended-front}
+use Rattle.range_set_blaze.proofs.gathering.AddedItems.{extended-front}
 use Rattle.range_set_blaze.proofs.set.RangeSetBlaze.bitor_assign.Goals as goal
 
 -- the runs that were added are the first of the other

@@ -1,6 +1,6 @@
 use Rattle.range_set_blaze.specs.Algebra.{AddsItems}
 use Rattle.rsb_many.proofs.HandedInLemmas.{ended-run}
-use Rattle.range_set_blaze.proofs.ExtendLemmas.{adds-range_after}
+use Rattle.range_set_blaze.proofs.gathering.AddedItems.{adds-range_after}
 use Rattle.range_set_blaze.proofs.set.RangeSetBlaze.extend.Goals as goal
 
 -- the range is added with those before it

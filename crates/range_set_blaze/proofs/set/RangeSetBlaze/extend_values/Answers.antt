@@ -1,6 +1,6 @@
 use Rattle.range_set_blaze.specs.Algebra.{AddsValues}
 use Rattle.rsb_many.proofs.HandedInLemmas.{ended-run}
-use Rattle.range_set_blaze.proofs.ExtendLemmas.{adds-value_after}
+use Rattle.range_set_blaze.proofs.gathering.AddedItems.{adds-value_after}
 use Rattle.range_set_blaze.proofs.set.RangeSetBlaze.extend_values.Goals as goal
 
 -- the value is added with those before it

@@ -20,7 +20,7 @@ use Rattle.rsb_many.proofs.MultiwayAtLeastLemmas.{few-one, few-these}
 use Rattle.rsb_many.proofs.ManyCallers.{runs_by_all-these, GiveThese}
 use Rattle.range_set_blaze.specs.Multiway.{HasRunsOfAllAtMost, IsMadeOf}
 use Rattle.range_set_blaze.specs.Set.{IsSetOf}
-use Rattle.range_set_blaze.proofs.AlgebraLemmas.{set-of_runs}
+use Rattle.range_set_blaze.proofs.gathering.SetOperations.{set-of_runs}
 
 module _ {S : Type 0} (n : ℕ) (may_give : S → Outcomes) (given : S → List Interval)
     (known : (s : S) → may_give s ⊆ just (given s)) where
