@@ -69,12 +69,6 @@ loop-left-preserved g c =
       })
     ]
 
--- so fewer are left
-pub loop-left-smaller : goal.loop-left-smaller
-loop-left-smaller g c =
-    let fewer = ap length c.next_left-left.ensures.listed in
-    rw c.in-Some.is (omega (arith, fewer))
-
 -- all members were asked about
 pub returns : goal.returns
 returns g c =
