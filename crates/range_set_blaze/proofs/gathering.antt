@@ -1,4 +1,3 @@
-pub mod AddedItems
 pub mod AskedValues
 pub mod ManySets
 pub mod SetOperations
