@@ -1,12 +1,8 @@
-pub mod AlgebraLemmas
 pub mod BoundsLemmas
 pub mod BulkLemmas
-pub mod ExtendLemmas
 pub mod FilledLemmas
 pub mod KeptLemmas
-pub mod MultiwayLemmas
 pub mod RunCountLemmas
-pub mod SinglesLemmas
 pub mod elements
 pub mod gathering
 pub mod insertion

@@ -1,1 +1,4 @@
 pub mod AskedValues
+pub mod ManySets
+pub mod SetOperations
+pub mod SingleValues

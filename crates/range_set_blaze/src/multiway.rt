@@ -193,10 +193,13 @@ trait GivesRuns<T: Integer>: Sized {
         ensures one_more { (sets : List Self)
             → shown (sets ++ self ∷ []) ≡ shown sets ++ given result ∷ [] };
 
+    // Of no sets there are none.
     ghost none: { shown [] ≡ [] };
 
+    // The stream gives them, and nothing else.
     ghost known: { (s : Self.Stream) → Self.Stream.may_give s ⊆ just (given s) };
 
+    // They are canonical.
     ghost canonical: { (s : Self.Stream) → Self.Stream.can_draw s
         → IsCanonicalIn T.value_count (given s) };
 }

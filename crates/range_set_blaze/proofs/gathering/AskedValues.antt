@@ -20,7 +20,7 @@ use Rattle.range_set_blaze.specs.declared.set.run.Run.{Run}
 
 -- ---- canonical runs in a type
 
--- a canonical list that ends below n is such a list
+-- a list that is canonical and ends below n is canonical in a type of n values
 pub canonical-below : (n low : ℕ) (runs : List Interval) → IsCanonicalFrom low runs
     → AllEndBelow n runs → IsCanonicalBelow n low runs
 canonical-below n low [] canonical below = tt
@@ -64,7 +64,7 @@ members-ascending (run ∷ runs) point =
     let front = ranks_from-then run.first (length_of run) (ascending_ranks runs) point in
     grind (arith, nat_tests, rest, first, front)
 
--- a run that has more than its first rank has the next one, too
+-- the ranks of a run are its first, and those from the next on
 pub ranks_from-first : (first last : ℕ) → first ≤ last → ranks_from first (last + 1 - first)
     ≡ first ∷ ranks_from (first + 1) (last + 1 - (first + 1))
 unfolding ranks_from

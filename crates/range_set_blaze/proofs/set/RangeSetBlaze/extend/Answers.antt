@@ -1,13 +1,25 @@
+use Rattle.std.proofs.Common.{◌∷◌, [], arith}
+use Rattle.std.proofs.lemmas.Bool.Decides.{nat_tests}
+use Rattle.std.proofs.lemmas.List.{map-append}
+use Rattle.rsb_integer.specs.Rank.{interval_of, intervals_of}
+use Rattle.rsb_integer.proofs.MembersLemmas.{members-append, members-cons}
 use Rattle.range_set_blaze.specs.Algebra.{AddsItems}
 use Rattle.rsb_many.proofs.HandedInLemmas.{ended-run}
-use Rattle.range_set_blaze.proofs.ExtendLemmas.{adds-range_after}
 use Rattle.range_set_blaze.proofs.set.RangeSetBlaze.extend.Goals as goal
 
 -- the range is added with those before it
 pub loop-range-preserved : goal.loop-range-preserved
-loop-range-preserved g c =
-    adds-range_after g.T.Integer.rank c.args.self.now c.loop-range.self c.add_range.new.self
-    c.loop-range.yielded c.in-Some.range c.loop-range.invariant c.in_ok-add_range.ensures.members
+loop-range-preserved g c = record {
+  adds = λ point.
+      let rank = g.T.Integer.rank in
+      let run = interval_of rank c.in-Some.range in
+      let before = c.loop-range.invariant.adds point in
+      let added = c.in_ok-add_range.ensures.members point in
+      let both = members-append (intervals_of rank c.loop-range.yielded) (run ∷ []) point in
+      let one = members-cons run [] point in
+      rw (map-append (interval_of rank) c.loop-range.yielded (c.in-Some.range ∷ []))
+      (grind (arith, nat_tests, before, added, both, one));
+}
 
 -- what was added is what the calls gave
 pub returns-clause-runs : goal.returns-clause-runs

@@ -1,13 +1,21 @@
+use Rattle.std.proofs.Common.{arith}
+use Rattle.std.proofs.lemmas.Bool.Decides.{nat_tests}
+use Rattle.rsb_integer.proofs.AnyOfLemmas.{any_of-one_more}
 use Rattle.range_set_blaze.specs.Algebra.{AddsValues}
+use Rattle.range_set_blaze.specs.Set.{only}
 use Rattle.rsb_many.proofs.HandedInLemmas.{ended-run}
-use Rattle.range_set_blaze.proofs.ExtendLemmas.{adds-value_after}
 use Rattle.range_set_blaze.proofs.set.RangeSetBlaze.extend_values.Goals as goal
 
 -- the value is added with those before it
 pub loop-value-preserved : goal.loop-value-preserved
-loop-value-preserved g c =
-    adds-value_after g.T.Integer.rank c.args.self.now c.loop-value.self c.insert.new.self
-    c.loop-value.yielded c.in-Some.value c.loop-value.invariant c.in_ok-insert.ensures.members
+loop-value-preserved g c = record {
+  adds = λ point.
+      let before = c.loop-value.invariant.adds point in
+      let added = c.in_ok-insert.ensures.members point in
+      let one_more = any_of-one_more (λ (value : g.row.T.Denot). only (g.T.Integer.rank value))
+      c.loop-value.yielded c.in-Some.value point in
+      grind (arith, nat_tests, before, added, one_more);
+}
 
 -- what was added is what the calls gave
 pub returns-clause-runs : goal.returns-clause-runs

@@ -1,18 +1,13 @@
-use Rattle.std.proofs.Common.{◌∙◌, ap}
 use Rattle.std.proofs.lemmas.Result.{IfOk-weaker}
 use Rattle.rsb_integer.specs.Rank.{interval_of}
-use Rattle.rsb_integer.specs.Runs.{members}
 use Rattle.range_set_blaze.proofs.BulkLemmas.{members-run_if_any}
 use Rattle.range_set_blaze.proofs.set.RangeSetBlaze.from.Goals as goal
 
 -- the set is the one list that the stream of the range gives
 pub returns : goal.returns
-returns g c =
-    let run = interval_of g.T.Integer.rank c.args.range in
-    record {
-      members = IfOk-weaker c.from_sorted_disjoint.result _ _
-          (λ set may point.
-          ap (λ runs. members runs point) (c.new.ensures.gives set may)
-          ∙ members-run_if_any run point)
-          c.from_sorted_disjoint.ensures.runs;
-    }
+returns g c = record {
+  members = IfOk-weaker c.from_sorted_disjoint.result _ _ (λ set may point.
+      rw (c.new.ensures.gives set may)
+      (members-run_if_any (interval_of g.T.Integer.rank c.args.range) point))
+      c.from_sorted_disjoint.ensures.runs;
+}

@@ -1,5 +1,5 @@
 use Rattle.std.proofs.Common.{◌∙◌}
-use Rattle.range_set_blaze.proofs.AlgebraLemmas.{set-of_complement}
+use Rattle.range_set_blaze.proofs.gathering.SetOperations.{set-of_complement}
 use Rattle.range_set_blaze.proofs.set.RangeSetBlaze.not.Goals as goal
 
 -- the stream gives the runs of the gaps

@@ -1,5 +1,5 @@
 use Rattle.std.proofs.lemmas.Result.{IfOk-weaker}
-use Rattle.range_set_blaze.proofs.AlgebraLemmas.{set-of_intersection}
+use Rattle.range_set_blaze.proofs.gathering.SetOperations.{set-of_intersection}
 use Rattle.range_set_blaze.proofs.set.algebra.intersection_of.Goals as goal
 
 -- the stream gives nothing but such runs

@@ -1,6 +1,6 @@
 use Rattle.std.proofs.Common.{refl}
 use Rattle.rsb_integer.specs.Selection.{exclusive_or}
-use Rattle.range_set_blaze.proofs.AlgebraLemmas.{set-of_operation}
+use Rattle.range_set_blaze.proofs.gathering.SetOperations.{set-of_operation}
 use Rattle.range_set_blaze.proofs.set.algebra.symmetric_difference_of.Goals as goal
 
 -- it is the set of what the operation selects

@@ -1,4 +1,4 @@
-use Rattle.std.proofs.Common.{◌≡◌, ◌+◌, ◌<◌, ◌++◌, ◌∷◌, ◌∙◌, [], ap, append-nil, arith, length, refl}
+use Rattle.std.proofs.Common.{◌≡◌, ◌+◌, ◌<◌, ◌++◌, ◌∷◌, ◌∙◌, [], ap, append-nil, arith, refl}
 use Rattle.range_set_blaze.specs.Kept.{runs_of}
 use Rattle.range_set_blaze.specs.Retain.{left_runs, past_piece}
 use Rattle.range_set_blaze.proofs.gathering.AskedValues.{answered-all, answered-next, below-lower, canonical-below, left_runs-next, listed-next}
@@ -68,12 +68,6 @@ loop-left-preserved g c =
         listed = listed;
       })
     ]
-
--- so fewer are left
-pub loop-left-smaller : goal.loop-left-smaller
-loop-left-smaller g c =
-    let fewer = ap length c.next_left-left.ensures.listed in
-    rw c.in-Some.is (omega (arith, fewer))
 
 -- all members were asked about
 pub returns : goal.returns

@@ -1,5 +1,5 @@
 use Rattle.std.proofs.Common.{◌∙◌}
-use Rattle.range_set_blaze.proofs.AlgebraLemmas.{set-of_complement}
+use Rattle.range_set_blaze.proofs.gathering.SetOperations.{set-of_complement}
 use Rattle.rsb_tests.proofs.set.lacking.lacking.Goals as goal
 
 -- the set is made of the gaps of the set's ranges

@@ -20,7 +20,7 @@ use Rattle.rsb_many.proofs.MultiwayAtLeastLemmas.{few-one, few-these}
 use Rattle.rsb_many.proofs.ManyCallers.{runs_by_all-these, GiveThese}
 use Rattle.range_set_blaze.specs.Multiway.{HasRunsOfAllAtMost, IsMadeOf}
 use Rattle.range_set_blaze.specs.Set.{IsSetOf}
-use Rattle.range_set_blaze.proofs.AlgebraLemmas.{set-of_runs}
+use Rattle.range_set_blaze.proofs.gathering.SetOperations.{set-of_runs}
 
 module _ {S : Type 0} (n : ℕ) (may_give : S → Outcomes) (given : S → List Interval)
     (known : (s : S) → may_give s ⊆ just (given s)) where
@@ -66,8 +66,8 @@ module _ {S : Type 0} (n : ℕ) (may_give : S → Outcomes) (given : S → List 
       known-made = made-each (IsMadeOf n operation) (λ set may.
           runs-members n (operation (map members (map given streams))) set (these-runs set may))
 
-    -- what lies in at least so many is exactly that where these are some, with at most as many
-    -- runs as the sets have, where an operation is bounded so
+    -- of what lies in at least so many; where these are some, it has nothing else, and at most as
+    -- many runs as the sets have together
     pub known-at_least : (least : ℕ) → All (λ s. IsCanonicalIn n (given s)) streams
         → GivesByAll (at_least least) n may_give streams gives
         → (0 < least → GivesRunsOfAllAtMost least n may_give streams gives)
