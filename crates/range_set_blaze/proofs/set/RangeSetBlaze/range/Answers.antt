@@ -1,12 +1,11 @@
-use Rattle.std.proofs.Common.{◌≡◌, ◌&&◌, [], ◌∷◌, ◌∙◌, ap, arith, refl}
+use Rattle.std.proofs.Common.{◌≡◌, ◌&&◌, [], ◌∷◌, ◌∙◌, ap, arith, subst, Ok}
 use Rattle.std.proofs.lemmas.Bool.Decides.{nat_tests}
 use Rattle.rsb_integer.specs.Rank.{interval_of}
-use Rattle.rsb_integer.specs.Runs.{members, Interval}
-use Rattle.rsb_integer.specs.Selection.{intersection}
+use Rattle.rsb_integer.specs.Runs.{members, Interval, IsCanonicalIn}
 use Rattle.rsb_streams.specs.Stream.{run_if_any}
-use Rattle.rsb_streams.proofs.CallerLemmas.{runs_by_two-within}
+use Rattle.rsb_integer.proofs.RunsLemmas.{canonical-runs}
 use Rattle.rsb_streams.proofs.CheckLemmas.{one-canonical}
-use Rattle.range_set_blaze.proofs.AlgebraLemmas.{intersection-of_sets}
+use Rattle.range_set_blaze.proofs.gathering.SetOperations.{set-of_intersection}
 use Rattle.range_set_blaze.proofs.set.RangeSetBlaze.range.Goals as goal
 
 -- the set and the run between the bounds have these members in common
@@ -22,15 +21,15 @@ returns g c =
     let order = c.in-Some.ensures.order in
     let one : run_if_any (interval_of g.T.Integer.rank c.new-2.result) ≡ run ∷ [] =
     grind (arith, nat_tests, made.start, made.end, made.exhausted, order) in
+    let ready = subst (IsCanonicalIn n) c.ranges-2.ensures.ranges c.ranges-2.ensures.ready in
+    let single = one-canonical n run order c.in-Some.ensures.value in
     record {
       members = λ has point.
           ap (λ runs. members runs point) c.into_iter-2.ensures.into_iter_gives
-          ∙ intersection-of_sets n set (run ∷ []) _ (run ∷ []) c.ranges-2.ensures.ranges refl
-          c.ranges-2.ensures.ready
-          (one-canonical n run order c.in-Some.ensures.value) c.in_ok-set.set
-          (runs_by_two-within n intersection _ _ _ _ (λ runs at. at)
-          (λ runs at. c.new-bounds.ensures.gives runs at ∙ one) c.in_ok-set.set
-          c.in_ok-set.ensures.runs) point
+          ∙ (set-of_intersection n (Ok c.in_ok-set.set) _ c.in_ok-set.ensures.runs set (run ∷ [])
+          (λ runs at. at) (λ runs at. c.new-bounds.ensures.gives runs at ∙ one)
+          (canonical-runs n set ready.0 ready.1) (canonical-runs n (run ∷ []) single.0 single.1)
+          (λ runs at. at)).0 point
           ∙ ap (λ test. members set point && test)
           (grind (arith, nat_tests, c.in-Some.ensures.start has, c.in-Some.ensures.end has));
     }
