@@ -251,13 +251,11 @@ module _ {T I N : Type 0} {rank : T → ℕ} {n : ℕ} (stream : Stream I T N) (
         → e.Pops (interval_of rank range) item (e.near t) → Turned can s item t
     turned-drawn range undone same other none answers may_draw goes pops =
         let run = interval_of rank range in
-        let far = run_if_any (e.far s) in
         turned pops (λ _. may_draw goes.keeps)
         (λ rest may.
-        let prior = placed (run ∷ []) rest in
-        let others = placed rest far in
+        let others = placed rest (run_if_any (e.far s)) in
         let was = e.drawn s run rest (pops-none none).0 in (
-          prior,
+          placed (run ∷ []) rest,
           grind (arith, undone, same, may, answers),
           λ known.
               let parts = canonical-parts 0 (e.front others) (run ∷ e.back others)
