@@ -43,11 +43,12 @@ module _ {T : Type 0} (I : Type 0) (rank : T → ℕ) (n : ℕ) where
     pub back : List Interval → List Interval
     pub apart : (s : Iter T I) (rest : List Interval) → between_ends rank s rest
         ≡ put front back (run_if_any (near s)) (put front back rest (run_if_any (far s)))
-    pub nil_put : (runs : List Interval) → put front back [] runs ≡ runs
-    pub put_nil : (runs : List Interval) → put front back runs [] ≡ runs
-    pub put_put : (own next others : List Interval)
-        → put front back (put front back own next) others
-        ≡ put front back own (put front back next others)
+    pub nothing : put front back [] [] ≡ []
+    pub drawn : (s : Iter T I) (run : Interval) (rest : List Interval) → IsEmpty (near s)
+        → between_ends rank s (put front back (run ∷ []) rest)
+        ≡ put front back (run ∷ []) (put front back rest (run_if_any (far s)))
+    pub alone : (s : Iter T I) → IsEmpty (near s) → between_ends rank s []
+        ≡ put front back (run_if_any (far s)) []
     -- which rank is taken of an interval, and what a call there says of the item and the rest
     pub edge : Interval → ℕ
     pub Pops : Interval → Option T → Interval → Type 0
@@ -73,9 +74,9 @@ module _ {T : Type 0} (I : Type 0) (rank : T → ℕ) (n : ℕ) where
     front = λ others. [];
     back = λ others. others;
     apart = λ s rest. refl;
-    nil_put = λ runs. refl;
-    put_nil = append-nil;
-    put_put = append_assoc;
+    nothing = refl;
+    drawn = λ s run rest empty. grind (arith, none-if_empty _ empty);
+    alone = λ s empty. grind (arith, none-if_empty _ empty, append-nil);
     edge = λ run. run.first;
     Pops = λ run item rest. record {
       value : run.last < n;
@@ -100,9 +101,9 @@ module _ {T : Type 0} (I : Type 0) (rank : T → ℕ) (n : ℕ) where
     front = λ others. others;
     back = λ others. [];
     apart = λ s rest. simp (append-nil, append_assoc) refl;
-    nil_put = append-nil;
-    put_nil = append-nil;
-    put_put = λ own next others. simp (append-nil, append_assoc) refl;
+    nothing = refl;
+    drawn = λ s run rest empty. grind (arith, none-if_empty _ empty, append-nil, append_assoc);
+    alone = λ s empty. grind (arith, none-if_empty _ empty, append-nil);
     edge = λ run. run.last;
     Pops = λ run item rest. record {
       value : run.last < n;
@@ -158,7 +159,7 @@ module _ {T I N : Type 0} {rank : T → ℕ} {n : ℕ} (stream : Stream I T N) (
       → Turns (placed (run_if_any run) others) item (placed (run_if_any rest) others)
   turns {run = run} {rest = rest} {others = others} {item = None} pops alone known =
       let none = pops-none pops in
-      rw (none-if_empty run none.0, none-if_empty rest none.1, alone refl, e.nil_put []) (
+      rw (none-if_empty run none.0, none-if_empty rest none.1, alone refl, e.nothing) (
         (tt, All-nil (λ (each : Interval). each.last < n)),
         record { none = ((λ no point. refl), (λ no. refl)); found = tt; rest = λ point. refl },
       )
@@ -250,15 +251,11 @@ module _ {T I N : Type 0} {rank : T → ℕ} {n : ℕ} (stream : Stream I T N) (
         → e.Pops (interval_of rank range) item (e.near t) → Turned can s item t
     turned-drawn range undone same other none answers may_draw goes pops =
         let run = interval_of rank range in
-        let far = run_if_any (e.far s) in
         turned pops (λ _. may_draw goes.keeps)
         (λ rest may.
-        let prior = placed (run ∷ []) rest in
-        let others = placed rest far in
-        let empty = none-if_empty _ (pops-none none).0 in
-        let was : between_ends rank s prior ≡ placed (run ∷ []) others =
-        grind (arith, e.apart s prior, empty, e.nil_put, e.put_put (run ∷ []) rest far) in (
-          prior,
+        let others = placed rest (run_if_any (e.far s)) in
+        let was = e.drawn s run rest (pops-none none).0 in (
+          placed (run ∷ []) rest,
           grind (arith, undone, same, may, answers),
           λ known.
               let parts = canonical-parts 0 (e.front others) (run ∷ e.back others)
@@ -283,15 +280,12 @@ module _ {T I N : Type 0} {rank : T → ℕ} {n : ℕ} (stream : Stream I T N) (
         → e.Pops (e.near s) None (e.near t) → e.Pops (e.far s) item (e.far t) → Turned can s item t
     turned-far ended may ends none pops =
         let gone = pops-none none in
-        let alone : (u : Iter T I) → IsEmpty (e.near u)
-        → between_ends rank u [] ≡ placed (run_if_any (e.far u)) [] =
-        λ u empty. grind (arith, e.apart u [], none-if_empty _ empty, e.nil_put, e.put_nil) in
         turned pops (λ going. absurd (cc))
         (λ rest may_after.
         let nothing : rest ≡ [] = grind (arith, ended, may_after) in (
           [],
           may,
-          λ known. ([], alone s gone.0, rw nothing (alone t gone.1), λ lacks. refl),
+          λ known. ([], e.alone s gone.0, rw nothing (e.alone t gone.1), λ lacks. refl),
         ))
         ends
         (λ finite fewer. rw ended (omega (arith, fewer, gone.1, e.lengths s, e.lengths t)))
