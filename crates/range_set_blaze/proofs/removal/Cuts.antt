@@ -51,8 +51,12 @@ module _ (n : ℕ) (runs : List Interval) (canonical : IsCanonicalIn n runs) (ru
       record {
         ascending = with_run-ascending n 0 above runs rises (omega arith)
             (omega (arith, starts, less, maximal.in_type));
-        there = (run, Contains-with_run above runs run among
-            (λ same. omega (arith, same, starts, from)), refl);
+        there = (
+          run,
+          Contains-with_run above runs run among
+              (λ same. omega (arith, same, starts, from)),
+          refl,
+        );
         canonical = subst (IsCanonicalIn n) (sym moved) put.more_canonical;
         has = λ rank.
             ap (λ (items : List Interval). members items rank) moved ∙ put.has rank

@@ -15,7 +15,6 @@ use Rattle.rsb_integer.specs.Selection.{count}
 use Rattle.rsb_integer.proofs.CanonicalLemmas.{canonical-starts}
 use Rattle.rsb_integer.proofs.ListLemmas.{Contains-head}
 use Rattle.rsb_streams.specs.Sublists.{IsSublist}
-use Rattle.rsb_streams.specs.SublistsLaws.{sublist-all}
 use Rattle.range_set_blaze.specs.Kept.{run_of}
 use Rattle.range_set_blaze.specs.Starts.{past, without_start, IsJoined, StartsWith}
 use Rattle.range_set_blaze.specs.Retain.{AnswersByRun, IsAsked}
@@ -86,8 +85,7 @@ fewer-to_come rank n run None after ordered in_type found = omega (arith, ordere
 fewer-to_come rank n run (Some other) after ordered in_type found =
     let later = (starting-contains (λ start. nat_lt (rank run.end) start) after (run_of rank other)
     (rw found.parts (Contains-head (run_of rank other) found.rest))).1 in
-    let more : rank run.end < rank other.start = grind (arith, nat_tests, later) in
-    omega (arith, ordered, in_type, more)
+    grind (arith, nat_tests, ordered, in_type, later)
 
 module _ {F T : Type 0} (rank : T → ℕ) (n : ℕ)
     (g : Mut F (Bor (RangeInclusive T) × Unit {0}) Bool) (f : F) (old : List Interval) where
@@ -117,8 +115,7 @@ module _ {F T : Type 0} (rank : T → ℕ) (n : ℕ)
 
     -- the next run is one of those that are there
     next-parts : new ≡ before.kept ++ run_of rank run ∷ before.next_is.rest
-    next-parts = before.new_parts
-        ∙ ap (λ (items : List Interval). before.kept ++ items) before.next_is.parts
+    next-parts = before.new_parts ∙ (λ i. before.kept ++ before.next_is.parts i)
 
     next-contained : Contains new (run_of rank run)
     next-contained = rw next-parts
@@ -178,13 +175,11 @@ module _ {F T : Type 0} (rank : T → ℕ) (n : ℕ)
     retaining-next answer after fewer other shown then is less start end fresh found called =
         let one = next-one answer after fewer is less in
         let ranks : interval_of rank shown.now ≡ run_of rank run = rw (fresh, start, end) refl in
-        let maximal = next-maximal in
         record {
           done = before.done ++ run_of rank run ∷ [];
           kept = before.kept ++ cond answer (run_of rank run ∷ []) [];
           todo = before.next_is.rest;
-          old_parts = before.old_parts
-              ∙ ap (λ (items : List Interval). before.done ++ items) before.next_is.parts
+          old_parts = before.old_parts ∙ (λ i. before.done ++ before.next_is.parts i)
               ∙ sym (append_assoc before.done (run_of rank run ∷ []) before.next_is.rest);
           new_parts = one.0;
           sub = sublist-append before.kept before.done (cond answer (run_of rank run ∷ []) [])
@@ -204,8 +199,8 @@ module _ {F T : Type 0} (rank : T → ℕ) (n : ℕ)
               let exact = before.exact keeps answers in
               let said : answer ≡ keeps (run_of rank run) =
               (exact.0.at ((shown, tt) ∷ []) answer then called).0 fresh
-              (rw start (omega (arith, maximal.in_order, maximal.in_type)))
-              (rw end maximal.in_type) ∙ ap keeps ranks in (
+              (rw start (omega (arith, next-maximal.in_order, next-maximal.in_type)))
+              (rw end next-maximal.in_type) ∙ ap keeps ranks in (
                 record { at = λ items. (exact.0.at ((shown, tt) ∷ items) answer then called).1 },
                 (λ i. exact.1 i ++ cond (said i) (run_of rank run ∷ []) [])
                     ∙ sym (filter-append keeps before.done (run_of rank run ∷ [])),

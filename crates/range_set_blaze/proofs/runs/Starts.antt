@@ -352,8 +352,11 @@ without_start-with_run n low run (first ∷ runs) ascending elsewhere =
       | inr reaches ↦ elim (cases_lt run.first first.first) [
         | inl more ↦
             let same : (run.first == run.first) ≡ true = grind (arith, nat_tests) in
-            rw (with_run-first n run (first ∷ runs)
-            (omega (arith, more), ascending.1, ascending.2), same)
+            rw (
+              with_run-first n run (first ∷ runs)
+                  (omega (arith, more), ascending.1, ascending.2),
+              same,
+            )
             (ascending-all (λ start. not (start == run.first)) n first.first (first ∷ runs)
             (omega arith, ascending.1, ascending.2)
             (λ start from. grind (arith, nat_tests, from, more)))

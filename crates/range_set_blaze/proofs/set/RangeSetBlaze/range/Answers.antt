@@ -26,8 +26,9 @@ returns g c =
     record {
       members = λ has point.
           ap (λ runs. members runs point) c.into_iter-2.ensures.into_iter_gives
-          ∙ (set-of_intersection n (Ok c.in_ok-set.set) _ c.in_ok-set.ensures.runs set (run ∷ [])
-          (λ runs at. at) (λ runs at. c.new-bounds.ensures.gives runs at ∙ one)
+          ∙ (set-of_intersection n {E = Unit {0}} (Ok c.in_ok-set.set) _ c.in_ok-set.ensures.runs set (run ∷ [])
+          (λ runs at. at ∙ c.ranges-2.ensures.ranges)
+          (λ runs at. c.new-bounds.ensures.gives runs at ∙ one)
           (canonical-runs n set ready.0 ready.1) (canonical-runs n (run ∷ []) single.0 single.1)
           (λ runs at. at)).0 point
           ∙ ap (λ test. members set point && test)

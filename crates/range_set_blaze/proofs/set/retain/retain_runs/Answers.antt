@@ -1,4 +1,4 @@
-use Rattle.std.proofs.Common.{◌+◌, ◌<◌, ◌≤◌, ◌∙◌, [], ap, arith, not, ◌==◌, refl}
+use Rattle.std.proofs.Common.{[], arith, refl}
 use Rattle.rsb_integer.specs.Runs.{members}
 use Rattle.rsb_integer.proofs.CountLemmas.{count-within}
 use Rattle.range_set_blaze.specs.Kept.{runs_of}
@@ -27,43 +27,38 @@ loop-next-init g c = record {
 }
 
 -- the next one is a run of those that are there
-pub take_off_length-requires-clause-some : goal.take_off_length-requires-clause-some
-take_off_length-requires-clause-some g c =
-    (next-maximal _ _ _ _ _ c.in-Some.is c.loop-next.invariant).in_order
-
-pub take_off_length-requires-clause-fits : goal.take_off_length-requires-clause-fits
-take_off_length-requires-clause-fits g c =
+pub take_off_length-requires : goal.take_off_length-requires
+take_off_length-requires g c =
+    let counted = c.loop-next.invariant.counted in
     let within = count-within g.T.Integer.value_count
     (members (runs_of g.T.Integer.rank c.loop-next.map.entries)) in
-    omega (arith, within, c.loop-next.invariant.counted)
-
-pub take_off_length-requires-clause-counted : goal.take_off_length-requires-clause-counted
-take_off_length-requires-clause-counted g c =
     let joined = next-joined _ _ _ _ _ c.in-Some.is c.loop-next.invariant in
-    omega (arith, joined.counted, c.loop-next.invariant.counted)
+    record {
+      some = (next-maximal _ _ _ _ _ c.in-Some.is c.loop-next.invariant).in_order;
+      fits = omega (arith, within, counted);
+      counted = omega (arith, joined.counted, counted);
+    }
 
-pub take_entry-requires-clause-ascending : goal.take_entry-requires-clause-ascending
-take_entry-requires-clause-ascending g c =
-    canonical-rises _ _ _ c.loop-next.invariant.canonical.0 c.loop-next.invariant.canonical.1
-
-pub take_entry-requires-clause-value : goal.take_entry-requires-clause-value
-take_entry-requires-clause-value g c =
+pub take_entry-requires : goal.take_entry-requires
+take_entry-requires g c =
+    let all = c.loop-next.invariant.canonical in
     let maximal = next-maximal _ _ _ _ _ c.in-Some.is c.loop-next.invariant in
-    omega (arith, maximal.in_order, maximal.in_type)
+    record {
+      ascending = canonical-rises _ _ _ all.0 all.1;
+      value = omega (arith, maximal.in_order, maximal.in_type);
+    }
 
-pub run_after-next-requires-clause-ascending : goal.run_after-next-requires-clause-ascending
-run_after-next-requires-clause-ascending g c = elim c.if-not-f.branch [
-  | then-not-f w ↦
-      let left = (next-joined _ _ _ _ _ c.in-Some.is c.loop-next.invariant).fewer_canonical in
-      rw (w.map-is, w.take_entry.ensures) (canonical-rises _ _ _ left.0 left.1)
-  | else-not-f w ↦
-      let all = c.loop-next.invariant.canonical in
-      rw w.map-is (canonical-rises _ _ _ all.0 all.1)
-]
-
-pub run_after-next-requires-clause-value : goal.run_after-next-requires-clause-value
-run_after-next-requires-clause-value g c =
-    (next-maximal _ _ _ _ _ c.in-Some.is c.loop-next.invariant).in_type
+pub run_after-next-requires : goal.run_after-next-requires
+run_after-next-requires g c =
+    let all = c.loop-next.invariant.canonical in
+    let left = (next-joined _ _ _ _ _ c.in-Some.is c.loop-next.invariant).fewer_canonical in
+    record {
+      ascending = elim c.if-not-f.branch [
+        | then-not-f w ↦ rw (w.map-is, w.take_entry.ensures) (canonical-rises _ _ _ left.0 left.1)
+        | else-not-f w ↦ rw w.map-is (canonical-rises _ _ _ all.0 all.1)
+      ];
+      value = (next-maximal _ _ _ _ _ c.in-Some.is c.loop-next.invariant).in_type;
+    }
 
 -- it was asked about
 pub loop-next-preserved : goal.loop-next-preserved

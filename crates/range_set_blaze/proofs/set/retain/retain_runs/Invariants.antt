@@ -1,5 +1,4 @@
 -- Some runs were asked about, and those that are kept among them are still there.
-use Rattle.std.proofs.Common.{ℕ, ◌-◌, Option, Some, None}
 use Rattle.range_set_blaze.specs.Kept.{runs_of}
 use Rattle.range_set_blaze.proofs.retaining.Retained.{to_come, IsRetaining}
 use Rattle.range_set_blaze.proofs.set.retain.retain_runs.Given as goal
