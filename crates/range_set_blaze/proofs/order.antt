@@ -4,3 +4,4 @@ pub mod CommonFronts
 pub mod EndRuns
 pub mod FedRuns
 pub mod KnownTests
+pub mod OneOrder

@@ -193,7 +193,7 @@ differs-not n rank left right differs all =
     not_both (right rank) (sym (all rank differs.in_type) ∙ differs.here) differs.lacks
 
 -- a set that is less than another does not agree with it
-less-not : (n : ℕ) (left right : Selection) → IsLess n left right → ¬ Agree n left right
+pub less-not : (n : ℕ) (left right : Selection) → IsLess n left right → ¬ Agree n left right
 less-not n left right (inl less) all =
     differs-not n less.rank left right less.differs all
 less-not n left right (inr less) all =

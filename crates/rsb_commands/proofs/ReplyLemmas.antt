@@ -6,7 +6,7 @@ use Rattle.rsb_integer.specs.Runs.{AreRuns}
 use Rattle.rsb_integer.specs.Selection.{Selection, difference, intersection, symmetric_difference, union}
 use Rattle.rsb_integer.proofs.RangeLemmas.{same_ranges}
 use Rattle.rsb_integer.proofs.RunsLemmas.{runs-canonical, runs-same}
-use Rattle.range_set_blaze.proofs.OrderLemmas.{order-unique}
+use Rattle.range_set_blaze.proofs.order.OneOrder.{order-unique}
 use Rattle.rsb_commands.specs.declared.command.Command.{Command}
 use Rattle.rsb_commands.specs.declared.command.Command.TheVariants.{Add, Del, Has, Gap, Count, Show, Union, Intersection, Difference, SymmetricDifference, Complement, Most, Compare}
 use Rattle.rsb_commands.specs.Commands.{Content, flag, number, order, piece, ranges, runs, Sets, after, left_out, most_of, IsReply, AreRepliesFrom}
