@@ -61,18 +61,17 @@ module _ {T : Type 0} (rank : T → ℕ) where
   -- a head that sinks is held beside the list, in which another lies where it stands: it and the
   -- next one under it change places
   module _ (heads : List (Head T)) (head next : Head T) (place child : ℕ)
-      (within : place < length heads) (child_within : child < length heads)
-      (under : parent child ≡ place) (some : 0 < child)
+      (within : place < length heads) (lesser : IsLesserChild rank heads place child)
       (is : next ≡ slice_index_or heads child next) where
     -- the next one stands elsewhere
     apart : child ≢ place
-    apart same = absurd (omega (arith, under, some, same))
+    apart same = absurd (let under = lesser.under in omega (arith, under, same))
 
     -- it lies where it did
     child-held : (other : Head T) → slice_index_or (set heads place head) child other ≡ next
     child-held other =
         get_or-set_other heads place child head other apart
-        ∙ get_or_default heads child other next child_within ∙ sym is
+        ∙ get_or_default heads child other next lesser.under.1 ∙ sym is
 
     -- and the one that sinks where it stands
     place-held : (other : Head T) → slice_index_or (set heads place head) place other ≡ head
@@ -87,7 +86,7 @@ module _ {T : Type 0} (rank : T → ℕ) where
           ∙ get_or-set_same heads place next other within ∙ sym (child-held other));
       other_is = ap (key_of rank)
           (get_or-set_same (set heads place next) child head other
-          (omega (arith, child_within, length-set heads place next)) ∙ sym (place-held other));
+          (omega (arith, lesser.under.1, length-set heads place next)) ∙ sym (place-held other));
       elsewhere = λ each not_place not_child. ap (key_of rank)
           (get_or-set_other (set heads place next) child each head other not_child
           ∙ get_or-set_other heads place each next other not_place
@@ -100,7 +99,7 @@ module _ {T : Type 0} (rank : T → ℕ) where
         let held = set heads place head in
         let long = length-set heads place head in
         let first : place < length held = omega (arith, within, long) in
-        let second : child < length held = omega (arith, child_within, long) in
+        let second : child < length held = omega (arith, lesser.under.1, long) in
         IsPermutation-swap held _ place child first second
         (sym (swap-set held place child head first second
         ∙ (λ k. set (set held place (child-held head k)) child (place-held head k))
@@ -116,16 +115,15 @@ module _ {T : Type 0} (rank : T → ℕ) where
         ∙ (sym answered ∙ tested)
 
     -- none of those under it comes before the next one
-    pub sunk-lesser : IsLesserChild rank heads place child → (other : Head T) (each : ℕ) → 0 < each
-        → each < length heads → parent each ≡ place
-        → IsFalse (comes_before (key_at rank (set heads place head) other each)
+    pub sunk-lesser : (other : Head T) (each : ℕ) → 0 < each → each < length heads
+        → parent each ≡ place → IsFalse (comes_before (key_at rank (set heads place head) other each)
         (key_at rank (set heads place head) other child))
-    sunk-lesser lesser other each some_each short same =
-        let not_place = λ (at : each ≡ place). absurd (omega (arith, same, some_each, at)) in
+    sunk-lesser other each some short same =
+        let not_place = λ (at : each ≡ place). absurd (omega (arith, same, some, at)) in
         comes_before-as
         (ap (key_of rank) (get_or-set_other heads place each head other not_place))
         (ap (key_of rank) (get_or-set_other heads place child head other apart))
-        ∙ lesser.lesser other each some_each short same
+        ∙ lesser.lesser other each some short same
 
   -- a heap with one head more at its end is one but for that head
   pub pushed-heap : (heads : List (Head T)) (head : Head T) → IsHeap rank heads

@@ -71,11 +71,11 @@ returns-then-not-comes_first-clause-order g c = λ other.
     let keys = key_at rank (set old place head) other in
     subst (IsHeapOf keys) (sym (length-set old place head))
     (sunk-here keys (length old) place next (c.loop-place.invariant.order other)
-    (sunk-lesser rank old head one place next c.loop-place.invariant.within child.under.1
-    child.under.2 child.under.0 c.index-in-loop-place.ensures child other)
-    (sunk-answer rank old head one place next c.loop-place.invariant.within child.under.1
-    child.under.2 child.under.0 c.index-in-loop-place.ensures c.comes_first.result false
-    c.comes_first.ensures.first c.if-not-comes_first.true other))
+    (sunk-lesser rank old head one place next c.loop-place.invariant.within child
+    c.index-in-loop-place.ensures other)
+    (sunk-answer rank old head one place next c.loop-place.invariant.within child
+    c.index-in-loop-place.ensures c.comes_first.result false c.comes_first.ensures.first
+    c.if-not-comes_first.true other))
 
 -- the last two comparisons are paid by the place itself
 pub returns-then-not-comes_first-clause-compared : goal.returns-then-not-comes_first-clause-compared
@@ -108,13 +108,13 @@ loop-place-preserved g c =
     let child = subst (λ heads. IsLesserChild rank heads place next) c.deref.ensures.value
     c.lesser_child-child.ensures.child in
     let long = length-set old place two in
-    let first = sunk-answer rank old head one place next kept.within child.under.1 child.under.2
-    child.under.0 c.index-in-loop-place.ensures c.comes_first.result true
-    c.comes_first.ensures.first c.if-not-comes_first.false in
-    let less = sunk-lesser rank old head one place next kept.within child.under.1 child.under.2
-    child.under.0 c.index-in-loop-place.ensures child in
-    let swapped = sunk-keys rank old head two place next kept.within child.under.1 child.under.2
-    child.under.0 c.index-in-loop-place-2.ensures in
+    let first = sunk-answer rank old head one place next kept.within child
+    c.index-in-loop-place.ensures c.comes_first.result true c.comes_first.ensures.first
+    c.if-not-comes_first.false in
+    let less = sunk-lesser rank old head one place next kept.within child
+    c.index-in-loop-place.ensures in
+    let swapped = sunk-keys rank old head two place next kept.within child
+    c.index-in-loop-place-2.ensures in
     let keys = key_at rank (set old place head) in
     let moved = key_at rank (set (set old place two) next head) in
     let Fact = HasValues rank g.T.Integer.value_count in
@@ -124,8 +124,8 @@ loop-place-preserved g c =
           (fact-at rank Fact old old kept.values (IsPermutation-refl old) next two child.under.1
           c.index-in-loop-place-2.ensures) kept.values;
       kept = IsPermutation-trans _ _ _ kept.kept
-          (sunk-kept rank old head two place next kept.within child.under.1 child.under.2
-          child.under.0 c.index-in-loop-place-2.ensures);
+          (sunk-kept rank old head two place next kept.within child
+          c.index-in-loop-place-2.ensures);
       room = kept.room;
       order = λ other. subst (λ count. IsHeapButUnder (moved other) count next) (sym long)
           (sunk (keys other) (moved other) (length old) place next child.under.2 child.under.0
