@@ -11,16 +11,17 @@ use rsb_integer::Integer;
 use std::alloc::{AllocError, Allocator, Global};
 use std::marker::Model;
 
-/// A range that was drawn of an input and is not yet used.
+/// A range that was drawn of an input and is not yet used. Its ends do not lie side by side: they
+/// would be read in one load just after they were written in two stores, which a processor waits for.
 #[derive(Clone, Copy, Debug, Drop)]
 pub(crate) struct Head<T> {
     // Where it stands: at its start, or, once that was given, at its end.
     pub(crate) at: T,
     pub(crate) start: T,
+    pub(crate) input: usize,
     pub(crate) end: T,
     // Whether its start was given.
     pub(crate) started: bool,
-    pub(crate) input: usize,
 }
 
 /// Whether one head comes before another: the one comparison of keys.
