@@ -58,10 +58,9 @@ module _ {T N I : Type 0} (integer : Elements T N) (stream : Stream I T N)
       let is = interval_of-some rank range sorted.1 in
       let first = ap (λ run. run.first) is in
       let last = ap (λ run. run.last) is in
-      record {
-        start = omega (arith, sorted.1, sorted.2, first);
-        end = omega (arith, sorted.2, last);
-      }
+      let start : rank range.start < n =
+      omega (arith, sorted.1, sorted.2, first) in
+      record { at = start; stands = refl; start = start; end = omega (arith, sorted.2, last) }
 
   -- no range was due
   pub refills-none : {A : Type 0} (s t : Drawn T I A N) → DrawnReady integer stream s

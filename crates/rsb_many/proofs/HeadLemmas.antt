@@ -1,9 +1,9 @@
 -- Heaps of heads: what the calls on their lists keep.
 use Rattle.std.proofs.Common.{◌≡◌, ℕ, suc, Bool, ◌+◌, ◌-◌, ◌*◌, ◌<◌, ◌≤◌, List, [], ◌∷◌, ◌++◌, length, drop, set, take, All, refl, sym, ap, subst, ◌∙◌, arith, slice_index_or, slice_set, IsPermutation}
-use Rattle.std.proofs.lemmas.List.{get_or_append_left, get_or_default, get_or-set_other, length-append, length-set}
+use Rattle.std.proofs.lemmas.List.{get_or_append_left, get_or_default, get_or-set_other, get_or-set_same, length-append, length-set, set-set}
 use Rattle.std.proofs.lemmas.List.Elements.{All-from_get_or, All-get_or, All-tail}
-use Rattle.std.proofs.lemmas.List.Sorted.{All-permutation, IsPermutation-refl, IsPermutation-sym, IsPermutation-to_front, IsPermutation-trans}
-use Rattle.std.specs.List.{swap_remove, SwappedAt}
+use Rattle.std.proofs.lemmas.List.Sorted.{All-permutation, IsPermutation-refl, IsPermutation-swap, IsPermutation-sym, IsPermutation-to_front, IsPermutation-trans}
+use Rattle.std.specs.List.{swap, swap_remove, SwappedAt}
 use Rattle.std.specs.Prelude.{◌≢◌, IsFalse, IsTrue}
 use Rattle.rsb_many.specs.Heads.{key_of, IsLeastOf}
 use Rattle.rsb_many.specs.HeapOrder.{key_at, parent, IsHeap, IsHeapButFirst, IsHeapButLast, IsLesserChild}
@@ -11,6 +11,15 @@ use Rattle.rsb_many.specs.Keys.{comes_before}
 use Rattle.rsb_many.specs.declared.heads.Head.{Head}
 use Rattle.rsb_many.proofs.HeapLemmas.{cases_place, first-least, AreSwapped}
 use Rattle.rsb_many.proofs.KeyLemmas.{comes_before-as, comes_before-itself, comes_before-one_way}
+
+-- two elements change places, whatever stands for none
+swap-set : {X : Type 0} (xs : List X) (one other : ℕ) (none : X) → one < length xs
+    → other < length xs → swap xs one other
+    ≡ set (set xs one (slice_index_or xs other none)) other (slice_index_or xs one none)
+swap-set [] one other none within other_within = absurd (omega (arith, within))
+swap-set (x ∷ xs) one other none within other_within = λ k.
+    set (set (x ∷ xs) one (get_or_default (x ∷ xs) other x none other_within k)) other
+    (get_or_default (x ∷ xs) one x none within k)
 
 module _ {T : Type 0} (rank : T → ℕ) where
   -- heads that change places change their keys' places
@@ -48,6 +57,73 @@ module _ {T : Type 0} (rank : T → ℕ) where
       comes_before-as (key_at-is heads place one other within one_is)
       (key_at-is heads next two other next_within two_is)
       ∙ (sym answered ∙ is)
+
+  -- a head that sinks is held beside the list, in which another lies where it stands: it and the
+  -- next one under it change places
+  module _ (heads : List (Head T)) (head next : Head T) (place child : ℕ)
+      (within : place < length heads) (lesser : IsLesserChild rank heads place child)
+      (is : next ≡ slice_index_or heads child next) where
+    -- the next one stands elsewhere
+    apart : child ≢ place
+    apart same = absurd (let under = lesser.under in omega (arith, under, same))
+
+    -- it lies where it did
+    child-held : (other : Head T) → slice_index_or (set heads place head) child other ≡ next
+    child-held other =
+        get_or-set_other heads place child head other apart
+        ∙ get_or_default heads child other next lesser.under.1 ∙ sym is
+
+    -- and the one that sinks where it stands
+    place-held : (other : Head T) → slice_index_or (set heads place head) place other ≡ head
+    place-held other = get_or-set_same heads place head other within
+
+    -- their keys change places
+    pub sunk-keys : (other : Head T) → AreSwapped (key_at rank (set heads place head) other)
+        (key_at rank (set (set heads place next) child head) other) place child
+    sunk-keys other = record {
+      one_is = ap (key_of rank)
+          (get_or-set_other (set heads place next) child place head other (λ same. apart (sym same))
+          ∙ get_or-set_same heads place next other within ∙ sym (child-held other));
+      other_is = ap (key_of rank)
+          (get_or-set_same (set heads place next) child head other
+          (omega (arith, lesser.under.1, length-set heads place next)) ∙ sym (place-held other));
+      elsewhere = λ each not_place not_child. ap (key_of rank)
+          (get_or-set_other (set heads place next) child each head other not_child
+          ∙ get_or-set_other heads place each next other not_place
+          ∙ sym (get_or-set_other heads place each head other not_place));
+    }
+
+    -- and they stay the same heads
+    pub sunk-kept : IsPermutation (set heads place head) (set (set heads place next) child head)
+    sunk-kept =
+        let held = set heads place head in
+        let long = length-set heads place head in
+        let first : place < length held = omega (arith, within, long) in
+        let second : child < length held = omega (arith, lesser.under.1, long) in
+        IsPermutation-swap held _ place child first second
+        (sym (swap-set held place child head first second
+        ∙ (λ k. set (set held place (child-held head k)) child (place-held head k))
+        ∙ ap (λ each. set each child head) (set-set heads place head next)))
+
+    -- what was answered of the two holds of their keys
+    pub sunk-answer : (answer test : Bool)
+        → answer ≡ comes_before (key_of rank next) (key_of rank head) → answer ≡ test
+        → (other : Head T) → comes_before (key_at rank (set heads place head) other child)
+        (key_at rank (set heads place head) other place) ≡ test
+    sunk-answer answer test answered tested other =
+        comes_before-as (ap (key_of rank) (child-held other)) (ap (key_of rank) (place-held other))
+        ∙ (sym answered ∙ tested)
+
+    -- none of those under it comes before the next one
+    pub sunk-lesser : (other : Head T) (each : ℕ) → 0 < each → each < length heads
+        → parent each ≡ place → IsFalse (comes_before (key_at rank (set heads place head) other each)
+        (key_at rank (set heads place head) other child))
+    sunk-lesser other each some short same =
+        let not_place = λ (at : each ≡ place). absurd (omega (arith, same, some, at)) in
+        comes_before-as
+        (ap (key_of rank) (get_or-set_other heads place each head other not_place))
+        (ap (key_of rank) (get_or-set_other heads place child head other apart))
+        ∙ lesser.lesser other each some short same
 
   -- a heap with one head more at its end is one but for that head
   pub pushed-heap : (heads : List (Head T)) (head : Head T) → IsHeap rank heads

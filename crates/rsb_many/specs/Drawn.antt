@@ -38,6 +38,7 @@ pub record AddsUnstarted {T : Type 0} (old new : List (Head T)) : Type 0 where
 -- the head of a range whose start was given
 abbrev pub started : {T : Type 0} → Head T → Head T
 started head = record {
+  at = head.end;
   start = head.start;
   end = head.end;
   started = true;

@@ -1,5 +1,5 @@
 -- The heads of inputs, of which the least comes out first.
-use Rattle.std.specs.Prelude.{ℕ, zero, suc, Bool, cond, nat_lt, ◌*◌, ◌/◌, ◌<◌, List, ◌∷◌, drop, length, All, IsFalse, IsPermutation}
+use Rattle.std.specs.Prelude.{ℕ, zero, suc, Bool, cond, nat_lt, ◌*◌, ◌/◌, ◌<◌, ◌≡◌, List, ◌∷◌, drop, length, All, IsFalse, IsPermutation}
 use Rattle.rsb_many.specs.Keys.{comes_before, Key}
 use Rattle.rsb_many.specs.declared.heads.Head.{Head}
 
@@ -24,8 +24,10 @@ key_of rank head = record {
   input = head.input;
 }
 
--- both ends of the range of a head are values of a type of so many
+-- both ends of the range of a head are values of a type of so many, and it stands at one of them
 pub record HasValues {T : Type 0} (rank : T → ℕ) (value_count : ℕ) (head : Head T) : Type 0 where
+  pub at : rank head.at < value_count
+  pub stands : rank head.at ≡ (key_of rank head).at
   pub start : rank head.start < value_count
   pub end : rank head.end < value_count
 

@@ -67,6 +67,7 @@ module _ {T N S : Type 0} (integer : Elements T N) (stream : Stream S T N) where
   -- the head of a range that was drawn of the input at a place
   abbrev pub head_of : ℕ → RangeInclusive T → Head T
   head_of place range = record {
+    at = range_inclusive_start range;
     start = range_inclusive_start range;
     end = range_inclusive_end range;
     started = false;

@@ -65,6 +65,7 @@ impl<T: Integer, I: Draw<T>, A: Allocator> Drawn<T, I, A> {
         if let Some(range) = self.streams[place].draw() {
             let (start, end) = range.into_inner();
             self.heads.push(Head {
+                at: start,
                 start,
                 end,
                 started: false,
@@ -106,6 +107,7 @@ impl<T: Integer, I: Draw<T>, A: Allocator> Drawn<T, I, A> {
             ≤ self.old.heads.comparisons + 2 * binary_digits (length self.new.heads.heads) }
     {
         self.heads.push(Head {
+            at: head.end,
             started: true,
             ..head
         });

@@ -11,24 +11,17 @@ use rsb_integer::Integer;
 use std::alloc::{AllocError, Allocator, Global};
 use std::marker::Model;
 
-/// A range that was drawn of an input and is not yet used.
+/// A range that was drawn of an input and is not yet used. Its ends do not lie side by side: they
+/// would be read in one load just after they were written in two stores, which a processor waits for.
 #[derive(Clone, Copy, Debug, Drop)]
 pub(crate) struct Head<T> {
+    // Where it stands: at its start, or, once that was given, at its end.
+    pub(crate) at: T,
     pub(crate) start: T,
-    pub(crate) end: T,
-    // Whether its start was given: it stands at its end then.
-    pub(crate) started: bool,
     pub(crate) input: usize,
-}
-
-impl<T: Integer> Head<T> {
-    /// The value where it stands.
-    fn at(&self) -> T
-        ensures value { HasValues T.rank T.value_count self.now → T.rank result < T.value_count }
-        ensures at { T.rank result ≡ (key_of T.rank self.now).at }
-    {
-        if self.started { self.end } else { self.start }
-    }
+    pub(crate) end: T,
+    // Whether its start was given.
+    pub(crate) started: bool,
 }
 
 /// Whether one head comes before another: the one comparison of keys.
@@ -39,7 +32,7 @@ fn comes_first<T: Integer>(one: &Head<T>, other: &Head<T>, comparisons: &mut Com
     ensures compared { comparisons.new.made ≡ comparisons.old.made + 1 }
 {
     comparisons.count();
-    let order = one.at().cmp(&other.at());
+    let order = one.at.cmp(&other.at);
     let is_tied = one.started == other.started;
     let wins_tie = (is_tied & (one.input < other.input)) | (!one.started & other.started);
     order.is_lt() | (order.is_eq() & wins_tie)
@@ -86,7 +79,8 @@ fn sift_up<T: Integer, A: Allocator>(heads: &mut Vec<Head<T>, A>, comparisons: &
     }
 }
 
-/// Moves the first head down to where it belongs, among heads that are a heap but for it.
+/// Moves the first head down to where it belongs, among heads that are a heap but for it. It is put
+/// back into the list where its place is found alone.
 fn sift_down<T: Integer, A: Allocator>(heads: &mut Vec<Head<T>, A>, comparisons: &mut Comparisons)
     requires values { All (HasValues T.rank T.value_count) heads.old.items }
     requires order { IsHeapButFirst T.rank heads.old.items }
@@ -96,15 +90,21 @@ fn sift_down<T: Integer, A: Allocator>(heads: &mut Vec<Head<T>, A>, comparisons:
     ensures compared { comparisons.new.made
         ≤ comparisons.old.made + 2 * binary_digits (length heads.new.items) }
 {
+    if heads.is_empty() {
+        return;
+    }
+    let head = heads[0];
     let mut place = 0;
     while place < heads.len() / 2 {
         let child = lesser_child(heads, place, comparisons);
-        if !comes_first(&heads[child], &heads[place], comparisons) {
+        if !comes_first(&heads[child], &head, comparisons) {
+            heads[place] = head;
             return;
         }
-        heads.swap(place, child);
+        heads[place] = heads[child];
         place = child;
     }
+    heads[place] = head;
 }
 
 /// Heads of inputs, of which the least comes out first. The room for them is made when it is built.

@@ -1,4 +1,4 @@
-use Rattle.std.proofs.Common.{ap, arith, refl, subst, sym, ◌∙◌, Some, None}
+use Rattle.std.proofs.Common.{◌<◌, ap, arith, refl, subst, sym, ◌∙◌, Some, None}
 use Rattle.std.specs.Prelude.{IfSome}
 use Rattle.rsb_many.proofs.DrawnLemmas.{values-drawn}
 use Rattle.rsb_many.proofs.HeldLemmas.{slice_get-get_or}
@@ -20,8 +20,12 @@ push-requires-clause-values g c =
     c.requires.place ∙ ap Some (sym c.index_mut.ensures.value)) c.requires.ready in
     let values = values-drawn g.T.Integer g.I.Draw (laws g) c.index_mut.result.now c.draw.new.self
     c.in-Some.range c.args.place found c.in-Some.ensures.steps c.in-Some.ensures.goes in
+    let start : g.T.Integer.rank c.into_inner-start.result.0 < g.T.Integer.value_count =
+    omega (arith, values.start, ap g.T.Integer.rank c.into_inner-start.ensures.start) in
     record {
-      start = omega (arith, values.start, ap g.T.Integer.rank c.into_inner-start.ensures.start);
+      at = start;
+      stands = refl;
+      start = start;
       end = omega (arith, values.end, ap g.T.Integer.rank c.into_inner-start.ensures.end);
     }
 
