@@ -1,5 +1,5 @@
 -- How a set is kept: as a map from the starts of its runs to their ends, and its length.
-use Rattle.std.specs.Prelude.{◌≡◌, ℕ, false, ◌+◌, ◌<◌, ◌≤◌, List, [], ◌∷◌, map}
+use Rattle.std.specs.Prelude.{◌≡◌, ℕ, false, List, map}
 use Rattle.std.specs.declared.ops.RangeInclusive.{RangeInclusive}
 use Rattle.rsb_integer.specs.Runs.{Interval, members, IsCanonicalIn}
 use Rattle.rsb_integer.specs.Selection.{count}

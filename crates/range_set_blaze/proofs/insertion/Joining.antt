@@ -1,12 +1,11 @@
 -- What a run makes with those that it touches.
-use Rattle.std.proofs.Common.{◌≡◌, ◌⊎◌, ◌↔◌, ℕ, Bool, true, false, not, ◌==◌, nat_lt, ◌&&◌, ◌||◌, ◌+◌, ◌-◌, ◌<◌, ◌≤◌, min, max, List, refl, sym, ap, ◌∙◌, inl, inr, arith, subst, Option, Some, None, IfSome, IsFalse, IsSome, IsTrue, MatchOption}
+use Rattle.std.proofs.Common.{◌≡◌, ◌↔◌, ℕ, Bool, true, false, not, ◌==◌, ◌||◌, ◌+◌, ◌-◌, ◌<◌, ◌≤◌, min, max, List, refl, sym, ap, ◌∙◌, inl, inr, arith, subst, Option, Some, None, IfSome, IsFalse, IsSome, IsTrue, MatchOption}
 use Rattle.std.specs.List.{Contains}
 use Rattle.std.proofs.Math.Bool.{and-true}
 use Rattle.std.proofs.lemmas.Bool.{cases_lt}
 use Rattle.std.proofs.lemmas.Bool.Decides.{nat_tests}
 use Rattle.rsb_integer.specs.Runs.{Interval, covers, length_of, members, IsCanonicalIn}
 use Rattle.rsb_integer.specs.Selection.{count}
-use Rattle.rsb_integer.proofs.CountLemmas.{count-agree}
 use Rattle.rsb_integer.proofs.ListLemmas.{true_or_false, not_both}
 use Rattle.rsb_integer.proofs.MembersLemmas.{covers-bounds, covers-inside, members-end}
 use Rattle.range_set_blaze.specs.Joining.{IsHull, IsInside, IsJoining, IsOver, IsReaching, IsUnreached, KnowsInside, NoneInside}

@@ -1,10 +1,9 @@
 -- A run that stands over others, and takes them in one after the other.
-use Rattle.std.proofs.Common.{◌≡◌, ◌⊎◌, ℕ, true, false, not, ◌==◌, nat_lt, ◌&&◌, ◌||◌, ◌+◌, ◌-◌, ◌<◌, ◌≤◌, List, refl, sym, ap, ◌∙◌, inl, inr, arith, subst, Option, Some, None, MatchOption}
+use Rattle.std.proofs.Common.{◌≡◌, ℕ, not, ◌==◌, ◌||◌, ◌+◌, ◌-◌, ◌<◌, ◌≤◌, List, sym, ap, ◌∙◌, inl, inr, arith, subst, Option, Some, None, MatchOption}
 use Rattle.std.specs.List.{Contains}
 use Rattle.std.proofs.lemmas.Bool.{cases_lt}
 use Rattle.std.proofs.lemmas.Bool.Decides.{nat_tests}
-use Rattle.rsb_integer.specs.Runs.{Interval, covers, length_of, members, IsCanonicalIn}
-use Rattle.rsb_integer.specs.Selection.{count}
+use Rattle.rsb_integer.specs.Runs.{Interval, covers, length_of, members}
 use Rattle.rsb_integer.proofs.CountLemmas.{count-within}
 use Rattle.rsb_integer.proofs.ListLemmas.{true_or_false, not_both}
 use Rattle.rsb_integer.proofs.MembersLemmas.{covers-bounds, covers-inside, members-in}
@@ -13,7 +12,7 @@ use Rattle.range_set_blaze.specs.Kept.{run_of}
 use Rattle.range_set_blaze.specs.Starts.{with_run, without_start, IsAscendingFrom, IsFree, IsJoined}
 use Rattle.range_set_blaze.specs.declared.set.run.Run.{Run}
 use Rattle.range_set_blaze.proofs.runs.Apart.{contained-maximal, contained-members, starting-lacks, with_run-joined, with_run-members, without_start-joined}
-use Rattle.range_set_blaze.proofs.runs.Starts.{canonical-rises, starting-canonical_in, starting-contains, starting-with_run, with_run-ascending, with_run-contains, Contains-starting, Contains-with_run}
+use Rattle.range_set_blaze.proofs.runs.Starts.{canonical-rises, starting-contains, starting-with_run, with_run-ascending, with_run-contains, Contains-starting, Contains-with_run}
 
 module _ (n : ℕ) (now : List Interval) (joined : Interval) (others : ℕ)
     (over : IsOver n now joined others) where

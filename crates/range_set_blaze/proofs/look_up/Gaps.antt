@@ -3,7 +3,7 @@ use Rattle.std.proofs.Common.{◌≡◌, ℕ, true, false, not, nat_lt, ◌+◌,
 use Rattle.std.specs.List.{Contains}
 use Rattle.std.proofs.lemmas.Bool.{cases_lt}
 use Rattle.std.proofs.lemmas.Bool.Decides.{nat_tests}
-use Rattle.rsb_integer.specs.Runs.{Interval, covers, members, IsCanonicalIn}
+use Rattle.rsb_integer.specs.Runs.{Interval, members, IsCanonicalIn}
 use Rattle.rsb_integer.specs.Selection.{complement}
 use Rattle.rsb_integer.proofs.ListLemmas.{true_or_false, not_both, Contains-head}
 use Rattle.rsb_integer.proofs.MembersLemmas.{covers-bounds, covers-inside, members-in}

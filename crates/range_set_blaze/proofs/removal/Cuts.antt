@@ -1,9 +1,8 @@
 -- A rank that is taken out of the run that has it.
-use Rattle.std.proofs.Common.{◌≡◌, ℕ, true, false, not, ◌==◌, nat_lt, ◌&&◌, ◌||◌, ◌+◌, ◌-◌, ◌<◌, ◌≤◌, List, refl, sym, ap, ◌∙◌, inl, inr, arith, subst}
+use Rattle.std.proofs.Common.{◌≡◌, ℕ, true, false, not, ◌==◌, nat_lt, ◌&&◌, ◌||◌, ◌+◌, ◌<◌, ◌≤◌, List, refl, sym, ap, ◌∙◌, inl, inr, arith, subst}
 use Rattle.std.specs.List.{Contains}
-use Rattle.std.proofs.lemmas.Bool.{cases_lt}
 use Rattle.std.proofs.lemmas.Bool.Decides.{nat_tests}
-use Rattle.rsb_integer.specs.Runs.{Interval, covers, length_of, members, IsCanonicalIn}
+use Rattle.rsb_integer.specs.Runs.{Interval, covers, members, IsCanonicalIn}
 use Rattle.rsb_integer.specs.Selection.{count}
 use Rattle.rsb_integer.proofs.ListLemmas.{true_or_false}
 use Rattle.rsb_integer.proofs.MembersLemmas.{covers-bounds, covers-inside}

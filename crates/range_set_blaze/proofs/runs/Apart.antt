@@ -1,15 +1,14 @@
 -- Canonical lists that differ by one run, which lies apart from all others.
-use Rattle.std.proofs.Common.{◌≡◌, ◌⊎◌, ℕ, Bool, true, false, not, ◌==◌, nat_le, nat_lt, ◌&&◌, ◌||◌, ◌+◌, ◌-◌, ◌<◌, ◌≤◌, min, List, [], ◌∷◌, ◌++◌, refl, sym, ap, ◌∙◌, inl, inr, arith, subst}
-use Rattle.std.specs.List.{All, Contains}
+use Rattle.std.proofs.Common.{◌≡◌, ◌⊎◌, ℕ, Bool, true, false, not, ◌==◌, nat_lt, ◌&&◌, ◌||◌, ◌+◌, ◌-◌, ◌<◌, ◌≤◌, List, [], ◌∷◌, refl, sym, ap, ◌∙◌, inl, inr, arith}
+use Rattle.std.specs.List.{Contains}
 use Rattle.std.proofs.lemmas.Bool.{cases_lt}
 use Rattle.std.proofs.lemmas.Bool.Decides.{nat_tests}
 use Rattle.std.proofs.lemmas.List.Elements.{All-append, All-cons, All-contains, All-filter, All-tail}
 use Rattle.rsb_integer.specs.Runs.{Interval, covers, length_of, members, AllEndBelow, IsCanonicalFrom, IsCanonicalIn, IsMaximalRun}
 use Rattle.rsb_integer.specs.Selection.{Selection, count}
-use Rattle.rsb_integer.proofs.CanonicalLemmas.{canonical-lower}
 use Rattle.rsb_integer.proofs.CountLemmas.{count-covers, count-union}
 use Rattle.rsb_integer.proofs.ListLemmas.{true_or_false, not_both, Contains-head, Contains-tail}
-use Rattle.rsb_integer.proofs.MembersLemmas.{covers-bounds, covers-inside, covers-outside, members-cons, members-end, members-from, members-in, same_interval}
+use Rattle.rsb_integer.proofs.MembersLemmas.{covers-bounds, covers-inside, members-cons, members-end, members-from, members-in, same_interval}
 use Rattle.rsb_integer.proofs.RunsLemmas.{canonical-maximal}
 use Rattle.range_set_blaze.specs.Starts.{below, past, starting, with_run, without_start, IsAscendingFrom, IsFree, IsJoined, IsLastBelow, NoneBelow}
 use Rattle.range_set_blaze.proofs.runs.Starts.{canonical-rises, starting-canonical_in, starting-contains, with_run-first, with_run-later}

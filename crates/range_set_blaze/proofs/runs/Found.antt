@@ -1,13 +1,13 @@
 -- The last runs of a range of a map.
-use Rattle.std.proofs.Common.{◌≡◌, ℕ, true, false, nat_le, nat_lt, ◌&&◌, ◌+◌, ◌<◌, ◌≤◌, List, [], ◌∷◌, ◌++◌, refl, sym, ap, ◌∙◌, arith, subst, Option, Some, None, IfSome, IsNone, MatchOption}
+use Rattle.std.proofs.Common.{◌≡◌, ℕ, nat_lt, ◌<◌, ◌≤◌, List, [], ◌∷◌, ◌++◌, refl, sym, ap, ◌∙◌, arith, subst, Option, Some, None, IfSome, IsNone, MatchOption}
 use Rattle.std.proofs.lemmas.Bool.Decides.{nat_tests}
 use Rattle.std.proofs.lemmas.List.{map-append}
 use Rattle.rsb_integer.specs.Runs.{Interval, IsCanonicalIn}
 use Rattle.range_set_blaze.specs.Kept.{entry_of, entry_run, run_of, runs_of}
-use Rattle.range_set_blaze.specs.Starts.{below, EndsWith, IsAscendingFrom, IsLastBelow, IsLastTwo, NoneBelow}
+use Rattle.range_set_blaze.specs.Starts.{below, IsAscendingFrom, IsLastBelow, IsLastTwo, NoneBelow}
 use Rattle.range_set_blaze.specs.declared.set.run.Run.{Run}
 use Rattle.range_set_blaze.proofs.runs.Apart.{contained-maximal}
-use Rattle.range_set_blaze.proofs.runs.Starts.{ascending-contains, below-none, below-push, starting-ascending, starting-starting, EndsWith-last}
+use Rattle.range_set_blaze.proofs.runs.Starts.{below-none, below-push, starting-ascending, starting-starting, EndsWith-last}
 
 module _ {T : Type 0} (rank : T → ℕ) (n : ℕ) (runs : List Interval)
     (ascending : IsAscendingFrom n 0 runs) where

@@ -1,16 +1,16 @@
 -- Runs that are parted at a rank.
-use Rattle.std.proofs.Common.{◌≡◌, ℕ, Bool, true, false, not, ◌==◌, nat_le, nat_lt, ◌&&◌, ◌||◌, ◌+◌, ◌-◌, ◌<◌, ◌≤◌, List, ◌∷◌, refl, sym, ap, ◌∙◌, inl, inr, arith, subst}
+use Rattle.std.proofs.Common.{◌≡◌, ℕ, not, ◌==◌, nat_le, nat_lt, ◌&&◌, ◌+◌, ◌<◌, ◌≤◌, List, ◌∷◌, sym, ap, ◌∙◌, inl, inr, arith, subst}
 use Rattle.std.specs.List.{sum_by, Contains}
 use Rattle.std.proofs.lemmas.List.Sums.{sum_by-cons}
 use Rattle.std.proofs.lemmas.Bool.{cases_lt}
 use Rattle.std.proofs.lemmas.Bool.Decides.{nat_tests}
-use Rattle.rsb_integer.specs.Runs.{Interval, covers, length_of, members, IsCanonicalIn}
-use Rattle.rsb_integer.specs.Selection.{count, intersection}
+use Rattle.rsb_integer.specs.Runs.{Interval, length_of, members, IsCanonicalIn}
+use Rattle.rsb_integer.specs.Selection.{intersection}
 use Rattle.rsb_integer.proofs.CountLemmas.{count-union}
-use Rattle.rsb_integer.proofs.ListLemmas.{true_or_false, not_both}
+use Rattle.rsb_integer.proofs.ListLemmas.{not_both}
 use Rattle.rsb_integer.proofs.MembersLemmas.{covers-bounds, covers-inside}
 use Rattle.range_set_blaze.specs.Split.{from_on, IsParting, NoneOver}
-use Rattle.range_set_blaze.specs.Starts.{below, starting_from, with_run, without_start, IsAscendingFrom, IsFree, IsJoined, IsLastBelow, NoneBelow}
+use Rattle.range_set_blaze.specs.Starts.{below, starting_from, with_run, without_start, IsAscendingFrom, IsJoined, IsLastBelow}
 use Rattle.range_set_blaze.specs.Set.{IsSetOf, Removes}
 use Rattle.range_set_blaze.proofs.KeptLemmas.{sum_by-within}
 use Rattle.range_set_blaze.proofs.runs.Apart.{contained-ends, contained-maximal, contained-members, contained-starts, starting-lacks, starting-members, with_run-joined, without_start-joined}

@@ -1,4 +1,4 @@
-use Rattle.std.proofs.Common.{◌+◌, ◌≤◌, arith}
+use Rattle.std.proofs.Common.{arith}
 use Rattle.range_set_blaze.proofs.runs.Found.{last-lower, last-value, none-lower, two-before, two-last, two-none}
 use Rattle.range_set_blaze.proofs.KeptLemmas.{lt-fails}
 use Rattle.range_set_blaze.proofs.runs.Starts.{canonical-rises}

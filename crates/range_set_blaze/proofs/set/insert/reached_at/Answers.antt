@@ -1,4 +1,4 @@
-use Rattle.std.proofs.Common.{◌+◌, ◌<◌, arith}
+use Rattle.std.proofs.Common.{arith}
 use Rattle.range_set_blaze.proofs.runs.Apart.{last-gap, none-gap}
 use Rattle.range_set_blaze.proofs.KeptLemmas.{le-fails}
 use Rattle.range_set_blaze.proofs.set.insert.reached_at.Goals as goal

@@ -1,4 +1,4 @@
-use Rattle.std.proofs.Common.{◌≡◌, ◌∙◌, ◌+◌, ap, refl}
+use Rattle.std.proofs.Common.{◌+◌, ap, refl}
 use Rattle.range_set_blaze.specs.Kept.{runs_of}
 use Rattle.range_set_blaze.proofs.insertion.Joining.{joined-hull, joined-joining, reached-has, reached-lacks}
 use Rattle.range_set_blaze.proofs.runs.Starts.{canonical-rises}

@@ -1,7 +1,6 @@
 use Rattle.std.proofs.Common.{◌≡◌, ◌∙◌, Contains, List, OnOk, ap, refl, sym, subst}
 use Rattle.rsb_integer.specs.Runs.{Interval}
 use Rattle.range_set_blaze.specs.Kept.{run_of, runs_of}
-use Rattle.range_set_blaze.specs.Split.{IsParting}
 use Rattle.range_set_blaze.specs.Starts.{below, starting_from, with_run, without_start, IsAscendingFrom}
 use Rattle.range_set_blaze.proofs.splitting.Parting.{within-ascending, within-parting, within-there, within-without}
 use Rattle.range_set_blaze.proofs.runs.Starts.{canonical-rises, starting-ascending}

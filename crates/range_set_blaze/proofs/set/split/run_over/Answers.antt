@@ -1,7 +1,6 @@
-use Rattle.std.proofs.Common.{◌+◌, ◌<◌, ◌≤◌, arith, subst}
+use Rattle.std.proofs.Common.{subst}
 use Rattle.range_set_blaze.specs.Kept.{run_of, runs_of}
 use Rattle.range_set_blaze.specs.Starts.{IsLastBelow, NoneBelow}
-use Rattle.range_set_blaze.proofs.KeptLemmas.{lt-fails}
 use Rattle.range_set_blaze.proofs.splitting.Parting.{last-over}
 use Rattle.range_set_blaze.proofs.runs.Starts.{canonical-rises}
 use Rattle.range_set_blaze.proofs.set.split.run_over.Goals as goal

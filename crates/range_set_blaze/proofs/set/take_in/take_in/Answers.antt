@@ -1,4 +1,4 @@
-use Rattle.std.proofs.Common.{◌≡◌, ◌+◌, arith, List, Option, MatchOption, sym, subst}
+use Rattle.std.proofs.Common.{arith, List, Option, MatchOption, sym, subst}
 use Rattle.rsb_integer.specs.Runs.{Interval}
 use Rattle.range_set_blaze.specs.Joining.{IsInside, KnowsInside, NoneInside}
 use Rattle.range_set_blaze.specs.Kept.{run_of, runs_of}

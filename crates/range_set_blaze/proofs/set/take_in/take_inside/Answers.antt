@@ -1,4 +1,4 @@
-use Rattle.std.proofs.Common.{◌≡◌, ◌∙◌, ◌+◌, ◌<◌, List, ap, sym, arith, subst}
+use Rattle.std.proofs.Common.{◌∙◌, List, ap, sym, arith, subst}
 use Rattle.rsb_integer.specs.Runs.{Interval, members}
 use Rattle.range_set_blaze.specs.Joining.{IsOver}
 use Rattle.range_set_blaze.specs.Kept.{run_of}
