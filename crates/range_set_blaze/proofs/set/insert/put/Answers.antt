@@ -3,7 +3,7 @@ use Rattle.rsb_integer.specs.Runs.{Interval, members}
 use Rattle.rsb_integer.proofs.CountLemmas.{count-within}
 use Rattle.range_set_blaze.specs.Joining.{IsOver, KnowsInside}
 use Rattle.range_set_blaze.specs.Kept.{run_of, runs_of}
-use Rattle.range_set_blaze.proofs.insertion.Joining.{first-counted, first-some, first-there, first-within, joining-inside, joining-members, joining-over}
+use Rattle.range_set_blaze.proofs.insertion.Placing.{first-counted, first-some, first-there, first-within, joining-inside, joining-members, joining-over}
 use Rattle.range_set_blaze.proofs.runs.Starts.{canonical-rises}
 use Rattle.range_set_blaze.proofs.set.insert.put.Goals as goal
 
