@@ -8,7 +8,7 @@ ghost use Rattle.rsb_integer.specs.Selection.{
   symmetric_difference,
   union,
 };
-ghost use Rattle.rsb_streams.specs.Stream.{◌⊆◌, just, runs_by_two};
+ghost use Rattle.rsb_streams.specs.Stream.{◌⊆◌, just};
 ghost use Rattle.range_set_blaze.specs.Algebra.{IsComplementOf};
 ghost use Rattle.rsb_streams.specs.RunCount.{HasFewerRunsThanBoth, HasOneRunMoreAtMost, HasRunsOfBothAtMost};
 ghost use Rattle.range_set_blaze.specs.Set.{IsSetOf};
@@ -110,8 +110,6 @@ pub(super) fn intersection_of<
 >(alloc: A, left: L, right: R) -> Result<RangeSetBlaze<T, A>, AllocError>
     requires left { L.can_draw left }
     requires right { R.can_draw right }
-    ensures runs { IfOk result (λ set.
-        runs_by_two T.value_count intersection (L.may_give left) (R.may_give right) set) }
     ensures members { (these those : List Interval) → L.may_give left ⊆ just these
         → R.may_give right ⊆ just those → AreRuns T.value_count (members these) these
         → AreRuns T.value_count (members those) those

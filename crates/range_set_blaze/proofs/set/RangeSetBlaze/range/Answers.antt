@@ -1,11 +1,10 @@
-use Rattle.std.proofs.Common.{◌≡◌, ◌&&◌, [], ◌∷◌, ◌∙◌, ap, arith, subst, Ok}
+use Rattle.std.proofs.Common.{◌≡◌, ◌&&◌, [], ◌∷◌, ◌∙◌, ap, arith, subst}
 use Rattle.std.proofs.lemmas.Bool.Decides.{nat_tests}
 use Rattle.rsb_integer.specs.Rank.{interval_of}
 use Rattle.rsb_integer.specs.Runs.{members, Interval, IsCanonicalIn}
 use Rattle.rsb_streams.specs.Stream.{run_if_any}
 use Rattle.rsb_integer.proofs.RunsLemmas.{canonical-runs}
 use Rattle.rsb_streams.proofs.CheckLemmas.{one-canonical}
-use Rattle.range_set_blaze.proofs.gathering.SetOperations.{set-of_intersection}
 use Rattle.range_set_blaze.proofs.set.RangeSetBlaze.range.Goals as goal
 
 -- the set and the run between the bounds have these members in common
@@ -26,11 +25,10 @@ returns g c =
     record {
       members = λ has point.
           ap (λ runs. members runs point) c.into_iter-2.ensures.into_iter_gives
-          ∙ (set-of_intersection n {E = Unit {0}} (Ok c.in_ok-set.set) _ c.in_ok-set.ensures.runs set (run ∷ [])
-          (λ runs at. at ∙ c.ranges-2.ensures.ranges)
+          ∙ c.in_ok-set.ensures.members set (run ∷ []) (λ runs at. at ∙ c.ranges-2.ensures.ranges)
           (λ runs at. c.new-bounds.ensures.gives runs at ∙ one)
           (canonical-runs n set ready.0 ready.1) (canonical-runs n (run ∷ []) single.0 single.1)
-          (λ runs at. at)).0 point
+          point
           ∙ ap (λ test. members set point && test)
           (grind (arith, nat_tests, c.in-Some.ensures.start has, c.in-Some.ensures.end has));
     }

@@ -1,11 +1,5 @@
-use Rattle.std.proofs.lemmas.Result.{IfOk-weaker}
 use Rattle.range_set_blaze.proofs.gathering.SetOperations.{set-of_intersection}
 use Rattle.range_set_blaze.proofs.set.algebra.intersection_of.Goals as goal
-
--- the stream gives nothing but such runs
-pub returns-clause-runs : goal.returns-clause-runs
-returns-clause-runs g c = IfOk-weaker c.from_sorted_disjoint.result _ _
-    c.intersection.ensures.made.gives c.from_sorted_disjoint.ensures.runs
 
 -- it is the set of what the operation selects
 pub returns-clause-members : goal.returns-clause-members
