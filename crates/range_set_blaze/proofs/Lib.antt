@@ -1,8 +1,3 @@
-pub mod BoundsLemmas
-pub mod BulkLemmas
-pub mod FilledLemmas
-pub mod KeptLemmas
-pub mod RunCountLemmas
 pub mod elements
 pub mod gathering
 pub mod insertion

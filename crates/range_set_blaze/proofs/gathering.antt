@@ -1,4 +1,6 @@
 pub mod AskedValues
+pub mod Filled
 pub mod ManySets
+pub mod OneByOne
 pub mod SetOperations
 pub mod SingleValues

@@ -1,3 +1,4 @@
+pub mod Bounds
 pub mod Joining
 pub mod Placing
 pub mod TakingIn

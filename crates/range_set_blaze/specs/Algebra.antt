@@ -1,16 +1,11 @@
 -- What sets are made of and united with: others, and lists of runs of which a front may be added.
 use Rattle.std.specs.Prelude.{◌≡◌, ℕ, not, ◌&&◌, nat_lt, List, map}
-use Rattle.rsb_integer.specs.Front.{IsFrontOf}
+use Rattle.rsb_integer.specs.Prefix.{IsPrefix}
 use Rattle.rsb_integer.specs.Rank.{intervals_of}
 use Rattle.rsb_integer.specs.Runs.{Interval, members}
 use Rattle.rsb_integer.specs.Selection.{Selection, any_of}
 use Rattle.range_set_blaze.specs.Set.{only, Adds, IsSetOf}
 use Rattle.std.specs.declared.ops.RangeInclusive.{RangeInclusive}
-
--- the set has those ranks of a type of n values that the other lacks, and no others
-abbrev pub IsComplementOf : ℕ → List Interval → List Interval → Type 0
-IsComplementOf n set other = (rank : ℕ) → members set rank
-    ≡ (nat_lt rank n && not (members other rank))
 
 -- the set has the ranks of the items, and no others. (This and the next two are records, since the
 -- search for a caller's clause follows the items into a record, and not into an equation for each
@@ -34,7 +29,7 @@ pub record AddsValues {T : Type 0} (rank : T → ℕ) (old : List Interval) (val
   pub adds : Adds old new (ranks_of rank values)
 
 -- the new set has the members of the old one and the ranks of the first of the runs, and no others
-pub record AddsFrontOf (old new runs : List Interval) : Type 0 where
+pub record AddsPrefixOf (old new runs : List Interval) : Type 0 where
   pub front : List Interval
-  pub is_front : IsFrontOf front runs
+  pub is_prefix : IsPrefix front runs
   pub adds : Adds old new (members front)

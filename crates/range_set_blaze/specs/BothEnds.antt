@@ -4,8 +4,8 @@ use Rattle.std.specs.Prelude.{◌≡◌, ◌↔◌, ℕ, ◌+◌, ◌*◌, cond,
 use Rattle.std.specs.Iterator.{Count, YieldsLast, size}
 use Rattle.std.specs.declared.ops.RangeInclusive.{RangeInclusive}
 use Rattle.rsb_integer.specs.Rank.{interval_of, intervals_of}
-use Rattle.rsb_integer.specs.Runs.{Interval, length_of, members, IsCanonicalIn, IsEmpty}
-use Rattle.rsb_integer.specs.Selection.{Selection, difference, IsNothing}
+use Rattle.rsb_integer.specs.Runs.{Interval, length_of, members, IsCanonicalIn, HasNoRanks}
+use Rattle.rsb_integer.specs.Selection.{Selection, difference, IsEmpty}
 use Rattle.rsb_streams.specs.Fused.{Fused, fused_can, fused_may_give}
 use Rattle.rsb_streams.specs.Listed.{listed_may_give}
 use Rattle.rsb_streams.specs.Stream.{Outcomes, ◌⊆◌, run_if_any}
@@ -24,7 +24,7 @@ module _ {T : Type 0} (rank : T → ℕ) where
   -- the new set is the old one without it
   pub record Takes (IsFound : Selection → ℕ → Type 0) (old : Selection) (item : Option T)
       (new : Selection) : Type 0 where
-    pub none : IsNone item ↔ IsNothing old
+    pub none : IsNone item ↔ IsEmpty old
     pub found : IfSome item (λ value. IsFound old (rank value))
     pub rest : (point : ℕ) → new point ≡ without rank old item point
 
@@ -50,8 +50,8 @@ stream_of s = record { iter = s.ranges; done = s.done }
 pub record IsWhole {T I : Type 0} (rank : T → ℕ) (ranges : I) (s : Iter T I) : Type 0 where
   pub source : s.ranges ≡ ranges
   pub undone : s.done ≡ false
-  pub front : IsEmpty (interval_of rank s.front)
-  pub back : IsEmpty (interval_of rank s.back)
+  pub front : HasNoRanks (interval_of rank s.front)
+  pub back : HasNoRanks (interval_of rank s.back)
 
 -- these intervals, between what is held from the front and what is held from the back
 abbrev pub between_ends : {T I : Type 0} → (T → ℕ) → Iter T I → List Interval → List Interval

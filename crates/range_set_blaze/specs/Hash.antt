@@ -5,13 +5,13 @@ use Rattle.rsb_integer.specs.Runs.{Interval, members}
 use Rattle.rsb_integer.specs.Selection.{Selection, count}
 
 -- the selected ranks below n
-abbrev pub below : ℕ → Selection → Selection
-below n selected rank = nat_lt rank n && selected rank
+abbrev pub selected_below : ℕ → Selection → Selection
+selected_below n selected rank = nat_lt rank n && selected rank
 
 -- whether the rank right before is selected: no rank is before the first
-abbrev pub before : Selection → ℕ → Bool
-before selected zero = false
-before selected (suc rank) = selected rank
+abbrev pub selected_before : Selection → ℕ → Bool
+selected_before selected zero = false
+selected_before selected (suc rank) = selected rank
 
 -- a rank, once where a run begins there and once where one ends: by whether it is selected, and the
 -- one before it, and the one after it
@@ -22,7 +22,7 @@ bounds_by here earlier later rank =
 -- the rank, once where a maximal run of the set begins there and once where one ends
 abbrev pub bounds_at : Selection → ℕ → List ℕ
 bounds_at selected rank =
-    bounds_by (selected rank) (before selected rank) (selected (suc rank)) rank
+    bounds_by (selected rank) (selected_before selected rank) (selected (suc rank)) rank
 
 -- the first and the last rank of each maximal run of the set, in ascending order, among so many
 -- ranks from `low` on
@@ -33,11 +33,11 @@ bounds_from selected low (suc more) =
 
 -- the first and the last rank of each maximal run of a set in a type of n values
 abbrev pub run_bounds : ℕ → Selection → List ℕ
-run_bounds n selected = bounds_from (below n selected) 0 n
+run_bounds n selected = bounds_from (selected_below n selected) 0 n
 
 -- the first and the last rank of each interval of a list
-abbrev pub ends_of : List Interval → List ℕ
-ends_of runs = flat_map (λ (run : Interval). run.first ∷ run.last ∷ []) runs
+abbrev pub ends_of_runs : List Interval → List ℕ
+ends_of_runs runs = flat_map (λ (run : Interval). run.first ∷ run.last ∷ []) runs
 
 -- what a set feeds, by what lengths and values feed: its length, and the start and the end of each
 -- of its runs in ascending order

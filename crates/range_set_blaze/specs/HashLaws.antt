@@ -7,7 +7,7 @@ use Rattle.std.proofs.lemmas.Bool.Decides.{nat_tests}
 use Rattle.rsb_integer.specs.Runs.{Interval, members}
 use Rattle.rsb_integer.specs.Selection.{Selection, Agree}
 use Rattle.rsb_integer.proofs.CountLemmas.{count-agree}
-use Rattle.range_set_blaze.specs.Hash.{below, bounds_from, hashed_runs}
+use Rattle.range_set_blaze.specs.Hash.{selected_below, bounds_from, hashed_runs}
 use Rattle.range_set_blaze.specs.OrderLaws.{set_eq, same-agree}
 
 -- a rank from n on is not below n
@@ -15,9 +15,9 @@ nat_lt-past : (rank n : ℕ) → n ≤ rank → nat_lt rank n ≡ false
 nat_lt-past rank n most = grind (arith, nat_tests)
 
 -- sets that agree have the same ranks below n
-below-agree : (n : ℕ) (left right : Selection) → Agree n left right → (rank : ℕ)
-    → below n left rank ≡ below n right rank
-below-agree n left right same rank = elim (cases_lt rank n) [
+selected_below-agree : (n : ℕ) (left right : Selection) → Agree n left right → (rank : ℕ)
+    → selected_below n left rank ≡ selected_below n right rank
+selected_below-agree n left right same rank = elim (cases_lt rank n) [
   | inl less ↦ ap (λ here. nat_lt rank n && here) (same rank less)
   | inr most ↦
       let past = nat_lt-past rank n most in
@@ -31,6 +31,6 @@ pub hashed_runs-same : (length_fed value_fed : ℕ → HashWrites) (n : ℕ) (le
 hashed_runs-same length_fed value_fed n left right is =
     let same = same-agree n (members left) (members right) is in
     let counted = count-agree n (members left) (members right) same in
-    let ranks : below n (members left) ≡ below n (members right) =
-    λ i rank. below-agree n (members left) (members right) same rank i in
+    let ranks : selected_below n (members left) ≡ selected_below n (members right) =
+    λ i rank. selected_below-agree n (members left) (members right) same rank i in
     λ i. length_fed (counted i) ++ flat_map value_fed (bounds_from (ranks i) 0 n)

@@ -1,9 +1,9 @@
 -- Runs that a new one touches, and what it makes with them.
 use Rattle.std.specs.Prelude.{◌≡◌, ℕ, true, false, ◌||◌, ◌+◌, ◌<◌, ◌≤◌, List, Option, MatchOption, Contains, IsTrue}
 use Rattle.rsb_integer.specs.Runs.{Interval, covers, members, IsCanonicalIn}
-use Rattle.rsb_integer.specs.Selection.{Selection, count}
+use Rattle.rsb_integer.specs.Selection.{Selection, count, LacksSome}
 use Rattle.range_set_blaze.specs.Kept.{run_of, runs_of, IsKept}
-use Rattle.range_set_blaze.specs.Set.{Adds, LacksSomeOf}
+use Rattle.range_set_blaze.specs.Set.{Adds}
 use Rattle.range_set_blaze.specs.Starts.{with_run}
 use Rattle.range_set_blaze.specs.declared.set.run.Run.{Run}
 use Rattle.range_set_blaze.specs.declared.set.insert.Joining.{Joining}
@@ -57,7 +57,7 @@ IsUnreached runs start = (rank : ℕ) → rank ≤ start → start ≤ rank + 1 
 pub record IsHull (runs : List Interval) (run joined : Interval) : Type 0 where
   pub first : joined.first ≤ run.first
   pub last : run.last ≤ joined.last
-  pub has : (rank : ℕ) → covers rank joined ≡ true → (members runs rank || covers rank run) ≡ true
+  pub has : (rank : ℕ) → covers joined rank ≡ true → (members runs rank || covers run rank) ≡ true
   pub begins : (rank : ℕ) → rank + 1 ≡ joined.first → members runs rank ≡ false
   pub ends : members runs (joined.last + 1) ≡ false
 
@@ -86,5 +86,5 @@ Has set selected = (rank : ℕ) → IsTrue (selected rank) → IsTrue (members s
 pub record IsInserted {T : Type 0} (rank : T → ℕ) (n : ℕ) (old new : List (T × T)) (run : Run T)
     (length : ℕ) : Type 0 where
   pub kept : IsKept rank n new length
-  pub adds : Adds (runs_of rank old) (runs_of rank new) (λ point. covers point (run_of rank run))
-  pub lacks : LacksSomeOf (runs_of rank old) (λ point. covers point (run_of rank run))
+  pub adds : Adds (runs_of rank old) (runs_of rank new) (covers (run_of rank run))
+  pub lacks : LacksSome (members (runs_of rank old)) (covers (run_of rank run))

@@ -4,7 +4,7 @@ use Rattle.std.specs.Cmp.Lexicographic.{slice_cmp}
 use Rattle.std.specs.Ordering.{nat_cmp}
 use Rattle.std.specs.declared.cmp.Ordering.{Ordering}
 use Rattle.std.specs.declared.cmp.Ordering.TheVariants.{Less, Equal, Greater}
-use Rattle.rsb_integer.specs.Front.{IsFrontOf}
+use Rattle.rsb_integer.specs.Prefix.{IsPrefix}
 use Rattle.rsb_integer.specs.Runs.{Interval}
 use Rattle.rsb_integer.specs.Selection.{Selection, Agree, exclusive_or}
 
@@ -81,6 +81,6 @@ pub record AreTurns (left right : List Interval) (turns : ℕ) : Type 0 where
   pub right_rest : List Interval
   pub left_parts : left ≡ front ++ left_rest
   pub right_parts : right ≡ front ++ right_rest
-  pub longest : (other : List Interval) → IsFrontOf other left → IsFrontOf other right
+  pub longest : (other : List Interval) → IsPrefix other left → IsPrefix other right
       → length other ≤ length front
   pub counted : turns ≡ length front + cond (start_alike left_rest right_rest) 2 1

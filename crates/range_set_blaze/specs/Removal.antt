@@ -3,7 +3,7 @@ use Rattle.std.specs.Prelude.{◌≡◌, ℕ, ◌&&◌, ◌||◌, nat_lt, ◌+�
 use Rattle.rsb_integer.specs.Runs.{Interval, covers, members, IsCanonicalIn}
 use Rattle.rsb_integer.specs.Selection.{count}
 use Rattle.range_set_blaze.specs.Set.{only, Removes}
-use Rattle.range_set_blaze.specs.Starts.{without_start, IsAscendingFrom}
+use Rattle.range_set_blaze.specs.Starts.{without_start, StartsAscendFrom}
 
 -- the new runs are canonical, and have the members of the old ones but one, which those have
 pub record IsRemoved (n : ℕ) (old new : List Interval) (point : ℕ) : Type 0 where
@@ -15,10 +15,10 @@ pub record IsRemoved (n : ℕ) (old new : List Interval) (point : ℕ) : Type 0 
 -- and what it has past the rank
 pub record IsCutAbove (n : ℕ) (old : List Interval) (run : Interval) (point : ℕ)
     (now : List Interval) : Type 0 where
-  pub ascending : IsAscendingFrom n 0 now
+  pub ascending : StartsAscendFrom n 0 now
   pub there : (other : Interval) × Contains now other × (other.first ≡ run.first)
   pub canonical : IsCanonicalIn n (without_start run.first now)
   pub has : (rank : ℕ) → members (without_start run.first now) rank
-      ≡ (members (without_start run.first old) rank || (covers rank run && nat_lt point rank))
+      ≡ (members (without_start run.first old) rank || (covers run rank && nat_lt point rank))
   pub counted : count n (members (without_start run.first now)) + point
       ≡ count n (members (without_start run.first old)) + run.last

@@ -5,7 +5,7 @@ use Rattle.std.specs.List.{FoldsTo}
 use Rattle.std.specs.Range.{range_inclusive_start, range_inclusive_end, range_inclusive_exhausted}
 use Rattle.std.specs.declared.ops.RangeInclusive.{RangeInclusive}
 use denote.Ref.{Bor}
-use Rattle.rsb_integer.specs.Front.{IsFrontOf}
+use Rattle.rsb_integer.specs.Prefix.{IsPrefix}
 use Rattle.rsb_integer.specs.Rank.{interval_of, intervals_of}
 use Rattle.rsb_integer.specs.Runs.{Interval, covers, length_of, members}
 use Rattle.rsb_integer.specs.Selection.{Selection}
@@ -55,7 +55,7 @@ module _ {F T : Type 0} (rank : T → ℕ) (g : Mut F (Bor T × Unit {0}) Bool) 
   -- and so was a front of the members
   abbrev pub AsksFront : F → List Interval → Type 0
   AsksFront f set = (values : List T) × (last : F) × IsAsked g f values last
-      × IsFrontOf (map rank values) (ascending_ranks set)
+      × IsPrefix (map rank values) (ascending_ranks set)
 
 module _ {T : Type 0} (rank : T → ℕ) where
   -- the runs that are left: the rest of one, and those of the entries
@@ -66,7 +66,7 @@ module _ {T : Type 0} (rank : T → ℕ) where
   -- the members of a set, and the ranks of a piece that is not in it yet
   abbrev pub with_piece : List Interval → Option (Run T) → Selection
   with_piece set None other = members set other
-  with_piece set (Some run) other = members set other || covers other (run_of rank run)
+  with_piece set (Some run) other = members set other || covers (run_of rank run) other
 
   -- the least rank past a piece, or 0
   abbrev pub past_piece : Option (Run T) → ℕ

@@ -47,14 +47,6 @@ Removes old new removed = (rank : ℕ) → members new rank ≡ difference (memb
 abbrev pub IsSetOf : List Interval → Selection → Type 0
 IsSetOf set selected = (rank : ℕ) → members set rank ≡ selected rank
 
--- the set has the ranks of the interval, and no others
-abbrev pub HasExactly : List Interval → Interval → Type 0
-HasExactly set run = (rank : ℕ) → members set rank ≡ covers rank run
-
--- some selected rank is no member
-abbrev pub LacksSomeOf : List Interval → Selection → Type 0
-LacksSomeOf set selected = (rank : ℕ) × IsTrue (selected rank) × IsFalse (members set rank)
-
 -- the rank or the one before it is a member, so that a run which starts there or earlier reaches
 -- the rank
 abbrev pub IsReached : List Interval → ℕ → Type 0
@@ -78,4 +70,4 @@ pub record IsGreatest (n : ℕ) (selected : Selection) (rank : ℕ) : Type 0 whe
 -- the interval is the maximal run that has the rank
 pub record IsRunAround (n : ℕ) (selected : Selection) (rank : ℕ) (run : Interval) : Type 0 where
   pub maximal : IsMaximalRun n selected run
-  pub around : IsTrue (covers rank run)
+  pub around : IsTrue (covers run rank)

@@ -33,10 +33,10 @@ abbrev pub with_run : Interval → List Interval → List Interval
 with_run run runs = below run.first runs ++ run ∷ past run.first runs
 
 -- the starts ascend from `low` on, below n
-abbrev pub IsAscendingFrom : ℕ → ℕ → List Interval → Type 0
-IsAscendingFrom n low [] = Unit {0}
-IsAscendingFrom n low (run ∷ runs) =
-    (low ≤ run.first) × (run.first < n) × IsAscendingFrom n (run.first + 1) runs
+abbrev pub StartsAscendFrom : ℕ → ℕ → List Interval → Type 0
+StartsAscendFrom n low [] = Unit {0}
+StartsAscendFrom n low (run ∷ runs) =
+    (low ≤ run.first) × (run.first < n) × StartsAscendFrom n (run.first + 1) runs
 
 -- ---- one run among others
 
@@ -71,8 +71,8 @@ pub record StartsWith {X : Type 0} (items : List X) (first : X) : Type 0 where
   pub parts : items ≡ first ∷ rest
 
 -- no member is one of the ranks from first to last, or next to one
-abbrev pub IsFree : List Interval → ℕ → ℕ → Type 0
-IsFree runs first last = (rank : ℕ) → first ≤ rank + 1 → rank ≤ last + 1 → members runs rank ≡ false
+abbrev pub LeavesApart : List Interval → ℕ → ℕ → Type 0
+LeavesApart runs first last = (rank : ℕ) → first ≤ rank + 1 → rank ≤ last + 1 → members runs rank ≡ false
 
 -- ---- one run more, or one fewer
 
@@ -81,8 +81,8 @@ pub record IsJoined (n : ℕ) (fewer : List Interval) (run : Interval) (more : L
   where
     pub fewer_canonical : IsCanonicalIn n fewer
     pub more_canonical : IsCanonicalIn n more
-    pub free : IsFree fewer run.first run.last
-    pub has : (rank : ℕ) → members more rank ≡ (members fewer rank || covers rank run)
+    pub free : LeavesApart fewer run.first run.last
+    pub has : (rank : ℕ) → members more rank ≡ (members fewer rank || covers run rank)
     pub counted : count n (members more) ≡ count n (members fewer) + length_of run
 
 -- the rank is the last of the gap that has the point: up to it no member comes after the point

@@ -5,7 +5,7 @@ ghost use Rattle.rsb_integer.specs.Rank.{intervals_of};
 ghost use Rattle.rsb_integer.specs.Runs.{IsCanonicalIn};
 ghost use Rattle.rsb_streams.specs.Listed.{listed_may_give};
 ghost use Rattle.rsb_streams.specs.ListedLaws.{listed-answers, listed-keeps};
-ghost use Rattle.rsb_streams.specs.StreamLaws.{canonical-starts, drawn-itself};
+ghost use Rattle.rsb_streams.specs.StreamLaws.{canonical_stream-starts, drawn-itself};
 
 use rsb_integer::Integer;
 use rsb_streams::{Draw, DrawDisjoint, SortedDisjoint, SortedStarts};
@@ -86,7 +86,7 @@ impl<'a, T: Integer> Draw<T> for RangesIter<'a, T> {
 
     ghost answers = { listed-answers T.rank (λ s. s) };
 
-    ghost sorted = { λ s canonical. canonical-starts T.value_count _ _
+    ghost sorted = { λ s canonical. canonical_stream-starts T.value_count _ _
         (listed-keeps T.rank (λ s. s) T.value_count s canonical) };
 }
 

@@ -3,7 +3,7 @@
 ghost use Rattle.std.specs.Prelude.{◌≡◌, ◌↔◌, ◌<◌, [], length, IfSome, IsNone, IsTrue};
 ghost use Rattle.rsb_integer.specs.Rank.{intervals_of};
 ghost use Rattle.rsb_integer.specs.Runs.{members, AreRuns, IsCanonicalIn};
-ghost use Rattle.rsb_integer.specs.Selection.{count, IsNothing};
+ghost use Rattle.rsb_integer.specs.Selection.{count, IsEmpty};
 ghost use Rattle.range_set_blaze.specs.Set.{IsGreatest, IsLeast};
 
 mod algebra;
@@ -98,7 +98,7 @@ impl<T: Integer, A: Allocator> RangeSetBlaze<T, A> {
 
     /// Whether there is no member. (`RangeSetBlaze::is_empty`.)
     pub fn is_empty(&self) -> bool
-        ensures { IsTrue result ↔ IsNothing (members self.now) }
+        ensures { IsTrue result ↔ IsEmpty (members self.now) }
     {
         self.map.is_empty()
     }

@@ -5,10 +5,6 @@ use Rattle.std.specs.declared.cmp.Ordering.TheVariants.{Less, Equal, Greater}
 use Rattle.rsb_integer.specs.Runs.{covers}
 use Rattle.rsb_integer.specs.Selection.{Selection}
 
--- the numbers from first to last, both included
-abbrev pub between : ℕ → ℕ → Selection
-between first last rank = covers rank (record { first = first; last = last })
-
 -- the order that a negative number, 0 and a positive one stand for
 abbrev pub order_told : ℤ → Ordering
 order_told (negsuc n) = Less

@@ -152,7 +152,7 @@ pub cut_at_once : (known : Option (List ℕ)) (all : List ℕ) → CutsShort kno
 cut_at_once known [] = inr (refl, Keeps-itself known)
 cut_at_once known (byte ∷ bytes) = inl (record {
   front = [];
-  is_front = record { rest = byte ∷ bytes; parts = refl };
+  is_prefix = record { rest = byte ∷ bytes; parts = refl };
   shorter = omega arith;
   written = Appends-nothing known;
 })

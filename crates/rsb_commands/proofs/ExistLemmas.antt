@@ -5,8 +5,8 @@ use Rattle.std.proofs.lemmas.List.Elements.{All-head, All-tail}
 use Rattle.std.specs.Prelude.{All}
 use Rattle.std.specs.declared.ops.RangeInclusive.{RangeInclusive}
 use Rattle.rsb_integer.specs.Rank.{intervals_of}
-use Rattle.rsb_integer.specs.Runs.{Interval, AreRuns, IsMaximalRun}
-use Rattle.rsb_integer.specs.Selection.{Selection, complement, count, difference, intersection, symmetric_difference, union}
+use Rattle.rsb_integer.specs.Runs.{Interval, AreRuns, IsMaximalRun, covers, from_to}
+use Rattle.rsb_integer.specs.Selection.{Selection, complement, count, difference, intersection, symmetric_difference, union, LacksSome, complement_in}
 use Rattle.rsb_integer.proofs.ListLemmas.{true_or_false}
 use Rattle.rsb_integer.proofs.MaximalLemmas.{maximal-around}
 use Rattle.rsb_integer.proofs.MembersLemmas.{covers-bounds}
@@ -16,7 +16,7 @@ use Rattle.range_set_blaze.specs.OrderLaws.{order-holds}
 use Rattle.range_set_blaze.specs.Set.{IsRunAround}
 use Rattle.rsb_commands.specs.declared.command.Command.{Command}
 use Rattle.rsb_commands.specs.declared.command.Command.TheVariants.{Add, Del, Has, Gap, Count, Show, Union, Intersection, Difference, SymmetricDifference, Complement, Most, Compare}
-use Rattle.rsb_commands.specs.Commands.{Content, flag, number, order, piece, ranges, runs, LacksSome, Sets, after, between, from_to, left_out, most_of, whichever, AreRepliesFrom, IsPieceReply, IsReply, IsRunsReply, NamesValues}
+use Rattle.rsb_commands.specs.Commands.{Content, flag, number, order, piece, ranges, runs, Sets, after, most_of, whichever, AreRepliesFrom, IsPieceReply, IsReply, IsRunsReply, NamesValues}
 
 -- ---- whether a set lacks some ranks
 
@@ -75,7 +75,7 @@ module _ {T : Type 0} (rank : T → ℕ) (n : ℕ) (value_at : ℕ → T)
 
   -- the values at the ends of a maximal run are its ends
   ends_at : (set : Selection) (run : Interval) → IsMaximalRun n set run
-      → from_to rank n (value_at run.first) (value_at run.last) ≡ run
+      → from_to (rank (value_at run.first)) (rank (value_at run.last)) ≡ run
   ends_at set run maximal =
       let ordered = maximal.in_order in
       let below = maximal.in_type in
@@ -141,16 +141,16 @@ module _ {T : Type 0} (rank : T → ℕ) (n : ℕ) (value_at : ℕ → T)
 
   -- one that tells whether a set lacks some of the ranks from one value to another
   flag_exists : (set : Selection) (first last : T)
-      → Answered (LacksSome set (between rank n first last))
+      → Answered (LacksSome set (covers (from_to (rank first) (rank last))))
   flag_exists set first last =
-      let wanted = between rank n first last in
+      let wanted = covers (from_to (rank first) (rank last)) in
       let found = lacks_below set wanted (rank last + 1) in
       record {
         answer = found.answer;
         is = (
           (λ yes. let some = found.is.0 yes in (some.0, some.2, some.3)),
           (λ lacks.
-              let bounds = covers-bounds lacks.0 (from_to rank n first last) lacks.1 in
+              let bounds = covers-bounds (from_to (rank first) (rank last)) lacks.0 lacks.1 in
               found.is.1 (lacks.0, omega (arith, bounds.1), lacks.1, lacks.2)),
         );
       }
@@ -175,7 +175,7 @@ module _ {T : Type 0} (rank : T → ℕ) (n : ℕ) (value_at : ℕ → T)
       many_exist (difference (sets left) (sets right))
   reply_exists sets (SymmetricDifference target left right) values =
       many_exist (symmetric_difference (sets left) (sets right))
-  reply_exists sets (Complement target source) values = many_exist (left_out rank n (sets source))
+  reply_exists sets (Complement target source) values = many_exist (complement_in n (sets source))
   reply_exists sets (Most target a b c) values =
       many_exist (most_of (sets a) (sets b) (sets c))
   reply_exists sets (Compare left right) values =

@@ -1,12 +1,12 @@
 -- A rank lies in one run or gap, which one first and one last value tell, and a set has one number
 -- of runs.
 use Rattle.std.proofs.Common.{◌≡◌, ◌∙◌, ℕ, Bool, ◌+◌, ◌-◌, ◌<◌, IsTrue, IsFalse, length, refl, sym, ap, subst, arith}
-use Rattle.rsb_integer.specs.Runs.{Interval}
+use Rattle.rsb_integer.specs.Runs.{Interval, covers, from_to}
 use Rattle.rsb_integer.specs.Selection.{Selection, complement}
 use Rattle.rsb_integer.proofs.MembersLemmas.{covers-bounds, covers-inside}
 use Rattle.rsb_integer.proofs.RunsLemmas.{runs-same}
 use Rattle.range_set_blaze.specs.Set.{IsRunAround}
-use Rattle.rsb_commands.specs.Commands.{piece, from_to, whichever, HasRuns, IsPieceAround}
+use Rattle.rsb_commands.specs.Commands.{piece, whichever, HasRuns, IsPieceAround}
 
 -- nothing is both
 not_both : (is : Bool) → IsTrue is → IsFalse is → ⊥
@@ -17,22 +17,22 @@ module _ (n : ℕ) (selected : Selection) (rank : ℕ) (run other : Interval)
   -- the other run around the rank starts no later
   starts_no_later : ¬ (run.first < other.first)
   starts_no_later later =
-      let bounds = covers-bounds rank run around.around in
-      let other_bounds = covers-bounds rank other also.around in
+      let bounds = covers-bounds run rank around.around in
+      let other_bounds = covers-bounds other rank also.around in
       not_both (selected (other.first - 1))
       (around.maximal.whole (other.first - 1)
-      (covers-inside (other.first - 1) run (omega (arith, later))
+      (covers-inside run (other.first - 1) (omega (arith, later))
       (omega (arith, later, bounds.1, other_bounds.0))))
       (also.maximal.begins_here (omega (arith, later)))
 
   -- nor does it go on further
   ends_no_later : ¬ (run.last < other.last)
   ends_no_later later =
-      let bounds = covers-bounds rank run around.around in
-      let other_bounds = covers-bounds rank other also.around in
+      let bounds = covers-bounds run rank around.around in
+      let other_bounds = covers-bounds other rank also.around in
       not_both (selected (run.last + 1))
       (also.maximal.whole (run.last + 1)
-      (covers-inside (run.last + 1) other (omega (arith, bounds.1, other_bounds.0))
+      (covers-inside other (run.last + 1) (omega (arith, bounds.1, other_bounds.0))
       (omega (arith, later))))
       (around.maximal.ends_here (omega (arith, later, also.maximal.in_type)))
 
@@ -46,8 +46,8 @@ module _ {T : Type 0} (rank : T → ℕ) (value_count : ℕ)
   one_piece set at first last start end present other is also =
       let same : other ≡ present = also.found ∙ sym is.found in
       let selected = whichever present set (complement set) in
-      let run = from_to rank value_count first last in
-      let found = from_to rank value_count start end in
+      let run = from_to (rank first) (rank last) in
+      let found = from_to (rank start) (rank end) in
       let around = subst (λ which. IsRunAround value_count
       (whichever which set (complement set)) at found) same also.around in
       let ordered = is.around.maximal.in_order in

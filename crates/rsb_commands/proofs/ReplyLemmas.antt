@@ -3,13 +3,13 @@ use Rattle.std.proofs.Common.{◌≡◌, ◌∙◌, ◌↔◌, ℕ, zero, suc, B
 use Rattle.std.specs.declared.ops.RangeInclusive.{RangeInclusive}
 use Rattle.rsb_integer.specs.Rank.{intervals_of}
 use Rattle.rsb_integer.specs.Runs.{AreRuns}
-use Rattle.rsb_integer.specs.Selection.{Selection, difference, intersection, symmetric_difference, union}
+use Rattle.rsb_integer.specs.Selection.{Selection, difference, intersection, symmetric_difference, union, complement_in}
 use Rattle.rsb_integer.proofs.RangeLemmas.{same_ranges}
 use Rattle.rsb_integer.proofs.RunsLemmas.{runs-canonical, runs-same}
 use Rattle.range_set_blaze.proofs.order.OneOrder.{order-unique}
 use Rattle.rsb_commands.specs.declared.command.Command.{Command}
 use Rattle.rsb_commands.specs.declared.command.Command.TheVariants.{Add, Del, Has, Gap, Count, Show, Union, Intersection, Difference, SymmetricDifference, Complement, Most, Compare}
-use Rattle.rsb_commands.specs.Commands.{Content, flag, number, order, piece, ranges, runs, Sets, after, left_out, most_of, IsReply, AreRepliesFrom}
+use Rattle.rsb_commands.specs.Commands.{Content, flag, number, order, piece, ranges, runs, Sets, after, most_of, IsReply, AreRepliesFrom}
 use Rattle.rsb_commands.proofs.PieceLemmas.{one_many, one_piece}
 
 -- two answers to one question are equal
@@ -54,7 +54,7 @@ module _ {T : Type 0} (rank : T → ℕ) (value_count : ℕ)
   one_reply sets (SymmetricDifference target left right) (runs l) (runs r) is also =
       ap runs (one_many rank value_count one_place (symmetric_difference (sets left) (sets right)) l r is also)
   one_reply sets (Complement target source) (runs l) (runs r) is also =
-      ap runs (one_many rank value_count one_place (left_out rank value_count (sets source)) l r is also)
+      ap runs (one_many rank value_count one_place (complement_in value_count (sets source)) l r is also)
   one_reply sets (Most target a b c) (runs l) (runs r) is also =
       ap runs (one_many rank value_count one_place (most_of (sets a) (sets b) (sets c)) l r is also)
   one_reply sets (Compare left right) (order l) (order r) is also =

@@ -5,12 +5,11 @@ use Rattle.std.proofs.Math.ListN.{replicate, set}
 use Rattle.std.proofs.lemmas.Bool.{eqb-true, eqb-false}
 use Rattle.std.proofs.lemmas.Bool.Decides.{nat_tests}
 use Rattle.std.proofs.lemmas.List.{get_or-set_same, get_or-set_other}
-use Rattle.rsb_integer.specs.Runs.{Interval, members}
-use Rattle.rsb_integer.specs.Selection.{Selection, union}
-use Rattle.range_set_blaze.specs.Set.{Adds, LacksSomeOf}
-use Rattle.range_set_blaze.specs.Set as set_specs
+use Rattle.rsb_integer.specs.Runs.{Interval, members, covers, from_to}
+use Rattle.rsb_integer.specs.Selection.{Selection, union, LacksSome}
+use Rattle.range_set_blaze.specs.Set.{Adds, between}
 use Rattle.rsb_commands.specs.declared.command.Command.TheVariants.{Add}
-use Rattle.rsb_commands.specs.Commands.{IsReply, after, between, flag, no_members, put, sets_of}
+use Rattle.rsb_commands.specs.Commands.{IsReply, after, flag, no_members, put, sets_of}
 
 -- ---- sets that have no run
 
@@ -61,10 +60,10 @@ sets_of-put kept slot runs selected within same =
 module _ {T : Type 0} (rank : T → ℕ) (value_count : ℕ) (first last : T) where
   -- the ranks between the bounds that an inclusive range has
   abbrev pub within_bounds : Selection
-  within_bounds = set_specs.between rank value_count (Included first) (Included last)
+  within_bounds = between rank value_count (Included first) (Included last)
 
   -- they are the ranks from the one value to the other
-  same_between : (at : ℕ) → within_bounds at ≡ between rank value_count first last at
+  same_between : (at : ℕ) → within_bounds at ≡ covers (from_to (rank first) (rank last)) at
   same_between at = ap (λ below. leb (rank first) at && below) (below_next at (rank last))
     where
       -- less than one more is at most
@@ -77,13 +76,13 @@ module _ {T : Type 0} (rank : T → ℕ) (value_count : ℕ) (first last : T) wh
       → sets_of (set kept slot new) ≡ after rank value_count (sets_of kept) (Add slot first last)
   after-added kept slot old new within is added =
       sets_of-put kept slot new
-      (union (sets_of kept slot) (between rank value_count first last)) within
+      (union (sets_of kept slot) (covers (from_to (rank first) (rank last)))) within
       (λ at. added at ∙ ap (λ runs. members runs at || within_bounds at) is
       ∙ ap (λ more. members (get_or kept slot []) at || more) (same_between at))
 
   -- where the answer tells whether a rank was lacking, it is the reply to the command
   pub reply-added : (kept : List (List Interval)) (slot : ℕ) (old : List Interval) (added : Bool)
-      → old ≡ get_or kept slot [] → IsTrue added ↔ LacksSomeOf old within_bounds
+      → old ≡ get_or kept slot [] → IsTrue added ↔ LacksSome (members old) within_bounds
       → IsReply rank value_count (sets_of kept) (Add slot first last) (flag added)
   reply-added kept slot old added is found = (
     (λ yes.

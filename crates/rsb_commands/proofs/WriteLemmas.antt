@@ -17,14 +17,14 @@ short_of_text : (old mid new : Option (List ℕ)) (front piece more text : List 
     → text ≡ front ++ (piece ++ more) → Appends old mid front → AppendsShortOf mid new piece
     → AppendsShortOf old new text
 short_of_text old mid new front piece more text parts whole cut =
-    let rest = cut.is_front.rest in
+    let rest = cut.is_prefix.rest in
     let split : text ≡ (front ++ cut.front) ++ (rest ++ more) =
-    parts ∙ ap (λ v. front ++ (v ++ more)) cut.is_front.parts
+    parts ∙ ap (λ v. front ++ (v ++ more)) cut.is_prefix.parts
     ∙ ap (λ v. front ++ v) (append_assoc cut.front rest more)
     ∙ sym (append_assoc front cut.front (rest ++ more)) in
-    let some = ap length cut.is_front.parts ∙ length-append cut.front rest in record {
+    let some = ap length cut.is_prefix.parts ∙ length-append cut.front rest in record {
       front = front ++ cut.front;
-      is_front = record { rest = rest ++ more; parts = split };
+      is_prefix = record { rest = rest ++ more; parts = split };
       shorter = omega (
         arith,
         cut.shorter,
@@ -139,11 +139,11 @@ pub front_written : {T : Type 0} (old new : Option (List ℕ)) (result : Result 
     (text : List ℕ) → Writes old new result text → AppendsFrontOf old new text
 front_written old new (Ok done) text written = record {
   front = text;
-  is_front = record { rest = []; parts = sym (append-nil text) };
+  is_prefix = record { rest = []; parts = sym (append-nil text) };
   written = written;
 }
 front_written old new (Err fault) text written =
-    record { front = written.1.front; is_front = written.1.is_front; written = written.1.written }
+    record { front = written.1.front; is_prefix = written.1.is_prefix; written = written.1.written }
 
 -- the texts of things, one after the other, around that of the thing with index i
 pub items_cut : {A : Type 0} (text_of : A → List ℕ) (xs : List A) (i : ℕ) (default : A)

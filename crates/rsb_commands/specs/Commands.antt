@@ -3,8 +3,8 @@ use Rattle.std.specs.Prelude.{◌≡◌, ◌↔◌, ◌==◌, ◌&&◌, ◌<◌,
 use Rattle.std.specs.declared.cmp.Ordering.{Ordering}
 use Rattle.std.specs.declared.ops.RangeInclusive.{RangeInclusive}
 use Rattle.rsb_integer.specs.Rank.{intervals_of}
-use Rattle.rsb_integer.specs.Runs.{Interval, AreRuns, covers, members}
-use Rattle.rsb_integer.specs.Selection.{Selection, at_least, complement, count, difference, intersection, symmetric_difference, union}
+use Rattle.rsb_integer.specs.Runs.{Interval, AreRuns, covers, members, from_to}
+use Rattle.rsb_integer.specs.Selection.{Selection, at_least, complement, count, difference, intersection, symmetric_difference, union, complement_in, LacksSome}
 use Rattle.range_set_blaze.specs.Order.{HasOrder}
 use Rattle.range_set_blaze.specs.Set.{only, IsRunAround}
 use Rattle.rsb_commands.specs.declared.command.Command.{Command}
@@ -54,10 +54,6 @@ sets_of kept slot = members (slice_index_or kept slot [])
 unfoldable pub put : Sets → ℕ → Selection → Sets
 put sets slot set at = if at == slot then set else sets at
 
--- the set lacks some of the ranks
-abbrev pub LacksSome : Selection → Selection → Type 0
-LacksSome set ranks = (rank : ℕ) × IsTrue (ranks rank) × IsFalse (set rank)
-
 -- the one set, where it is so, and else the other
 abbrev pub whichever : Bool → Selection → Selection → Selection
 whichever is set other rank = if is then set rank else other rank
@@ -77,21 +73,9 @@ module _ {T : Type 0} (rank : T → ℕ) (value_count : ℕ) where
   NamesValues (Gap slot value) = rank value < value_count
   NamesValues _ = ⊤
 
-  -- the interval from the rank of one value to that of another
-  abbrev pub from_to : T → T → Interval
-  from_to first last = record { first = rank first; last = rank last }
-
-  -- the ranks from that of one value to that of another
-  abbrev pub between : T → T → Selection
-  between first last at = covers at (from_to first last)
-
-  -- what the set leaves out of the type
-  abbrev pub left_out : Selection → Selection
-  left_out set at = nat_lt at value_count && not (set at)
-
   -- the sets after a command
   abbrev pub after : Sets → Command T → Sets
-  after sets (Add slot first last) = put sets slot (union (sets slot) (between first last))
+  after sets (Add slot first last) = put sets slot (union (sets slot) (covers (from_to (rank first) (rank last))))
   after sets (Del slot value) = put sets slot (difference (sets slot) (only (rank value)))
   after sets (Union target left right) = put sets target (union (sets left) (sets right))
   after sets (Intersection target left right) =
@@ -99,7 +83,7 @@ module _ {T : Type 0} (rank : T → ℕ) (value_count : ℕ) where
   after sets (Difference target left right) = put sets target (difference (sets left) (sets right))
   after sets (SymmetricDifference target left right) =
       put sets target (symmetric_difference (sets left) (sets right))
-  after sets (Complement target source) = put sets target (left_out (sets source))
+  after sets (Complement target source) = put sets target (complement_in value_count (sets source))
   after sets (Most target a b c) = put sets target (most_of (sets a) (sets b) (sets c))
   after sets _ = sets
 
@@ -109,7 +93,7 @@ module _ {T : Type 0} (rank : T → ℕ) (value_count : ℕ) where
       : Type 0 where
     pub found : present ≡ set at
     pub around : IsRunAround value_count (whichever present set (complement set)) at
-        (from_to first last)
+        (from_to (rank first) (rank last))
 
   -- the reply tells the run or the gap that the rank lies in
   abbrev pub IsPieceReply : Selection → ℕ → Content T → Type 0
@@ -130,7 +114,7 @@ module _ {T : Type 0} (rank : T → ℕ) (value_count : ℕ) where
   -- the command, given to these sets, replies this
   abbrev pub IsReply : Sets → Command T → Content T → Type 0
   IsReply sets (Add slot first last) (flag added) =
-      IsTrue added ↔ LacksSome (sets slot) (between first last)
+      IsTrue added ↔ LacksSome (sets slot) (covers (from_to (rank first) (rank last)))
   IsReply sets (Del slot value) (flag removed) = removed ≡ sets slot (rank value)
   IsReply sets (Has slot value) (flag found) = found ≡ sets slot (rank value)
   IsReply sets (Gap slot value) reply = IsPieceReply (sets slot) (rank value) reply
@@ -143,7 +127,7 @@ module _ {T : Type 0} (rank : T → ℕ) (value_count : ℕ) where
       IsRunsReply (difference (sets left) (sets right)) reply
   IsReply sets (SymmetricDifference target left right) reply =
       IsRunsReply (symmetric_difference (sets left) (sets right)) reply
-  IsReply sets (Complement target source) reply = IsRunsReply (left_out (sets source)) reply
+  IsReply sets (Complement target source) reply = IsRunsReply (complement_in value_count (sets source)) reply
   IsReply sets (Most target a b c) reply = IsRunsReply (most_of (sets a) (sets b) (sets c)) reply
   IsReply sets (Compare left right) (order is) = HasOrder value_count (sets left) (sets right) is
   IsReply sets _ _ = ⊥

@@ -1,14 +1,14 @@
 -- What writing a text does to the bytes of a writer, where they are known.
 use Rattle.std.specs.Prelude.{◌≡◌, ℕ, ◌<◌, ◌⊎◌, List, [], ◌++◌, length, MatchResult, Option, Result}
 use Rattle.std.specs.Io.KnownBytes.{Appends, Keeps}
-use Rattle.rsb_integer.specs.Front.{IsFrontOf}
+use Rattle.rsb_integer.specs.Prefix.{IsPrefix}
 use Rattle.rsb_commands.specs.declared.fault.Fault.{Fault}
 use Rattle.rsb_commands.specs.declared.fault.Fault.TheVariants.{Io}
 
 -- known bytes grow by a front of the text, which is shorter than the whole
 pub record AppendsShortOf (old new : Option (List ℕ)) (text : List ℕ) : Type 0 where
   pub front : List ℕ
-  pub is_front : IsFrontOf front text
+  pub is_prefix : IsPrefix front text
   pub shorter : length front < length text
   pub written : Appends old new front
 
@@ -40,5 +40,5 @@ Lays old new before after result piece = MatchResult result
 -- known bytes grow by a front of the text
 pub record AppendsFrontOf (old new : Option (List ℕ)) (text : List ℕ) : Type 0 where
   pub front : List ℕ
-  pub is_front : IsFrontOf front text
+  pub is_prefix : IsPrefix front text
   pub written : Appends old new front

@@ -15,8 +15,8 @@ module _ (taken : List Interval) (pages from : ℕ) (run : Interval) (some : 0 <
   none-past_run around lower ends = λ block. elim (cases_lt lower from) [
     | inl below ↦ before lower below block
     | inr past ↦
-        let bounds = covers-bounds from run around.around in
-        let is = around.maximal.whole lower (covers-inside lower run (omega arith) ends) in
+        let bounds = covers-bounds run from around.around in
+        let is = around.maximal.whole lower (covers-inside run lower (omega arith) ends) in
         let free = block.free lower (omega arith) (omega arith) in
         absurd (cc)
   ]
@@ -28,7 +28,7 @@ module _ (taken : List Interval) (pages from : ℕ) (run : Interval) (some : 0 <
   none-past_gap around short lower ends = λ block. elim (cases_lt lower from) [
     | inl below ↦ before lower below block
     | inr past ↦
-        let bounds = covers-bounds from run around.around in
+        let bounds = covers-bounds run from around.around in
         let room = block.in_table in
         let is = around.maximal.ends_here (omega (arith, room)) in
         let free = block.free (run.last + 1) (omega arith) (omega arith) in

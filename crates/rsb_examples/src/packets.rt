@@ -2,7 +2,7 @@
 
 ghost use Rattle.std.specs.Prelude.{◌↔◌, ℕ, ◌^◌, ◌<◌, IfOk, IfSome, IsFalse, IsNone, IsTrue};
 ghost use Rattle.rsb_integer.specs.Runs.{members};
-ghost use Rattle.rsb_integer.specs.Selection.{difference, IsEverything};
+ghost use Rattle.rsb_integer.specs.Selection.{difference, IsUniversal};
 ghost use Rattle.range_set_blaze.specs.Set.{IsSetOf};
 
 use range_set_blaze::{DrawDisjoint, IntoRangeSetBlaze, RangeSetBlaze};
@@ -27,7 +27,7 @@ pub fn show(alloc: Global, rt: &impl Print) -> io::Result<()> {
 
 /// The first number that is missing, or `None` where all have come.
 pub fn next_wanted(acked: &RangeSetBlaze<u32>) -> Option<u32>
-    ensures none { IsNone result ↔ IsEverything (2 ^ 32) (members acked.now) }
+    ensures none { IsNone result ↔ IsUniversal (2 ^ 32) (members acked.now) }
     ensures missing { IfSome result (λ next. IsFalse (members acked.now next)) }
     ensures before { IfSome result (λ next. (number : ℕ) → number < next
         → IsTrue (members acked.now number)) }

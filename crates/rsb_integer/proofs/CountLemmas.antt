@@ -128,19 +128,19 @@ count-union (suc n) both left right are apart =
 
 -- the count of an interval
 pub count-covers : (n : ℕ) (run : Interval)
-    → count n (λ rank. covers rank run) ≡ min n (run.last + 1) - run.first
+    → count n (covers run) ≡ min n (run.last + 1) - run.first
 unfolding count
 count-covers zero run = omega arith
 count-covers (suc n) run =
     let before = count-covers n run in
-    elim (covers-cases n run) [
+    elim (covers-cases run n) [
       | inl inside ↦
-          let one : once (covers n run) ≡ 1 = ap once inside.2 in
+          let one : once (covers run n) ≡ 1 = ap once inside.2 in
           let low = inside.0 in
           let high = inside.1 in
           omega arith
       | inr outside ↦
-          let none : once (covers n run) ≡ 0 = ap once outside.1 in
+          let none : once (covers run n) ≡ 0 = ap once outside.1 in
           elim outside.0 [ inl below ↦ omega arith | inr past ↦ omega arith ]
     ]
 
@@ -153,9 +153,9 @@ count-members n low (run ∷ runs) canonical below =
     let ends : run.last < n = All-head (λ (each : Interval). each.last < n) run runs below in
     let tail = All-tail (λ (each : Interval). each.last < n) run runs below in
     let rest = count-members n (run.last + 2) runs canonical.2 tail in
-    let both = count-union n (members (run ∷ runs)) (λ rank. covers rank run) (members runs)
+    let both = count-union n (members (run ∷ runs)) (covers run) (members runs)
     (members-cons run runs)
-    (λ rank here. let bounds = covers-bounds rank run here in
+    (λ rank here. let bounds = covers-bounds run rank here in
     members-below (run.last + 2) runs rank canonical.2 (omega (arith, bounds.1))) in
     let one = count-covers n run in
     let sum = sum_by-cons length_of run runs in

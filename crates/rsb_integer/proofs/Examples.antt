@@ -2,13 +2,9 @@
 use Rattle.std.proofs.Common.{ℕ, ◌<◌, List, [], ◌∷◌, lit<, lit≤, arith}
 use Rattle.std.proofs.lemmas.Bool.Decides.{nat_tests}
 use Rattle.std.proofs.lemmas.List.Elements.{All-cons, All-nil}
-use Rattle.rsb_integer.specs.Runs.{Interval, covers, members, AreRuns, AllEndBelow}
+use Rattle.rsb_integer.specs.Runs.{Interval, covers, members, AreRuns, AllEndBelow, from_to}
 use Rattle.rsb_integer.specs.Selection.{complement, union}
 use Rattle.rsb_integer.proofs.RunsLemmas.{runs-from_canonical}
-
--- the ranks from one to another
-abbrev pub from_to : ℕ → ℕ → Interval
-from_to first last = record { first = first; last = last }
 
 -- a list that ends below 256 still does with an interval in front that does
 abbrev below-cons : (first last : ℕ) (runs : List Interval) → last < 256 → AllEndBelow 256 runs
@@ -22,17 +18,17 @@ below-nil = All-nil (λ (run : Interval). run.last < 256)
 
 -- {1..=3} with 4..=5 added is {1..=5}: ranges that touch are one run
 pub touching_ranges_join : AreRuns 256
-    (union (members (from_to 1 3 ∷ [])) (λ rank. covers rank (from_to 4 5))) (from_to 1 5 ∷ [])
+    (union (members (from_to 1 3 ∷ [])) (covers (from_to 4 5))) (from_to 1 5 ∷ [])
 touching_ranges_join = runs-from_canonical 256
-    (union (members (from_to 1 3 ∷ [])) (λ rank. covers rank (from_to 4 5))) (from_to 1 5 ∷ [])
+    (union (members (from_to 1 3 ∷ [])) (covers (from_to 4 5))) (from_to 1 5 ∷ [])
     (lit≤ tt, lit≤ tt, tt) (below-cons 1 5 [] (lit< tt) below-nil)
     (λ rank below. grind (arith, nat_tests))
 
 -- {1..=1} with the reversed 5..=3 added is unchanged
 pub reversed_adds_nothing : AreRuns 256
-    (union (members (from_to 1 1 ∷ [])) (λ rank. covers rank (from_to 5 3))) (from_to 1 1 ∷ [])
+    (union (members (from_to 1 1 ∷ [])) (covers (from_to 5 3))) (from_to 1 1 ∷ [])
 reversed_adds_nothing = runs-from_canonical 256
-    (union (members (from_to 1 1 ∷ [])) (λ rank. covers rank (from_to 5 3))) (from_to 1 1 ∷ [])
+    (union (members (from_to 1 1 ∷ [])) (covers (from_to 5 3))) (from_to 1 1 ∷ [])
     (lit≤ tt, lit≤ tt, tt) (below-cons 1 1 [] (lit< tt) below-nil)
     (λ rank below. grind (arith, nat_tests))
 

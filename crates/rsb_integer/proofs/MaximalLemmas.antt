@@ -73,7 +73,7 @@ run-last selected n rank (suc more) end here = elim (true_or_false (selected (ra
 
 -- a rank of the type that is selected lies in a maximal run
 pub maximal-around : (n : ℕ) (selected : Selection) (rank : ℕ) → rank < n → selected rank ≡ true
-    → (run : Interval) × IsMaximalRun n selected run × (covers rank run ≡ true)
+    → (run : Interval) × IsMaximalRun n selected run × (covers run rank ≡ true)
 maximal-around n selected rank below here =
     let down = run-first selected rank here in
     let up = run-last selected n rank (n - rank - 1) (omega arith) here in
@@ -84,7 +84,7 @@ maximal-around n selected rank below here =
       in_order = omega arith;
       in_type = up.2;
       whole = λ other within.
-          let bounds = covers-bounds other run within in
+          let bounds = covers-bounds run other within in
           elim (cases_lt rank other) [
             | inl above ↦ up.3 other (omega arith) bounds.1
             | inr before ↦ down.2 other bounds.0 before
@@ -92,4 +92,4 @@ maximal-around n selected rank below here =
       begins_here = down.3;
       ends_here = up.4;
     } in
-    (run, maximal, covers-inside rank run low high)
+    (run, maximal, covers-inside run rank low high)

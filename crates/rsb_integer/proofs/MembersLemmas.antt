@@ -10,28 +10,28 @@ use Rattle.rsb_integer.proofs.ListLemmas.{true_or_false, Contains-head, Contains
 -- ---- what an interval covers
 
 -- a rank inside the interval is covered
-pub covers-inside : (rank : ℕ) (run : Interval) → run.first ≤ rank → rank ≤ run.last
-    → covers rank run ≡ true
-covers-inside rank run low high = grind (arith, nat_tests)
+pub covers-inside : (run : Interval) (rank : ℕ) → run.first ≤ rank → rank ≤ run.last
+    → covers run rank ≡ true
+covers-inside run rank low high = grind (arith, nat_tests)
 
 -- a rank outside the interval is not covered
-pub covers-outside : (rank : ℕ) (run : Interval) → (rank < run.first) ⊎ (run.last < rank)
-    → covers rank run ≡ false
-covers-outside rank run outside = elim outside [
+pub covers-outside : (run : Interval) (rank : ℕ) → (rank < run.first) ⊎ (run.last < rank)
+    → covers run rank ≡ false
+covers-outside run rank outside = elim outside [
   | inl below ↦ grind (arith, nat_tests)
   | inr past ↦ grind (arith, nat_tests)
 ]
 
 -- a covered rank lies inside the interval
-pub covers-bounds : (rank : ℕ) (run : Interval) → covers rank run ≡ true → (run.first ≤ rank)
+pub covers-bounds : (run : Interval) (rank : ℕ) → covers run rank ≡ true → (run.first ≤ rank)
     × (rank ≤ run.last)
-covers-bounds rank run is = (grind (arith, nat_tests), grind (arith, nat_tests))
+covers-bounds run rank is = (grind (arith, nat_tests), grind (arith, nat_tests))
 
 -- a rank is one of the interval's, or lies on one side of it
-pub covers-cases : (rank : ℕ) (run : Interval)
-    → ((run.first ≤ rank) × (rank ≤ run.last) × (covers rank run ≡ true))
-    ⊎ (((rank < run.first) ⊎ (run.last < rank)) × (covers rank run ≡ false))
-covers-cases rank run = grind (arith, nat_tests)
+pub covers-cases : (run : Interval) (rank : ℕ)
+    → ((run.first ≤ rank) × (rank ≤ run.last) × (covers run rank ≡ true))
+    ⊎ (((rank < run.first) ⊎ (run.last < rank)) × (covers run rank ≡ false))
+covers-cases run rank = grind (arith, nat_tests)
 
 -- intervals with the same ends are one
 pub same_interval : (run other : Interval) → run.first ≡ other.first → run.last ≡ other.last → run
@@ -47,12 +47,12 @@ lt-cover false n = grind (arith, nat_tests)
 
 -- a member of a list is one of the first interval or of the others
 pub members-cons : (run : Interval) (runs : List Interval) (rank : ℕ)
-    → members (run ∷ runs) rank ≡ (covers rank run || members runs rank)
-members-cons run runs rank = lt-cover (covers rank run) (cover runs rank)
+    → members (run ∷ runs) rank ≡ (covers run rank || members runs rank)
+members-cons run runs rank = lt-cover (covers run rank) (cover runs rank)
 
 -- what the first interval covers is a member
 pub members-covered : (run : Interval) (runs : List Interval) (rank : ℕ)
-    → covers rank run ≡ true → members (run ∷ runs) rank ≡ true
+    → covers run rank ≡ true → members (run ∷ runs) rank ≡ true
 members-covered run runs rank here =
     members-cons run runs rank ∙ ap (λ test. test || members runs rank) here
 
@@ -60,14 +60,14 @@ members-covered run runs rank here =
 pub members-head : (run : Interval) (runs : List Interval) (rank : ℕ)
     → run.first ≤ rank → rank ≤ run.last → members (run ∷ runs) rank ≡ true
 members-head run runs rank low high =
-    members-covered run runs rank (covers-inside rank run low high)
+    members-covered run runs rank (covers-inside run rank low high)
 
 -- outside the first interval the others decide
 pub members-tail : (run : Interval) (runs : List Interval) (rank : ℕ)
     → (rank < run.first) ⊎ (run.last < rank) → members (run ∷ runs) rank ≡ members runs rank
 members-tail run runs rank outside =
     members-cons run runs rank
-    ∙ ap (λ test. test || members runs rank) (covers-outside rank run outside)
+    ∙ ap (λ test. test || members runs rank) (covers-outside run rank outside)
 
 -- no member lies below the start of a canonical list
 pub members-below : (low : ℕ) (runs : List Interval) (rank : ℕ)
@@ -82,15 +82,15 @@ members-below low (run ∷ runs) rank canonical below =
 -- a member is covered by the first interval or is a member of the others
 members-cases : (run : Interval) (runs : List Interval) (rank : ℕ) → members (run ∷ runs) rank
     ≡ true
-    → (covers rank run ≡ true) ⊎ (members runs rank ≡ true)
-members-cases run runs rank member = elim (covers-cases rank run) [
+    → (covers run rank ≡ true) ⊎ (members runs rank ≡ true)
+members-cases run runs rank member = elim (covers-cases run rank) [
   | inl inside ↦ inl inside.2
   | inr outside ↦ inr (sym (members-tail run runs rank outside.0) ∙ member)
 ]
 
 -- a member lies in an interval of the list
 pub members-in : (runs : List Interval) (rank : ℕ) → members runs rank ≡ true
-    → (run : Interval) × Contains runs run × (covers rank run ≡ true)
+    → (run : Interval) × Contains runs run × (covers run rank ≡ true)
 members-in [] rank member = absurd (cc)
 members-in (run ∷ runs) rank member = elim (members-cases run runs rank member) [
   | inl here ↦ (run, Contains-head run runs, here)
@@ -101,14 +101,14 @@ members-in (run ∷ runs) rank member = elim (members-cases run runs rank member
 
 -- what an interval of the list has is a member
 pub members-from : (runs : List Interval) (run : Interval) (rank : ℕ)
-    → Contains runs run → covers rank run ≡ true → members runs rank ≡ true
+    → Contains runs run → covers run rank ≡ true → members runs rank ≡ true
 members-from [] run rank found here = let below = found.1 in absurd (omega arith)
 members-from (other ∷ runs) run rank found here = elim (Contains-cases other runs run found) [
-  | inl same ↦ members-covered other runs rank (ap (covers rank) same ∙ here)
+  | inl same ↦ members-covered other runs rank (ap (λ found. covers found rank) same ∙ here)
   | inr later ↦
       members-cons other runs rank
-      ∙ ap (λ test. covers rank other || test) (members-from runs run rank later here)
-      ∙ or-true (covers rank other)
+      ∙ ap (λ test. covers other rank || test) (members-from runs run rank later here)
+      ∙ or-true (covers other rank)
 ]
 
 -- no member lies past the type's end
@@ -118,7 +118,7 @@ members-end n runs rank below past = elim (true_or_false (members runs rank)) [
   | inl member ↦
       let found = members-in runs rank member in
       let ends = All-contains (λ (run : Interval). run.last < n) runs found.0 below found.1 in
-      let bounds = covers-bounds rank found.0 found.2 in
+      let bounds = covers-bounds found.0 rank found.2 in
       absurd (omega (arith, bounds.1))
   | inr none ↦ none
 ]

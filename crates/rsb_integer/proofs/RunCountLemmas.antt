@@ -7,7 +7,7 @@ use Rattle.std.specs.Prelude.{All}
 use Rattle.std.proofs.lemmas.List.Elements.{All-cons, All-head, All-nil, All-tail}
 use Rattle.std.proofs.lemmas.List.Sums.{sum_by-cons}
 use Rattle.std.specs.List.{sum_by}
-use Rattle.rsb_integer.specs.Runs.{Interval, covers, length_of, members, AllEndBelow, AreRuns, IsCanonicalFrom, IsMaximalRun, IsNonEmpty}
+use Rattle.rsb_integer.specs.Runs.{Interval, covers, length_of, members, AllEndBelow, AreRuns, IsCanonicalFrom, IsMaximalRun, HasRanks}
 use Rattle.rsb_integer.specs.Selection.{Selection, Agree, at_least, complement, count, difference, exclusive_or, how_many, intersection, symmetric_difference, union}
 use Rattle.rsb_integer.proofs.CountLemmas.{count-agree, count-less, count-members}
 use Rattle.rsb_integer.proofs.ListLemmas.{true_or_false}
@@ -225,7 +225,7 @@ runs-have n selected (run ∷ runs) are some =
       run.last,
       maximal.in_type,
       maximal.whole run.last
-          (covers-inside run.last run maximal.in_order (omega arith)),
+          (covers-inside run run.last maximal.in_order (omega arith)),
     )
 
 -- a set within one that has no runs has none
@@ -439,29 +439,29 @@ runs-intersection n left right lefts rights both are_left are_right are_both som
 
 -- the ranks of an interval have one run
 runs-of_interval : (n : ℕ) (run : Interval) → run.first ≤ run.last → run.last < n
-    → AreRuns n (λ rank. covers rank run) (run ∷ [])
+    → AreRuns n (covers run) (run ∷ [])
 runs-of_interval n run ordered below =
     let P : Interval → Type 0 = λ each. each.last < n in
-    runs-from_canonical n (λ rank. covers rank run) (run ∷ []) (omega arith, ordered, tt)
+    runs-from_canonical n (covers run) (run ∷ []) (omega arith, ordered, tt)
     (All-cons P run [] below (All-nil P))
-    (λ rank within. members-cons run [] rank ∙ or-false (covers rank run))
+    (λ rank within. members-cons run [] rank ∙ or-false (covers run rank))
 
 -- a set has one run more at most where an interval is added
 pub runs-with_interval : (n : ℕ) (selected : Selection) (run : Interval)
     (runs made : List Interval) → run.first ≤ run.last → run.last < n → AreRuns n selected runs
-    → AreRuns n (union selected (λ rank. covers rank run)) made → length made ≤ length runs + 1
+    → AreRuns n (union selected (covers run)) made → length made ≤ length runs + 1
 runs-with_interval n selected run runs made ordered below are added =
-    let most = runs-union n selected (λ rank. covers rank run) runs (run ∷ []) made are
+    let most = runs-union n selected (covers run) runs (run ∷ []) made are
     (runs-of_interval n run ordered below) added in
     omega (arith, most)
 
 -- and where one is taken out
 pub runs-without_interval : (n : ℕ) (selected : Selection) (run : Interval)
     (runs made : List Interval) → run.first ≤ run.last → run.last < n → AreRuns n selected runs
-    → AreRuns n (difference selected (λ rank. covers rank run)) made
+    → AreRuns n (difference selected (covers run)) made
     → length made ≤ length runs + 1
 runs-without_interval n selected run runs made ordered below are left_over =
-    let most = runs-difference n selected (λ rank. covers rank run) runs (run ∷ []) made are
+    let most = runs-difference n selected (covers run) runs (run ∷ []) made are
     (runs-of_interval n run ordered below) left_over in
     omega (arith, most)
 
@@ -574,7 +574,7 @@ at_least-begins (suc n) least sets positive =
 
 -- intervals that have a rank, and end below n
 abbrev pub HaveRanks : ℕ → List Interval → Type 0
-HaveRanks n runs = All IsNonEmpty runs × AllEndBelow n runs
+HaveRanks n runs = All HasRanks runs × AllEndBelow n runs
 
 -- what lies in some intervals begins at no more ranks than there are
 begins-members_most : (n : ℕ) (runs : List Interval) → HaveRanks n runs
@@ -585,18 +585,18 @@ begins-members_most n [] have =
     omega arith
 begins-members_most n (run ∷ runs) have =
     let Below : Interval → Type 0 = λ each. each.last < n in
-    let ordered = All-head IsNonEmpty run runs have.0 in
+    let ordered = All-head HasRanks run runs have.0 in
     let below = All-head Below run runs have.1 in
     let others = begins-members_most n runs
-    (All-tail IsNonEmpty run runs have.0, All-tail Below run runs have.1) in
-    let own = runs-begin n (λ rank. covers rank run) (run ∷ [])
+    (All-tail HasRanks run runs have.0, All-tail Below run runs have.1) in
+    let own = runs-begin n (covers run) (run ∷ [])
     (runs-of_interval n run ordered below) in
-    let both = union (λ rank. covers rank run) (members runs) in
+    let both = union (covers run) (members runs) in
     let same = count-agree n (begins (members (run ∷ runs))) (begins both)
     (begins-agree n (members (run ∷ runs)) both (λ rank within. members-cons run runs rank)) in
     let most = begins-two (λ left right. left || right) nothing
     (fewer-of_one (λ left right. left || right) refl)
-    (last-of_one (λ left right. left || right) refl) (λ rank. covers rank run) (members runs) n in
+    (last-of_one (λ left right. left || right) refl) (covers run) (members runs) n in
     omega arith
 
 -- nor lists of them, all together

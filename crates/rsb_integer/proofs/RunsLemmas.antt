@@ -37,7 +37,7 @@ tail-maximal n run runs other later maximal =
       in_order = ordered;
       in_type = maximal.in_type;
       whole = λ rank here.
-          let bounds = covers-bounds rank other here in
+          let bounds = covers-bounds other rank here in
           members-tail run runs rank (inr (omega (arith, bounds.0))) ∙ maximal.whole rank here;
       begins_here = λ above.
           members-tail run runs (other.first - 1) (inr (omega arith)) ∙ maximal.begins_here above;
@@ -81,7 +81,7 @@ maximal-head n run runs other ordered below rest maximal low high =
     let last : run.last ≡ other.last = elim (cases_lt run.last other.last) [
       | inl less ↦
           absurd (not_both (members (run ∷ runs) (run.last + 1))
-          (maximal.whole (run.last + 1) (covers-inside (run.last + 1) other (omega arith)
+          (maximal.whole (run.last + 1) (covers-inside other (run.last + 1) (omega arith)
           (omega arith)))
           gap)
       | inr most ↦ elim (cases_lt other.last run.last) [
@@ -104,7 +104,7 @@ maximal-tail n run runs other past maximal =
       in_order = ordered;
       in_type = maximal.in_type;
       whole = λ rank here.
-          let bounds = covers-bounds rank other here in
+          let bounds = covers-bounds other rank here in
           sym (members-tail run runs rank (inr (omega (arith, bounds.0))))
           ∙ maximal.whole rank here;
       begins_here = λ above.
@@ -120,7 +120,7 @@ pub canonical-complete : (n low : ℕ) (runs : List Interval) (other : Interval)
     → AllEndBelow n runs → IsMaximalRun n (members runs) other → Contains runs other
 canonical-complete n low [] other canonical below maximal =
     absurd (not_both (members [] other.first)
-    (maximal.whole other.first (covers-inside other.first other (omega arith) maximal.in_order))
+    (maximal.whole other.first (covers-inside other other.first (omega arith) maximal.in_order))
     refl)
 canonical-complete n low (run ∷ runs) other canonical below maximal =
     let starts = canonical.0 in
@@ -128,7 +128,7 @@ canonical-complete n low (run ∷ runs) other canonical below maximal =
     let ends : run.last < n = All-head (λ (each : Interval). each.last < n) run runs below in
     let tail = All-tail (λ (each : Interval). each.last < n) run runs below in
     let start : members (run ∷ runs) other.first ≡ true =
-    maximal.whole other.first (covers-inside other.first other (omega arith) maximal.in_order)
+    maximal.whole other.first (covers-inside other other.first (omega arith) maximal.in_order)
     in
     elim (cases_lt run.last other.first) [
       | inl past ↦
@@ -190,13 +190,13 @@ maximal-apart n selected run other maximal next less =
       | inr within ↦
           absurd (not_both (selected (other.first - 1))
           (maximal.whole (other.first - 1)
-          (covers-inside (other.first - 1) run (omega arith) (omega arith)))
+          (covers-inside run (other.first - 1) (omega arith) (omega arith)))
           (next.begins_here (omega arith)))
       | inl past ↦ elim (cases_lt (run.last + 1) other.first) [
         | inl apart ↦ omega arith
         | inr touching ↦
             absurd (not_both (selected (run.last + 1))
-            (next.whole (run.last + 1) (covers-inside (run.last + 1) other (omega arith)
+            (next.whole (run.last + 1) (covers-inside other (run.last + 1) (omega arith)
             (omega arith)))
             (maximal.ends_here (omega arith)))
       ]
@@ -264,7 +264,7 @@ maximal-along n selected other same run maximal =
       in_order = ordered;
       in_type = below;
       whole = λ rank here.
-          let bounds = covers-bounds rank run here in
+          let bounds = covers-bounds run rank here in
           sym (same rank (omega (arith, bounds.1))) ∙ maximal.whole rank here;
       begins_here = λ above. sym (same (run.first - 1) (omega arith)) ∙ maximal.begins_here above;
       ends_here = λ more. sym (same (run.last + 1) more) ∙ maximal.ends_here more;

@@ -1,4 +1,4 @@
-pub mod Front
+pub mod Prefix
 pub mod Rank
 pub mod RankLaws
 pub mod Room

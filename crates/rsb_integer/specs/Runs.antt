@@ -7,38 +7,42 @@ pub record Interval : Type 0 where
   pub first : ℕ
   pub last : ℕ
 
--- whether the interval has the rank
-abbrev pub covers : ℕ → Interval → Bool
-covers rank run = nat_le run.first rank && nat_le rank run.last
+-- the ranks from the one to the other
+abbrev pub from_to : ℕ → ℕ → Interval
+from_to first last = record { first = first; last = last }
+
+-- the ranks that the interval has
+abbrev pub covers : Interval → Selection
+covers run rank = nat_le run.first rank && nat_le rank run.last
 
 -- how many ranks the interval has
 abbrev pub length_of : Interval → ℕ
 length_of run = run.last + 1 - run.first
 
 -- the interval has a rank
-abbrev pub IsNonEmpty : Interval → Type 0
-IsNonEmpty run = run.first ≤ run.last
+abbrev pub HasRanks : Interval → Type 0
+HasRanks run = run.first ≤ run.last
 
 -- the interval has no rank
-abbrev pub IsEmpty : Interval → Type 0
-IsEmpty run = run.last < run.first
+abbrev pub HasNoRanks : Interval → Type 0
+HasNoRanks run = run.last < run.first
 
 -- the rest of an interval when its first rank is taken out: empty where it had one or none
 pub record IsAfterFirst (run rest : Interval) : Type 0 where
   pub more : run.first < run.last → (rest.first ≡ run.first + 1) × (rest.last ≡ run.last)
-  pub none : run.last ≤ run.first → IsEmpty rest
+  pub none : run.last ≤ run.first → HasNoRanks rest
 
 -- the rest of an interval when its last rank is taken out: empty where it had one or none
 pub record IsBeforeLast (run rest : Interval) : Type 0 where
   pub more : run.first < run.last → (rest.first ≡ run.first) × (rest.last + 1 ≡ run.last)
-  pub none : run.last ≤ run.first → IsEmpty rest
+  pub none : run.last ≤ run.first → HasNoRanks rest
 
 -- ---- lists of intervals
 
 -- how many intervals of the list have the rank
 abbrev pub cover : List Interval → ℕ → ℕ
 cover [] rank = 0
-cover (run ∷ runs) rank = cond (covers rank run) 1 0 + cover runs rank
+cover (run ∷ runs) rank = cond (covers run rank) 1 0 + cover runs rank
 
 -- the ranks that some interval of the list has
 abbrev pub members : List Interval → Selection
@@ -70,7 +74,7 @@ module _ (n : ℕ) (selected : Selection) where
   pub record IsMaximalRun (run : Interval) : Type 0 where
     pub in_order : run.first ≤ run.last
     pub in_type : run.last < n
-    pub whole : (rank : ℕ) → IsTrue (covers rank run) → IsTrue (selected rank)
+    pub whole : (rank : ℕ) → IsTrue (covers run rank) → IsTrue (selected rank)
     pub begins_here : 0 < run.first → IsFalse (selected (run.first - 1))
     pub ends_here : run.last + 1 < n → IsFalse (selected (run.last + 1))
 

@@ -1,5 +1,5 @@
 -- Sets of ranks and their algebra. A rank is the place of a value in its type, from 0 on.
-use Rattle.std.specs.Prelude.{◌≡◌, ℕ, zero, suc, Bool, true, false, not, ◌&&◌, ◌||◌, cond, ◌+◌, ◌<◌, nat_le, List, [], ◌∷◌, IsTrue, IsFalse}
+use Rattle.std.specs.Prelude.{◌≡◌, ℕ, zero, suc, Bool, true, false, not, ◌&&◌, ◌||◌, cond, ◌+◌, ◌<◌, nat_le, nat_lt, List, [], ◌∷◌, IsTrue, IsFalse}
 
 -- a set of ranks: it selects those that it is true of
 abbrev pub Selection : Type 0
@@ -15,6 +15,10 @@ exclusive_or false b = b
 -- what the set leaves out
 abbrev pub complement : Selection → Selection
 complement selected rank = not (selected rank)
+
+-- the ranks of a type of n values that the set leaves out
+abbrev pub complement_in : ℕ → Selection → Selection
+complement_in n selected rank = nat_lt rank n && not (selected rank)
 
 -- what one of the two sets has, or both have
 abbrev pub union : Selection → Selection → Selection
@@ -72,13 +76,17 @@ IsSubset n left right = (rank : ℕ) → rank < n → IsTrue (left rank) → IsT
 abbrev pub AreDisjoint : ℕ → Selection → Selection → Type 0
 AreDisjoint n left right = (rank : ℕ) → rank < n → IsTrue (left rank) → IsFalse (right rank)
 
+-- the set lacks one of the ranks
+abbrev pub LacksSome : Selection → Selection → Type 0
+LacksSome set ranks = (rank : ℕ) × IsTrue (ranks rank) × IsFalse (set rank)
+
 -- no rank is selected
-abbrev pub IsNothing : Selection → Type 0
-IsNothing selected = (rank : ℕ) → IsFalse (selected rank)
+abbrev pub IsEmpty : Selection → Type 0
+IsEmpty selected = (rank : ℕ) → IsFalse (selected rank)
 
 -- each of n ranks is selected
-abbrev pub IsEverything : ℕ → Selection → Type 0
-IsEverything n selected = (rank : ℕ) → rank < n → IsTrue (selected rank)
+abbrev pub IsUniversal : ℕ → Selection → Type 0
+IsUniversal n selected = (rank : ℕ) → rank < n → IsTrue (selected rank)
 
 -- how many ranks below n the set selects. Not an abbreviation, since n may be 2 ^ 128.
 unfoldable pub count : ℕ → Selection → ℕ

@@ -6,7 +6,7 @@ ghost use Rattle.std.specs.Range.{range_inclusive_start, range_inclusive_end};
 ghost use Rattle.std.proofs.lemmas.Map.Lookups.{CmpEqualImpliesEq};
 ghost use Rattle.rsb_integer.specs.Rank.{interval_of};
 ghost use Rattle.rsb_integer.specs.Room.{two_ends, HaveRoom};
-ghost use Rattle.rsb_integer.specs.Runs.{length_of, IsNonEmpty, IsEmpty, IsAfterFirst, IsBeforeLast};
+ghost use Rattle.rsb_integer.specs.Runs.{length_of, HasRanks, HasNoRanks, IsAfterFirst, IsBeforeLast};
 
 use num_traits::{One, Zero};
 use rsb_length::SafeLength;
@@ -68,7 +68,7 @@ pub trait Integer: Copy + PartialEq + PartialOrd + Ord + Debug {
 
     /// How many values a non-empty range has. (`Integer::safe_len`.)
     fn safe_len(range: &RangeInclusive<Self>) -> Self::SafeLen
-        requires { IsNonEmpty (interval_of rank range.now) }
+        requires { HasRanks (interval_of rank range.now) }
         ensures { Self.SafeLen.number result ≡ length_of (interval_of rank range.now) };
 
     /// The end of the range of `b` values that starts here: at least one value, and at most as many
@@ -99,7 +99,7 @@ pub trait Integer: Copy + PartialEq + PartialOrd + Ord + Debug {
     fn exhausted_range() -> RangeInclusive<Self>
         ensures start { rank (range_inclusive_start result) + 1 ≡ value_count }
         ensures end { rank (range_inclusive_end result) ≡ 0 }
-        ensures empty { IsEmpty (interval_of rank result) }
+        ensures empty { HasNoRanks (interval_of rank result) }
     {
         Self::max_value()..=Self::min_value()
     }
@@ -108,7 +108,7 @@ pub trait Integer: Copy + PartialEq + PartialOrd + Ord + Debug {
     /// Which ends an emptied range has is left open. (`Integer::range_next`.)
     fn range_next(range: &mut RangeInclusive<Self>) -> Option<Self>
         ensures value { (interval_of rank range.old).last < value_count }
-        ensures none { IsNone result ↔ IsEmpty (interval_of rank range.old) }
+        ensures none { IsNone result ↔ HasNoRanks (interval_of rank range.old) }
         ensures first { IfSome result (λ first. rank first ≡ (interval_of rank range.old).first) }
         ensures rest { IsAfterFirst (interval_of rank range.old) (interval_of rank range.new) }
     {
@@ -132,7 +132,7 @@ pub trait Integer: Copy + PartialEq + PartialOrd + Ord + Debug {
     /// Which ends an emptied range has is left open. (`Integer::range_next_back`.)
     fn range_next_back(range: &mut RangeInclusive<Self>) -> Option<Self>
         ensures value { (interval_of rank range.old).last < value_count }
-        ensures none { IsNone result ↔ IsEmpty (interval_of rank range.old) }
+        ensures none { IsNone result ↔ HasNoRanks (interval_of rank range.old) }
         ensures last { IfSome result (λ last. rank last ≡ (interval_of rank range.old).last) }
         ensures rest { IsBeforeLast (interval_of rank range.old) (interval_of rank range.new) }
     {

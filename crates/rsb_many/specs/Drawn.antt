@@ -6,7 +6,7 @@ use Rattle.rsb_integer.specs.declared.integer.Integer.{Ghosts as Elements}
 use Rattle.rsb_streams.specs.Lookahead.{Uses}
 use Rattle.rsb_streams.specs.Stream.{◌⊆◌}
 use Rattle.rsb_streams.specs.declared.draw.Draw.{Ghosts as Stream}
-use Rattle.rsb_many.specs.Heads.{binary_digits, closing, TakesLeast}
+use Rattle.rsb_many.specs.Heads.{binary_digits, closing, TakesLeastHead}
 use Rattle.rsb_many.specs.Inputs.{input_at, inputs_left, AreReady, Inputs}
 use Rattle.rsb_many.specs.Many.{gives_of, may_give_at, IsBegun}
 use Rattle.rsb_many.specs.declared.drawn.Drawn.{Drawn}
@@ -81,7 +81,7 @@ module _ {T N I A : Type 0} (integer : Elements T N) (stream : Stream I T N) whe
 
   -- the least head leaves, and a range of its input is due
   pub record TakesHead (s : Drawn T I A N) (head : Head T) (t : Drawn T I A N) : Type 0 where
-    pub taken : TakesLeast integer.rank s.heads head t.heads
+    pub taken : TakesLeastHead integer.rank s.heads head t.heads
     pub streams : t.streams ≡ s.streams
     pub used : t.used ≡ Some head.input
     pub room : s.heads.room ≤ t.heads.room

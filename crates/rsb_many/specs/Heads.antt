@@ -37,7 +37,7 @@ IsLeastOf rank head heads =
     All (λ other. IsFalse (comes_before (key_of rank other) (key_of rank head))) heads
 
 -- this head came out: none that stays comes before it
-pub record TakesLeast {T : Type 0} (rank : T → ℕ) (old : Kept T) (head : Head T) (new : Kept T)
+pub record TakesLeastHead {T : Type 0} (rank : T → ℕ) (old : Kept T) (head : Head T) (new : Kept T)
     : Type 0 where
   pub kept : IsPermutation old.heads (head ∷ new.heads)
   pub least : IsLeastOf rank head new.heads

@@ -20,14 +20,14 @@ pub record Inputs (T S : Type 0) : Type 0 where
   pub due : ℕ → Bool
 
 -- the ranks of the range of a head
-abbrev pub run_of : {T : Type 0} → (T → ℕ) → Head T → Interval
-run_of rank head = record { first = rank head.start; last = rank head.end }
+abbrev pub run_of_head : {T : Type 0} → (T → ℕ) → Head T → Interval
+run_of_head rank head = record { first = rank head.start; last = rank head.end }
 
 -- the ranges of the heads of the input at a place
 abbrev pub held_at : {T : Type 0} → (T → ℕ) → List (Head T) → ℕ → List Interval
 held_at rank [] place = []
 held_at rank (head ∷ heads) place =
-    cond (nat_eq head.input place) (run_of rank head ∷ held_at rank heads place)
+    cond (nat_eq head.input place) (run_of_head rank head ∷ held_at rank heads place)
     (held_at rank heads place)
 
 -- an input of which nothing is held, and nothing is due, has ended

@@ -8,7 +8,7 @@ ghost use Rattle.rsb_many.specs.DynSortedDisjoint.{TakesOneMore};
 ghost use Rattle.rsb_streams.specs.Listed.{listed_may_give};
 ghost use Rattle.rsb_streams.specs.ListedLaws.{listed-answers, listed-keeps};
 ghost use Rattle.rsb_streams.specs.Stream.{◌⊆◌};
-ghost use Rattle.rsb_streams.specs.StreamLaws.{canonical-starts, drawn-itself};
+ghost use Rattle.rsb_streams.specs.StreamLaws.{canonical_stream-starts, drawn-itself};
 
 use rsb_integer::Integer;
 use rsb_streams::{Draw, DrawDisjoint, SortedDisjoint, SortedStarts};
@@ -87,7 +87,7 @@ impl<T: Integer, A: Allocator> Draw<T> for DynSortedDisjoint<T, A> {
 
     ghost answers = { listed-answers T.rank (λ s. s) };
 
-    ghost sorted = { λ s canonical. canonical-starts T.value_count _ _
+    ghost sorted = { λ s canonical. canonical_stream-starts T.value_count _ _
         (listed-keeps T.rank (λ s. s) T.value_count s canonical) };
 }
 

@@ -2,7 +2,7 @@
 
 ghost use Rattle.std.specs.Prelude.{◌≡◌, ◌+◌, ◌*◌, ◌<◌, ◌≤◌, [], ◌∷◌, length, All, IfOk, IfSome, IsFalse, IsPermutation, MatchOption};
 ghost use Rattle.std.specs.Vec.{vec_capacity};
-ghost use Rattle.rsb_many.specs.Heads.{binary_digits, closing, key_of, HasValues, TakesLeast};
+ghost use Rattle.rsb_many.specs.Heads.{binary_digits, closing, key_of, HasValues, TakesLeastHead};
 ghost use Rattle.rsb_many.specs.HeapOrder.{IsHeap, IsHeapButFirst, IsHeapButLast, IsLesserChild};
 ghost use Rattle.rsb_many.specs.Keys.{comes_before};
 
@@ -171,7 +171,7 @@ impl<T: Integer, A: Allocator> Heads<T, A> {
     /// head that is added goes there.
     pub(crate) fn pop(&mut self) -> Option<Head<T>>
         ensures taken { MatchOption result ((self.old.heads ≡ []) × (self.new.heads ≡ []))
-            (λ head. TakesLeast T.rank self.old head self.new) }
+            (λ head. TakesLeastHead T.rank self.old head self.new) }
         ensures values { IfSome result (HasValues T.rank T.value_count) }
         ensures room { self.old.room ≤ self.new.room }
         ensures compared { self.new.comparisons ≤ self.old.comparisons + closing self.old }

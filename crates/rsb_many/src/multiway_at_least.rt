@@ -1,7 +1,7 @@
 //! What lies in at least so many streams.
 
 ghost use Rattle.std.specs.Prelude.{◌<◌, List};
-ghost use Rattle.rsb_streams.specs.StreamLaws.{canonical-starts, drawn-itself};
+ghost use Rattle.rsb_streams.specs.StreamLaws.{canonical_stream-starts, drawn-itself};
 ghost use Rattle.rsb_many.specs.MultiwayAtLeast.{
   multiway_at_least,
   GivesRunsOfAllAtMost,
@@ -76,7 +76,7 @@ impl<T: Integer, I: Draw<T>, A: Allocator> Draw<T> for MultiwayAtLeast<T, I, A> 
 
     ghost answers = { λ s t item gives. gives.answers };
 
-    ghost sorted = { λ s ready. canonical-starts T.value_count _ _
+    ghost sorted = { λ s ready. canonical_stream-starts T.value_count _ _
         (multiway_at_least-disjoint T.Integer.own ⟦<I as Draw<T>>⟧ s ready) };
 }
 

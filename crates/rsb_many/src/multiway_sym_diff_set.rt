@@ -2,7 +2,7 @@
 
 ghost use Rattle.std.specs.Prelude.{All, IfOk, List};
 ghost use Rattle.rsb_streams.specs.Items.{GaveRun, IsEnding};
-ghost use Rattle.rsb_streams.specs.StreamLaws.{canonical-starts, drawn-itself};
+ghost use Rattle.rsb_streams.specs.StreamLaws.{canonical_stream-starts, drawn-itself};
 ghost use Rattle.rsb_many.specs.HandedIn.{EachGaveRun};
 ghost use Rattle.rsb_many.specs.MultiwayLaws.{multiway_symmetric_difference-disjoint};
 ghost use Rattle.rsb_many.specs.MultiwayResults.{MakesMultiwaySymmetricDifference};
@@ -90,7 +90,7 @@ impl<T: Integer, I: Draw<T>, A: Allocator> Draw<T> for MultiwaySymmetricDifferen
 
     ghost answers = { λ s t item gives. gives.answers };
 
-    ghost sorted = { λ s ready. canonical-starts T.value_count _ _
+    ghost sorted = { λ s ready. canonical_stream-starts T.value_count _ _
         (multiway_symmetric_difference-disjoint T.Integer.own ⟦<I as Draw<T>>⟧ s ready) };
 }
 

@@ -15,10 +15,10 @@ use Rattle.std.specs.declared.iter.SkipWhile.{SkipWhile}
 use Rattle.std.specs.declared.iter.Take.{Take}
 use Rattle.std.specs.declared.iter.TakeWhile.{TakeWhile}
 use Rattle.std.specs.declared.ops.RangeInclusive.{RangeInclusive}
-use Rattle.rsb_integer.specs.Front.{IsFrontOf}
+use Rattle.rsb_integer.specs.Prefix.{IsPrefix, IsSuffix}
 use Rattle.rsb_integer.specs.Rank.{interval_of, intervals_of}
 use Rattle.rsb_integer.specs.Runs.{Interval}
-use Rattle.rsb_streams.specs.Adapters.{IsRestOf, IsSkipped, filter_may_give, skip_may_give, skip_while_may_give, take_may_give, take_while_may_give}
+use Rattle.rsb_streams.specs.Adapters.{IsSkipped, filter_may_give, skip_may_give, skip_while_may_give, take_may_give, take_while_may_give}
 use Rattle.rsb_streams.specs.Fused.{fuse_may_give}
 use Rattle.rsb_streams.specs.Stream.{Outcomes, Answers, unless}
 use Rattle.rsb_streams.specs.SublistsLaws.{sublist-after}
@@ -112,15 +112,15 @@ module _ {S T : Type 0} (rank : T → ℕ) (P : S → Outcomes)
         let takes = takes-by s t range (take_while_done s) refl call in
         let run = interval_of rank range in
         may (λ given at part.
-        let front : IsFrontOf rest given =
-        subst (λ done. MatchBool done (rest ≡ []) (IsFrontOf rest given)) takes.after part in
-        let longer : IsFrontOf (run ∷ rest) (run ∷ given) = record {
+        let front : IsPrefix rest given =
+        subst (λ done. MatchBool done (rest ≡ []) (IsPrefix rest given)) takes.after part in
+        let longer : IsPrefix (run ∷ rest) (run ∷ given) = record {
           rest = front.rest;
           parts = ap (λ runs. run ∷ runs) front.parts;
         } in
         nothing (run ∷ given)
         (gives (take_while_source s) (take_while_source t) range takes.source given at)
-        (subst (λ done. MatchBool done (run ∷ rest ≡ []) (IsFrontOf (run ∷ rest) (run ∷ given)))
+        (subst (λ done. MatchBool done (run ∷ rest ≡ []) (IsPrefix (run ∷ rest) (run ∷ given)))
         (sym takes.before) longer))
 
     -- a `SkipWhile` that gives a range passed over some before it, and passes over no more
@@ -157,10 +157,10 @@ module _ {S T : Type 0} (rank : T → ℕ) (P : S → Outcomes)
     skip_while-by : (started after : Bool) (ranges : List (RangeInclusive T)) (s t : S)
         (range : RangeInclusive T) (rest given : List Interval) → after ≡ true
         → (started ≡ true → ranges ≡ [])
-        → MatchBool after (rest ≡ given) (IsRestOf rest given)
+        → MatchBool after (rest ≡ given) (IsSuffix rest given)
         → MatchBool started
         (interval_of rank range ∷ rest ≡ intervals_of rank ranges ++ interval_of rank range ∷ given)
-        (IsRestOf (interval_of rank range ∷ rest)
+        (IsSuffix (interval_of rank range ∷ rest)
         (intervals_of rank ranges ++ interval_of rank range ∷ given))
     skip_while-by started false ranges s t range rest given end none part = absurd (cc)
     skip_while-by true true ranges s t range rest given end none part =

@@ -14,11 +14,11 @@ use Rattle.std.specs.declared.iter.SkipWhile.{SkipWhile}
 use Rattle.std.specs.declared.iter.Take.{Take}
 use Rattle.std.specs.declared.iter.TakeWhile.{TakeWhile}
 use Rattle.std.specs.declared.ops.RangeInclusive.{RangeInclusive}
-use Rattle.rsb_integer.specs.Front.{IsFrontOf}
+use Rattle.rsb_integer.specs.Prefix.{IsPrefix, IsSuffix}
 use Rattle.rsb_integer.specs.Runs.{Interval}
 use Rattle.rsb_integer.specs.declared.integer.Integer.{Ghosts as Elements}
 use Rattle.rsb_streams.specs.AdapterCallLaws.{filter-gives, fuse-gives, skip-gives, skip_while-gives, take-gives, take_while-gives}
-use Rattle.rsb_streams.specs.Adapters.{adapted, filter_draws, fuse_draws, IsRestOf, IsSkipped, NextIsDraw, part_of, skip_draws, skip_while_draws, take_draws, take_while_draws}
+use Rattle.rsb_streams.specs.Adapters.{adapted, filter_draws, fuse_draws, IsSkipped, NextIsDraw, part_of, skip_draws, skip_while_draws, take_draws, take_while_draws}
 use Rattle.rsb_streams.specs.Fused.{fuse_can_next, fuse_remaining}
 use Rattle.rsb_streams.specs.FusedLaws.{fuse-keeps}
 use Rattle.rsb_streams.specs.PartLaws.{front-is_part, part-keeps, rest-is_part, skip-is_part, sublist-is_part, take-is_part}
@@ -98,7 +98,7 @@ module _ {S T N : Type 0} (integer : Elements T N) (stream : Stream S T N)
 
     -- a `TakeWhile` that ended
     take_while-none : (done : Bool) (given : List Interval)
-        → MatchBool done (◌≡◌ {A = List Interval} [] []) (IsFrontOf [] given)
+        → MatchBool done (◌≡◌ {A = List Interval} [] []) (IsPrefix [] given)
     take_while-none true given = refl
     take_while-none false given = record { rest = given; parts = refl }
 
@@ -132,7 +132,7 @@ module _ {S T N : Type 0} (integer : Elements T N) (stream : Stream S T N)
     -- a `SkipWhile` that ended, by whether it passed over no more
     skip_while-none : (started : Bool) (s t : S) → next.can_next s
         → MatchBool started (next.next_gives s None t) (Unit {0})
-        → part_of (stream.may_give s) (λ runs given. MatchBool started (runs ≡ given) (IsRestOf runs given))
+        → part_of (stream.may_give s) (λ runs given. MatchBool started (runs ≡ given) (IsSuffix runs given))
         []
     skip_while-none true s t can each = λ nothing.
         nothing [] (answers s t None (drawn.ends s t can each)) refl

@@ -11,7 +11,7 @@ use Rattle.std.specs.declared.iter.SkipWhile.{SkipWhile}
 use Rattle.std.specs.declared.iter.Take.{Take}
 use Rattle.std.specs.declared.iter.TakeWhile.{TakeWhile}
 use Rattle.std.specs.declared.ops.RangeInclusive.{RangeInclusive}
-use Rattle.rsb_integer.specs.Front.{IsFrontOf}
+use Rattle.rsb_integer.specs.Prefix.{IsPrefix, IsSuffix}
 use Rattle.rsb_integer.specs.Runs.{Interval}
 use Rattle.rsb_integer.specs.declared.integer.Integer.{Ghosts as Elements}
 use Rattle.rsb_streams.specs.Fused.{fuse_can_next, fuse_may_give}
@@ -27,11 +27,6 @@ use denote.Ref.{Bor}
 abbrev pub part_of : Outcomes → (List Interval → List Interval → Type 0) → Outcomes
 part_of P Part runs = SomeOutcome P (λ given. Part runs given)
 
--- the one list is what is left of the other after some first items
-pub record IsRestOf {X : Type 0} (rest whole : List X) : Type 0 where
-  pub passed : List X
-  pub parts : whole ≡ passed ++ rest
-
 -- some of what its stream may give, in their order: a closure decides
 abbrev pub filter_may_give : {S F : Type 0} → (S → Outcomes) → Filter S F → Outcomes
 filter_may_give may_give s = part_of (may_give (filter_source s)) IsSublist
@@ -39,12 +34,12 @@ filter_may_give may_give s = part_of (may_give (filter_source s)) IsSublist
 -- a front of it, and nothing once an item was refused
 abbrev pub take_while_may_give : {S F : Type 0} → (S → Outcomes) → TakeWhile S F → Outcomes
 take_while_may_give may_give s = part_of (may_give (take_while_source s))
-    (λ runs given. MatchBool (take_while_done s) (runs ≡ []) (IsFrontOf runs given))
+    (λ runs given. MatchBool (take_while_done s) (runs ≡ []) (IsPrefix runs given))
 
 -- what is left of it after some first ranges, and all of it once an item was refused
 abbrev pub skip_while_may_give : {S F : Type 0} → (S → Outcomes) → SkipWhile S F → Outcomes
 skip_while_may_give may_give s = part_of (may_give (skip_while_source s))
-    (λ runs given. MatchBool (skip_while_done_skipping s) (runs ≡ given) (IsRestOf runs given))
+    (λ runs given. MatchBool (skip_while_done_skipping s) (runs ≡ given) (IsSuffix runs given))
 
 -- its first ranges, as many as are asked for
 abbrev pub take_may_give : {S : Type 0} → (S → Outcomes) → Take S → Outcomes

@@ -14,7 +14,7 @@ use Rattle.rsb_streams.specs.declared.odd_pieces.OddPieces.{OddPieces}
 
 -- the ranks that an odd number of the intervals has
 abbrev pub oddly_covered : List Interval → Selection
-oddly_covered runs = odd_of (map (λ run rank. covers rank run) runs)
+oddly_covered runs = odd_of (map (λ run rank. covers run rank) runs)
 
 -- no rank lies in more than two of the intervals
 abbrev pub IsTwoDeep : List Interval → Type 0

@@ -5,9 +5,9 @@ use Rattle.std.specs.Prelude.{Option, MatchBool}
 use Rattle.std.specs.Iterator.{Count, IsFinite}
 use Rattle.std.specs.Iterator.Adapters.{fuse_done, fuse_source}
 use Rattle.std.specs.declared.iter.Fuse.{Fuse}
-use Rattle.rsb_integer.specs.Front.{IsFrontOf}
+use Rattle.rsb_integer.specs.Prefix.{IsPrefix, IsSuffix}
 use Rattle.rsb_integer.specs.Runs.{Interval, IsCanonicalIn}
-use Rattle.rsb_streams.specs.Adapters.{IsRestOf, IsSkipped, part_of}
+use Rattle.rsb_streams.specs.Adapters.{IsSkipped, part_of}
 use Rattle.rsb_streams.specs.Fused.{fuse_can_next, fuse_may_give}
 use Rattle.rsb_streams.specs.StreamLaws.{settled_canonical_in, settled_sorted}
 use Rattle.rsb_streams.specs.Stream.{Outcomes, ◌⊆◌, HasSortedStarts, Keeps, unless}
@@ -28,7 +28,7 @@ sublist-is_part = record {
 
 -- a front is, or nothing
 pub front-is_part : (done : Bool)
-    → IsPart (λ runs given. MatchBool done (runs ≡ []) (IsFrontOf runs given))
+    → IsPart (λ runs given. MatchBool done (runs ≡ []) (IsPrefix runs given))
 front-is_part true = record {
   within = λ runs given part. rw part (sublist-none given);
   some = λ given. ([], refl);
@@ -40,7 +40,7 @@ front-is_part false = record {
 
 -- what is left is, or all
 pub rest-is_part : (started : Bool)
-    → IsPart (λ runs given. MatchBool started (runs ≡ given) (IsRestOf runs given))
+    → IsPart (λ runs given. MatchBool started (runs ≡ given) (IsSuffix runs given))
 rest-is_part true = record {
   within = λ runs given part. rw part (sublist-all given);
   some = λ given. (given, refl);

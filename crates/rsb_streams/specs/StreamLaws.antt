@@ -95,10 +95,10 @@ canonical-sorted n low (run ∷ runs) canonical below =
     )
 
 -- so have the lists that a stream of canonical ones gives
-pub canonical-starts : (n : ℕ) (P : Outcomes) (remaining : Count)
+pub canonical_stream-starts : (n : ℕ) (P : Outcomes) (remaining : Count)
     → Keeps (IsCanonicalIn n) P remaining
     → Keeps (HasSortedStarts n) P remaining
-canonical-starts n P remaining kept = record {
+canonical_stream-starts n P remaining kept = record {
   some = kept.some;
   all = λ runs may.
       let canonical = kept.all runs may in
@@ -110,7 +110,7 @@ canonical-starts n P remaining kept = record {
 pub disjoint-sorted : {S T N : Type 0} (integer : Elements T N) (stream : Stream S T N)
     → IsDisjoint integer stream → IsSorted integer stream
 disjoint-sorted integer stream disjoint s can =
-    canonical-starts integer.value_count _ _ (disjoint s can)
+    canonical_stream-starts integer.value_count _ _ (disjoint s can)
 
 -- every interval of a sorted list ends below n
 pub sorted-below : (n low : ℕ) (runs : List Interval) → HasSortedStartsFrom n low runs
@@ -126,7 +126,7 @@ pub sorted-members : (n low : ℕ) (runs : List Interval) (rank : ℕ) → HasSo
 sorted-members n low [] rank sorted member = absurd (cc)
 sorted-members n low (run ∷ runs) rank sorted member =
     let starts = sorted.0 in
-    elim (covers-cases rank run) [
+    elim (covers-cases run rank) [
       | inl inside ↦ let from = inside.0 in omega arith
       | inr outside ↦
           let past = sorted-members n run.first runs rank sorted.3

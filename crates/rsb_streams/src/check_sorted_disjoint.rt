@@ -8,7 +8,7 @@ ghost use Rattle.rsb_streams.specs.CallsLaws.{known-answered, known-disjoint};
 ghost use Rattle.rsb_streams.specs.CheckSortedDisjoint.{check_sorted_disjoint};
 ghost use Rattle.rsb_streams.specs.OutOfPlace.{IsFirstBad};
 ghost use Rattle.rsb_streams.specs.Stream.{◌⊆◌, just, IsReadyAnd};
-ghost use Rattle.rsb_streams.specs.StreamLaws.{canonical-starts, drawn-itself};
+ghost use Rattle.rsb_streams.specs.StreamLaws.{canonical_stream-starts, drawn-itself};
 
 use crate::draw::Draw;
 use crate::not_sorted_disjoint::NotSortedDisjoint;
@@ -115,7 +115,7 @@ impl<T: Integer, I: Iterator<Item = RangeInclusive<T>>> Draw<T> for CheckSortedD
     ghost answers = { λ s t. known-answered T.Integer.own ⟦<I as Iterator>⟧ (IsCanonicalIn T.value_count)
         s.iter t.iter };
 
-    ghost sorted = { λ s can. canonical-starts T.value_count _ _
+    ghost sorted = { λ s can. canonical_stream-starts T.value_count _ _
         (known-disjoint T.Integer.own ⟦<I as Iterator>⟧ s.iter can) };
 }
 

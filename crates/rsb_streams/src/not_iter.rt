@@ -3,7 +3,7 @@
 ghost use Rattle.rsb_streams.specs.NotIter.{not_iter};
 ghost use Rattle.rsb_streams.specs.NotIterLaws.{not_iter-disjoint};
 ghost use Rattle.rsb_streams.specs.Results.{MakesComplement};
-ghost use Rattle.rsb_streams.specs.StreamLaws.{canonical-starts, drawn-itself};
+ghost use Rattle.rsb_streams.specs.StreamLaws.{canonical_stream-starts, drawn-itself};
 
 use crate::draw::Draw;
 use crate::sorted_disjoint::{DrawDisjoint, SortedDisjoint, SortedStarts};
@@ -85,7 +85,7 @@ impl<T: Integer, I: Draw<T>> Draw<T> for NotIter<T, I> {
 
     ghost answers = { λ s t item gives. gives.answers };
 
-    ghost sorted = { λ s ready. canonical-starts T.value_count _ _
+    ghost sorted = { λ s ready. canonical_stream-starts T.value_count _ _
         (not_iter-disjoint T.Integer.own ⟦<I as Draw<T>>⟧ I.sorted s ready) };
 }
 

@@ -3,7 +3,7 @@
 ghost use Rattle.std.specs.Prelude.{◌≡◌, ◌↔◌, ◌<◌, ◌≤◌, [], ◌∷◌, IfSome, IsNone, IsTrue};
 ghost use Rattle.std.specs.Range.{range_inclusive_start};
 ghost use Rattle.rsb_integer.specs.Rank.{interval_of, intervals_of};
-ghost use Rattle.rsb_integer.specs.Runs.{IsNonEmpty};
+ghost use Rattle.rsb_integer.specs.Runs.{HasRanks};
 ghost use Rattle.rsb_streams.specs.OutOfPlace.{start_after, IsFirstBad, IsPlacedFrom, IsPlacedIn};
 
 use rsb_integer::Integer;
@@ -21,7 +21,7 @@ fn follows<T: Integer>(may_touch: bool, previous: Option<T>, range: &RangeInclus
 // Whether a range is non-empty.
 fn has_members<T: Integer>(range: &RangeInclusive<T>) -> bool
     ensures value { (interval_of T.rank range.now).last < T.value_count }
-    ensures found { IsTrue result ↔ IsNonEmpty (interval_of T.rank range.now) }
+    ensures found { IsTrue result ↔ HasRanks (interval_of T.rank range.now) }
     ensures start { IsTrue result → T.rank (range_inclusive_start range.now)
         ≡ (interval_of T.rank range.now).first }
 {

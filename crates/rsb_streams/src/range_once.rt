@@ -6,7 +6,7 @@ ghost use Rattle.rsb_integer.specs.Runs.{IsCanonicalIn};
 ghost use Rattle.rsb_streams.specs.Listed.{listed_may_give};
 ghost use Rattle.rsb_streams.specs.ListedLaws.{listed-answers, listed-keeps};
 ghost use Rattle.rsb_streams.specs.Stream.{◌⊆◌, just, run_if_any, IsReadyAnd};
-ghost use Rattle.rsb_streams.specs.StreamLaws.{canonical-starts, drawn-itself};
+ghost use Rattle.rsb_streams.specs.StreamLaws.{canonical_stream-starts, drawn-itself};
 
 use crate::draw::Draw;
 use crate::sorted_disjoint::{DrawDisjoint, SortedDisjoint, SortedStarts};
@@ -112,7 +112,7 @@ impl<T: Integer> Draw<T> for RangeOnce<T> {
 
     ghost answers = { listed-answers T.rank (λ s. s) };
 
-    ghost sorted = { λ s canonical. canonical-starts T.value_count _ _
+    ghost sorted = { λ s canonical. canonical_stream-starts T.value_count _ _
         (listed-keeps T.rank (λ s. s) T.value_count s canonical) };
 }
 

@@ -5,8 +5,8 @@ ghost use Rattle.rsb_integer.specs.Runs.{members, Interval, IsCanonicalIn};
 ghost use Rattle.rsb_integer.specs.Selection.{
   Agree,
   AreDisjoint,
-  IsEverything,
-  IsNothing,
+  IsUniversal,
+  IsEmpty,
   IsSubset,
   count,
   difference,
@@ -174,7 +174,7 @@ pub trait DrawDisjoint<T: Integer>: Draw<T> {
         Self: Sized,
         requires { Self.can_draw self }
         ensures { SomeOutcome (Self.may_give self)
-            (λ runs. IsTrue result ↔ IsNothing (members runs)) }
+            (λ runs. IsTrue result ↔ IsEmpty (members runs)) }
     {
         let mut stream = self;
         stream.draw().is_none()
@@ -187,7 +187,7 @@ pub trait DrawDisjoint<T: Integer>: Draw<T> {
         Self: Sized,
         requires { Self.can_draw self }
         ensures { SomeOutcome (Self.may_give self) (λ runs.
-            IsTrue result ↔ IsEverything T.value_count (members runs)) }
+            IsTrue result ↔ IsUniversal T.value_count (members runs)) }
     {
         let mut stream = self;
         let Some(range) = stream.draw() else {

@@ -4,7 +4,7 @@ ghost use Rattle.std.specs.Iterator.{MakesProgress};
 ghost use Rattle.std.specs.Prelude.{◌≡◌, ◌≤◌, length};
 ghost use Rattle.rsb_streams.specs.ResultLaws.{sym_diff-disjoint};
 ghost use Rattle.rsb_streams.specs.Results.{MakesSymmetricDifference};
-ghost use Rattle.rsb_streams.specs.StreamLaws.{canonical-starts, drawn-itself};
+ghost use Rattle.rsb_streams.specs.StreamLaws.{canonical_stream-starts, drawn-itself};
 ghost use Rattle.rsb_streams.specs.SymDiffIter.{ends_held, sym_diff};
 
 use crate::draw::Draw;
@@ -88,7 +88,7 @@ impl<T: Integer, L: Draw<T>, R: Draw<T>> Draw<T> for SymDiffIter<T, L, R> {
 
     ghost answers = { λ s t item gives. gives.answers };
 
-    ghost sorted = { λ s ready. canonical-starts T.value_count _ _
+    ghost sorted = { λ s ready. canonical_stream-starts T.value_count _ _
         (sym_diff-disjoint T.Integer.own ⟦<L as Draw<T>>⟧ ⟦<R as Draw<T>>⟧ L.sorted R.sorted
         s ready) };
 }

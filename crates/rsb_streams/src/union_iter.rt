@@ -4,7 +4,7 @@ ghost use Rattle.std.specs.Prelude.{◌≡◌};
 ghost use Rattle.rsb_streams.specs.PutBack.{IsFresh};
 ghost use Rattle.rsb_streams.specs.Results.{MakesUnionIter};
 ghost use Rattle.rsb_streams.specs.Stream.{◌⊆◌, joined};
-ghost use Rattle.rsb_streams.specs.StreamLaws.{canonical-starts, drawn-itself};
+ghost use Rattle.rsb_streams.specs.StreamLaws.{canonical_stream-starts, drawn-itself};
 ghost use Rattle.rsb_streams.specs.UnionIter.{union_iter};
 ghost use Rattle.rsb_streams.specs.UnionIterLaws.{union_iter-disjoint};
 
@@ -110,7 +110,7 @@ impl<T: Integer, SS: Draw<T>> Draw<T> for UnionIter<T, SS> {
 
     ghost answers = { λ s t item gives. gives.answers };
 
-    ghost sorted = { λ s ready. canonical-starts T.value_count _ _
+    ghost sorted = { λ s ready. canonical_stream-starts T.value_count _ _
         (union_iter-disjoint T.Integer.own ⟦<SS as Draw<T>>⟧ SS.sorted s ready) };
 }
 

@@ -6,13 +6,13 @@ use Rattle.std.specs.Prelude.{Option, Some, None, IfSome, IsNone}
 use Rattle.std.specs.Iterator.{Count, IsFinite, MakesProgress, size}
 use Rattle.std.specs.declared.ops.RangeInclusive.{RangeInclusive}
 use Rattle.rsb_integer.specs.Rank.{interval_of}
-use Rattle.rsb_integer.specs.Runs.{Interval, length_of, members, IsAfterFirst, IsBeforeLast, IsCanonicalIn, IsEmpty}
+use Rattle.rsb_integer.specs.Runs.{Interval, length_of, members, IsAfterFirst, IsBeforeLast, IsCanonicalIn, HasNoRanks}
 use Rattle.rsb_integer.specs.Selection.{Selection}
 use Rattle.rsb_integer.proofs.CanonicalLemmas.{canonical-parts}
 use Rattle.rsb_integer.proofs.ListLemmas.{not_both}
 use Rattle.rsb_streams.specs.Stream.{run_if_any, unless}
 use Rattle.rsb_streams.specs.declared.draw.Draw.{Ghosts as Stream}
-use Rattle.rsb_streams.proofs.CheckLemmas.{none-if_empty, one-if_some}
+use Rattle.rsb_streams.proofs.checking.Fresh.{none-if_empty, one-if_some}
 use Rattle.range_set_blaze.specs.BothEnds.{between_ends, elements_left, elements_ready, is_ready, ElementsReady, Gives, Takes}
 use Rattle.range_set_blaze.specs.Set.{IsGreatest, IsLeast}
 use Rattle.range_set_blaze.specs.declared.iter.Iter.{Iter}
@@ -44,16 +44,16 @@ module _ {T : Type 0} (I : Type 0) (rank : T → ℕ) (n : ℕ) where
     pub apart : (s : Iter T I) (rest : List Interval) → between_ends rank s rest
         ≡ put front back (run_if_any (near s)) (put front back rest (run_if_any (far s)))
     pub nothing : put front back [] [] ≡ []
-    pub drawn : (s : Iter T I) (run : Interval) (rest : List Interval) → IsEmpty (near s)
+    pub drawn : (s : Iter T I) (run : Interval) (rest : List Interval) → HasNoRanks (near s)
         → between_ends rank s (put front back (run ∷ []) rest)
         ≡ put front back (run ∷ []) (put front back rest (run_if_any (far s)))
-    pub alone : (s : Iter T I) → IsEmpty (near s) → between_ends rank s []
+    pub alone : (s : Iter T I) → HasNoRanks (near s) → between_ends rank s []
         ≡ put front back (run_if_any (far s)) []
     -- which rank is taken of an interval, and what a call there says of the item and the rest
     pub edge : Interval → ℕ
     pub Pops : Interval → Option T → Interval → Type 0
     pub none : {run rest : Interval} {item : Option T} → Pops run item rest
-        → IsNone item ↔ IsEmpty run
+        → IsNone item ↔ HasNoRanks run
     pub some : {run rest : Interval} {item : Option T} → Pops run item rest
         → IfSome item (λ value. rank value ≡ edge run)
     pub below : {run rest : Interval} {item : Option T} → Pops run item rest → run.last < n
@@ -80,7 +80,7 @@ module _ {T : Type 0} (I : Type 0) (rank : T → ℕ) (n : ℕ) where
     edge = λ run. run.first;
     Pops = λ run item rest. record {
       value : run.last < n;
-      none : IsNone item ↔ IsEmpty run;
+      none : IsNone item ↔ HasNoRanks run;
       first : IfSome item (λ first. rank first ≡ run.first);
       rest : IsAfterFirst run rest;
     };
@@ -107,7 +107,7 @@ module _ {T : Type 0} (I : Type 0) (rank : T → ℕ) (n : ℕ) where
     edge = λ run. run.last;
     Pops = λ run item rest. record {
       value : run.last < n;
-      none : IsNone item ↔ IsEmpty run;
+      none : IsNone item ↔ HasNoRanks run;
       last : IfSome item (λ last. rank last ≡ run.last);
       rest : IsBeforeLast run rest;
     };
@@ -125,7 +125,7 @@ module _ {T I N : Type 0} {rank : T → ℕ} {n : ℕ} (stream : Stream I T N) (
   placed = put e.front e.back
 
   -- an interval of which no item is taken is empty, and stays so
-  pops-none : {run rest : Interval} → e.Pops run None rest → IsEmpty run × IsEmpty rest
+  pops-none : {run rest : Interval} → e.Pops run None rest → HasNoRanks run × HasNoRanks rest
   pops-none pops =
       let empty = (e.none pops).0 refl in
       (empty, grind (arith, empty, (e.shorter pops).within))

@@ -14,7 +14,7 @@ use Rattle.rsb_integer.specs.Selection.{Selection, count}
 use Rattle.rsb_integer.proofs.CountLemmas.{count-less, count-members}
 use Rattle.rsb_streams.specs.Listed.{listed_may_give}
 use Rattle.rsb_streams.specs.Stream.{Outcomes}
-use Rattle.rsb_streams.proofs.CheckLemmas.{none-if_empty}
+use Rattle.rsb_streams.proofs.checking.Fresh.{none-if_empty}
 use Rattle.range_set_blaze.specs.BothEnds.{elements_ready, is_ready, left_between, ranges_left, runs_left, AnswersLast, Gives, IsListReady, IsOverSet, IsWhole, ListedReady, Takes}
 use Rattle.range_set_blaze.specs.declared.iter.Iter.{Iter}
 

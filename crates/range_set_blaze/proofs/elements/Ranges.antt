@@ -7,7 +7,7 @@ use Rattle.std.specs.declared.ops.RangeInclusive.{RangeInclusive}
 use Rattle.rsb_integer.specs.Rank.{interval_of, intervals_of}
 use Rattle.rsb_integer.specs.Runs.{IsCanonicalIn}
 use Rattle.rsb_integer.proofs.CanonicalLemmas.{canonical-front}
-use Rattle.rsb_many.proofs.ListedLemmas.{canonical-goes}
+use Rattle.rsb_many.proofs.inputs.Listed.{canonical-goes}
 use Rattle.range_set_blaze.specs.Kept.{range_of, ranges_of, runs_of}
 
 -- the ranges of runs have the intervals of the runs

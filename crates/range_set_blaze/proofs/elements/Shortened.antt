@@ -13,7 +13,7 @@ pub record IsShorter (run rest : Interval) (point : ℕ) : Type 0 where
   pub within : rest.first ≤ rest.last → (run.first ≤ rest.first) × (rest.last ≤ run.last)
   pub fewer : run.first ≤ run.last → length_of rest < length_of run
   pub same : run.first ≤ run.last → (other : ℕ)
-      → cond (covers other rest) 1 0 + cond (only point other) 1 0 ≡ cond (covers other run) 1 0
+      → cond (covers rest other) 1 0 + cond (only point other) 1 0 ≡ cond (covers run other) 1 0
 
 -- without its first rank
 pub shorter-first : (run rest : Interval) → IsAfterFirst run rest → IsShorter run rest run.first

@@ -15,9 +15,9 @@ use Rattle.rsb_streams.specs.Items.{GaveRun}
 use Rattle.rsb_streams.specs.Stream.{◌⊆◌, just, Outcomes}
 use Rattle.rsb_many.specs.MultiwayAtLeast.{GivesRunsOfAllAtMost}
 use Rattle.rsb_many.specs.MultiwayResults.{GivesByAll}
-use Rattle.rsb_many.proofs.HandedInLemmas.{gave-each}
-use Rattle.rsb_many.proofs.MultiwayAtLeastLemmas.{few-one, few-these}
-use Rattle.rsb_many.proofs.ManyCallers.{runs_by_all-these, GiveThese}
+use Rattle.rsb_many.proofs.inputs.HandedIn.{gave-each}
+use Rattle.rsb_many.proofs.pieces.AtLeast.{few-one, few-these}
+use Rattle.rsb_many.proofs.calling.Results.{runs_by_all-these, GiveThese}
 use Rattle.range_set_blaze.specs.Multiway.{HasRunsOfAllAtMost, IsMadeOf}
 use Rattle.range_set_blaze.specs.Set.{IsSetOf}
 use Rattle.range_set_blaze.proofs.gathering.SetOperations.{set-of_runs}

@@ -5,14 +5,13 @@ use Rattle.std.proofs.lemmas.Bool.{and_parts, cases_lt}
 use Rattle.std.proofs.lemmas.Bool.Decides.{nat_tests}
 use Rattle.std.proofs.lemmas.Result.{IfOk-weaker}
 use Rattle.rsb_integer.specs.Runs.{Interval, members, AreRuns}
-use Rattle.rsb_integer.specs.Selection.{Selection, complement, intersection}
+use Rattle.rsb_integer.specs.Selection.{Selection, complement, intersection, complement_in}
 use Rattle.rsb_integer.proofs.MembersLemmas.{members-end}
 use Rattle.rsb_integer.proofs.RunCountLemmas.{runs-complement, runs-intersection, runs-none, runs-of_one}
 use Rattle.rsb_integer.proofs.RunsLemmas.{runs-along, runs-canonical, runs-members}
 use Rattle.rsb_streams.specs.RunCount.{HasFewerRunsThanBoth, HasOneRunMoreAtMost, HasRunsOfBothAtMost}
 use Rattle.rsb_streams.specs.Stream.{◌⊆◌, just, runs_by, runs_by_two, Outcomes}
-use Rattle.rsb_many.proofs.ManyCallers.{settled_runs}
-use Rattle.range_set_blaze.specs.Algebra.{IsComplementOf}
+use Rattle.rsb_many.proofs.calling.Results.{settled_runs}
 use Rattle.range_set_blaze.specs.Set.{IsSetOf}
 
 -- the runs of a selection that ends in the type are the set of it
@@ -30,7 +29,7 @@ module _ (n : ℕ) {E : Type 0} (result : Result (List Interval) E) (gives : Out
   -- what is made of the gaps of a set is its complement, with one run more at most
   pub set-of_complement : {P : Outcomes} (given : List Interval) → P ⊆ just given
       → AreRuns n (members given) given → gives ⊆ runs_by n complement P
-      → IfOk result (λ set. IsComplementOf n set given)
+      → IfOk result (λ set. IsSetOf set (complement_in n (members given)))
       × IfOk result (λ set. HasOneRunMoreAtMost given set)
   set-of_complement given is one gaps =
       let are : (set : List Interval) → gives set → AreRuns n (complement (members given)) set =

@@ -2,33 +2,17 @@
 use Rattle.std.proofs.Common.{◌≡◌, ◌↔◌, ℕ, Bool, true, false, ◌+◌, ◌-◌, ◌<◌, ◌≤◌, min, max, List, refl, sym, ap, ◌∙◌, inl, inr, arith, subst, Option, Some, None, IfSome, IsFalse, IsTrue, MatchOption}
 use Rattle.std.specs.List.{Contains}
 use Rattle.std.proofs.lemmas.Bool.{cases_lt}
+use Rattle.rsb_integer.specs.Selection.{LacksSome}
 use Rattle.rsb_integer.specs.Runs.{Interval, covers, members, IsCanonicalIn}
 use Rattle.rsb_integer.proofs.ListLemmas.{true_or_false, not_both}
 use Rattle.rsb_integer.proofs.MembersLemmas.{covers-bounds, covers-inside, members-end}
 use Rattle.range_set_blaze.specs.Joining.{IsHull, IsInside, IsJoining, IsReaching, IsUnreached, KnowsInside, NoneInside}
 use Rattle.range_set_blaze.specs.Kept.{run_of}
 use Rattle.range_set_blaze.specs.Starts.{IsLastBelow, IsLastTwo, NoneBelow}
-use Rattle.range_set_blaze.specs.Set.{Adds, LacksSomeOf}
+use Rattle.range_set_blaze.specs.Set.{Adds}
 use Rattle.range_set_blaze.specs.declared.set.run.Run.{Run}
 use Rattle.range_set_blaze.proofs.runs.Apart.{contained-after, contained-before, contained-maximal, contained-members, contained-starts, last-gap, none-gap}
-use Rattle.range_set_blaze.proofs.KeptLemmas.{le-fails}
-
--- to add what it has is to add the run
-pub hull-adds : (runs new : List Interval) (run joined : Interval) → IsHull runs run joined
-    → Adds runs new (λ rank. covers rank joined) → Adds runs new (λ rank. covers rank run)
-hull-adds runs new run joined hull adds rank =
-    let all = adds rank in
-    elim (true_or_false (covers rank joined)) [
-      | inl here ↦ let has = hull.has rank here in grind (arith, all, here, has)
-      | inr outside ↦ elim (true_or_false (covers rank run)) [
-        | inl own ↦
-            let bounds = covers-bounds rank run own in
-            absurd (not_both (covers rank joined)
-            (covers-inside rank joined (omega (arith, hull.first, bounds.0))
-            (omega (arith, hull.last, bounds.1))) outside)
-        | inr lacks ↦ grind (arith, all, outside, lacks)
-      ]
-    ]
+use Rattle.range_set_blaze.proofs.runs.Kept.{le-fails}
 
 module _ {T : Type 0} (rank : T → ℕ) (n : ℕ) (runs : List Interval)
     (canonical : IsCanonicalIn n runs) where
@@ -117,10 +101,10 @@ module _ {T : Type 0} (rank : T → ℕ) (n : ℕ) (runs : List Interval)
         (λ first. IsReaching runs (rank run.start) (run_of rank first))
         → (test : Bool) → MatchOption first (IsFalse test)
         (λ first. IsTrue test ↔ (rank run.end ≤ rank first.end)) → test ≡ true
-        → (point : ℕ) → covers point (run_of rank run) ≡ true → members runs point ≡ true
+        → (point : ℕ) → covers (run_of rank run) point ≡ true → members runs point ≡ true
     reached-has None reached test tells is = absurd (not_both test is tells)
     reached-has (Some first) reached test tells is = λ point here.
-        let bounds = covers-bounds point (run_of rank run) here in
+        let bounds = covers-bounds (run_of rank run) point here in
         let ends = tells.0 is in
         contained-members n runs canonical (run_of rank first) point reached.among
         (omega (arith, reached.starts, bounds.0)) (omega (arith, ends, bounds.1))
@@ -132,12 +116,12 @@ module _ {T : Type 0} (rank : T → ℕ) (n : ℕ) (runs : List Interval)
         → (test : Bool) → MatchOption first (IsFalse test)
         (λ first. IsTrue test ↔ (rank run.end ≤ rank first.end)) → test ≡ false
         → IfSome first (λ first. rank first.end < rank run.end)
-        × LacksSomeOf runs (λ point. covers point (run_of rank run))
+        × LacksSome (members runs) (covers (run_of rank run))
     reached-lacks None reached test tells is = (
       tt,
       (
         rank run.start,
-        covers-inside (rank run.start) (run_of rank run) (omega arith) order,
+        covers-inside (run_of rank run) (rank run.start) (omega arith) order,
         reached (rank run.start) (omega arith) (omega arith),
       ),
     )
@@ -146,7 +130,7 @@ module _ {T : Type 0} (rank : T → ℕ) (n : ℕ) (runs : List Interval)
           short,
           (
             rank first.end + 1,
-            covers-inside (rank first.end + 1) (run_of rank run) reached.reaches
+            covers-inside (run_of rank run) (rank first.end + 1) reached.reaches
                 (omega (arith, short)),
             contained-after n runs canonical (run_of rank first) (rank first.end + 1) reached.among
                 refl,
@@ -169,13 +153,13 @@ module _ {T : Type 0} (rank : T → ℕ) (n : ℕ) (runs : List Interval)
             first = from.0;
             last = to.0;
             has = λ point here.
-                let bounds = covers-bounds point (run_of rank joined) here in
+                let bounds = covers-bounds (run_of rank joined) point here in
                 elim (cases_lt point (rank run.start)) [
                   | inl less ↦ rw (from.2 point bounds.0 less) refl
                   | inr reaches ↦ elim (cases_lt (rank run.end) point) [
                     | inl more ↦ rw (to.3 point more bounds.1) refl
                     | inr within ↦
-                        let own = covers-inside point (run_of rank run) reaches within in
+                        let own = covers-inside (run_of rank run) point reaches within in
                         grind (arith, own)
                   ]
                 ];
@@ -203,8 +187,8 @@ module _ {T : Type 0} (rank : T → ℕ) (n : ℕ) (runs : List Interval)
                   | inl less ↦ omega (arith, bound_is, below, less)
                   | inr after ↦
                       let start = contained-starts n runs canonical other (run_of rank last) other.first
-                      inside.among two.0.among (covers-inside other.first other (omega arith) own)
-                      (covers-inside other.first (run_of rank last) after
+                      inside.among two.0.among (covers-inside other other.first (omega arith) own)
+                      (covers-inside (run_of rank last) other.first after
                       (omega (arith, bound_is, is, more, inside.within))) in
                       omega (arith, bound_is, below, start)
                 ]

@@ -19,7 +19,7 @@ module _ {T : Type 0} (rank : T → ℕ) (n : ℕ) (runs : List Interval)
     (canonical : IsCanonicalIn n runs) where
   module _ (joining : Joining T) (is : IsJoining rank n runs joining) where
     -- without the run that starts where it does, the runs have the same members outside it
-    first-members : (point : ℕ) → covers point (run_of rank joining.joined) ≡ false
+    first-members : (point : ℕ) → covers (run_of rank joining.joined) point ≡ false
         → members (without_start (rank joining.joined.start) runs) point ≡ members runs point
     first-members point outside =
         starting-members (λ start. not (start == rank joining.joined.start)) runs point true
@@ -31,7 +31,7 @@ module _ {T : Type 0} (rank : T → ℕ) (n : ℕ) (runs : List Interval)
             (λ first. Contains runs (run_of rank first)
             × (rank first.start ≡ rank joining.joined.start)
             × (rank first.end ≤ rank joining.joined.end))
-            → (run : Interval) → Contains runs run → covers point run ≡ true
+            → (run : Interval) → Contains runs run → covers run point ≡ true
             → not (run.first == rank joining.joined.start) ≡ true
         by None none run found here = elim (true_or_false (run.first == rank joining.joined.start)) [
           | inl same ↦ absurd (none run found (grind (arith, nat_tests, same)))
@@ -46,13 +46,13 @@ module _ {T : Type 0} (rank : T → ℕ) (n : ℕ) (runs : List Interval)
                   let other = (contained-maximal n runs canonical (run_of rank first)
                   first_is.0).in_order in
                   let one = contained-one n runs canonical run (run_of rank first) run.first found
-                  first_is.0 (covers-inside run.first run (omega arith) own)
-                  (covers-inside run.first (run_of rank first) (omega (arith, meets, start))
+                  first_is.0 (covers-inside run run.first (omega arith) own)
+                  (covers-inside (run_of rank first) run.first (omega (arith, meets, start))
                   (omega (arith, meets, start, other))) in
                   let last = ap (λ (each : Interval). each.last) one in
-                  let bounds = covers-bounds point run here in
-                  absurd (not_both (covers point (run_of rank joining.joined))
-                  (covers-inside point (run_of rank joining.joined) (omega (arith, meets, bounds.0))
+                  let bounds = covers-bounds run point here in
+                  absurd (not_both (covers (run_of rank joining.joined) point)
+                  (covers-inside (run_of rank joining.joined) point (omega (arith, meets, bounds.0))
                   (omega (arith, last, bounds.1, first_is.2))) outside)
               | inr differs ↦ rw differs refl
             ]
@@ -155,7 +155,7 @@ module _ {T : Type 0} (rank : T → ℕ) (n : ℕ) (runs : List Interval)
     -- with it the members are those of the runs and its own
     pub joining-members : (point : ℕ)
         → members (with_run (run_of rank joining.joined) runs) point
-        ≡ (members runs point || covers point (run_of rank joining.joined))
+        ≡ (members runs point || covers (run_of rank joining.joined) point)
     joining-members point =
         let rises = canonical-rises n 0 (without_start (rank joining.joined.start) runs) in
         let left = starting-canonical_in (λ start. not (start == rank joining.joined.start)) n runs
@@ -167,12 +167,12 @@ module _ {T : Type 0} (rank : T → ℕ) (n : ℕ) (runs : List Interval)
         (λ run found same.
         let other = (starting-contains (λ start. not (start == rank joining.joined.start)) runs
         run found).1 in grind (arith, nat_tests, other, same))
-        ∙ elim (true_or_false (covers point (run_of rank joining.joined))) [
+        ∙ elim (true_or_false (covers (run_of rank joining.joined) point)) [
           | inl here ↦
               let some = members (without_start (rank joining.joined.start) runs) point in
               grind (arith, here)
           | inr outside ↦
-              ap (λ test. test || covers point (run_of rank joining.joined))
+              ap (λ test. test || covers (run_of rank joining.joined) point)
               (first-members point outside)
         ]
 

@@ -9,7 +9,7 @@ use Rattle.rsb_integer.proofs.ListLemmas.{true_or_false, not_both}
 use Rattle.rsb_integer.proofs.MembersLemmas.{covers-bounds, covers-inside, members-in}
 use Rattle.range_set_blaze.specs.Joining.{IsInside, IsOver, KnowsInside, NoneInside}
 use Rattle.range_set_blaze.specs.Kept.{run_of}
-use Rattle.range_set_blaze.specs.Starts.{with_run, without_start, IsAscendingFrom, IsFree, IsJoined}
+use Rattle.range_set_blaze.specs.Starts.{with_run, without_start, StartsAscendFrom, LeavesApart, IsJoined}
 use Rattle.range_set_blaze.specs.declared.set.run.Run.{Run}
 use Rattle.range_set_blaze.proofs.runs.Apart.{contained-maximal, contained-members, starting-lacks, with_run-joined, with_run-members, without_start-joined}
 use Rattle.range_set_blaze.proofs.runs.Starts.{canonical-rises, starting-contains, starting-with_run, with_run-ascending, with_run-contains, Contains-starting, Contains-with_run}
@@ -17,7 +17,7 @@ use Rattle.range_set_blaze.proofs.runs.Starts.{canonical-rises, starting-contain
 module _ (n : ℕ) (now : List Interval) (joined : Interval) (others : ℕ)
     (over : IsOver n now joined others) where
   -- the starts ascend
-  pub over-ascending : IsAscendingFrom n 0 now
+  pub over-ascending : StartsAscendFrom n 0 now
   over-ascending =
       rw over.parts
       (with_run-ascending n 0 joined over.rest
@@ -25,7 +25,7 @@ module _ (n : ℕ) (now : List Interval) (joined : Interval) (others : ℕ)
       (omega (arith, over.ordered, over.in_type)))
 
   -- the members are those of the others, and what it has
-  pub over-members : (rank : ℕ) → members now rank ≡ (members over.rest rank || covers rank joined)
+  pub over-members : (rank : ℕ) → members now rank ≡ (members over.rest rank || covers joined rank)
   over-members rank =
       rw over.parts
       (with_run-members n 0 joined over.rest rank
@@ -112,11 +112,11 @@ module _ (n : ℕ) (now : List Interval) (joined : Interval) (others : ℕ)
       joins.fewer_canonical.1)
       (λ other found. over.elsewhere other
       (starting-contains (λ start. not (start == run.first)) over.rest other found).0) in
-      elim (true_or_false (covers rank run)) [
+      elim (true_or_false (covers run rank)) [
         | inl here ↦
-            let bounds = covers-bounds rank run here in
+            let bounds = covers-bounds run rank here in
             let ends = inside-ends run inside in
-            let there = covers-inside rank joined (omega (arith, inside.later, bounds.0))
+            let there = covers-inside joined rank (omega (arith, inside.later, bounds.0))
             (omega (arith, ends, bounds.1)) in
             grind (arith, some, all, there)
         | inr lacks ↦ grind (arith, some, all, has, lacks)
@@ -129,12 +129,12 @@ module _ (n : ℕ) (now : List Interval) (joined : Interval) (others : ℕ)
       (with_run-joined n over.rest over.canonical joined over.ordered over.in_type free)
     where
       -- no member of the others is near
-      free : IsFree over.rest joined.first joined.last
+      free : LeavesApart over.rest joined.first joined.last
       free rank from to = elim (true_or_false (members over.rest rank)) [
         | inr lacks ↦ lacks
         | inl member ↦
             let found = members-in over.rest rank member in
-            let bounds = covers-bounds rank found.0 found.2 in
+            let bounds = covers-bounds found.0 rank found.2 in
             elim (cases_lt rank joined.first) [
               | inl less ↦ over.begins rank (omega (arith, from, less))
               | inr starts ↦ elim (cases_lt joined.last rank) [

@@ -7,7 +7,7 @@ use Rattle.rsb_integer.specs.Runs.{Interval, members, IsCanonicalIn}
 use Rattle.rsb_integer.specs.Selection.{complement}
 use Rattle.rsb_integer.proofs.ListLemmas.{true_or_false, not_both, Contains-head}
 use Rattle.rsb_integer.proofs.MembersLemmas.{covers-bounds, covers-inside, members-in}
-use Rattle.range_set_blaze.specs.Starts.{past, IsAscendingFrom, IsGapEnd, IsLastBelow, NoneBelow, StartsWith}
+use Rattle.range_set_blaze.specs.Starts.{past, StartsAscendFrom, IsGapEnd, IsLastBelow, NoneBelow, StartsWith}
 use Rattle.range_set_blaze.specs.Set.{IsRunAround}
 use Rattle.range_set_blaze.proofs.runs.Apart.{contained-maximal, contained-members, last-gap, none-gap}
 use Rattle.range_set_blaze.proofs.runs.Starts.{ascending-contains, canonical-rises, starting-ascending, starting-contains, Contains-starting}
@@ -18,7 +18,7 @@ module _ (n : ℕ) (runs : List Interval) (canonical : IsCanonicalIn n runs) (po
       → IsRunAround n (members runs) point run
   contained-around run found from to = record {
     maximal = contained-maximal n runs canonical run found;
-    around = covers-inside point run from to;
+    around = covers-inside run point from to;
   }
 
   -- the first of those that start past it
@@ -36,7 +36,7 @@ module _ (n : ℕ) (runs : List Interval) (canonical : IsCanonicalIn n runs) (po
         → (run : Interval) × Contains (past point runs) run × (run.first ≤ rank)
     past-members rank more member =
         let found = members-in runs rank member in
-        let bounds = covers-bounds rank found.0 found.2 in (
+        let bounds = covers-bounds found.0 rank found.2 in (
           found.0,
           elim (cases_lt point found.0.first) [
             | inl later ↦ Contains-starting (λ start. nat_lt point start) runs found.0 found.1
@@ -78,7 +78,7 @@ module _ (n : ℕ) (runs : List Interval) (canonical : IsCanonicalIn n runs) (po
             | inr lacks ↦ lacks
             | inl member ↦
                 let found = past-members rank more member in
-                let rises = subst (IsAscendingFrom n 0) first.parts
+                let rises = subst (StartsAscendFrom n 0) first.parts
                 (starting-ascending (λ start. nat_lt point start) n 0 runs
                 (canonical-rises n 0 runs canonical.0 canonical.1)) in
                 let starts = ascending-contains n run.first (run ∷ first.rest) found.0
@@ -100,7 +100,7 @@ module _ (n : ℕ) (runs : List Interval) (canonical : IsCanonicalIn n runs) (po
       in_order = omega (arith, from, ends.from);
       in_type = ends.in_type;
       whole = λ rank here.
-          let bounds = covers-bounds rank (record { first = start; last = end }) here in
+          let bounds = covers-bounds (record { first = start; last = end }) rank here in
           ap not (elim (cases_lt point rank) [
             | inl more ↦ ends.free rank more bounds.1
             | inr less ↦ before rank bounds.0 less
@@ -108,7 +108,7 @@ module _ (n : ℕ) (runs : List Interval) (canonical : IsCanonicalIn n runs) (po
       begins_here = λ some. ap not (begins some);
       ends_here = λ more. ap not (ends.ends more);
     };
-    around = covers-inside point (record { first = start; last = end }) from ends.from;
+    around = covers-inside (record { first = start; last = end }) point from ends.from;
   }
 
   -- after the last run that starts up to it, where that one ends below it

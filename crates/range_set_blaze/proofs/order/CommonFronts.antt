@@ -23,12 +23,12 @@ abbrev ranks_from : ℕ → ℕ → List ℕ
 ranks_from low count = elements_from low count (λ rank. true)
 
 -- the ranks of a run, which has one
-abbrev pub ranks_of : Interval → List ℕ
-ranks_of run = run.first ∷ ranks_from (suc run.first) (run.last - run.first)
+abbrev pub ranks_of_run : Interval → List ℕ
+ranks_of_run run = run.first ∷ ranks_from (suc run.first) (run.last - run.first)
 
 -- the ranks of some runs, one after the other
 abbrev pub elements_of : List Interval → List ℕ
-elements_of runs = flat_map ranks_of runs
+elements_of runs = flat_map ranks_of_run runs
 
 -- ranks that are selected are elements
 elements_from-inside : (selected : Selection) (low count more high rest : ℕ) → more ≡ count + rest
@@ -51,14 +51,14 @@ pub elements_from-members : (n : ℕ) (runs : List Interval) → IsCanonicalIn n
     → elements_from 0 n (members runs) ≡ elements_of runs
 unfolding elements_from
 elements_from-members n runs canonical =
-    made-canonical (λ low more. elements_from low more (members runs)) n runs ranks_of canonical
+    made-canonical (λ low more. elements_from low more (members runs)) n runs ranks_of_run canonical
     (λ low. refl) (λ rank left lacks. rw lacks refl)
     (λ run maximal stops.
     let ordered = maximal.in_order in
     let below = maximal.in_type in
     elements_from-inside (members runs) run.first (suc (run.last - run.first))
     (n - run.first) (suc run.last) (n - suc run.last) (omega arith) (omega arith)
-    (λ rank from to. maximal.whole rank (covers-inside rank run from (omega arith))))
+    (λ rank from to. maximal.whole rank (covers-inside run rank from (omega arith))))
 
 -- a common front does not count
 slice_cmp-front : (front left right : List ℕ)
@@ -127,8 +127,8 @@ passing-none n whole total left right = record {
 }
 
 -- the sets of two lists have this order, and it takes so many turns
-abbrev pub Tells : ℕ → List Interval → List Interval → Ordering → ℕ → Type 0
-Tells n whole total ordering turns = record {
+abbrev pub TellsOrder : ℕ → List Interval → List Interval → Ordering → ℕ → Type 0
+TellsOrder n whole total ordering turns = record {
   order : ordering ≡ order n (members whole) (members total);
   turns : AreTurns whole total turns;
 }
@@ -138,7 +138,7 @@ pub passing-tells : {n : ℕ} {whole total left right : List Interval} {turns al
     {ordering : Ordering} → IsCanonicalIn n whole → IsCanonicalIn n total
     → IsPassing n whole total left right turns → AreApart left right
     → ordering ≡ slice_cmp nat_cmp (elements_of left) (elements_of right)
-    → turns + cond (start_alike left right) 2 1 ≡ all → Tells n whole total ordering all
+    → turns + cond (start_alike left right) 2 1 ≡ all → TellsOrder n whole total ordering all
 passing-tells {n} {whole} {total} {left} {right} one two passing apart is told =
     let counted = passing.counted in
     let front = passing.front in
@@ -150,8 +150,8 @@ passing-tells {n} {whole} {total} {left} {right} one two passing apart is told =
             elements_from-members n total two,
             passing.left_parts,
             passing.right_parts,
-            flat_map-append ranks_of front left,
-            flat_map-append ranks_of front right,
+            flat_map-append ranks_of_run front left,
+            flat_map-append ranks_of_run front right,
             slice_cmp-front (elements_of front) (elements_of left) (elements_of right),
           )
           is;
@@ -188,7 +188,7 @@ module _ {T : Type 0} {rank : T → ℕ} {n : ℕ} {cmp : T → T → Ordering}
       (in_order _ _ (omega arith) (omega arith), in_order _ _ below also)
 
   -- runs that start apart tell
-  pub starts-tell : true ≡ is_ne starts → Tells n whole total starts (turns + 1)
+  pub starts-tell : true ≡ is_ne starts → TellsOrder n whole total starts (turns + 1)
   starts-tell apart =
       let by = starts_by ∙ heads-ranked.0 in
       let differ : ¬ (rank run.start ≡ rank other.start) = grind (arith, nat_tests) in
@@ -201,7 +201,7 @@ module _ {T : Type 0} {rank : T → ℕ} {n : ℕ} {cmp : T → T → Ordering}
     same_start = let by = starts_by ∙ heads-ranked.0 in grind (arith, nat_tests)
 
     -- a run of the left list that ends first tells
-    pub left-tells : Less ≡ cmp run.end other.end → Tells n whole total
+    pub left-tells : Less ≡ cmp run.end other.end → TellsOrder n whole total
         (cond (nat_lt 0 (length left)) Greater Less) (turns + 1 + 1)
     unfolding elements_from
     left-tells is =
@@ -215,7 +215,7 @@ module _ {T : Type 0} {rank : T → ℕ} {n : ℕ} {cmp : T → T → Ordering}
         (grind (arith, nat_tests))
 
     -- or one of the right list
-    pub right-tells : Greater ≡ cmp run.end other.end → Tells n whole total
+    pub right-tells : Greater ≡ cmp run.end other.end → TellsOrder n whole total
         (ordering_reverse (cond (nat_lt 0 (length right)) Greater Less)) (turns + 1 + 1)
     unfolding elements_from
     right-tells is =

@@ -5,7 +5,7 @@ use Rattle.std.proofs.lemmas.List.{get_or-map, length-map}
 use Rattle.std.proofs.lemmas.Option.{get_or_from_slice_get, slice_get_within}
 use Rattle.std.proofs.lemmas.List.Elements.{All-cons, All-nil}
 use Rattle.rsb_integer.specs.Runs.{Interval, members, AllEndBelow, IsCanonical, IsCanonicalFrom, IsCanonicalIn}
-use Rattle.rsb_integer.specs.Selection.{Selection, count, IsEverything, IsNothing}
+use Rattle.rsb_integer.specs.Selection.{Selection, count, IsUniversal, IsEmpty}
 use Rattle.rsb_integer.proofs.CountLemmas.{count-all, count-less, count-none, count-within}
 use Rattle.rsb_integer.proofs.ListLemmas.{not_both, true_or_false}
 use Rattle.rsb_integer.proofs.MembersLemmas.{covers-inside, members-below, members-end, members-head}
@@ -99,7 +99,7 @@ module _ {T : Type 0} (rank : T → ℕ) (n : ℕ) where
 
   -- a set with no run has no member, and one with a run has one
   pub nothing-kept : (entries : List (T × T)) → IsCanonical (runs_of rank entries)
-      → (length entries ≡ 0) ↔ IsNothing (members (runs_of rank entries))
+      → (length entries ≡ 0) ↔ IsEmpty (members (runs_of rank entries))
   nothing-kept [] canonical = ((λ none point. refl), (λ nothing. refl))
   nothing-kept (run ∷ entries) canonical =
       let here = members-head (entry_run rank run) (runs_of rank entries) (rank run.0) (omega arith)
@@ -108,7 +108,7 @@ module _ {T : Type 0} (rank : T → ℕ) (n : ℕ) where
 
 -- a set counts as many ranks as there are exactly where it has each of them
 pub count-everything : (n : ℕ) (selected : Selection)
-    → (count n selected ≡ n) ↔ IsEverything n selected
+    → (count n selected ≡ n) ↔ IsUniversal n selected
 count-everything n selected = (
   (λ all rank below. elim (true_or_false (selected rank)) [
     | inl here ↦ here

@@ -9,7 +9,7 @@ use Rattle.std.specs.Prelude.{flat_map, All}
 use Rattle.rsb_integer.specs.Runs.{Interval, members, AllEndBelow, IsCanonicalIn, IsMaximalRun}
 use Rattle.rsb_integer.specs.Selection.{Selection}
 use Rattle.rsb_integer.proofs.MembersLemmas.{covers-inside, members-end}
-use Rattle.range_set_blaze.specs.Hash.{before, below, bounds_from, ends_of, run_bounds}
+use Rattle.range_set_blaze.specs.Hash.{selected_before, selected_below, bounds_from, ends_of_runs, run_bounds}
 use Rattle.range_set_blaze.specs.Kept.{entry_run, runs_of}
 use Rattle.range_set_blaze.proofs.order.AlongRuns.{made-canonical}
 
@@ -18,10 +18,10 @@ module _ (n : ℕ) (runs : List Interval) (run : Interval)
   where
     -- the run's ranks are members
     here : (rank : ℕ) → run.first ≤ rank → rank ≤ run.last → members runs rank ≡ true
-    here rank from to = maximal.whole rank (covers-inside rank run from to)
+    here rank from to = maximal.whole rank (covers-inside run rank from to)
 
     -- and no rank comes right before the first
-    begins : (rank : ℕ) → rank ≡ run.first → before (members runs) rank ≡ false
+    begins : (rank : ℕ) → rank ≡ run.first → selected_before (members runs) rank ≡ false
     begins zero is = refl
     begins (suc rank) is =
         let at : run.first - 1 ≡ rank = omega arith in
@@ -29,7 +29,7 @@ module _ (n : ℕ) (runs : List Interval) (run : Interval)
 
     -- from a rank of the run on, the bounds are that rank, where the run begins there, and the last
     bounds_from-run : (count low : ℕ) (begun : Bool) → low + count ≡ run.last → run.first ≤ low
-        → before (members runs) low ≡ begun
+        → selected_before (members runs) low ≡ begun
         → bounds_from (members runs) low (n - low) ≡ cond (not begun) (low ∷ []) []
         ++ run.last ∷ bounds_from (members runs) (suc run.last) (n - suc run.last)
     unfolding bounds_from
@@ -54,20 +54,20 @@ module _ (n : ℕ) (runs : List Interval) (run : Interval)
         refl
 
 -- every member of a list in a type of n values is below n
-below-members : (n : ℕ) (runs : List Interval) → AllEndBelow n runs → (rank : ℕ)
-    → below n (members runs) rank ≡ members runs rank
-below-members n runs within rank = elim (cases_lt rank n) [
+selected_below-members : (n : ℕ) (runs : List Interval) → AllEndBelow n runs → (rank : ℕ)
+    → selected_below n (members runs) rank ≡ members runs rank
+selected_below-members n runs within rank = elim (cases_lt rank n) [
   | inl less ↦ grind (arith, nat_tests)
   | inr most ↦ let none = members-end n runs rank within most in grind (arith, nat_tests, none)
 ]
 
 -- the first and the last ranks of the runs of a canonical list in a type of n values are its own
 pub run_bounds-canonical : (n : ℕ) (runs : List Interval) → IsCanonicalIn n runs
-    → run_bounds n (members runs) ≡ ends_of runs
+    → run_bounds n (members runs) ≡ ends_of_runs runs
 unfolding bounds_from
 run_bounds-canonical n runs canonical =
     ap (λ selected. bounds_from selected 0 n)
-    (λ i rank. below-members n runs canonical.1 rank i)
+    (λ i rank. selected_below-members n runs canonical.1 rank i)
     ∙ made-canonical (bounds_from (members runs)) n runs (λ run. run.first ∷ run.last ∷ [])
     canonical (λ low. refl) (λ rank left lacks. rw lacks refl) (λ run maximal stops.
     let ordered = maximal.in_order in
@@ -80,7 +80,7 @@ module _ {T : Type 0} (rank : T → ℕ) (n : ℕ) (value_at : ℕ → T)
   pub entries-fed : (selected : Selection) (entries : List (T × T))
       → All (IsMaximalRun n selected) (runs_of rank entries)
       → flat_map (λ entry. fed entry.0 ++ fed entry.1) entries
-      ≡ flat_map (λ place. fed (value_at place)) (ends_of (runs_of rank entries))
+      ≡ flat_map (λ place. fed (value_at place)) (ends_of_runs (runs_of rank entries))
   entries-fed selected [] maximal = refl
   entries-fed selected (entry ∷ entries) maximal =
       let run = entry_run rank entry in
@@ -93,4 +93,4 @@ module _ {T : Type 0} (rank : T → ℕ) (n : ℕ) (value_at : ℕ → T)
       (All-tail (IsMaximalRun n selected) run (runs_of rank entries) maximal) in
       (λ i. (start i ++ end i) ++ rest i)
       ∙ append_assoc (fed (value_at (rank entry.0))) (fed (value_at (rank entry.1)))
-      (flat_map (λ place. fed (value_at place)) (ends_of (runs_of rank entries)))
+      (flat_map (λ place. fed (value_at place)) (ends_of_runs (runs_of rank entries)))

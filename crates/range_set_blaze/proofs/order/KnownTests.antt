@@ -1,7 +1,7 @@
 -- A test of two lists that are known.
 use Rattle.std.proofs.Common.{◌≡◌, ◌↔◌, ℕ, ◌<◌, Bool, true, List}
 use Rattle.rsb_integer.specs.Runs.{Interval, members}
-use Rattle.rsb_streams.proofs.CallerLemmas.{settled-same}
+use Rattle.rsb_streams.proofs.calling.Results.{settled-same}
 use Rattle.rsb_streams.specs.Stream.{SomeOutcomes, just}
 
 -- each member of the one list is one of the other, or none is

@@ -7,7 +7,7 @@ use Rattle.rsb_integer.specs.Selection.{count}
 use Rattle.rsb_integer.proofs.ListLemmas.{true_or_false}
 use Rattle.rsb_integer.proofs.MembersLemmas.{covers-bounds, covers-inside}
 use Rattle.range_set_blaze.specs.Removal.{IsCutAbove, IsRemoved}
-use Rattle.range_set_blaze.specs.Starts.{with_run, without_start, IsFree, IsJoined}
+use Rattle.range_set_blaze.specs.Starts.{with_run, without_start, LeavesApart, IsJoined}
 use Rattle.range_set_blaze.specs.Set.{only, Removes}
 use Rattle.range_set_blaze.proofs.runs.Apart.{contained-maximal, with_run-joined, without_start-joined}
 use Rattle.range_set_blaze.proofs.runs.Starts.{canonical-rises, starting-with_run, with_run-ascending, with_run-without_start, Contains-with_run}
@@ -24,9 +24,9 @@ module _ (n : ℕ) (runs : List Interval) (canonical : IsCanonicalIn n runs) (ru
     ascending = canonical-rises n 0 runs canonical.0 canonical.1;
     there = (run, among, refl);
     canonical = joins.fewer_canonical;
-    has = λ rank. elim (true_or_false (covers rank run)) [
+    has = λ rank. elim (true_or_false (covers run rank)) [
       | inl here ↦
-          let bounds = covers-bounds rank run here in
+          let bounds = covers-bounds run rank here in
           let not_above : nat_lt point rank ≡ false = grind (arith, nat_tests, bounds.1, ends) in
           grind (arith, not_above)
       | inr lacks ↦ grind (arith, lacks)
@@ -70,21 +70,21 @@ module _ (n : ℕ) (runs : List Interval) (canonical : IsCanonicalIn n runs) (ru
   module _ (now : List Interval) (above : IsCutAbove n runs run point now) where
     -- each other member is one still, where the rest and what is put in are told
     cut-removes : (new : List Interval) → ((rank : ℕ) → members new rank
-        ≡ (members (without_start run.first now) rank || (covers rank run && nat_lt rank point)))
+        ≡ (members (without_start run.first now) rank || (covers run rank && nat_lt rank point)))
         → Removes runs new (only point)
     cut-removes new is rank =
         let all = joins.has rank in
         let rest = above.has rank in
         is rank
-        ∙ elim (true_or_false (covers rank run)) [
+        ∙ elim (true_or_false (covers run rank)) [
           | inl here ↦
-              let bounds = covers-bounds rank run here in
+              let bounds = covers-bounds run rank here in
               let none = joins.free rank (omega (arith, bounds.0)) (omega (arith, bounds.1)) in
               grind (arith, nat_tests, all, rest, none, here)
           | inr lacks ↦ elim (true_or_false (rank == point)) [
             | inl same ↦
                 let meets : rank ≡ point = grind (arith, nat_tests, same) in
-                let here = covers-inside rank run (omega (arith, meets, from))
+                let here = covers-inside run rank (omega (arith, meets, from))
                 (omega (arith, meets, to)) in
                 absurd (cc)
             | inr differs ↦ grind (arith, all, rest, lacks, differs)
@@ -98,7 +98,7 @@ module _ (n : ℕ) (runs : List Interval) (canonical : IsCanonicalIn n runs) (ru
         let maximal = contained-maximal n runs canonical run among in
         let placed = sym (with_run-without_start low now)
         ∙ ap (λ start. with_run low (without_start start now)) starts in
-        let free : IsFree (without_start run.first now) low.first low.last =
+        let free : LeavesApart (without_start run.first now) low.first low.last =
         λ rank lower upper. above.has rank
         ∙ (let none = joins.free rank (omega (arith, lower, starts))
         (omega (arith, upper, ends, to)) in
@@ -127,9 +127,9 @@ module _ (n : ℕ) (runs : List Interval) (canonical : IsCanonicalIn n runs) (ru
         record {
           canonical = above.canonical;
           removes = cut-removes (without_start run.first now) (λ rank.
-              elim (true_or_false (covers rank run)) [
+              elim (true_or_false (covers run rank)) [
                 | inl here ↦
-                    let bounds = covers-bounds rank run here in
+                    let bounds = covers-bounds run rank here in
                     let not_below : nat_lt rank point ≡ false
                     = grind (arith, nat_tests, bounds.0, less) in
                     grind (arith, not_below)

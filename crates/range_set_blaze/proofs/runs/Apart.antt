@@ -10,14 +10,14 @@ use Rattle.rsb_integer.proofs.CountLemmas.{count-covers, count-union}
 use Rattle.rsb_integer.proofs.ListLemmas.{true_or_false, not_both, Contains-head, Contains-tail}
 use Rattle.rsb_integer.proofs.MembersLemmas.{covers-bounds, covers-inside, members-cons, members-end, members-from, members-in, same_interval}
 use Rattle.rsb_integer.proofs.RunsLemmas.{canonical-maximal}
-use Rattle.range_set_blaze.specs.Starts.{below, past, starting, with_run, without_start, IsAscendingFrom, IsFree, IsJoined, IsLastBelow, NoneBelow}
+use Rattle.range_set_blaze.specs.Starts.{below, past, starting, with_run, without_start, StartsAscendFrom, LeavesApart, IsJoined, IsLastBelow, NoneBelow}
 use Rattle.range_set_blaze.proofs.runs.Starts.{canonical-rises, starting-canonical_in, starting-contains, with_run-first, with_run-later}
 
 -- ---- members
 
 -- where each run that has a rank passes a test or fails it as one says, so does the rank
 pub starting-members : (test : ℕ → Bool) (runs : List Interval) (rank : ℕ) (chosen : Bool)
-    → ((run : Interval) → Contains runs run → covers rank run ≡ true → test run.first ≡ chosen)
+    → ((run : Interval) → Contains runs run → covers run rank ≡ true → test run.first ≡ chosen)
     → members (starting test runs) rank ≡ (members runs rank && chosen)
 starting-members test [] rank chosen same = refl
 starting-members test (run ∷ runs) rank chosen same =
@@ -26,7 +26,7 @@ starting-members test (run ∷ runs) rank chosen same =
     (λ other found. same other (Contains-tail run runs other found)))
   where
     by : (passes : Bool) → test run.first ≡ passes
-        → (covers rank run ≡ true → test run.first ≡ chosen)
+        → (covers run rank ≡ true → test run.first ≡ chosen)
         → members (starting test runs) rank ≡ (members runs rank && chosen)
         → members (starting test (run ∷ runs)) rank ≡ (members (run ∷ runs) rank && chosen)
     by true is first rest =
@@ -50,9 +50,9 @@ starting-lacks test runs rank lacks = elim (true_or_false (members (starting tes
 
 -- with a run where none starts, what it has is a member too
 pub with_run-members : (n low : ℕ) (run : Interval) (runs : List Interval) (rank : ℕ)
-    → IsAscendingFrom n low runs
+    → StartsAscendFrom n low runs
     → ((other : Interval) → Contains runs other → other.first ≡ run.first → ⊥)
-    → members (with_run run runs) rank ≡ (members runs rank || covers rank run)
+    → members (with_run run runs) rank ≡ (members runs rank || covers run rank)
 with_run-members n low run [] rank ascending apart =
     let one = members-cons run [] rank in grind (arith, one)
 with_run-members n low run (first ∷ runs) rank ascending apart =
@@ -86,7 +86,7 @@ module _ (n : ℕ) (runs : List Interval) (canonical : IsCanonicalIn n runs) whe
   pub contained-members : (run : Interval) (rank : ℕ) → Contains runs run → run.first ≤ rank
       → rank ≤ run.last → members runs rank ≡ true
   contained-members run rank found from to =
-      members-from runs run rank found (covers-inside rank run from to)
+      members-from runs run rank found (covers-inside run rank from to)
 
   -- the rank before it is no member
   pub contained-before : (run : Interval) (rank : ℕ) → Contains runs run → rank + 1 ≡ run.first
@@ -108,11 +108,11 @@ module _ (n : ℕ) (runs : List Interval) (canonical : IsCanonicalIn n runs) whe
 
   -- one that shares a rank with another starts no later
   pub contained-starts : (run other : Interval) (rank : ℕ) → Contains runs run → Contains runs other
-      → covers rank run ≡ true → covers rank other ≡ true → run.first ≤ other.first
+      → covers run rank ≡ true → covers other rank ≡ true → run.first ≤ other.first
   contained-starts run other rank found also here there = elim (cases_lt other.first run.first) [
     | inl less ↦
-        let first = covers-bounds rank run here in
-        let last = covers-bounds rank other there in
+        let first = covers-bounds run rank here in
+        let last = covers-bounds other rank there in
         absurd (not_both (members runs (run.first - 1))
         (contained-members other (run.first - 1) also (omega (arith, less))
         (omega (arith, first.0, last.1)))
@@ -122,11 +122,11 @@ module _ (n : ℕ) (runs : List Interval) (canonical : IsCanonicalIn n runs) whe
 
   -- and ends no earlier
   pub contained-ends : (run other : Interval) (rank : ℕ) → Contains runs run → Contains runs other
-      → covers rank run ≡ true → covers rank other ≡ true → other.last ≤ run.last
+      → covers run rank ≡ true → covers other rank ≡ true → other.last ≤ run.last
   contained-ends run other rank found also here there = elim (cases_lt run.last other.last) [
     | inl less ↦
-        let first = covers-bounds rank run here in
-        let last = covers-bounds rank other there in
+        let first = covers-bounds run rank here in
+        let last = covers-bounds other rank there in
         absurd (not_both (members runs (run.last + 1))
         (contained-members other (run.last + 1) also (omega (arith, first.1, last.0))
         (omega (arith, less)))
@@ -136,7 +136,7 @@ module _ (n : ℕ) (runs : List Interval) (canonical : IsCanonicalIn n runs) whe
 
   -- so two that share a rank are one
   pub contained-one : (run other : Interval) (rank : ℕ) → Contains runs run → Contains runs other
-      → covers rank run ≡ true → covers rank other ≡ true → run ≡ other
+      → covers run rank ≡ true → covers other rank ≡ true → run ≡ other
   contained-one run other rank found also here there =
       let from = contained-starts run other rank found also here there in
       let back = contained-starts other run rank also found there here in
@@ -150,7 +150,7 @@ module _ (n : ℕ) (runs : List Interval) (canonical : IsCanonicalIn n runs) whe
   last-gap bound run is rank more less = elim (true_or_false (members runs rank)) [
     | inl member ↦
         let found = members-in runs rank member in
-        let bounds = covers-bounds rank found.0 found.2 in
+        let bounds = covers-bounds found.0 rank found.2 in
         let ordered = (contained-maximal run is.among).in_order in
         let before = is.last found.0 found.1 (omega (arith, bounds.0, less)) in
         absurd (not_both (members runs (run.last + 1))
@@ -166,7 +166,7 @@ module _ (n : ℕ) (runs : List Interval) (canonical : IsCanonicalIn n runs) whe
   none-gap bound none rank less = elim (true_or_false (members runs rank)) [
     | inl member ↦
         let found = members-in runs rank member in
-        let bounds = covers-bounds rank found.0 found.2 in
+        let bounds = covers-bounds found.0 rank found.2 in
         absurd (none found.0 found.1 (omega (arith, bounds.0, less)))
     | inr lacks ↦ lacks
   ]
@@ -175,13 +175,13 @@ module _ (n : ℕ) (runs : List Interval) (canonical : IsCanonicalIn n runs) whe
 
 -- how many members there are with some more
 joined-counted : (n : ℕ) (fewer more : Selection) (run : Interval) → run.last < n
-    → ((rank : ℕ) → more rank ≡ (fewer rank || covers rank run))
-    → ((rank : ℕ) → covers rank run ≡ true → fewer rank ≡ false)
+    → ((rank : ℕ) → more rank ≡ (fewer rank || covers run rank))
+    → ((rank : ℕ) → covers run rank ≡ true → fewer rank ≡ false)
     → count n more ≡ count n fewer + length_of run
 joined-counted n fewer more run ends has apart =
     let one = count-covers n run in
-    count-union n more fewer (λ rank. covers rank run) has
-    (λ rank here. elim (true_or_false (covers rank run)) [
+    count-union n more fewer (covers run) has
+    (λ rank here. elim (true_or_false (covers run rank)) [
       | inl there ↦ absurd (not_both (fewer rank) here (apart rank there))
       | inr lacks ↦ lacks
     ])
@@ -194,27 +194,27 @@ module _ (n : ℕ) (runs : List Interval) (canonical : IsCanonicalIn n runs) (ru
   without_start-joined found =
       let ordered = (contained-maximal n runs canonical run found).in_order in
       let others : (rank : ℕ) → members (without_start run.first runs) rank
-      ≡ (members runs rank && not (covers rank run)) =
-      λ rank. starting-members (λ start. not (start == run.first)) runs rank (not (covers rank run))
-      (λ other also there. elim (true_or_false (covers rank run)) [
+      ≡ (members runs rank && not (covers run rank)) =
+      λ rank. starting-members (λ start. not (start == run.first)) runs rank (not (covers run rank))
+      (λ other also there. elim (true_or_false (covers run rank)) [
         | inl here ↦
             let same = ap (λ (each : Interval). each.first)
             (contained-one n runs canonical run other rank found also here there) in
             grind (arith, nat_tests, same, here)
         | inr lacks ↦ elim (true_or_false (other.first == run.first)) [
           | inl same ↦
-              let bounds = covers-bounds rank other there in
+              let bounds = covers-bounds other rank there in
               let meet : run.first ≡ other.first = grind (arith, nat_tests, same) in
               let is = contained-one n runs canonical other run other.first also found
-              (covers-inside other.first other (omega arith) (omega (arith, bounds.0, bounds.1)))
-              (covers-inside other.first run (omega (arith, meet)) (omega (arith, meet, ordered))) in
-              absurd (not_both (covers rank run) (ap (covers rank) (sym is) ∙ there) lacks)
+              (covers-inside other other.first (omega arith) (omega (arith, bounds.0, bounds.1)))
+              (covers-inside run other.first (omega (arith, meet)) (omega (arith, meet, ordered))) in
+              absurd (not_both (covers run rank) (ap (λ each. covers each rank) (sym is) ∙ there) lacks)
           | inr differs ↦ rw (differs, lacks) refl
         ]
       ]) in
       let has : (rank : ℕ) → members runs rank
-      ≡ (members (without_start run.first runs) rank || covers rank run) =
-      λ rank. elim (true_or_false (covers rank run)) [
+      ≡ (members (without_start run.first runs) rank || covers run rank) =
+      λ rank. elim (true_or_false (covers run rank)) [
         | inl here ↦ let some = members-from runs run rank found here in let rest = others rank in
             grind (arith, some, rest, here)
         | inr lacks ↦ let rest = others rank in grind (arith, rest, lacks)
@@ -230,7 +230,7 @@ module _ (n : ℕ) (runs : List Interval) (canonical : IsCanonicalIn n runs) (ru
                 | inl more ↦
                     rw (contained-after n runs canonical run rank found (omega (arith, to, more))) refl
                 | inr within ↦
-                    let here = covers-inside rank run starts within in
+                    let here = covers-inside run rank starts within in
                     grind (arith, here)
               ]
             ];
@@ -241,7 +241,7 @@ module _ (n : ℕ) (runs : List Interval) (canonical : IsCanonicalIn n runs) (ru
       }
 
   module _ (ordered : run.first ≤ run.last) (ends : run.last < n)
-      (free : IsFree runs run.first run.last) where
+      (free : LeavesApart runs run.first run.last) where
     -- where no member is near, each run ends well before it, or starts well past it
     free-apart : (other : Interval) → Contains runs other
         → (other.last + 2 ≤ run.first) ⊎ (run.last + 2 ≤ other.first)
@@ -292,7 +292,7 @@ module _ (n : ℕ) (runs : List Interval) (canonical : IsCanonicalIn n runs) (ru
     pub with_run-joined : IsJoined n runs run (with_run run runs)
     with_run-joined =
         let has : (rank : ℕ) → members (with_run run runs) rank
-        ≡ (members runs rank || covers rank run) =
+        ≡ (members runs rank || covers run rank) =
         λ rank. with_run-members n 0 run runs rank
         (canonical-rises n 0 runs canonical.0 canonical.1)
         (λ other found same. elim (free-apart other found) [
@@ -317,6 +317,6 @@ module _ (n : ℕ) (runs : List Interval) (canonical : IsCanonicalIn n runs) (ru
           has = has;
           counted = joined-counted n (members runs) (members (with_run run runs)) run ends has
               (λ rank here.
-              let bounds = covers-bounds rank run here in
+              let bounds = covers-bounds run rank here in
               free rank (omega (arith, bounds.0)) (omega (arith, bounds.1)));
         }

@@ -4,13 +4,13 @@ use Rattle.std.proofs.lemmas.Bool.Decides.{nat_tests}
 use Rattle.std.proofs.lemmas.List.{map-append}
 use Rattle.rsb_integer.specs.Runs.{Interval, IsCanonicalIn}
 use Rattle.range_set_blaze.specs.Kept.{entry_of, entry_run, run_of, runs_of}
-use Rattle.range_set_blaze.specs.Starts.{below, IsAscendingFrom, IsLastBelow, IsLastTwo, NoneBelow}
+use Rattle.range_set_blaze.specs.Starts.{below, StartsAscendFrom, IsLastBelow, IsLastTwo, NoneBelow}
 use Rattle.range_set_blaze.specs.declared.set.run.Run.{Run}
 use Rattle.range_set_blaze.proofs.runs.Apart.{contained-maximal}
 use Rattle.range_set_blaze.proofs.runs.Starts.{below-none, below-push, starting-ascending, starting-starting, EndsWith-last}
 
 module _ {T : Type 0} (rank : T → ℕ) (n : ℕ) (runs : List Interval)
-    (ascending : IsAscendingFrom n 0 runs) where
+    (ascending : StartsAscendFrom n 0 runs) where
   -- what was taken off the end of a front of the list is the last run of that
   pub found-last : (bound : ℕ) (items left : List (T × T)) (result : Option (Run T))
       → runs_of rank items ≡ below bound runs
@@ -42,7 +42,7 @@ module _ {T : Type 0} (rank : T → ℕ) (n : ℕ) (runs : List Interval)
         found,
         found-last (rank last.start) left rest before
             (sym (below-push n 0 (runs_of rank left) (run_of rank last)
-            (subst (IsAscendingFrom n 0) ends
+            (subst (StartsAscendFrom n 0) ends
             (starting-ascending (λ start. nat_lt start bound) n 0 runs ascending)))
             ∙ ap (below (rank last.start)) (sym ends)
             ∙ starting-starting (λ start. nat_lt start (rank last.start)) (λ start. nat_lt start bound)

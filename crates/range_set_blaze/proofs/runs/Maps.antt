@@ -12,13 +12,13 @@ use Rattle.std.proofs.lemmas.Bool.Decides.{nat_tests}
 use Rattle.rsb_integer.specs.Runs.{Interval}
 use Rattle.rsb_integer.proofs.ListLemmas.{Contains-cases}
 use Rattle.range_set_blaze.specs.Kept.{entry_run, runs_of}
-use Rattle.range_set_blaze.specs.Starts.{below, past, starting, starting_from, with_run, without_start, IsAscendingFrom}
+use Rattle.range_set_blaze.specs.Starts.{below, past, starting, starting_from, with_run, without_start, StartsAscendFrom}
 use Rattle.range_set_blaze.proofs.runs.Starts.{ascending-all, ascending-contains, with_run-first, with_run-here, with_run-later}
 
 -- entries whose keys pass a test are those whose starts pass another that says the same
 pub runs-filter : {T : Type 0} (rank : T → ℕ) (n : ℕ) (keeps : T → Bool) (test : ℕ → Bool) (low : ℕ)
     (entries : List (T × T)) → ((key : T) → rank key < n → keeps key ≡ test (rank key))
-    → IsAscendingFrom n low (runs_of rank entries)
+    → StartsAscendFrom n low (runs_of rank entries)
     → runs_of rank (filter (λ (entry : T × T). keeps entry.0) entries)
     ≡ starting test (runs_of rank entries)
 runs-filter rank n keeps test low [] same ascending = refl
@@ -62,7 +62,7 @@ module _ {T : Type 0} (cmp : T → T → Ordering) (rank : T → ℕ) (n : ℕ)
 
   -- an entry goes to its place
   pub runs-insert_entry : (key end : T) → rank key < n → (low : ℕ) (entries : List (T × T))
-      → IsAscendingFrom n low (runs_of rank entries)
+      → StartsAscendFrom n low (runs_of rank entries)
       → runs_of rank (insert_entry cmp entries key end)
       ≡ with_run (entry_run rank (key, end)) (runs_of rank entries)
   runs-insert_entry key end known low [] ascending = refl
@@ -89,7 +89,7 @@ module _ {T : Type 0} (cmp : T → T → Ordering) (rank : T → ℕ) (n : ℕ)
 
   -- the entry at a key goes out
   pub runs-remove_entry : (key : T) → rank key < n → (low : ℕ) (entries : List (T × T))
-      → IsAscendingFrom n low (runs_of rank entries)
+      → StartsAscendFrom n low (runs_of rank entries)
       → runs_of rank (remove_entry (is_at (cmp key)) entries)
       ≡ without_start (rank key) (runs_of rank entries)
   runs-remove_entry key known low [] ascending = refl
@@ -113,7 +113,7 @@ module _ {T : Type 0} (cmp : T → T → Ordering) (rank : T → ℕ) (n : ℕ)
 
   -- a look-up that finds nothing tells that no run starts at the key
   pub lookup-none : (key : T) → rank key < n → (low : ℕ) (entries : List (T × T))
-      → IsAscendingFrom n low (runs_of rank entries) → lookup (is_at (cmp key)) entries ≡ None
+      → StartsAscendFrom n low (runs_of rank entries) → lookup (is_at (cmp key)) entries ≡ None
       → (run : Interval) → Contains (runs_of rank entries) run → run.first ≡ rank key → ⊥
   lookup-none key known low [] ascending absent run found starts =
       let none = found.1 in omega arith
@@ -143,7 +143,7 @@ module _ {T : Type 0} (cmp : T → T → Ordering) (rank : T → ℕ) (n : ℕ)
 
   -- the entries up to a value are those that start below the next rank
   pub runs-up_to : (value : T) → rank value < n → (entries : List (T × T))
-      → IsAscendingFrom n 0 (runs_of rank entries)
+      → StartsAscendFrom n 0 (runs_of rank entries)
       → runs_of rank
       (filter (λ (entry : T × T). range_contains cmp Unbounded (Included value) entry.0) entries)
       ≡ below (rank value + 1) (runs_of rank entries)
@@ -158,7 +158,7 @@ module _ {T : Type 0} (cmp : T → T → Ordering) (rank : T → ℕ) (n : ℕ)
 
   -- and those after a value are those that start past its rank
   pub runs-after : (value : T) → rank value < n → (entries : List (T × T))
-      → IsAscendingFrom n 0 (runs_of rank entries)
+      → StartsAscendFrom n 0 (runs_of rank entries)
       → runs_of rank
       (filter (λ (entry : T × T). range_contains cmp (Excluded value) Unbounded entry.0) entries)
       ≡ past (rank value) (runs_of rank entries)
@@ -173,7 +173,7 @@ module _ {T : Type 0} (cmp : T → T → Ordering) (rank : T → ℕ) (n : ℕ)
 
   -- the parts of a map that is split at a value are those that start below its rank, and the others
   pub runs-below : (value : T) → rank value < n → (entries : List (T × T))
-      → IsAscendingFrom n 0 (runs_of rank entries)
+      → StartsAscendFrom n 0 (runs_of rank entries)
       → runs_of rank (entries_below (cmp value) entries) ≡ below (rank value) (runs_of rank entries)
   runs-below value known entries ascending =
       runs-filter rank n (λ key. is_gt (cmp value key)) (λ start. nat_lt start (rank value)) 0 entries
@@ -184,7 +184,7 @@ module _ {T : Type 0} (cmp : T → T → Ordering) (rank : T → ℕ) (n : ℕ)
       ]) ascending
 
   pub runs-from : (value : T) → rank value < n → (entries : List (T × T))
-      → IsAscendingFrom n 0 (runs_of rank entries)
+      → StartsAscendFrom n 0 (runs_of rank entries)
       → runs_of rank (entries_from (cmp value) entries)
       ≡ starting_from (rank value) (runs_of rank entries)
   runs-from value known entries ascending =

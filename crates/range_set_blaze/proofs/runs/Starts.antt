@@ -7,7 +7,7 @@ use Rattle.std.proofs.lemmas.List.Elements.{filter-append, filter_passes, All-co
 use Rattle.rsb_integer.specs.Runs.{Interval, AllEndBelow, IsCanonicalFrom, IsCanonicalIn}
 use Rattle.rsb_integer.proofs.CanonicalLemmas.{canonical-lower}
 use Rattle.rsb_integer.proofs.ListLemmas.{Contains-cases, Contains-head, Contains-tail}
-use Rattle.range_set_blaze.specs.Starts.{below, past, starting, with_run, without_start, EndsWith, IsAscendingFrom, IsLastBelow, NoneBelow}
+use Rattle.range_set_blaze.specs.Starts.{below, past, starting, with_run, without_start, EndsWith, StartsAscendFrom, IsLastBelow, NoneBelow}
 
 -- ---- runs that pass a test
 
@@ -110,14 +110,14 @@ starting-canonical_in test n runs canonical = (
 
 -- they ascend from a lower rank on, too
 pub ascending-lower : (n low lower : ℕ) (runs : List Interval) → lower ≤ low
-    → IsAscendingFrom n low runs → IsAscendingFrom n lower runs
+    → StartsAscendFrom n low runs → StartsAscendFrom n lower runs
 ascending-lower n low lower [] less ascending = tt
 ascending-lower n low lower (run ∷ runs) less ascending =
     let starts = ascending.0 in (omega (arith, starts, less), ascending.1, ascending.2)
 
 -- those of canonical runs do
 pub canonical-rises : (n low : ℕ) (runs : List Interval) → IsCanonicalFrom low runs
-    → AllEndBelow n runs → IsAscendingFrom n low runs
+    → AllEndBelow n runs → StartsAscendFrom n low runs
 canonical-rises n low [] canonical ends = tt
 canonical-rises n low (run ∷ runs) canonical ends =
     let ordered = canonical.1 in
@@ -131,7 +131,7 @@ canonical-rises n low (run ∷ runs) canonical ends =
 
 -- those of runs that pass a test do
 pub starting-ascending : (test : ℕ → Bool) (n low : ℕ) (runs : List Interval)
-    → IsAscendingFrom n low runs → IsAscendingFrom n low (starting test runs)
+    → StartsAscendFrom n low runs → StartsAscendFrom n low (starting test runs)
 starting-ascending test n low [] ascending = tt
 starting-ascending test n low (run ∷ runs) ascending =
     let starts = ascending.0 in
@@ -140,14 +140,14 @@ starting-ascending test n low (run ∷ runs) ascending =
     (ascending-lower n (run.first + 1) low (starting test runs) (omega (arith, starts)) rest)
   where
     by : (passes : Bool) → test run.first ≡ passes
-        → IsAscendingFrom n (run.first + 1) (starting test runs)
-        → IsAscendingFrom n low (starting test runs)
-        → IsAscendingFrom n low (starting test (run ∷ runs))
+        → StartsAscendFrom n (run.first + 1) (starting test runs)
+        → StartsAscendFrom n low (starting test runs)
+        → StartsAscendFrom n low (starting test (run ∷ runs))
     by true is rest all = rw is (ascending.0, ascending.1, rest)
     by false is rest all = rw is all
 
 -- a test that all starts from a rank on pass lets all in
-pub ascending-all : (test : ℕ → Bool) (n low : ℕ) (runs : List Interval) → IsAscendingFrom n low runs
+pub ascending-all : (test : ℕ → Bool) (n low : ℕ) (runs : List Interval) → StartsAscendFrom n low runs
     → ((start : ℕ) → low ≤ start → test start ≡ true) → starting test runs ≡ runs
 ascending-all test n low [] ascending passes = refl
 ascending-all test n low (run ∷ runs) ascending passes =
@@ -157,7 +157,7 @@ ascending-all test n low (run ∷ runs) ascending passes =
     (λ start from. passes start (omega (arith, from, ascending.0)))))
 
 -- and one that they fail none
-pub ascending-none : (test : ℕ → Bool) (n low : ℕ) (runs : List Interval) → IsAscendingFrom n low runs
+pub ascending-none : (test : ℕ → Bool) (n low : ℕ) (runs : List Interval) → StartsAscendFrom n low runs
     → ((start : ℕ) → low ≤ start → test start ≡ false) → starting test runs ≡ []
 ascending-none test n low [] ascending fails = refl
 ascending-none test n low (run ∷ runs) ascending fails =
@@ -166,7 +166,7 @@ ascending-none test n low (run ∷ runs) ascending fails =
     (λ start from. fails start (omega (arith, from, ascending.0))))
 
 -- one of them starts no lower
-pub ascending-contains : (n low : ℕ) (runs : List Interval) (run : Interval) → IsAscendingFrom n low runs
+pub ascending-contains : (n low : ℕ) (runs : List Interval) (run : Interval) → StartsAscendFrom n low runs
     → Contains runs run → low ≤ run.first
 ascending-contains n low [] run ascending found = let none = found.1 in absurd (omega arith)
 ascending-contains n low (first ∷ runs) run ascending found =
@@ -180,7 +180,7 @@ ascending-contains n low (first ∷ runs) run ascending found =
 
 -- and one before another starts lower
 pub ascending-before : (n low : ℕ) (front : List Interval) (last : Interval) (run : Interval)
-    → IsAscendingFrom n low (front ++ last ∷ []) → Contains front run → run.first < last.first
+    → StartsAscendFrom n low (front ++ last ∷ []) → Contains front run → run.first < last.first
 ascending-before n low [] last run ascending found = let none = found.1 in absurd (omega arith)
 ascending-before n low (first ∷ front) last run ascending found =
     elim (Contains-cases first front run found) [
@@ -193,7 +193,7 @@ ascending-before n low (first ∷ front) last run ascending found =
 
 -- those that start below the last are all before it
 pub below-push : (n low : ℕ) (front : List Interval) (last : Interval)
-    → IsAscendingFrom n low (front ++ last ∷ []) → below last.first (front ++ last ∷ []) ≡ front
+    → StartsAscendFrom n low (front ++ last ∷ []) → below last.first (front ++ last ∷ []) ≡ front
 below-push n low [] last ascending =
     let not_below : nat_lt last.first last.first ≡ false = grind (arith, nat_tests) in
     rw not_below refl
@@ -206,7 +206,7 @@ below-push n low (first ∷ front) last ascending =
 
 -- the last of those that start below a bound is the last of a front of the list
 pub EndsWith-last : (n : ℕ) (bound : ℕ) (runs : List Interval) (run : Interval)
-    → IsAscendingFrom n 0 runs → EndsWith (below bound runs) run → IsLastBelow runs bound run
+    → StartsAscendFrom n 0 runs → EndsWith (below bound runs) run → IsLastBelow runs bound run
 EndsWith-last n bound runs run ascending found =
     let has = starting-contains (λ start. nat_lt start bound) runs run
     (subst (λ (items : List Interval). Contains items run) (sym found.parts)
@@ -221,7 +221,7 @@ EndsWith-last n bound runs run ascending found =
           elim (Contains-append_cases found.front (run ∷ []) other there) [
             | inl front ↦
                 let before = ascending-before n 0 found.front run other
-                (subst (IsAscendingFrom n 0) found.parts
+                (subst (StartsAscendFrom n 0) found.parts
                 (starting-ascending (λ start. nat_lt start bound) n 0 runs ascending)) front in
                 omega (arith, before)
             | inr last ↦ elim (Contains-cases run [] other last) [
@@ -243,7 +243,7 @@ below-none bound runs none run found less =
 
 -- before runs that all start past it, it comes first
 pub with_run-first : (n : ℕ) (run : Interval) (runs : List Interval)
-    → IsAscendingFrom n (run.first + 1) runs → with_run run runs ≡ run ∷ runs
+    → StartsAscendFrom n (run.first + 1) runs → with_run run runs ≡ run ∷ runs
 with_run-first n run runs ascending = λ i.
     ascending-none (λ start. nat_lt start run.first) n (run.first + 1) runs ascending
     (λ start from. grind (arith, nat_tests, from)) i
@@ -267,8 +267,8 @@ with_run-here run first runs same =
     rw (not_below, not_past) refl
 
 -- with it the starts still ascend
-pub with_run-ascending : (n low : ℕ) (run : Interval) (runs : List Interval) → IsAscendingFrom n low runs
-    → low ≤ run.first → run.first < n → IsAscendingFrom n low (with_run run runs)
+pub with_run-ascending : (n low : ℕ) (run : Interval) (runs : List Interval) → StartsAscendFrom n low runs
+    → low ≤ run.first → run.first < n → StartsAscendFrom n low (with_run run runs)
 with_run-ascending n low run [] ascending from value = (from, value, tt)
 with_run-ascending n low run (first ∷ runs) ascending from value =
     let starts = ascending.0 in
@@ -336,7 +336,7 @@ starting-with_run_not test run runs fails above =
 
 -- out again, it leaves what was there
 pub without_start-with_run : (n low : ℕ) (run : Interval) (runs : List Interval)
-    → IsAscendingFrom n low runs
+    → StartsAscendFrom n low runs
     → ((other : Interval) → Contains runs other → other.first ≡ run.first → ⊥)
     → without_start run.first (with_run run runs) ≡ runs
 without_start-with_run n low run [] ascending elsewhere =
@@ -372,12 +372,6 @@ with_run-without_start run runs = λ i.
     (λ start. nat_lt start run.first) runs (λ start. grind (arith, nat_tests)) i
     ++ run ∷ starting-starting (λ start. nat_lt run.first start) (λ start. not (start == run.first))
     (λ start. nat_lt run.first start) runs (λ start. grind (arith, nat_tests)) i
-
--- it is one of them
-pub with_run-has : (run : Interval) (runs : List Interval) → Contains (with_run run runs) run
-with_run-has run runs =
-    Contains-append_right (below run.first runs) (run ∷ past run.first runs) run
-    (Contains-head run (past run.first runs))
 
 -- the others are runs of the list that start elsewhere
 pub with_run-contains : (run : Interval) (runs : List Interval) (other : Interval)

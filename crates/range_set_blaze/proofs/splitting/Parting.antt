@@ -10,9 +10,9 @@ use Rattle.rsb_integer.proofs.CountLemmas.{count-union}
 use Rattle.rsb_integer.proofs.ListLemmas.{not_both}
 use Rattle.rsb_integer.proofs.MembersLemmas.{covers-bounds, covers-inside}
 use Rattle.range_set_blaze.specs.Split.{from_on, IsParting, NoneOver}
-use Rattle.range_set_blaze.specs.Starts.{below, starting_from, with_run, without_start, IsAscendingFrom, IsJoined, IsLastBelow}
+use Rattle.range_set_blaze.specs.Starts.{below, starting_from, with_run, without_start, StartsAscendFrom, IsJoined, IsLastBelow}
 use Rattle.range_set_blaze.specs.Set.{IsSetOf, Removes}
-use Rattle.range_set_blaze.proofs.KeptLemmas.{sum_by-within}
+use Rattle.range_set_blaze.proofs.runs.Kept.{sum_by-within}
 use Rattle.range_set_blaze.proofs.runs.Apart.{contained-ends, contained-maximal, contained-members, contained-starts, starting-lacks, starting-members, with_run-joined, without_start-joined}
 use Rattle.range_set_blaze.proofs.runs.Starts.{canonical-rises, starting-canonical_in, starting-starting, starting-swap, starting-with_run, starting-with_run_not, with_run-without_start, with_run-ascending, without_start-with_run, Contains-starting, Contains-with_run}
 
@@ -39,8 +39,8 @@ module _ (n : ℕ) (runs : List Interval) (canonical : IsCanonicalIn n runs) (po
       let down = found.last other also starts in
       let own = (contained-maximal n runs canonical run found.among).in_order in
       let ends = contained-ends n runs canonical run other run.first found.among also
-      (covers-inside run.first run (omega arith) own)
-      (covers-inside run.first other down (omega (arith, own, less, reaches))) in
+      (covers-inside run run.first (omega arith) own)
+      (covers-inside other run.first down (omega (arith, own, less, reaches))) in
       omega (arith, ends, less, reaches)
 
   module _ (none : NoneOver runs point) where
@@ -50,7 +50,7 @@ module _ (n : ℕ) (runs : List Interval) (canonical : IsCanonicalIn n runs) (po
     below-members rank =
         starting-members (λ start. nat_lt start point) runs rank (nat_lt rank point)
         (λ run found here.
-        let bounds = covers-bounds rank run here in
+        let bounds = covers-bounds run rank here in
         elim (cases_lt run.first point) [
           | inl less ↦ elim (cases_lt rank point) [
             | inl low ↦ grind (arith, nat_tests, less, low)
@@ -65,7 +65,7 @@ module _ (n : ℕ) (runs : List Interval) (canonical : IsCanonicalIn n runs) (po
     from-members rank =
         starting-members (λ start. nat_le point start) runs rank (nat_le point rank)
         (λ run found here.
-        let bounds = covers-bounds rank run here in
+        let bounds = covers-bounds run rank here in
         elim (cases_lt run.first point) [
           | inl less ↦ elim (cases_lt rank point) [
             | inl low ↦ grind (arith, nat_tests, less, low)
@@ -151,7 +151,7 @@ module _ (n : ℕ) (runs : List Interval) (canonical : IsCanonicalIn n runs) (po
 
   -- the starts ascend with the high part
   pub within-ascending : (high : Interval) → high.first ≡ point
-      → IsAscendingFrom n 0 (with_run high runs)
+      → StartsAscendFrom n 0 (with_run high runs)
   within-ascending high starts =
       let maximal = contained-maximal n runs canonical run among in
       with_run-ascending n 0 high runs (canonical-rises n 0 runs canonical.0 canonical.1)
@@ -174,8 +174,8 @@ module _ (n : ℕ) (runs : List Interval) (canonical : IsCanonicalIn n runs) (po
       (λ other found same.
       let own = (contained-maximal n runs canonical other found).in_order in
       let meets = contained-starts n runs canonical other run point found among
-      (covers-inside point other (omega (arith, same, starts)) (omega (arith, same, starts, own)))
-      (covers-inside point run (omega (arith, above)) within) in
+      (covers-inside other point (omega (arith, same, starts)) (omega (arith, same, starts, own)))
+      (covers-inside run point (omega (arith, above)) within) in
       omega (arith, meets, same, starts, above))
 
 -- ---- how many members a part has

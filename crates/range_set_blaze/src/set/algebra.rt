@@ -2,14 +2,8 @@
 
 ghost use Rattle.std.specs.Prelude.{◌≡◌, List, IfOk};
 ghost use Rattle.rsb_integer.specs.Runs.{members, AreRuns, Interval};
-ghost use Rattle.rsb_integer.specs.Selection.{
-  difference,
-  intersection,
-  symmetric_difference,
-  union,
-};
+ghost use Rattle.rsb_integer.specs.Selection.{difference, intersection, symmetric_difference, union, complement_in};
 ghost use Rattle.rsb_streams.specs.Stream.{◌⊆◌, just};
-ghost use Rattle.range_set_blaze.specs.Algebra.{IsComplementOf};
 ghost use Rattle.rsb_streams.specs.RunCount.{HasFewerRunsThanBoth, HasOneRunMoreAtMost, HasRunsOfBothAtMost};
 ghost use Rattle.range_set_blaze.specs.Set.{IsSetOf};
 
@@ -74,7 +68,7 @@ impl<T: Integer, A: Allocator + Copy> RangeSetBlaze<T, A> {
     /// The values that the set lacks. They have at most one run more than the set. Without memory
     /// nothing is made. (`Not` of `RangeSetBlaze`: `a.not()?` for `!&a`.)
     pub fn not(&self) -> Result<Self, AllocError>
-        ensures members { IfOk result (λ set. IsComplementOf T.value_count set self.now) }
+        ensures members { IfOk result (λ set. IsSetOf set (complement_in T.value_count (members self.now))) }
         ensures run_count { IfOk result (λ set. HasOneRunMoreAtMost self.now set) }
     {
         Self::from_sorted_disjoint(self.alloc, self.ranges().complement())

@@ -1,10 +1,10 @@
 //! Sets from streams of ranges, and back.
 
 ghost use Rattle.std.specs.Prelude.{◌≡◌, IfOk};
+ghost use Rattle.range_set_blaze.specs.Set.{IsSetOf};
 ghost use Rattle.rsb_integer.specs.Rank.{intervals_of, interval_of};
-ghost use Rattle.rsb_integer.specs.Runs.{members, IsCanonicalIn};
-ghost use Rattle.rsb_integer.specs.Selection.{IsEverything};
-ghost use Rattle.range_set_blaze.specs.Set.{HasExactly};
+ghost use Rattle.rsb_integer.specs.Runs.{members, IsCanonicalIn, covers};
+ghost use Rattle.rsb_integer.specs.Selection.{IsUniversal};
 
 use crate::into_ranges_iter::IntoRangesIter;
 use crate::set::RangeSetBlaze;
@@ -30,14 +30,14 @@ impl<T: Integer, A: Allocator + Copy> RangeSetBlaze<T, A> {
     /// to its end. Without memory nothing is made. Of an array, write `from_array`.
     /// (`From<RangeInclusive>` of `RangeSetBlaze`.)
     pub fn from(alloc: A, range: RangeInclusive<T>) -> Result<Self, AllocError>
-        ensures members { IfOk result (λ set. HasExactly set (interval_of T.rank range)) }
+        ensures members { IfOk result (λ set. IsSetOf set (covers (interval_of T.rank range))) }
     {
         Self::from_sorted_disjoint(alloc, RangeOnce::new(range))
     }
 
     /// The set of all values. Without memory nothing is made. (`RangeSetBlaze::universe`.)
     pub fn universe(alloc: A) -> Result<Self, AllocError>
-        ensures members { IfOk result (λ set. IsEverything T.value_count (members set)) }
+        ensures members { IfOk result (λ set. IsUniversal T.value_count (members set)) }
     {
         Self::from(alloc, T::min_value()..=T::max_value())
     }

@@ -3,7 +3,7 @@
 ghost use Rattle.std.specs.Prelude.{◌≡◌, ℕ, ◌+◌, ◌<◌, [], ◌∷◌, ◌++◌, Contains, IfOk, IsOk, MatchOption, OnErr, OnOk};
 ghost use Rattle.rsb_integer.specs.Runs.{Interval};
 ghost use Rattle.range_set_blaze.specs.Kept.{entry_of, run_of, runs_of};
-ghost use Rattle.range_set_blaze.specs.Starts.{below, past, starting_from, with_run, without_start, IsAscendingFrom, IsLastBelow, NoneBelow, StartsWith};
+ghost use Rattle.range_set_blaze.specs.Starts.{below, past, starting_from, with_run, without_start, StartsAscendFrom, IsLastBelow, NoneBelow, StartsWith};
 
 use crate::set::run::Run;
 use rsb_integer::Integer;
@@ -54,7 +54,7 @@ pub(crate) fn run_up_to<T: Integer, A: Allocator>(
     map: &BTreeMap<T, T, A>,
     value: T,
 ) -> Option<Run<T>>
-    requires ascending { IsAscendingFrom T.value_count 0 (runs_of T.rank map.now.entries) }
+    requires ascending { StartsAscendFrom T.value_count 0 (runs_of T.rank map.now.entries) }
     requires value { T.rank value < T.value_count }
     ensures { MatchOption result (NoneBelow (runs_of T.rank map.now.entries) (T.rank value + 1))
         (λ run. IsLastBelow (runs_of T.rank map.now.entries) (T.rank value + 1)
@@ -69,7 +69,7 @@ pub(crate) fn run_after<T: Integer, A: Allocator>(
     map: &BTreeMap<T, T, A>,
     value: T,
 ) -> Option<Run<T>>
-    requires ascending { IsAscendingFrom T.value_count 0 (runs_of T.rank map.now.entries) }
+    requires ascending { StartsAscendFrom T.value_count 0 (runs_of T.rank map.now.entries) }
     requires value { T.rank value < T.value_count }
     ensures { MatchOption result (past (T.rank value) (runs_of T.rank map.now.entries) ≡ [])
         (λ run. StartsWith (past (T.rank value) (runs_of T.rank map.now.entries))
@@ -90,7 +90,7 @@ pub(crate) fn put_entry<T: Integer, A: Allocator + Clone>(
     map: &mut BTreeMap<T, T, A>,
     run: Run<T>,
 ) -> Result<(), AllocError>
-    requires ascending { IsAscendingFrom T.value_count 0 (runs_of T.rank map.old.entries) }
+    requires ascending { StartsAscendFrom T.value_count 0 (runs_of T.rank map.old.entries) }
     requires value { T.rank run.start < T.value_count }
     ensures runs { OnOk result (runs_of T.rank map.new.entries
         ≡ with_run (run_of T.rank run) (runs_of T.rank map.old.entries)) }
@@ -104,7 +104,7 @@ pub(crate) fn put_entry<T: Integer, A: Allocator + Clone>(
 
 /// Takes out the run that starts at a value.
 pub(crate) fn take_entry<T: Integer, A: Allocator>(map: &mut BTreeMap<T, T, A>, start: T)
-    requires ascending { IsAscendingFrom T.value_count 0 (runs_of T.rank map.old.entries) }
+    requires ascending { StartsAscendFrom T.value_count 0 (runs_of T.rank map.old.entries) }
     requires value { T.rank start < T.value_count }
     ensures { runs_of T.rank map.new.entries
         ≡ without_start (T.rank start) (runs_of T.rank map.old.entries) }
@@ -118,7 +118,7 @@ pub(crate) fn split_entries<T: Integer, A: Allocator + Clone>(
     map: &mut BTreeMap<T, T, A>,
     key: T,
 ) -> Result<BTreeMap<T, T, A>, AllocError>
-    requires ascending { IsAscendingFrom T.value_count 0 (runs_of T.rank map.old.entries) }
+    requires ascending { StartsAscendFrom T.value_count 0 (runs_of T.rank map.old.entries) }
     requires value { T.rank key < T.value_count }
     ensures low { OnOk result (runs_of T.rank map.new.entries
         ≡ below (T.rank key) (runs_of T.rank map.old.entries)) }

@@ -5,7 +5,7 @@ ghost use Rattle.std.specs.Iterator.{ExtendsWithItems};
 ghost use Rattle.rsb_integer.specs.Rank.{interval_of, intervals_of};
 ghost use Rattle.rsb_integer.specs.Runs.{covers, members};
 ghost use Rattle.rsb_streams.specs.Items.{GaveAll, GaveRun, IsEnding};
-ghost use Rattle.range_set_blaze.specs.Algebra.{ranks_of, AddsFrontOf, AddsItems, AddsValues};
+ghost use Rattle.range_set_blaze.specs.Algebra.{ranks_of, AddsPrefixOf, AddsItems, AddsValues};
 ghost use Rattle.range_set_blaze.specs.Set.{Adds, IsSetOf};
 
 use crate::set::RangeSetBlaze;
@@ -54,7 +54,7 @@ impl<T: Integer, A: Allocator + Clone> RangeSetBlaze<T, A> {
     // Adds the values of a range. Without memory the set is as it was.
     fn add_range(&mut self, range: RangeInclusive<T>) -> Result<(), AllocError>
         ensures members { OnOk result
-            (Adds self.old self.new (λ rank. covers rank (interval_of T.rank range))) }
+            (Adds self.old self.new (covers (interval_of T.rank range))) }
         ensures err { OnErr result (self.new ≡ self.old) }
     {
         let start = known(*range.start());
@@ -120,7 +120,7 @@ impl<T: Integer, A: Allocator + Copy> RangeSetBlaze<T, A> {
         other: &RangeSetBlaze<T, B>,
     ) -> Result<(), AllocError>
         ensures members { OnOk result (Adds self.old self.new (members other.now)) }
-        ensures err { OnErr result (AddsFrontOf self.old self.new other.now) }
+        ensures err { OnErr result (AddsPrefixOf self.old self.new other.now) }
     {
         if is_few(other.ranges_len(), self.ranges_len()) {
             return self.extend(other.ranges());
@@ -134,7 +134,7 @@ impl<T: Integer, A: Allocator + Copy> RangeSetBlaze<T, A> {
     /// (`BitOrAssign` of `RangeSetBlaze`, of a set by value.)
     pub fn bitor_assign_owned(&mut self, other: Self) -> Result<(), AllocError>
         ensures members { OnOk result (Adds self.old self.new (members other)) }
-        ensures err { OnErr result (AddsFrontOf self.old self.new other) }
+        ensures err { OnErr result (AddsPrefixOf self.old self.new other) }
     {
         if other.ranges_len() <= self.ranges_len() {
             return self.bitor_assign(&other);
@@ -150,7 +150,7 @@ impl<T: Integer, A: Allocator + Copy> RangeSetBlaze<T, A> {
     pub fn append(&mut self, other: &mut Self) -> Result<(), AllocError>
         ensures members { OnOk result (Adds self.old self.new (members other.old)) }
         ensures emptied { OnOk result (other.new ≡ []) }
-        ensures err { OnErr result (AddsFrontOf self.old self.new other.old) }
+        ensures err { OnErr result (AddsPrefixOf self.old self.new other.old) }
         ensures other { OnErr result (other.new ≡ other.old) }
     {
         self.bitor_assign(&*other)?;

@@ -2,7 +2,7 @@
 
 ghost use Rattle.std.specs.Prelude.{◌≡◌, ◌++◌, List, flat_map, fold};
 ghost use Rattle.rsb_integer.specs.Runs.{Interval, members, IsCanonicalIn};
-ghost use Rattle.range_set_blaze.specs.Hash.{ends_of, hashed_runs, run_bounds};
+ghost use Rattle.range_set_blaze.specs.Hash.{ends_of_runs, hashed_runs, run_bounds};
 ghost use Rattle.range_set_blaze.specs.HashLaws.{hashed_runs-same};
 
 use crate::set::RangeSetBlaze;
@@ -31,7 +31,7 @@ impl<T: Integer + Hash, A: Allocator> Hash for RangeSetBlaze<T, A> {
 /// other: of a canonical list, as `ranges` tells it of a set. (Own.)
 pub fn run_bounds_are_ends<T: Integer>()
     ensures { (runs : List Interval) → IsCanonicalIn T.value_count runs
-        → run_bounds T.value_count (members runs) ≡ ends_of runs }
+        → run_bounds T.value_count (members runs) ≡ ends_of_runs runs }
 {}
 
 // Feeds the start and the end of each run.

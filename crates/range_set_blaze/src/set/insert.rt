@@ -1,13 +1,13 @@
 //! Insertions.
 
 ghost use Rattle.std.specs.Prelude.{◌≡◌, ◌↔◌, ℕ, ◌+◌, ◌-◌, ◌<◌, ◌≤◌, max, Some, IfOk, IfSome, IsFalse, IsNone, IsOk, IsSome, IsTrue, MatchOption, OnErr, OnOk};
-ghost use Rattle.rsb_integer.specs.Runs.{covers, length_of, members, IsCanonicalIn, IsNonEmpty};
-ghost use Rattle.rsb_integer.specs.Selection.{IsNothing};
+ghost use Rattle.rsb_integer.specs.Runs.{covers, length_of, members, IsCanonicalIn, HasRanks};
+ghost use Rattle.rsb_integer.specs.Selection.{IsEmpty, LacksSome};
 ghost use Rattle.range_set_blaze.specs.Joining.{Has, IsHull, IsInserted, IsJoining, IsReaching, IsUnreached};
 ghost use Rattle.range_set_blaze.specs.Kept.{run_of, runs_of, IsKept};
 ghost use Rattle.rsb_streams.specs.RunCount.{HasOneRunMoreAtMost};
-ghost use Rattle.range_set_blaze.specs.Starts.{IsAscendingFrom, IsLastBelow, IsLastTwo, NoneBelow};
-ghost use Rattle.range_set_blaze.specs.Set.{first_rank, only, past_rank, ranks_in, Adds, IsReached, LacksSomeOf};
+ghost use Rattle.range_set_blaze.specs.Starts.{StartsAscendFrom, IsLastBelow, IsLastTwo, NoneBelow};
+ghost use Rattle.range_set_blaze.specs.Set.{first_rank, only, past_rank, ranks_in, Adds, IsReached};
 
 use crate::set::RangeSetBlaze;
 use crate::set::entries::{last_run, put_entry, run_up_to};
@@ -40,14 +40,14 @@ impl<T: Integer, A: Allocator + Clone> RangeSetBlaze<T, A> {
         ensures members { R.has_bounds range → OnOk result (Adds self.old self.new
             (ranks_in T.rank T.value_count R.start_bound R.end_bound range)) }
         ensures added { R.has_bounds range → IfOk result (λ added. IsTrue added ↔
-            LacksSomeOf self.old
+            LacksSome (members self.old)
             (ranks_in T.rank T.value_count R.start_bound R.end_bound range)) }
         ensures run_count { HasOneRunMoreAtMost self.old self.new }
         ensures err { OnErr result (self.new ≡ self.old) }
 
         // No memory is taken where nothing is to be added, nor where a run can be made longer.
         ensures nothing { R.has_bounds range
-            → IsNothing (ranks_in T.rank T.value_count R.start_bound R.end_bound range)
+            → IsEmpty (ranks_in T.rank T.value_count R.start_bound R.end_bound range)
             → IsOk result }
         ensures succeeds { R.has_bounds range
             → IsReached self.old (first_rank T.rank (R.start_bound range)) → IsOk result }
@@ -98,9 +98,9 @@ impl<T: Integer, A: Allocator + Clone> RangeSetBlaze<T, A> {
         requires order { T.rank run.start ≤ T.rank run.end }
         requires value { T.rank run.end < T.value_count }
         ensures members { OnOk result
-            (Adds self.old self.new (λ rank. covers rank (run_of T.rank run))) }
+            (Adds self.old self.new (covers (run_of T.rank run))) }
         ensures added { IfOk result (λ added. IsTrue added ↔
-            LacksSomeOf self.old (λ rank. covers rank (run_of T.rank run))) }
+            LacksSome (members self.old) (covers (run_of T.rank run))) }
         ensures run_count { HasOneRunMoreAtMost self.old self.new }
         ensures err { OnErr result (self.new ≡ self.old) }
         ensures succeeds { IsReached self.old (T.rank run.start) → IsOk result }
@@ -159,7 +159,7 @@ fn add_run<T: Integer, A: Allocator + Clone>(
     requires value { T.rank run.end < T.value_count }
     ensures unchanged { IfOk result (λ found. IsNone found → map.new.entries ≡ map.old.entries) }
     ensures within { IfOk result (λ found. IsNone found →
-        Has (runs_of T.rank map.old.entries) (λ rank. covers rank (run_of T.rank run))) }
+        Has (runs_of T.rank map.old.entries) (covers (run_of T.rank run))) }
     ensures inserted { IfOk result (λ found. IfSome found (λ length. IsInserted T.rank T.value_count
         map.old.entries map.new.entries run (T.SafeLen.number length))) }
     ensures err { OnErr result (map.new.entries ≡ map.old.entries) }
@@ -178,11 +178,11 @@ fn touched<T: Integer, A: Allocator>(map: &BTreeMap<T, T, A>, run: Run<T>) -> Op
     requires order { T.rank run.start ≤ T.rank run.end }
     requires value { T.rank run.end < T.value_count }
     ensures within { IsNone result →
-        Has (runs_of T.rank map.now.entries) (λ rank. covers rank (run_of T.rank run)) }
+        Has (runs_of T.rank map.now.entries) (covers (run_of T.rank run)) }
     ensures hull { IfSome result (λ joining. IsHull (runs_of T.rank map.now.entries)
         (run_of T.rank run) (run_of T.rank joining.joined)) }
-    ensures lacks { IfSome result (λ joining. LacksSomeOf (runs_of T.rank map.now.entries)
-        (λ rank. covers rank (run_of T.rank run))) }
+    ensures lacks { IfSome result (λ joining. LacksSome (members (runs_of T.rank map.now.entries))
+        (covers (run_of T.rank run))) }
     ensures joining { IfSome result
         (IsJoining T.rank T.value_count (runs_of T.rank map.now.entries)) }
     ensures first { IfSome result (λ joining.
@@ -208,7 +208,7 @@ fn last_two<T: Integer, A: Allocator>(
     map: &BTreeMap<T, T, A>,
     value: T,
 ) -> (Option<Run<T>>, Option<Run<T>>)
-    requires ascending { IsAscendingFrom T.value_count 0 (runs_of T.rank map.now.entries) }
+    requires ascending { StartsAscendFrom T.value_count 0 (runs_of T.rank map.now.entries) }
     requires value { T.rank value < T.value_count }
     ensures two { IsLastTwo T.rank (runs_of T.rank map.now.entries) (T.rank value + 1)
         result.0 result.1 }
@@ -328,7 +328,7 @@ fn put<T: Integer, A: Allocator + Clone>(
     ensures kept { IfOk result (λ length.
         IsKept T.rank T.value_count map.new.entries (T.SafeLen.number length)) }
     ensures adds { OnOk result (Adds (runs_of T.rank map.old.entries) (runs_of T.rank map.new.entries)
-        (λ rank. covers rank (run_of T.rank joining.joined))) }
+        (covers (run_of T.rank joining.joined))) }
     ensures err { OnErr result (map.new.entries ≡ map.old.entries) }
     ensures succeeds { IsSome joining.first → IsOk result }
 {
@@ -343,7 +343,7 @@ fn put<T: Integer, A: Allocator + Clone>(
 
 // A length without the values of a run, if there is one.
 fn without<T: Integer>(first: Option<Run<T>>, total: T::SafeLen) -> T::SafeLen
-    requires some { IfSome first (λ first. IsNonEmpty (run_of T.rank first)) }
+    requires some { IfSome first (λ first. HasRanks (run_of T.rank first)) }
     requires fits { T.SafeLen.number total ≤ T.value_count }
     requires counted { IfSome first (λ first.
         length_of (run_of T.rank first) ≤ T.SafeLen.number total) }

@@ -1,7 +1,7 @@
 //! Lengths of sets, by the values of a run.
 
 ghost use Rattle.std.specs.Prelude.{◌≡◌, ◌+◌, ◌≤◌};
-ghost use Rattle.rsb_integer.specs.Runs.{length_of, IsNonEmpty};
+ghost use Rattle.rsb_integer.specs.Runs.{length_of, HasRanks};
 ghost use Rattle.range_set_blaze.specs.Kept.{run_of};
 
 use crate::set::run::Run;
@@ -9,7 +9,7 @@ use rsb_integer::Integer;
 
 /// Adds the number of values of a run to a length.
 pub(crate) fn add_length<T: Integer>(length: &mut T::SafeLen, run: Run<T>)
-    requires some { IsNonEmpty (run_of T.rank run) }
+    requires some { HasRanks (run_of T.rank run) }
     requires fits { T.SafeLen.number length.old + length_of (run_of T.rank run) ≤ T.value_count }
     ensures { T.SafeLen.number length.new
         ≡ T.SafeLen.number length.old + length_of (run_of T.rank run) }
@@ -19,7 +19,7 @@ pub(crate) fn add_length<T: Integer>(length: &mut T::SafeLen, run: Run<T>)
 
 /// Takes the number of values of a run off a length.
 pub(crate) fn take_off_length<T: Integer>(length: &mut T::SafeLen, run: Run<T>)
-    requires some { IsNonEmpty (run_of T.rank run) }
+    requires some { HasRanks (run_of T.rank run) }
     requires fits { T.SafeLen.number length.old ≤ T.value_count }
     requires counted { length_of (run_of T.rank run) ≤ T.SafeLen.number length.old }
     ensures { T.SafeLen.number length.new + length_of (run_of T.rank run)

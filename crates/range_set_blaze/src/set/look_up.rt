@@ -3,7 +3,7 @@
 ghost use Rattle.std.specs.Prelude.{◌≡◌, ◌↔◌, ◌<◌, IfSome, IsFalse, IsNone, IsSome, IsTrue};
 ghost use Rattle.rsb_integer.specs.Rank.{interval_of};
 ghost use Rattle.rsb_integer.specs.Runs.{members, IsCanonicalIn};
-ghost use Rattle.rsb_integer.specs.Selection.{complement, IsEverything};
+ghost use Rattle.rsb_integer.specs.Selection.{complement, IsUniversal};
 ghost use Rattle.range_set_blaze.specs.Kept.{run_of, runs_of};
 ghost use Rattle.range_set_blaze.specs.Starts.{IsGapEnd};
 ghost use Rattle.range_set_blaze.specs.Set.{IsRunAround};
@@ -72,7 +72,7 @@ impl<T: Integer, A: Allocator> RangeSetBlaze<T, A> {
 
     /// Whether every value is a member. (`RangeSetBlaze::is_universal`.)
     pub fn is_universal(&self) -> bool
-        ensures { IsTrue result ↔ IsEverything T.value_count (members self.now) }
+        ensures { IsTrue result ↔ IsUniversal T.value_count (members self.now) }
     {
         self.length == T::safe_len(&(T::min_value()..=T::max_value()))
     }

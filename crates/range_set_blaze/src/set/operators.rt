@@ -2,13 +2,7 @@
 
 ghost use Rattle.std.specs.Prelude.{◌≡◌, IfOk};
 ghost use Rattle.rsb_integer.specs.Runs.{members};
-ghost use Rattle.rsb_integer.specs.Selection.{
-  difference,
-  intersection,
-  symmetric_difference,
-  union,
-};
-ghost use Rattle.range_set_blaze.specs.Algebra.{IsComplementOf};
+ghost use Rattle.rsb_integer.specs.Selection.{difference, intersection, symmetric_difference, union, complement_in};
 ghost use Rattle.rsb_streams.specs.RunCount.{HasFewerRunsThanBoth, HasOneRunMoreAtMost, HasRunsOfBothAtMost};
 ghost use Rattle.range_set_blaze.specs.Set.{IsSetOf};
 
@@ -95,10 +89,10 @@ impl<'a, T: Integer, A: Allocator + Copy> Not for &'a RangeSetBlaze<T, A> {
     type Output = Result<RangeSetBlaze<T, A>, AllocError>;
 
     ghost not_gives = { λ set made. IfOk made (λ lacking.
-        IsComplementOf T.value_count lacking set.now) };
+        IsSetOf lacking (complement_in T.value_count (members set.now))) };
 
     fn not(self) -> Self::Output
-        ensures members { IfOk result (λ lacking. IsComplementOf T.value_count lacking self.now) }
+        ensures members { IfOk result (λ lacking. IsSetOf lacking (complement_in T.value_count (members self.now))) }
         ensures run_count { IfOk result (λ lacking. HasOneRunMoreAtMost self.now lacking) }
     {
         RangeSetBlaze::not(self)

@@ -2,7 +2,7 @@
 
 ghost use Rattle.std.specs.Prelude.{◌≡◌, ◌+◌, ◌<◌, ◌≤◌, Contains, IfOk, IsFalse, IsOk, MatchOption, OnErr, OnOk};
 ghost use Rattle.rsb_integer.specs.Runs.{members, IsCanonicalIn};
-ghost use Rattle.rsb_integer.specs.Selection.{count, intersection, IsNothing};
+ghost use Rattle.rsb_integer.specs.Selection.{count, intersection, IsEmpty};
 ghost use Rattle.range_set_blaze.specs.Kept.{run_of, runs_of};
 ghost use Rattle.range_set_blaze.specs.Set.{IsSetOf, Removes};
 ghost use Rattle.range_set_blaze.specs.Split.{from_on, IsParting, NoneOver};
@@ -26,7 +26,7 @@ impl<T: Integer, A: Allocator + Copy> RangeSetBlaze<T, A> {
         ensures err { OnErr result (self.new ≡ self.old) }
 
         // No memory is taken where no member is at the value or above it.
-        ensures succeeds { IsNothing (intersection (members self.old) (from_on (T.rank key)))
+        ensures succeeds { IsEmpty (intersection (members self.old) (from_on (T.rank key)))
             → IsOk result }
     {
         let key = known(key);
@@ -51,8 +51,8 @@ impl<T: Integer, A: Allocator> RangeSetBlaze<T, A> {
     fn has_from(&self, key: T) -> bool
         requires { T.rank key < T.value_count }
         ensures none { IsFalse result
-            → IsNothing (intersection (members self.now) (from_on (T.rank key))) }
-        ensures some { IsNothing (intersection (members self.now) (from_on (T.rank key)))
+            → IsEmpty (intersection (members self.now) (from_on (T.rank key))) }
+        ensures some { IsEmpty (intersection (members self.now) (from_on (T.rank key)))
             → IsFalse result }
     {
         match self.last() {

@@ -5,7 +5,7 @@ ghost use Rattle.rsb_integer.specs.Runs.{length_of, members, IsCanonicalIn};
 ghost use Rattle.rsb_integer.specs.Selection.{count};
 ghost use Rattle.range_set_blaze.specs.Joining.{IsInside, IsOver, KnowsInside, NoneInside};
 ghost use Rattle.range_set_blaze.specs.Kept.{run_of, runs_of};
-ghost use Rattle.range_set_blaze.specs.Starts.{without_start, IsAscendingFrom};
+ghost use Rattle.range_set_blaze.specs.Starts.{without_start, StartsAscendFrom};
 
 use crate::set::entries::{run_up_to, take_entry};
 use crate::set::lengths::take_off_length;
@@ -71,7 +71,7 @@ fn take_inside<T: Integer, A: Allocator>(
 
 // The last run that starts inside another.
 fn last_inside<T: Integer, A: Allocator>(map: &BTreeMap<T, T, A>, run: Run<T>) -> Option<Run<T>>
-    requires ascending { IsAscendingFrom T.value_count 0 (runs_of T.rank map.now.entries) }
+    requires ascending { StartsAscendFrom T.value_count 0 (runs_of T.rank map.now.entries) }
     requires order { T.rank run.start ≤ T.rank run.end }
     requires value { T.rank run.end < T.value_count }
     ensures { MatchOption result (NoneInside (runs_of T.rank map.now.entries) (run_of T.rank run))

@@ -1,10 +1,9 @@
 //! Changes of one set.
 
 ghost use Rattle.std.specs.Prelude.{◌≡◌, ◌<◌, ◌≤◌, ◌^◌, [], IsFalse, IsTrue};
-ghost use Rattle.rsb_integer.specs.Runs.{members};
-ghost use Rattle.rsb_integer.specs.Selection.{IsSubset};
-ghost use Rattle.range_set_blaze.specs.Set.{only, Adds, IsReached, LacksSomeOf, Removes};
-ghost use Rattle.range_set_c.specs.Answer.{between};
+ghost use Rattle.rsb_integer.specs.Runs.{members, covers, from_to};
+ghost use Rattle.rsb_integer.specs.Selection.{IsSubset, LacksSome};
+ghost use Rattle.range_set_blaze.specs.Set.{only, Adds, IsReached, Removes};
 
 use super::handle::Handle;
 use crate::status::{CHANGED, NO_MEMORY, UNCHANGED};
@@ -20,9 +19,9 @@ pub extern "C" fn rsb_u32_insert_range(
     last: u32,
 ) -> u32
     ensures answer { result ≤ 2 }
-    ensures members { result < 2 → Adds set.old.kept.set set.new.kept.set (between first last) }
-    ensures unchanged { result ≡ 0 → ¬ LacksSomeOf set.old.kept.set (between first last) }
-    ensures changed { result ≡ 1 → LacksSomeOf set.old.kept.set (between first last) }
+    ensures members { result < 2 → Adds set.old.kept.set set.new.kept.set (covers (from_to first last)) }
+    ensures unchanged { result ≡ 0 → ¬ LacksSome (members set.old.kept.set) (covers (from_to first last)) }
+    ensures changed { result ≡ 1 → LacksSome (members set.old.kept.set) (covers (from_to first last)) }
     ensures refused { result ≡ 2 → set.new.kept.set ≡ set.old.kept.set }
     ensures nothing { last < first → result ≡ 0 }
     ensures spared { IsReached set.old.kept.set first → result < 2 }

@@ -8,7 +8,7 @@ ghost use Rattle.rsb_streams.specs.AscendingLaws.{ascending-keeps};
 ghost use Rattle.rsb_streams.specs.Calls.{gives_by};
 ghost use Rattle.rsb_streams.specs.CallsLaws.{gives_by-answers};
 ghost use Rattle.rsb_streams.specs.Stream.{◌⊆◌, just};
-ghost use Rattle.rsb_streams.specs.StreamLaws.{canonical-starts, drawn-itself};
+ghost use Rattle.rsb_streams.specs.StreamLaws.{canonical_stream-starts, drawn-itself};
 ghost use Rattle.rsb_commands.specs.Weekends.{weekends};
 
 use range_set_blaze::{Draw, DrawDisjoint, Integer, SortedDisjoint, SortedStarts};
@@ -80,7 +80,7 @@ impl Draw<i32> for OrdinalWeekends {
         ⟦<OrdinalWeekends as Iterator>⟧.next_gives };
 
     // No range starts before the next weekend.
-    ghost sorted = { λ s can. canonical-starts ⟦<i32 as Integer>⟧.value_count _ _
+    ghost sorted = { λ s can. canonical_stream-starts ⟦<i32 as Integer>⟧.value_count _ _
         (ascending-keeps ⟦<i32 as Integer>⟧.rank ⟦<i32 as Integer>⟧.value_count
         ⟦<OrdinalWeekends as Iterator>⟧.can_next ⟦<OrdinalWeekends as Iterator>⟧.next_gives
         ⟦<OrdinalWeekends as Iterator>⟧.remaining (λ s. 2 ^ 31 + s.start)

@@ -1,7 +1,7 @@
 //! What lies in all of any number of streams.
 
 ghost use Rattle.std.specs.Prelude.{List};
-ghost use Rattle.rsb_streams.specs.StreamLaws.{canonical-starts, drawn-itself};
+ghost use Rattle.rsb_streams.specs.StreamLaws.{canonical_stream-starts, drawn-itself};
 ghost use Rattle.rsb_many.specs.KMerge.{MakesKMerge};
 ghost use Rattle.rsb_many.specs.MultiwayIntersection.{multiway_intersection};
 ghost use Rattle.rsb_many.specs.MultiwayLaws.{multiway_intersection-disjoint};
@@ -74,7 +74,7 @@ impl<T: Integer, I: Draw<T>, A: Allocator> Draw<T> for MultiwayIntersection<T, I
 
     ghost answers = { λ s t item gives. gives.answers };
 
-    ghost sorted = { λ s ready. canonical-starts T.value_count _ _
+    ghost sorted = { λ s ready. canonical_stream-starts T.value_count _ _
         (multiway_intersection-disjoint T.Integer.own ⟦<I as Draw<T>>⟧ I.sorted s ready) };
 }
 

@@ -1,7 +1,7 @@
 //! What lies in some of any number of streams.
 
 ghost use Rattle.std.specs.Prelude.{List};
-ghost use Rattle.rsb_streams.specs.StreamLaws.{canonical-starts, drawn-itself};
+ghost use Rattle.rsb_streams.specs.StreamLaws.{canonical_stream-starts, drawn-itself};
 ghost use Rattle.rsb_many.specs.KMerge.{MakesKMerge};
 ghost use Rattle.rsb_many.specs.MultiwayLaws.{multiway_union-disjoint};
 ghost use Rattle.rsb_many.specs.MultiwayResults.{MakesMultiwayUnion};
@@ -69,7 +69,7 @@ impl<T: Integer, I: Draw<T>, A: Allocator> Draw<T> for MultiwayUnion<T, I, A> {
 
     ghost answers = { λ s t item gives. gives.answers };
 
-    ghost sorted = { λ s ready. canonical-starts T.value_count _ _
+    ghost sorted = { λ s ready. canonical_stream-starts T.value_count _ _
         (multiway_union-disjoint T.Integer.own ⟦<I as Draw<T>>⟧ I.sorted s ready) };
 }
 

@@ -3,7 +3,7 @@
 ghost use Rattle.rsb_streams.specs.Difference.{difference};
 ghost use Rattle.rsb_streams.specs.ResultLaws.{difference-disjoint};
 ghost use Rattle.rsb_streams.specs.Results.{MakesDifference};
-ghost use Rattle.rsb_streams.specs.StreamLaws.{canonical-starts, drawn-itself};
+ghost use Rattle.rsb_streams.specs.StreamLaws.{canonical_stream-starts, drawn-itself};
 
 use crate::draw::Draw;
 use crate::merge::Merge;
@@ -68,7 +68,7 @@ impl<T: Integer, L: Draw<T>, R: Draw<T>> Draw<T> for Difference<T, L, R> {
 
     ghost answers = { λ s t item gives. gives.answers };
 
-    ghost sorted = { λ s ready. canonical-starts T.value_count _ _
+    ghost sorted = { λ s ready. canonical_stream-starts T.value_count _ _
         (difference-disjoint T.Integer.own ⟦<L as Draw<T>>⟧ ⟦<R as Draw<T>>⟧ L.sorted R.sorted
         s ready) };
 }

@@ -2,7 +2,7 @@
 
 ghost use Rattle.rsb_streams.specs.Results.{MakesUnion};
 ghost use Rattle.rsb_streams.specs.ResultLaws.{union-disjoint};
-ghost use Rattle.rsb_streams.specs.StreamLaws.{canonical-starts, drawn-itself};
+ghost use Rattle.rsb_streams.specs.StreamLaws.{canonical_stream-starts, drawn-itself};
 ghost use Rattle.rsb_streams.specs.Union.{union};
 
 use crate::draw::Draw;
@@ -65,7 +65,7 @@ impl<T: Integer, L: Draw<T>, R: Draw<T>> Draw<T> for Union<T, L, R> {
 
     ghost answers = { λ s t item gives. gives.answers };
 
-    ghost sorted = { λ s ready. canonical-starts T.value_count _ _
+    ghost sorted = { λ s ready. canonical_stream-starts T.value_count _ _
         (union-disjoint T.Integer.own ⟦<L as Draw<T>>⟧ ⟦<R as Draw<T>>⟧ L.sorted R.sorted
         s ready) };
 }

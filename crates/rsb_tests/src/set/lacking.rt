@@ -1,7 +1,9 @@
 //! A set of what another one lacks, proved of public contracts alone.
 
+ghost use Rattle.rsb_integer.specs.Runs.{members};
+ghost use Rattle.rsb_integer.specs.Selection.{complement_in};
+ghost use Rattle.range_set_blaze.specs.Set.{IsSetOf};
 ghost use Rattle.std.specs.Prelude.{IfOk};
-ghost use Rattle.range_set_blaze.specs.Algebra.{IsComplementOf};
 
 use range_set_blaze::{DrawDisjoint, Integer, RangeSetBlaze};
 use std::alloc::{AllocError, Global};
@@ -12,7 +14,7 @@ fn lacking<T: Integer>(
     alloc: Global,
     set: &RangeSetBlaze<T>,
 ) -> Result<RangeSetBlaze<T>, AllocError>
-    ensures { IfOk result (λ others. IsComplementOf T.value_count others set.now) }
+    ensures { IfOk result (λ others. IsSetOf others (complement_in T.value_count (members set.now))) }
 {
     let gaps = set.ranges().complement();
     RangeSetBlaze::from_sorted_disjoint(alloc, gaps)

@@ -2,19 +2,8 @@
 
 ghost use Rattle.std.specs.Prelude.{◌≡◌, IfOk, OnOk};
 ghost use Rattle.rsb_integer.specs.Runs.{members};
-ghost use Rattle.rsb_integer.specs.Selection.{
-  difference,
-  intersection,
-  symmetric_difference,
-  union,
-};
-ghost use Rattle.range_set_blaze.specs.Algebra.{
-  ranks_of,
-  AddsItems,
-  AddsValues,
-  IsComplementOf,
-  IsSetOfItems,
-};
+ghost use Rattle.rsb_integer.specs.Selection.{difference, intersection, symmetric_difference, union, complement_in};
+ghost use Rattle.range_set_blaze.specs.Algebra.{ranks_of, AddsItems, AddsValues, IsSetOfItems};
 ghost use Rattle.range_set_blaze.specs.Set.{IsSetOf};
 
 use crate::tables::gives;
@@ -78,7 +67,7 @@ impl<'a, T: Integer> Not for &'a Named<T> {
     type Output = Result<Named<T>, AllocError>;
 
     ghost not_gives = { λ named made. IfOk made (λ lacking.
-        IsComplementOf T.value_count lacking.set named.now.set) };
+        IsSetOf lacking.set (complement_in T.value_count (members named.now.set))) };
 
     fn not(self) -> Self::Output {
         Ok(Named {

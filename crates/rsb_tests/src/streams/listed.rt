@@ -7,7 +7,7 @@ ghost use Rattle.rsb_integer.specs.Rank.{interval_of};
 ghost use Rattle.rsb_streams.specs.AscendingLaws.{ascending-keeps};
 ghost use Rattle.rsb_streams.specs.Calls.{gives_by};
 ghost use Rattle.rsb_streams.specs.CallsLaws.{gives_by-answers};
-ghost use Rattle.rsb_streams.specs.StreamLaws.{canonical-starts, drawn-itself};
+ghost use Rattle.rsb_streams.specs.StreamLaws.{canonical_stream-starts, drawn-itself};
 
 use rsb_integer::Integer;
 use rsb_streams::{Draw, DrawDisjoint, SortedDisjoint, SortedStarts};
@@ -70,7 +70,7 @@ impl<'a> Draw<u8> for Listed<'a> {
         ⟦<Listed<'a> as Iterator>⟧.next_gives };
 
     // No range starts before the least value.
-    ghost sorted = { λ s can. canonical-starts ⟦<u8 as Integer>⟧.value_count _ _
+    ghost sorted = { λ s can. canonical_stream-starts ⟦<u8 as Integer>⟧.value_count _ _
         (ascending-keeps ⟦<u8 as Integer>⟧.rank ⟦<u8 as Integer>⟧.value_count
         ⟦<Listed<'a> as Iterator>⟧.can_next ⟦<Listed<'a> as Iterator>⟧.next_gives
         ⟦<Listed<'a> as Iterator>⟧.remaining (λ s. s.low)

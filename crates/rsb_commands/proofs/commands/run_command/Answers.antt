@@ -1,11 +1,11 @@
 use Rattle.std.proofs.Common.{◌≡◌, ◌∙◌, ◌&&◌, not, [], ap, get_or, subst, sym, arith}
 use Rattle.std.proofs.lemmas.List.{get_or_read}
 use Rattle.rsb_integer.specs.Runs.{members}
-use Rattle.rsb_integer.specs.Selection.{difference, intersection, symmetric_difference, union}
+use Rattle.rsb_integer.specs.Selection.{difference, intersection, symmetric_difference, union, complement_in}
 use Rattle.range_set_blaze.specs.Order.{HasOrder}
 use Rattle.range_set_blaze.specs.OrderLaws.{order-holds}
 use Rattle.range_set_blaze.specs.Set.{only}
-use Rattle.rsb_commands.specs.Commands.{left_out, most_of, sets_of}
+use Rattle.rsb_commands.specs.Commands.{most_of, sets_of}
 use Rattle.rsb_commands.proofs.SetsLemmas.{after-added, reply-added, sets_of-put}
 use Rattle.rsb_commands.proofs.commands.run_command.Goals as goal
 
@@ -92,7 +92,7 @@ returns-in_ok-set-in-Complement-clause-reply g c =
     let source = members c.set_at-in-Complement.result.now in
     rw (c.in-Complement.is, ← c.set_at-in-Complement.ensures)
     (c.put_set-in-Complement.ensures.runs
-    (left_out g.T.Integer.rank g.T.Integer.value_count source)
+    (complement_in g.T.Integer.value_count source)
     c.in_ok-set-in-Complement.ensures.members)
 
 -- the set that is put is what lies in two of the old sets

@@ -1,5 +1,5 @@
 use Rattle.rsb_many.specs.Heads.{key_of}
-use Rattle.rsb_many.proofs.KeyLemmas.{comes_before-parts}
+use Rattle.rsb_many.proofs.heap.Keys.{comes_before-parts}
 use Rattle.rsb_many.proofs.heads.comes_first.Goals as goal
 
 -- the values compare as their ranks do

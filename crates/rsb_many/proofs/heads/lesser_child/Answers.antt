@@ -1,5 +1,5 @@
 use Rattle.std.proofs.Common.{sym, ◌∙◌}
-use Rattle.rsb_many.proofs.HeadLemmas.{left-lesser, right-lesser}
+use Rattle.rsb_many.proofs.heap.Heads.{left-lesser, right-lesser}
 use Rattle.rsb_many.proofs.heads.lesser_child.Goals as goal
 
 -- the right head comes before the left one

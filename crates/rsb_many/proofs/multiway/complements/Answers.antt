@@ -2,8 +2,8 @@ use Rattle.std.proofs.Common.{[], ◌∷◌, All, subst, sym}
 use Rattle.std.proofs.lemmas.List.Elements.{All-append, All-cons, All-nil}
 use Rattle.rsb_streams.specs.NotIter.{not_iter}
 use Rattle.rsb_many.specs.MultiwayResults.{AreComplements}
-use Rattle.rsb_many.proofs.HandedInLemmas.{ended-run}
-use Rattle.rsb_many.proofs.MultiwayLemmas.{AreComplements-more}
+use Rattle.rsb_many.proofs.inputs.HandedIn.{ended-run}
+use Rattle.rsb_many.proofs.merging.Operations.{AreComplements-more}
 use Rattle.rsb_many.proofs.multiway.complements.Goals as goal
 
 -- with the complement of one more they are those of all that came

@@ -1,5 +1,5 @@
 use Rattle.std.proofs.Common.{◌+◌, length}
-use Rattle.rsb_streams.proofs.TryNewLemmas.{bad-here, checked-all, checked-none, checked-one, follows-after, place-past, place-within, placed-take}
+use Rattle.rsb_streams.proofs.checking.FirstFault.{bad-here, checked-all, checked-none, checked-one, follows-after, place-past, place-within, placed-take}
 use Rattle.rsb_streams.proofs.out_of_place.first_bad.Goals as goal
 
 pub loop-range-init : goal.loop-range-init

@@ -1,5 +1,5 @@
 use Rattle.std.proofs.Common.{◌-◌, length}
-use Rattle.rsb_streams.proofs.TryNewLemmas.{IsChecked}
+use Rattle.rsb_streams.proofs.checking.FirstFault.{IsChecked}
 use Rattle.rsb_streams.proofs.out_of_place.first_bad.Given as goal
 
 abbrev pub invariant-loop-range : goal.invariant-loop-range

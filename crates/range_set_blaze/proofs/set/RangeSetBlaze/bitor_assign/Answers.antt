@@ -5,8 +5,8 @@ use Rattle.std.specs.Prelude.{OnErr, Result, Ok, Err}
 use Rattle.std.specs.declared.ops.RangeInclusive.{RangeInclusive}
 use Rattle.rsb_integer.specs.Rank.{interval_of, intervals_of}
 use Rattle.rsb_integer.specs.Runs.{Interval}
-use Rattle.rsb_streams.proofs.ListedSources.{itself, listed-yields}
-use Rattle.range_set_blaze.specs.Algebra.{AddsFrontOf, AddsItems}
+use Rattle.rsb_streams.proofs.sources.Listed.{itself, listed-yields}
+use Rattle.range_set_blaze.specs.Algebra.{AddsPrefixOf, AddsItems}
 use Rattle.range_set_blaze.proofs.set.RangeSetBlaze.bitor_assign.Goals as goal
 
 -- a list of ranges, of which some could not be added, extends a set by a front of it
@@ -14,11 +14,11 @@ extended-front : {T E : Type 0} (rank : T → ℕ) (n : ℕ) (given : List (Rang
     (runs old new : List Interval) (result : Result (Unit {0}) E) → intervals_of rank given ≡ runs
     → ExtendsWithItems (λ (s iter : List (RangeInclusive T)). iter ≡ s)
     (YieldsFirst (λ (s : List (RangeInclusive T)). s)) (AddsItems rank) given old new result
-    → OnErr result (AddsFrontOf old new runs)
+    → OnErr result (AddsPrefixOf old new runs)
 extended-front rank n given runs old new (Ok done) is extends = tt
 extended-front rank n given runs old new (Err error) is extends = record {
   front = intervals_of rank extends.1;
-  is_front = record {
+  is_prefix = record {
     rest = intervals_of rank extends.4.0;
     parts = sym is ∙ ap (intervals_of rank) (sym extends.2
         ∙ listed-yields rank (itself rank n) (λ s. s) (λ s t range call. call)

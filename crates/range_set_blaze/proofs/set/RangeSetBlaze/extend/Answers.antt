@@ -4,7 +4,7 @@ use Rattle.std.proofs.lemmas.List.{map-append}
 use Rattle.rsb_integer.specs.Rank.{interval_of, intervals_of}
 use Rattle.rsb_integer.proofs.MembersLemmas.{members-append, members-cons}
 use Rattle.range_set_blaze.specs.Algebra.{AddsItems}
-use Rattle.rsb_many.proofs.HandedInLemmas.{ended-run}
+use Rattle.rsb_many.proofs.inputs.HandedIn.{ended-run}
 use Rattle.range_set_blaze.proofs.set.RangeSetBlaze.extend.Goals as goal
 
 -- the range is added with those before it

@@ -3,7 +3,7 @@ use Rattle.std.proofs.lemmas.Bool.Decides.{nat_tests}
 use Rattle.rsb_integer.proofs.AnyOfLemmas.{any_of-one_more}
 use Rattle.range_set_blaze.specs.Algebra.{AddsValues}
 use Rattle.range_set_blaze.specs.Set.{only}
-use Rattle.rsb_many.proofs.HandedInLemmas.{ended-run}
+use Rattle.rsb_many.proofs.inputs.HandedIn.{ended-run}
 use Rattle.range_set_blaze.proofs.set.RangeSetBlaze.extend_values.Goals as goal
 
 -- the value is added with those before it

@@ -1,6 +1,6 @@
 use Rattle.std.proofs.lemmas.Result.{IfOk-weaker}
 use Rattle.rsb_integer.specs.Rank.{interval_of}
-use Rattle.range_set_blaze.proofs.BulkLemmas.{members-run_if_any}
+use Rattle.range_set_blaze.proofs.gathering.OneByOne.{members-run_if_any}
 use Rattle.range_set_blaze.proofs.set.RangeSetBlaze.from.Goals as goal
 
 -- the set is the one list that the stream of the range gives

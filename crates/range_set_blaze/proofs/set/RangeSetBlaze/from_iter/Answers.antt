@@ -2,7 +2,7 @@ use Rattle.std.proofs.lemmas.Result.{IfOk-weaker}
 use Rattle.rsb_integer.specs.Rank.{intervals_of}
 use Rattle.rsb_integer.specs.Runs.{members}
 use Rattle.range_set_blaze.specs.Set.{IsSetOf}
-use Rattle.rsb_many.proofs.HandedInLemmas.{gave-run}
+use Rattle.rsb_many.proofs.inputs.HandedIn.{gave-run}
 use Rattle.range_set_blaze.proofs.gathering.SetOperations.{set-of_runs}
 use Rattle.range_set_blaze.proofs.set.RangeSetBlaze.from_iter.Goals as goal
 

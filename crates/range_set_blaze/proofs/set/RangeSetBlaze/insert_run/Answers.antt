@@ -1,5 +1,5 @@
 use Rattle.range_set_blaze.specs.Kept.{run_of, runs_of}
-use Rattle.range_set_blaze.proofs.RunCountLemmas.{run_count-added}
+use Rattle.range_set_blaze.proofs.runs.Counts.{run_count-added}
 use Rattle.range_set_blaze.proofs.set.RangeSetBlaze.insert_run.Goals as goal
 
 -- one run was added to those that are kept

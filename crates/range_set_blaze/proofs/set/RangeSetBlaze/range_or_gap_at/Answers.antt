@@ -1,6 +1,6 @@
 use Rattle.std.proofs.Common.{arith, sym}
 use Rattle.range_set_blaze.specs.Kept.{run_of}
-use Rattle.range_set_blaze.proofs.KeptLemmas.{lt-fails}
+use Rattle.range_set_blaze.proofs.runs.Kept.{lt-fails}
 use Rattle.range_set_blaze.proofs.look_up.Gaps.{contained-around, gap-first, gap-found}
 use Rattle.range_set_blaze.proofs.runs.Apart.{contained-maximal, contained-members, last-gap, none-gap}
 use Rattle.range_set_blaze.proofs.runs.Starts.{canonical-rises}

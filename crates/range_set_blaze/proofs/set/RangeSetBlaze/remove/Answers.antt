@@ -1,6 +1,6 @@
 use Rattle.std.proofs.Common.{refl}
 use Rattle.range_set_blaze.specs.Kept.{runs_of}
-use Rattle.range_set_blaze.proofs.RunCountLemmas.{run_count-removed}
+use Rattle.range_set_blaze.proofs.runs.Counts.{run_count-removed}
 use Rattle.range_set_blaze.proofs.set.RangeSetBlaze.remove.Goals as goal
 
 -- one value was taken out of the runs that are kept

@@ -4,8 +4,8 @@ use Rattle.std.specs.Prelude.{Some, None}
 use Rattle.rsb_integer.specs.Rank.{interval_of}
 use Rattle.rsb_integer.specs.Runs.{Interval, length_of}
 use Rattle.range_set_blaze.specs.Kept.{runs_of}
-use Rattle.range_set_blaze.proofs.BulkLemmas.{runs_of-taken, taken-canonical, taken-ordered, taken-within}
-use Rattle.range_set_blaze.proofs.KeptLemmas.{sum_by-canonical}
+use Rattle.range_set_blaze.proofs.gathering.OneByOne.{runs_of-taken, taken-canonical, taken-ordered, taken-within}
+use Rattle.range_set_blaze.proofs.runs.Kept.{sum_by-canonical}
 use Rattle.range_set_blaze.proofs.set.fill.gathered.Goals as goal
 
 -- what may come after the range lies in order, after what was taken

@@ -3,7 +3,7 @@ use Rattle.rsb_integer.specs.Runs.{members}
 use Rattle.rsb_integer.proofs.ListLemmas.{not_both}
 use Rattle.range_set_blaze.specs.Kept.{runs_of}
 use Rattle.range_set_blaze.proofs.runs.Apart.{contained-members, last-gap, none-gap}
-use Rattle.range_set_blaze.proofs.KeptLemmas.{lt-fails}
+use Rattle.range_set_blaze.proofs.runs.Kept.{lt-fails}
 use Rattle.range_set_blaze.proofs.look_up.Gaps.{contained-around}
 use Rattle.range_set_blaze.proofs.runs.Starts.{canonical-rises}
 use Rattle.range_set_blaze.proofs.set.look_up.run_at.Goals as goal

@@ -3,7 +3,7 @@ use Rattle.range_set_blaze.specs.Kept.{run_of, runs_of}
 use Rattle.range_set_blaze.specs.Removal.{IsRemoved}
 use Rattle.range_set_blaze.specs.Starts.{with_run}
 use Rattle.range_set_blaze.proofs.removal.Cuts.{cut-low, cut-none}
-use Rattle.range_set_blaze.proofs.KeptLemmas.{lt-fails}
+use Rattle.range_set_blaze.proofs.runs.Kept.{lt-fails}
 use Rattle.range_set_blaze.proofs.set.remove.cut.Goals as goal
 
 -- the run's start is there

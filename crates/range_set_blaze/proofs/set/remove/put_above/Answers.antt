@@ -2,7 +2,7 @@ use Rattle.std.proofs.Common.{refl, sym, subst}
 use Rattle.range_set_blaze.specs.Kept.{run_of}
 use Rattle.range_set_blaze.specs.Removal.{IsCutAbove}
 use Rattle.range_set_blaze.proofs.removal.Cuts.{cut-above, cut-last}
-use Rattle.range_set_blaze.proofs.KeptLemmas.{lt-fails}
+use Rattle.range_set_blaze.proofs.runs.Kept.{lt-fails}
 use Rattle.range_set_blaze.proofs.runs.Starts.{canonical-rises}
 use Rattle.range_set_blaze.proofs.set.remove.put_above.Goals as goal
 

@@ -5,7 +5,7 @@ use Rattle.rsb_integer.proofs.CountLemmas.{count-within}
 use Rattle.rsb_integer.proofs.ListLemmas.{not_both}
 use Rattle.range_set_blaze.specs.Kept.{runs_of}
 use Rattle.range_set_blaze.proofs.runs.Apart.{contained-members, last-gap, none-gap}
-use Rattle.range_set_blaze.proofs.KeptLemmas.{lt-fails}
+use Rattle.range_set_blaze.proofs.runs.Kept.{lt-fails}
 use Rattle.range_set_blaze.proofs.runs.Starts.{canonical-rises}
 use Rattle.range_set_blaze.proofs.set.remove.take_value.Goals as goal
 

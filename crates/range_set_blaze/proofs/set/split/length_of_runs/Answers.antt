@@ -1,7 +1,7 @@
 use Rattle.std.proofs.Common.{arith}
 use Rattle.rsb_integer.proofs.CanonicalLemmas.{canonical-tail}
 use Rattle.range_set_blaze.specs.Kept.{run_of, runs_of}
-use Rattle.range_set_blaze.proofs.KeptLemmas.{sum_by-canonical}
+use Rattle.range_set_blaze.proofs.runs.Kept.{sum_by-canonical}
 use Rattle.range_set_blaze.proofs.splitting.Parting.{counted-next}
 use Rattle.range_set_blaze.proofs.set.split.length_of_runs.Goals as goal
 

@@ -1,7 +1,7 @@
 use Rattle.std.proofs.Common.{◌≡◌, ◌∙◌, Contains, List, OnOk, ap, refl, sym, subst}
 use Rattle.rsb_integer.specs.Runs.{Interval}
 use Rattle.range_set_blaze.specs.Kept.{run_of, runs_of}
-use Rattle.range_set_blaze.specs.Starts.{below, starting_from, with_run, without_start, IsAscendingFrom}
+use Rattle.range_set_blaze.specs.Starts.{below, starting_from, with_run, without_start, StartsAscendFrom}
 use Rattle.range_set_blaze.proofs.splitting.Parting.{within-ascending, within-parting, within-there, within-without}
 use Rattle.range_set_blaze.proofs.runs.Starts.{canonical-rises, starting-ascending}
 use Rattle.range_set_blaze.proofs.set.split.part_within.Goals as goal
@@ -14,7 +14,7 @@ put_entry-requires-clause-ascending g c =
 -- with the high part
 pub split_entries-requires-clause-ascending : goal.split_entries-requires-clause-ascending
 split_entries-requires-clause-ascending g c =
-    subst (IsAscendingFrom g.T.Integer.value_count 0) (sym c.in_ok-put_entry.ensures.runs)
+    subst (StartsAscendFrom g.T.Integer.value_count 0) (sym c.in_ok-put_entry.ensures.runs)
     (within-ascending _ _ c.requires.canonical _ (run_of g.T.Integer.rank c.args.run)
     c.requires.among c.requires.above c.requires.within _ refl)
 
@@ -23,7 +23,7 @@ pub put_entry-requires-in-Ok-clause-ascending : goal.put_entry-requires-in-Ok-cl
 put_entry-requires-in-Ok-clause-ascending g c =
     let low = c.in-Ok.ensures.low
     ∙ ap (below (g.T.Integer.rank c.args.key)) c.in_ok-put_entry.ensures.runs in
-    subst (IsAscendingFrom g.T.Integer.value_count 0) (sym low)
+    subst (StartsAscendFrom g.T.Integer.value_count 0) (sym low)
     (starting-ascending _ _ _ _
     (within-ascending _ _ c.requires.canonical _ (run_of g.T.Integer.rank c.args.run)
     c.requires.among c.requires.above c.requires.within _ refl))
@@ -60,7 +60,7 @@ returns-in-Ok-clause-parting g c =
 -- without memory the high part goes out again
 pub take_entry-requires-clause-ascending : goal.take_entry-requires-clause-ascending
 take_entry-requires-clause-ascending g c =
-    subst (IsAscendingFrom g.T.Integer.value_count 0)
+    subst (StartsAscendFrom g.T.Integer.value_count 0)
     (sym (ap (runs_of g.T.Integer.rank) c.in-Err.ensures.err ∙ c.in_ok-put_entry.ensures.runs))
     (within-ascending _ _ c.requires.canonical _ (run_of g.T.Integer.rank c.args.run)
     c.requires.among c.requires.above c.requires.within _ refl)

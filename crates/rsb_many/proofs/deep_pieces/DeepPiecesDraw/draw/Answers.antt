@@ -1,5 +1,5 @@
 use Rattle.std.proofs.Common.{refl, sym, Some, None}
-use Rattle.rsb_many.proofs.DeepPiecesLemmas.{deep-can, deep-ends, deep-event_in, deep-goes, deep-known, deep-last, deep-more, deep-nothing, deep-told}
+use Rattle.rsb_many.proofs.pieces.Deep.{deep-can, deep-ends, deep-event_in, deep-goes, deep-known, deep-last, deep-more, deep-nothing, deep-told}
 use Rattle.rsb_many.proofs.deep_pieces.DeepPiecesDraw.draw.Goals as goal
 
 -- all was told

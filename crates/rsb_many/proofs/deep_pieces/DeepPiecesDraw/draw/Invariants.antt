@@ -1,6 +1,6 @@
 use Rattle.std.specs.Iterator.{size}
 use Rattle.rsb_many.specs.MultiwaySweep.{events_left}
-use Rattle.rsb_many.proofs.DeepPiecesLemmas.{DeepSoFar}
+use Rattle.rsb_many.proofs.pieces.Deep.{DeepSoFar}
 use Rattle.rsb_many.proofs.deep_pieces.DeepPiecesDraw.draw.Given as goal
 
 abbrev pub invariant-loop-event : goal.invariant-loop-event

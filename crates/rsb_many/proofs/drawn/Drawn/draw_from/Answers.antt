@@ -1,8 +1,8 @@
 use Rattle.std.proofs.Common.{◌<◌, ap, arith, refl, subst, sym, ◌∙◌, Some, None}
 use Rattle.std.specs.Prelude.{IfSome}
-use Rattle.rsb_many.proofs.DrawnLemmas.{values-drawn}
-use Rattle.rsb_many.proofs.HeldLemmas.{slice_get-get_or}
-use Rattle.rsb_streams.proofs.Sources.{IsLawful}
+use Rattle.rsb_many.proofs.inputs.Drawn.{values-drawn}
+use Rattle.rsb_many.proofs.inputs.Held.{slice_get-get_or}
+use Rattle.rsb_streams.proofs.sources.Known.{IsLawful}
 use Rattle.rsb_many.proofs.drawn.Drawn.draw_from.Given.{Over}
 use Rattle.rsb_many.proofs.drawn.Drawn.draw_from.Goals as goal
 

@@ -2,7 +2,7 @@ use Rattle.std.proofs.Common.{◌≡◌, ◌+◌, ◌*◌, ◌<◌, ◌≤◌, d
 use Rattle.std.proofs.lemmas.List.Elements.{All-drop}
 use Rattle.std.proofs.lemmas.List.Sorted.{length_permutation, All-permutation, IsPermutation-refl}
 use Rattle.rsb_many.specs.Heads.{binary_digits, closing, standing, HasValues}
-use Rattle.rsb_many.proofs.HeadLemmas.{agreed-heap, closed-kept}
+use Rattle.rsb_many.proofs.heap.Heads.{agreed-heap, closed-kept}
 use Rattle.rsb_many.proofs.heads.Heads.close.Given.{Over}
 use Rattle.rsb_many.proofs.heads.Heads.close.Goals as goal
 

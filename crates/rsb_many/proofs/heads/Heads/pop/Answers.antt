@@ -5,7 +5,7 @@ use Rattle.std.proofs.lemmas.List.Sorted.{length_permutation, IsPermutation-refl
 use Rattle.std.specs.Prelude.{IsFalse}
 use Rattle.std.specs.Vec.{vec_len}
 use Rattle.rsb_many.specs.Heads.{closing, standing, HasValues}
-use Rattle.rsb_many.proofs.HeadLemmas.{fact-at, first-drop, first-least_of}
+use Rattle.rsb_many.proofs.heap.Heads.{fact-at, first-drop, first-least_of}
 use Rattle.rsb_many.proofs.heads.Heads.pop.Given.{Over}
 use Rattle.rsb_many.proofs.heads.Heads.pop.Goals as goal
 

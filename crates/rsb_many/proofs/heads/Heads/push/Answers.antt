@@ -3,7 +3,7 @@ use Rattle.std.proofs.lemmas.List.Elements.{All-cons, All-drop}
 use Rattle.std.proofs.lemmas.List.Sorted.{All-permutation, IsPermutation-refl}
 use Rattle.rsb_many.specs.Heads.{binary_digits, standing, HasValues}
 use Rattle.rsb_many.specs.HeapOrder.{IsHeapButLast}
-use Rattle.rsb_many.proofs.HeadLemmas.{filled-heap, filled-kept, pushed-heap, pushed-kept}
+use Rattle.rsb_many.proofs.heap.Heads.{filled-heap, filled-kept, pushed-heap, pushed-kept}
 use Rattle.rsb_many.proofs.heads.Heads.push.Given.{Over}
 use Rattle.rsb_many.proofs.heads.Heads.push.Goals as goal
 

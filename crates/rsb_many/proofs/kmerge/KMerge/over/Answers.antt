@@ -1,4 +1,4 @@
-use Rattle.rsb_many.proofs.KMergeLemmas.{begun-made}
+use Rattle.rsb_many.proofs.merging.OneAnswer.{begun-made}
 use Rattle.rsb_many.proofs.kmerge.KMerge.over.Goals as goal
 
 -- of each stream the first range is drawn

@@ -1,9 +1,9 @@
 use Rattle.std.proofs.Common.{◌≡◌, refl, subst, sym}
 use Rattle.rsb_integer.specs.Rank.{interval_of}
-use Rattle.rsb_many.specs.Inputs.{run_of}
+use Rattle.rsb_many.specs.Inputs.{run_of_head}
 use Rattle.rsb_many.specs.KMerge.{kmerge}
-use Rattle.rsb_many.proofs.KMergeLemmas.{head-goes, head-known, none-known}
-use Rattle.rsb_streams.proofs.Sources.{IsLawful}
+use Rattle.rsb_many.proofs.merging.OneAnswer.{head-goes, head-known, none-known}
+use Rattle.rsb_streams.proofs.sources.Known.{IsLawful}
 use Rattle.rsb_many.proofs.kmerge.KMergeIterator.next.Given.{Over}
 use Rattle.rsb_many.proofs.kmerge.KMergeIterator.next.Goals as goal
 
@@ -23,7 +23,7 @@ returns-in_err-head-clause-steps g c =
 
 -- the range has the ranks of its head
 is-run : (g : Over) (c : goal.After-new g)
-    → interval_of g.T.Integer.rank c.new.result ≡ run_of g.T.Integer.rank c.in_ok-head.head
+    → interval_of g.T.Integer.rank c.new.result ≡ run_of_head g.T.Integer.rank c.in_ok-head.head
 is-run g c = rw (c.new.ensures.exhausted, c.new.ensures.start, c.new.ensures.end) refl
 
 pub returns-clause-steps : goal.returns-clause-steps

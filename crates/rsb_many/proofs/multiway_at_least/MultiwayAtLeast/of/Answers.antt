@@ -1,5 +1,5 @@
 use Rattle.std.proofs.Common.{arith}
-use Rattle.rsb_many.proofs.MultiwayAtLeastLemmas.{at_least-few, at_least-made, at_least-ready, deep-made}
+use Rattle.rsb_many.proofs.pieces.AtLeast.{at_least-few, at_least-made, at_least-ready, deep-made}
 use Rattle.rsb_many.proofs.multiway_at_least.MultiwayAtLeast.of.Goals as goal
 
 -- the pieces of a sweep just made may be drawn

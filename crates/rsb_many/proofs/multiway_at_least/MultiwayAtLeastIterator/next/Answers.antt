@@ -1,4 +1,4 @@
-use Rattle.rsb_many.proofs.MultiwayAtLeastLemmas.{at_least-goes, at_least-known}
+use Rattle.rsb_many.proofs.pieces.AtLeast.{at_least-goes, at_least-known}
 use Rattle.rsb_many.proofs.multiway_at_least.MultiwayAtLeastIterator.next.Goals as goal
 
 pub returns-clause-steps : goal.returns-clause-steps

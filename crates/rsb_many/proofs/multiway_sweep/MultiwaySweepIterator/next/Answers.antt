@@ -1,10 +1,10 @@
 use Rattle.std.proofs.Common.{◌≡◌, arith, refl, subst, sym}
 use Rattle.rsb_integer.specs.Rank.{interval_of}
-use Rattle.rsb_many.specs.Inputs.{run_of}
+use Rattle.rsb_many.specs.Inputs.{run_of_head}
 use Rattle.rsb_many.specs.MultiwaySweep.{Sweeps}
-use Rattle.rsb_many.proofs.HeadTurns.{taken-fewer}
-use Rattle.rsb_many.proofs.MultiwaySweepLemmas.{end-goes, end-known, none-known, start-goes, start-known}
-use Rattle.rsb_streams.proofs.Sources.{IsLawful}
+use Rattle.rsb_many.proofs.inputs.HeadLeaves.{taken-fewer}
+use Rattle.rsb_many.proofs.events.OneEvent.{end-goes, end-known, none-known, start-goes, start-known}
+use Rattle.rsb_streams.proofs.sources.Known.{IsLawful}
 use Rattle.rsb_many.proofs.multiway_sweep.MultiwaySweepIterator.next.Given.{Over}
 use Rattle.rsb_many.proofs.multiway_sweep.MultiwaySweepIterator.next.Goals as goal
 
@@ -44,7 +44,7 @@ put_back-requires-clause-room g c =
 
 -- the range has the ranks of its head
 is-run : (g : Over) (c : goal.After-new g)
-    → interval_of g.T.Integer.rank c.new.result ≡ run_of g.T.Integer.rank c.in_ok-head.head
+    → interval_of g.T.Integer.rank c.new.result ≡ run_of_head g.T.Integer.rank c.in_ok-head.head
 is-run g c = rw (c.new.ensures.exhausted, c.new.ensures.start, c.new.ensures.end) refl
 
 -- its range starts

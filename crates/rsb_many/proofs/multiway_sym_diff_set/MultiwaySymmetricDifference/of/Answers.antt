@@ -1,4 +1,4 @@
-use Rattle.rsb_many.proofs.MultiwaySymDiffLemmas.{odd-made, odd-ready, pieces-made}
+use Rattle.rsb_many.proofs.pieces.SymmetricDifference.{odd-made, odd-ready, pieces-made}
 use Rattle.rsb_many.proofs.multiway_sym_diff_set.MultiwaySymmetricDifference.of.Goals as goal
 
 -- the pieces of a sweep just made may be drawn

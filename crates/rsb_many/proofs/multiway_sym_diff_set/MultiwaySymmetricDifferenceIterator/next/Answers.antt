@@ -1,4 +1,4 @@
-use Rattle.rsb_many.proofs.MultiwaySymDiffLemmas.{odd-goes, odd-known}
+use Rattle.rsb_many.proofs.pieces.SymmetricDifference.{odd-goes, odd-known}
 use Rattle.rsb_many.proofs.multiway_sym_diff_set.MultiwaySymmetricDifferenceIterator.next.Goals as goal
 
 pub returns-clause-steps : goal.returns-clause-steps

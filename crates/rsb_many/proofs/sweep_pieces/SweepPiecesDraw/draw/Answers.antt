@@ -1,5 +1,5 @@
 use Rattle.std.proofs.Common.{refl, Some, None}
-use Rattle.rsb_many.proofs.SweepPiecesLemmas.{end-known, event-in, piece-goes, piece-known, so_far-more, so_far-nothing}
+use Rattle.rsb_many.proofs.pieces.Odd.{end-known, event-in, piece-goes, piece-known, so_far-more, so_far-nothing}
 use Rattle.rsb_many.proofs.sweep_pieces.SweepPiecesDraw.draw.Goals as goal
 
 pub loop-event-init : goal.loop-event-init

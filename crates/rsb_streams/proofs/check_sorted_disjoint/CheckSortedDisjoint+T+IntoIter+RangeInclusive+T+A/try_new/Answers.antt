@@ -1,8 +1,8 @@
 use Rattle.std.proofs.Common.{false, refl, sym, ap, ◌∙◌, subst}
 use Rattle.rsb_integer.specs.Rank.{intervals_of}
 use Rattle.rsb_streams.specs.OutOfPlace.{IsFirstBad, IsPlacedIn}
-use Rattle.rsb_streams.proofs.PlacedLemmas.{placed-canonical}
-use Rattle.rsb_streams.proofs.VecSources.{vec-calls, vec-source}
+use Rattle.rsb_streams.proofs.checking.Placed.{placed-canonical}
+use Rattle.rsb_streams.proofs.sources.Vectors.{vec-calls, vec-source}
 use Rattle.rsb_streams.proofs.check_sorted_disjoint.CheckSortedDisjoint+T+IntoIter+RangeInclusive+T+A.try_new.Goals as goal
 
 -- a position is bad, so the list is not canonical

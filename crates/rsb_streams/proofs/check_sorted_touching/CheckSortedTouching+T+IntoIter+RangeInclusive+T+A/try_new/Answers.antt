@@ -1,8 +1,8 @@
 use Rattle.std.proofs.Common.{true, refl, sym, ap, ◌∙◌, subst}
 use Rattle.rsb_integer.specs.Rank.{intervals_of}
 use Rattle.rsb_streams.specs.OutOfPlace.{IsFirstBad, IsPlacedIn}
-use Rattle.rsb_streams.proofs.PlacedLemmas.{placed-touching}
-use Rattle.rsb_streams.proofs.VecSources.{vec-calls, vec-touching}
+use Rattle.rsb_streams.proofs.checking.Placed.{placed-touching}
+use Rattle.rsb_streams.proofs.sources.Vectors.{vec-calls, vec-touching}
 use Rattle.rsb_streams.proofs.check_sorted_touching.CheckSortedTouching+T+IntoIter+RangeInclusive+T+A.try_new.Goals as goal
 
 -- a position is bad, so the list is not one that may touch

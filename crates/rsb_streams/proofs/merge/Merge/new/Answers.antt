@@ -1,5 +1,5 @@
-use Rattle.rsb_streams.proofs.AheadLemmas.{merges-undrawn}
-use Rattle.rsb_streams.proofs.Sources.{fresh-may, fresh-ready}
+use Rattle.rsb_streams.proofs.lookahead.Ahead.{merges-undrawn}
+use Rattle.rsb_streams.proofs.sources.Known.{fresh-may, fresh-ready}
 use Rattle.rsb_streams.proofs.merge.Merge.new.Goals as goal
 
 -- both may be called

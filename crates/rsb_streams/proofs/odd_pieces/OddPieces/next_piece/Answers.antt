@@ -3,11 +3,11 @@ use Rattle.std.specs.Iterator.{size}
 use Rattle.std.specs.Prelude.{Some, None}
 use Rattle.rsb_integer.specs.Room.{fits_memory}
 use Rattle.rsb_streams.specs.OddPieces.{first_end, holding}
-use Rattle.rsb_streams.proofs.Compare.{IsRanked}
-use Rattle.rsb_streams.proofs.OddEnds.{last-answers, last-goes, rests}
-use Rattle.rsb_streams.proofs.OddStates.{passed-by, popped-end, popped-left, pushed-none, pushed-some, removed-first}
-use Rattle.rsb_streams.proofs.OddTurns.{apart-answers, apart-goes, both-values, gap-answers, gap-goes, next-above, so-begins, so-passed}
-use Rattle.rsb_streams.proofs.Sources.{IsLawful}
+use Rattle.rsb_streams.proofs.checking.Comparisons.{IsRanked}
+use Rattle.rsb_streams.proofs.odd.Ends.{last-answers, last-goes, rests}
+use Rattle.rsb_streams.proofs.odd.States.{passed-by, popped-end, popped-left, pushed-none, pushed-some, removed-first}
+use Rattle.rsb_streams.proofs.odd.OneMore.{apart-answers, apart-goes, both-values, gap-answers, gap-goes, next-above, so-begins, so-passed}
+use Rattle.rsb_streams.proofs.sources.Known.{IsLawful}
 use Rattle.rsb_streams.proofs.odd_pieces.OddPieces.next_piece.Given.{Over}
 use Rattle.rsb_streams.proofs.odd_pieces.OddPieces.next_piece.Goals as goal
 use Rattle.rsb_streams.proofs.odd_pieces.OddPieces.next_piece.Goals.{In-Some}

@@ -1,6 +1,6 @@
 use Rattle.std.specs.Iterator.{size}
 use Rattle.rsb_streams.specs.OddPieces.{holding}
-use Rattle.rsb_streams.proofs.OddStates.{OddHeld}
+use Rattle.rsb_streams.proofs.odd.States.{OddHeld}
 use Rattle.rsb_streams.proofs.odd_pieces.OddPieces.next_piece.Given as goal
 
 abbrev pub invariant-loop-range : goal.invariant-loop-range

@@ -1,4 +1,4 @@
-use Rattle.rsb_streams.proofs.RunCountLemmas.{run_count-complement}
+use Rattle.rsb_streams.proofs.calling.RunCounts.{run_count-complement}
 use Rattle.rsb_streams.proofs.sorted_disjoint.DrawDisjoint.complement.Goals as goal
 
 -- a gap ends before each run, or after the last one

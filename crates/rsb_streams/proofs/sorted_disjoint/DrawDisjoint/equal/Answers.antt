@@ -1,7 +1,7 @@
-use Rattle.rsb_streams.proofs.Compare.{IsRanked, other-ranks, same-ranks}
-use Rattle.rsb_streams.proofs.EqualTurns.{left-ends, ranges-differ, right-ends, same-more}
-use Rattle.rsb_streams.proofs.FirstItems.{first-range}
-use Rattle.rsb_streams.proofs.Sources.{IsLawful}
+use Rattle.rsb_streams.proofs.checking.Comparisons.{IsRanked, other-ranks, same-ranks}
+use Rattle.rsb_streams.proofs.questions.Equality.{left-ends, ranges-differ, right-ends, same-more}
+use Rattle.rsb_streams.proofs.questions.FirstItems.{first-range}
+use Rattle.rsb_streams.proofs.sources.Known.{IsLawful}
 use Rattle.rsb_streams.proofs.sorted_disjoint.DrawDisjoint.equal.Given.{Over}
 use Rattle.rsb_streams.proofs.sorted_disjoint.DrawDisjoint.equal.Goals as goal
 

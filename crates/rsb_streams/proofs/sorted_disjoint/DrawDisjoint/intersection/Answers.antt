@@ -1,4 +1,4 @@
-use Rattle.rsb_streams.proofs.RunCountLemmas.{run_count-intersection}
+use Rattle.rsb_streams.proofs.calling.RunCounts.{run_count-intersection}
 use Rattle.rsb_streams.proofs.sorted_disjoint.DrawDisjoint.intersection.Goals as goal
 
 -- where both have runs, those of the union are some

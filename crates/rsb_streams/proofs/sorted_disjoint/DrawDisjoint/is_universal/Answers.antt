@@ -3,10 +3,10 @@ use Rattle.std.proofs.Common.{◌≡◌, ◌↔◌, ◌+◌, ◌<◌, false, nat
 use Rattle.std.specs.Prelude.{IsTrue}
 use Rattle.rsb_integer.specs.Rank.{interval_of}
 use Rattle.rsb_integer.specs.Runs.{members}
-use Rattle.rsb_integer.specs.Selection.{IsEverything}
-use Rattle.rsb_streams.proofs.Compare.{IsRanked, at_most-by, less-rank, not_less-rank}
-use Rattle.rsb_streams.proofs.FirstItems.{first-range, first-tells, first-whole, late-lacks, none-lacks, same-test}
-use Rattle.rsb_streams.proofs.Sources.{IsLawful, range-start, range-end}
+use Rattle.rsb_integer.specs.Selection.{IsUniversal}
+use Rattle.rsb_streams.proofs.checking.Comparisons.{IsRanked, at_most-by, less-rank, not_less-rank}
+use Rattle.rsb_streams.proofs.questions.FirstItems.{first-range, first-tells, first-whole, late-lacks, none-lacks, same-test}
+use Rattle.rsb_streams.proofs.sources.Known.{IsLawful, range-start, range-end}
 use Rattle.rsb_streams.proofs.sorted_disjoint.DrawDisjoint.is_universal.Given.{Over}
 use Rattle.rsb_streams.proofs.sorted_disjoint.DrawDisjoint.is_universal.Goals as goal
 
@@ -42,7 +42,7 @@ returns-then-lt g c =
     let less = less-rank (ranked g) c.min_value.result
     c.into_inner-start.result.0 least low c.if-lt.ensures in
     first-tells g.T.Integer g.Self.Draw (laws g) c.args.self c.draw.new.self c.requires c.in-Some.range
-    (λ runs. IsTrue false ↔ IsEverything n (members runs)) c.in-Some.ensures.steps
+    (λ runs. IsTrue false ↔ IsUniversal n (members runs)) c.in-Some.ensures.steps
     c.in-Some.ensures.goes
     (g.met.Self.DrawDisjoint.canonical c.args.self c.requires)
     (λ rest canonical. late-lacks n run rest canonical
@@ -77,7 +77,7 @@ returns g c =
     ∙ sym {b = partial_le g.T.PartialOrd.partial_cmp c.max_value.result c.into_inner-start.result.1}
     c.le.ensures in
     first-tells g.T.Integer g.Self.Draw (laws g) c.args.self c.draw.new.self c.requires c.in-Some.range
-    (λ runs. IsTrue c.le.result ↔ IsEverything n (members runs)) c.in-Some.ensures.steps
+    (λ runs. IsTrue c.le.result ↔ IsUniversal n (members runs)) c.in-Some.ensures.steps
     c.in-Some.ensures.goes (g.met.Self.DrawDisjoint.canonical c.args.self c.requires)
     (λ rest canonical. first-whole n run rest c.le.result canonical
     (omega (arith, most, start, c.min_value.ensures)) whole)

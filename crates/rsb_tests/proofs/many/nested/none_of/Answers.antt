@@ -1,6 +1,6 @@
 use Rattle.std.specs.Prelude.{length}
 use Rattle.rsb_integer.specs.Selection.{any_of, complement}
-use Rattle.rsb_streams.proofs.CallerLemmas.{runs_by-within}
+use Rattle.rsb_streams.proofs.calling.Results.{runs_by-within}
 use Rattle.rsb_many.specs.Many.{may_give_at, runs_by_all}
 use Rattle.rsb_many.specs.MultiwayResults.{MakesMultiwayUnion}
 use Rattle.rsb_many.specs.MultiwayUnion.{multiway_union}

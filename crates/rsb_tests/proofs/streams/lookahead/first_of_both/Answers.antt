@@ -1,5 +1,5 @@
 use Rattle.rsb_streams.specs.Lookahead.{Left}
-use Rattle.rsb_streams.proofs.CallerLemmas.{first-few}
+use Rattle.rsb_streams.proofs.calling.Results.{first-few}
 use Rattle.rsb_tests.proofs.streams.lookahead.first_of_both.Goals as goal
 
 -- the union is new, so its first answer draws few ranges

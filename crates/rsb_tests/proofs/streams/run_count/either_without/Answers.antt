@@ -1,6 +1,6 @@
 use Rattle.std.proofs.Common.{◌+◌}
 use Rattle.rsb_integer.specs.Selection.{difference, union}
-use Rattle.rsb_streams.proofs.CallerLemmas.{operation-at_most}
+use Rattle.rsb_streams.proofs.calling.Results.{operation-at_most}
 use Rattle.rsb_tests.proofs.streams.run_count.either_without.Goals as goal
 
 -- as many at most as the third and the union have, and that as many as the first two

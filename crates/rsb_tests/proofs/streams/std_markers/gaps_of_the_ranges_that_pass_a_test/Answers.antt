@@ -1,6 +1,6 @@
 -- The ranges are apart.
 use Rattle.std.proofs.Common.{rules}
-use Rattle.rsb_streams.proofs.ArraySources.{array-apart}
+use Rattle.rsb_streams.proofs.sources.Arrays.{array-apart}
 use Rattle.rsb_tests.proofs.streams.std_markers.gaps_of_the_ranges_that_pass_a_test.Goals as goal
 
 pub new-stream-requires : goal.new-stream-requires

@@ -1,5 +1,5 @@
 use Rattle.rsb_streams.specs.NotIter.{not_iter}
-use Rattle.rsb_many.proofs.MultiwayLemmas.{passes-use}
+use Rattle.rsb_many.proofs.merging.Operations.{passes-use}
 use Rattle.rsb_many.proofs.operation_results.multiway_intersection.MultiwayIntersectionIterator.next.Goals as goal
 
 -- the draws of the union that the complement makes use some ranges of each of its inputs

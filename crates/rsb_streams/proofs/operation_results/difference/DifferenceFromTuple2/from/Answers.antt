@@ -1,4 +1,4 @@
-use Rattle.rsb_streams.proofs.CallerLemmas.{difference-by_complements}
+use Rattle.rsb_streams.proofs.calling.Results.{difference-by_complements}
 use Rattle.rsb_streams.proofs.operation_results.difference.DifferenceFromTuple2.from.Goals as goal
 
 -- the gaps of what lies outside the left or in the right

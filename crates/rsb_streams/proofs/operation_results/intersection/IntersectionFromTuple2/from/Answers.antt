@@ -1,4 +1,4 @@
-use Rattle.rsb_streams.proofs.CallerLemmas.{intersection-by_complements}
+use Rattle.rsb_streams.proofs.calling.Results.{intersection-by_complements}
 use Rattle.rsb_streams.proofs.operation_results.intersection.IntersectionFromTuple2.from.Goals as goal
 
 -- the gaps of what either leaves out

@@ -1,0 +1,9 @@
+pub mod Ascending
+pub mod Crossings
+pub mod Depths
+pub mod Edges
+pub mod Examples
+pub mod Lists
+pub mod Odd
+pub mod OneEvent
+pub mod Steps

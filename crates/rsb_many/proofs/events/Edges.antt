@@ -1,0 +1,258 @@
+-- The edges of events, and pieces of what has an odd number of them at or before it.
+use Rattle.std.proofs.Common.{◌≡◌, inl, inr, ℕ, ◌-◌, ◌<◌, ◌≤◌, Bool, true, false, ◌||◌, nat_le, nat_lt, List, [], ◌∷◌, ◌++◌, map, refl, sym, ap, subst, ◌∙◌, arith, Option, Some, None}
+use Rattle.std.proofs.lemmas.Bool.{cases_lt}
+use Rattle.std.proofs.lemmas.Bool.Decides.{nat_tests}
+use Rattle.std.specs.declared.ops.RangeInclusive.{RangeInclusive}
+use Rattle.rsb_integer.specs.Runs.{Interval, covers, members}
+use Rattle.rsb_integer.specs.Selection.{exclusive_or}
+use Rattle.rsb_integer.proofs.ListLemmas.{not_both, true_or_false}
+use Rattle.rsb_integer.proofs.MembersLemmas.{members-cons, members-head}
+use Rattle.rsb_streams.specs.OddPieces.{ArePieces}
+use Rattle.rsb_streams.specs.PutBack.{held_list}
+use Rattle.rsb_streams.specs.Stream.{HasSortedStartsFrom}
+use Rattle.rsb_streams.specs.StreamLaws.{settled_le, settled_lt}
+use Rattle.rsb_streams.proofs.odd.Ranks.{pieces-along}
+use Rattle.rsb_many.specs.Sweep.{End, Event, Start}
+use Rattle.rsb_many.specs.SweepPieces.{edge_in, edge_of, edges_of, odd_past, piece_up_to, HasEdgesFrom, IsEventIn, IsWhole, PassesEdge}
+
+-- ---- edges
+
+-- the edge of an event in a type lies in it, or at its end
+pub edge-within : (n : ℕ) (event : Event) → IsEventIn n event → edge_of event ≤ n
+edge-within n (Start range input) within = let low = within.0 in let high = within.1 in omega arith
+edge-within n (End last input) within = omega (arith, within)
+
+-- edges may be asked to start earlier
+pub edges-lower : (n low lower : ℕ) (events : List Event) → lower ≤ low
+    → HasEdgesFrom n low events → HasEdgesFrom n lower events
+edges-lower n low lower [] less edges = tt
+edges-lower n low lower (event ∷ events) less edges =
+    let starts = edges.0 in (omega (arith, starts), edges.1, edges.2)
+
+-- that an event lies in a type is settled
+pub settled-event : (n : ℕ) (event : Event) → ¬ (¬ (IsEventIn n event)) → IsEventIn n event
+settled-event n (Start range input) holds = (
+  settled_le range.first range.last (λ fails. holds (λ within. fails within.0)),
+  settled_lt range.last n (λ fails. holds (λ within. fails within.1)),
+)
+settled-event n (End last input) holds = settled_lt last n holds
+
+-- and that edges come in order
+pub settled-edges : (n low : ℕ) (events : List Event) → ¬ (¬ (HasEdgesFrom n low events))
+    → HasEdgesFrom n low events
+settled-edges n low [] holds = tt
+settled-edges n low (event ∷ events) holds = (
+  settled_le low (edge_of event) (λ fails. holds (λ edges. fails edges.0)),
+  settled-event n event (λ fails. holds (λ edges. fails edges.1)),
+  settled-edges n (edge_of event) events (λ fails. holds (λ edges. fails edges.2)),
+)
+
+-- no rank before an edge lies past it
+edge-after : (edge rank : ℕ) → rank < edge → nat_le edge rank ≡ false
+edge-after edge rank less = grind (arith, nat_tests)
+
+-- no edge lies at or before a rank before the first
+pub odd-before : (n low : ℕ) (events : List Event) (rank : ℕ) → HasEdgesFrom n low events
+    → rank < low → odd_past (map edge_of events) rank ≡ false
+odd-before n low [] rank edges below = refl
+odd-before n low (event ∷ events) rank edges below =
+    let starts = edges.0 in
+    ap (λ test. exclusive_or test (odd_past (map edge_of events) rank))
+    (edge-after (edge_of event) rank (omega (arith, starts)))
+    ∙ odd-before n (edge_of event) events rank edges.2 (omega (arith, starts))
+
+-- ---- pieces
+
+-- they start no earlier than the first edge
+pub pieces-from : (n low : ℕ) (events : List Event) (pieces : List Interval)
+    → HasEdgesFrom n low events → ArePieces n (odd_past (map edge_of events)) pieces
+    → HasSortedStartsFrom n low pieces
+pieces-from n low events [] edges all = tt
+pieces-from n low events (piece ∷ pieces) edges all =
+    let ordered = all.sorted.1 in
+    let below = all.sorted.2 in
+    let inside : piece.first < n = omega (arith, ordered, below) in (
+      elim (cases_lt piece.first low) [
+        | inl under ↦ absurd (not_both (members (piece ∷ pieces) piece.first)
+            (members-head piece pieces piece.first (omega arith) ordered)
+            (all.same piece.first inside ∙ odd-before n low events piece.first edges under))
+        | inr from ↦ from
+      ],
+      ordered,
+      below,
+      all.sorted.3,
+    )
+
+-- where none has begun, one begins at the edge, unless that lies past the end of the type
+edge-begins : (n edge : ℕ) (edges : List ℕ) (rank : ℕ) → rank < n
+    → odd_past (edge_in n edge ++ edges) rank ≡ odd_past (edge ∷ edges) rank
+edge-begins n edge edges rank below = elim (true_or_false (nat_lt edge n)) [
+  | inl inside ↦ rw inside refl
+  | inr past ↦
+      let after : nat_le edge rank ≡ false = grind (arith, nat_tests) in
+      rw (past, after) refl
+]
+
+-- so pieces that come then come before
+pub pieces-begin : {T : Type 0} (rank : T → ℕ) (n edge : ℕ) (edges : List ℕ) (new : Option T)
+    (pieces : List Interval) → edges_of rank new ≡ edge_in n edge
+    → ArePieces n (odd_past (edges_of rank new ++ edges)) pieces
+    → ArePieces n (odd_past (edge ∷ edges)) pieces
+pieces-begin rank n edge edges new pieces is = pieces-along n
+    (odd_past (edges_of rank new ++ edges)) (odd_past (edge ∷ edges)) pieces
+    (λ place below. ap (λ each. odd_past (each ++ edges) place) is
+    ∙ edge-begins n edge edges place below)
+
+-- two edges at one rank say nothing
+twice : (one other : Bool) → exclusive_or one (exclusive_or one other) ≡ other
+twice true true = refl
+twice true false = refl
+twice false other = refl
+
+-- between two edges lies an odd number, and past both as many as past neither
+pub between-edges : (start edge rank : ℕ) (others : Bool) → start < edge
+    → (rank < edge → others ≡ false)
+    → (covers (record { first = start; last = edge - 1 }) rank || others)
+    ≡ exclusive_or (nat_le start rank) (exclusive_or (nat_le edge rank) others)
+between-edges start edge rank others less before = elim (cases_lt rank edge) [
+  | inl under ↦
+      let none = before under in
+      rw none (grind (arith, nat_tests))
+  | inr past ↦
+      let outside : covers (record { first = start; last = edge - 1 }) rank ≡ false =
+      grind (arith, nat_tests) in
+      let one : nat_le start rank ≡ true = grind (arith, nat_tests) in
+      let other : nat_le edge rank ≡ true = grind (arith, nat_tests) in
+      rw (outside, one, other) (sym (twice true others))
+]
+
+-- a piece that has begun ends before the edge, and then the others come
+pub pieces-end : (n start : ℕ) (event : Event) (events : List Event) (pieces : List Interval)
+    → HasEdgesFrom n start (event ∷ events) → ArePieces n (odd_past (map edge_of events)) pieces
+    → ArePieces n (odd_past (start ∷ map edge_of (event ∷ events)))
+    (piece_up_to start (edge_of event) ++ pieces)
+pieces-end n start event events pieces edges all =
+    let edge = edge_of event in
+    let starts = edges.0 in
+    let most = edge-within n event edges.1 in
+    elim (true_or_false (nat_lt start edge)) [
+      | inl some ↦
+          let less : start < edge = grind (arith, nat_tests) in
+          let piece : Interval = record { first = start; last = edge - 1 } in
+          rw some (record {
+            sorted = (
+              omega arith,
+              omega (arith, less),
+              omega (arith, less, most),
+              pieces-from n start events pieces
+                  (edges-lower n edge start events starts edges.2) all,
+            );
+            same = λ rank below.
+                members-cons piece pieces rank
+                ∙ ap (λ test. covers piece rank || test) (all.same rank below)
+                ∙ between-edges start edge rank (odd_past (map edge_of events) rank) less
+                (λ under. odd-before n edge events rank edges.2 under);
+          })
+      | inr none ↦
+          let same : start ≡ edge = grind (arith, nat_tests) in
+          rw none (pieces-along n (odd_past (map edge_of events))
+          (odd_past (start ∷ map edge_of (event ∷ events))) pieces
+          (λ rank below. sym (ap (λ each. exclusive_or (nat_le each rank)
+          (exclusive_or (nat_le edge rank) (odd_past (map edge_of events) rank))) same
+          ∙ twice (nat_le edge rank) (odd_past (map edge_of events) rank))) all)
+    ]
+
+-- ---- one event less
+
+-- of an edge in the type or at its end, the others are an odd number where all are an even one
+closed-begin : (n edge : ℕ) (others : Bool) → edge ≤ n
+    → exclusive_or (nat_le edge n) others ≡ false → others ≡ true
+closed-begin n edge true most is = refl
+closed-begin n edge false most is =
+    let inside : nat_le edge n ≡ true = grind (arith, nat_tests) in absurd (let no = rw inside at is in cc)
+
+-- and an even one where all are an odd one
+closed-end : (n edge : ℕ) (others : Bool) → edge ≤ n
+    → exclusive_or (nat_le edge n) others ≡ true → others ≡ false
+closed-end n edge false most is = refl
+closed-end n edge true most is =
+    let inside : nat_le edge n ≡ true = grind (arith, nat_tests) in absurd (let no = rw inside at is in cc)
+
+module _ {T : Type 0} (rank : T → ℕ) (n : ℕ) (event : Event) (events : List Event) where
+  -- none had begun
+  whole-begin : (new : Option T) → edges_of rank new ≡ edge_in n (edge_of event)
+      → IsWhole rank n None (event ∷ events) → IsWhole rank n new events
+  whole-begin None is whole =
+      let past : n ≤ edge_of event = elim (true_or_false (nat_lt (edge_of event) n)) [
+        | inl inside ↦ absurd (let some = rw inside at is in cc)
+        | inr outside ↦ grind (arith, nat_tests)
+      ] in
+      record {
+        edges = edges-lower n (edge_of event) 0 events (omega arith) whole.edges.2;
+        closed = inr (edges-lower n (edge_of event) n events past whole.edges.2);
+      }
+  whole-begin (Some start) is whole =
+      let inside : edge_of event < n = elim (true_or_false (nat_lt (edge_of event) n)) [
+        | inl inside ↦ grind (arith, nat_tests)
+        | inr outside ↦ absurd (let none = rw outside at is in cc)
+      ] in
+      let test : nat_lt (edge_of event) n ≡ true = grind (arith, nat_tests) in
+      let here : rank start ∷ [] ≡ edge_of event ∷ [] = rw test at is in
+      let same : rank start ≡ edge_of event = cc in
+      record {
+        edges = subst (λ low. HasEdgesFrom n low events) (sym same) whole.edges.2;
+        closed = elim whole.closed [
+          | inl even ↦ closed-begin n (edge_of event) (odd_past (map edge_of events) n)
+              (edge-within n event whole.edges.1) even
+          | inr past ↦ absurd (let late = past.0 in omega (arith, late, inside))
+        ];
+      }
+
+  -- one had begun
+  whole-end : (start : T) → IsWhole rank n (Some start) (event ∷ events)
+      → IsWhole rank n None events
+  whole-end start whole = record {
+    edges = edges-lower n (edge_of event) 0 events (omega arith) whole.edges.2;
+    closed = inl (closed-end n (edge_of event) (odd_past (map edge_of events) n)
+        (edge-within n event whole.edges.1) whole.closed);
+  }
+
+  -- after an event each piece has an end
+  pub whole-next : (old : Option T) (piece : Option (RangeInclusive T)) (new : Option T)
+      → PassesEdge rank n (edge_of event) old piece new → IsWhole rank n old (event ∷ events)
+      → IsWhole rank n new events
+  whole-next None piece new passes whole = whole-begin new passes.1 whole
+  whole-next (Some start) piece new passes whole =
+      subst (λ each. IsWhole rank n each events) (sym passes.1) (whole-end start whole)
+
+  -- the piece that ends, and then those that come after, are those that come before
+  pub pieces-next : (old : Option T) (piece : Option (RangeInclusive T)) (new : Option T)
+      (pieces : List Interval) → PassesEdge rank n (edge_of event) old piece new
+      → IsWhole rank n old (event ∷ events)
+      → ArePieces n (odd_past (edges_of rank new ++ map edge_of events)) pieces
+      → ArePieces n (odd_past (edges_of rank old ++ map edge_of (event ∷ events)))
+      (held_list rank piece ++ pieces)
+  pieces-next None piece new pieces passes whole all =
+      rw passes.0 (pieces-begin rank n (edge_of event) (map edge_of events) new pieces passes.1 all)
+  pieces-next (Some start) piece new pieces passes whole all =
+      rw passes.0 (pieces-end n (rank start) event events pieces whole.edges
+      (subst (λ each. ArePieces n (odd_past (edges_of rank each ++ map edge_of events)) pieces)
+      passes.1 all))
+
+  -- a piece that begins starts at a value
+  pub start-next : (old : Option T) (piece : Option (RangeInclusive T)) (start : T)
+      → PassesEdge rank n (edge_of event) old piece (Some start) → rank start < n
+  start-next None piece start passes = elim (true_or_false (nat_lt (edge_of event) n)) [
+    | inl inside ↦
+        let here : rank start ∷ [] ≡ edge_of event ∷ [] = rw inside at passes.1 in
+        let same : rank start ≡ edge_of event = cc in
+        rw same (grind (arith, nat_tests))
+    | inr outside ↦ absurd (let none = rw outside at passes.1 in cc)
+  ]
+  start-next (Some old) piece start passes = absurd (let none = passes.1 in cc)
+
+-- no piece has begun at the end
+pub whole-over : {T : Type 0} (rank : T → ℕ) (n : ℕ) (start : Option T)
+    → IsWhole rank n start [] → start ≡ None
+whole-over rank n None whole = refl
+whole-over rank n (Some start) whole = absurd (let odd = whole.closed in cc)

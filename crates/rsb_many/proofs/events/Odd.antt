@@ -1,0 +1,235 @@
+-- What lies in an odd number of lists has an odd number of the edges of their events at or before it.
+use Rattle.std.proofs.Common.{◌≡◌, inl, ℕ, zero, suc, ◌+◌, ◌-◌, ◌<◌, ◌≤◌, Bool, true, false, not, cond, ◌||◌, nat_le, List, [], ◌∷◌, ◌++◌, map, refl, sym, ap, ◌∙◌, arith, All, AllPairs, sum_by, IsPermutation, None}
+use Rattle.std.proofs.lemmas.Bool.Decides.{nat_tests}
+use Rattle.std.proofs.lemmas.List.{map-append}
+use Rattle.std.proofs.lemmas.List.Elements.{All-append, All-cons, All-head, All-nil, All-tail, All-weaker}
+use Rattle.std.proofs.lemmas.List.Sorted.{All-permutation, sum_by-IsPermutation}
+use Rattle.std.proofs.lemmas.List.Sums.{sum_by-cons}
+use Rattle.rsb_integer.specs.Runs.{Interval, covers, members, AllEndBelow}
+use Rattle.rsb_integer.specs.Selection.{exclusive_or, odd_of}
+use Rattle.rsb_integer.proofs.ListLemmas.{AllPairs-tail}
+use Rattle.rsb_integer.proofs.MembersLemmas.{members-cons, members-end}
+use Rattle.rsb_integer.proofs.RunsLemmas.{runs-along}
+use Rattle.rsb_streams.specs.Stream.{◌⊆◌, joined, Outcomes}
+use Rattle.rsb_streams.specs.Touching.{IsTouchingFrom, IsTouchingIn}
+use Rattle.rsb_streams.proofs.calling.Results.{settled-same}
+use Rattle.rsb_streams.specs.OddPieces.{ArePieces}
+use Rattle.rsb_many.specs.Many.{runs_by_all, OneOfEach, SomeOfEach}
+use Rattle.rsb_many.specs.MultiwaySweep.{EventOutcomes}
+use Rattle.rsb_many.specs.Sweep.{all_events, events_from, events_of, AreEvents, End, Event, Precedes, Start}
+use Rattle.rsb_many.specs.SweepPieces.{edge_of, odd_past, HasEdgesFrom, IsEventIn, IsWhole, SomeEvents}
+use Rattle.rsb_many.proofs.events.Ascending.{AllPairs-head}
+use Rattle.rsb_many.proofs.events.Edges.{between-edges, odd-before, settled-edges}
+use Rattle.rsb_many.proofs.inputs.Rests.{one_of_each-all}
+
+-- ---- an odd number of edges, whatever their order
+
+-- whether a number is odd
+abbrev is_odd : ℕ → Bool
+is_odd zero = false
+is_odd (suc n) = not (is_odd n)
+
+-- one for an edge at or before a rank, and else none
+abbrev edge_by : ℕ → Event → ℕ
+edge_by rank event = cond (nat_le (edge_of event) rank) 1 0
+
+-- one more edge, or none
+odd-more : (test : Bool) (count : ℕ) → exclusive_or test (is_odd count) ≡ is_odd (cond test 1 0 + count)
+odd-more true count = ap is_odd (let more : suc count ≡ 1 + count = omega arith in more)
+odd-more false count = ap is_odd (let same : count ≡ 0 + count = omega arith in same)
+
+-- the edges at or before a rank, by how many they are
+odd-counted : (events : List Event) (rank : ℕ)
+    → odd_past (map edge_of events) rank ≡ is_odd (sum_by (edge_by rank) events)
+odd-counted [] rank = refl
+odd-counted (event ∷ events) rank =
+    ap (λ test. exclusive_or (nat_le (edge_of event) rank) test) (odd-counted events rank)
+    ∙ odd-more (nat_le (edge_of event) rank) (sum_by (edge_by rank) events)
+    ∙ ap is_odd (sym (sum_by-cons (edge_by rank) event events))
+
+-- so they do not hang on the order
+odd-permutation : (events others : List Event) (rank : ℕ) → IsPermutation events others
+    → odd_past (map edge_of others) rank ≡ odd_past (map edge_of events) rank
+odd-permutation events others rank same = odd-counted others rank
+    ∙ ap is_odd (sum_by-IsPermutation (edge_by rank) events others same)
+    ∙ sym (odd-counted events rank)
+
+-- ---- of lists
+
+-- three tests may be put together either way
+three : (one other third : Bool)
+    → exclusive_or (exclusive_or one other) third ≡ exclusive_or one (exclusive_or other third)
+three true true true = refl
+three true true false = refl
+three true false third = refl
+three false other third = refl
+
+-- of two lists of edges
+odd-append : (edges others : List ℕ) (rank : ℕ)
+    → odd_past (edges ++ others) rank ≡ exclusive_or (odd_past edges rank) (odd_past others rank)
+odd-append [] others rank = refl
+odd-append (edge ∷ edges) others rank =
+    ap (λ test. exclusive_or (nat_le edge rank) test) (odd-append edges others rank)
+    ∙ sym (three (nat_le edge rank) (odd_past edges rank) (odd_past others rank))
+
+-- the events of ranges that may touch have their edges in order
+pub edges-events : (n low input : ℕ) (runs : List Interval) → IsTouchingFrom low runs
+    → AllEndBelow n runs → HasEdgesFrom n low (events_of input runs)
+edges-events n low input [] touching below = tt
+edges-events n low input (run ∷ runs) touching below =
+    let starts = touching.0 in
+    let ordered = touching.1 in
+    let inside = All-head (λ (each : Interval). each.last < n) run runs below in (
+      starts,
+      (ordered, inside),
+      (
+        omega (arith, ordered),
+        inside,
+        edges-events n (run.last + 1) input runs touching.2
+            (All-tail (λ (each : Interval). each.last < n) run runs below),
+      ),
+    )
+
+-- an odd number of the edges of such ranges lies at or before their members
+pub odd-members : (n low input : ℕ) (runs : List Interval) (rank : ℕ) → IsTouchingFrom low runs
+    → AllEndBelow n runs → odd_past (map edge_of (events_of input runs)) rank ≡ members runs rank
+odd-members n low input [] rank touching below = refl
+odd-members n low input (run ∷ runs) rank touching below =
+    let edge = run.last + 1 in
+    let later = All-tail (λ (each : Interval). each.last < n) run runs below in
+    let others = odd_past (map edge_of (events_of input runs)) rank in
+    let ordered = touching.1 in
+    let same : record { first = run.first; last = edge - 1 } ≡ run =
+    λ i. record { first = run.first; last = minus-one run.last i } in
+    sym (between-edges run.first edge rank others (omega (arith, ordered))
+    (λ under. odd-before n edge (events_of input runs) rank
+    (edges-events n edge input runs touching.2 later) under))
+    ∙ ap (λ each. covers each rank || others) same
+    ∙ ap (λ test. covers run rank || test)
+    (odd-members n edge input runs rank touching.2 later)
+    ∙ sym (members-cons run runs rank)
+  where
+    -- one more and one less
+    minus-one : (last : ℕ) → last + 1 - 1 ≡ last
+    minus-one last = omega arith
+
+-- and of several lists, at or before what lies in an odd number of them
+odd-lists : (n input : ℕ) (lists : List (List Interval)) (rank : ℕ) → All (IsTouchingIn n) lists
+    → odd_past (map edge_of (events_from input lists)) rank ≡ odd_of (map members lists) rank
+odd-lists n input [] rank all = refl
+odd-lists n input (runs ∷ lists) rank all =
+    let own = All-head (IsTouchingIn n) runs lists all in
+    let mine = events_of input runs in
+    let others = events_from (input + 1) lists in
+    ap (λ edges. odd_past edges rank) (map-append edge_of mine others)
+    ∙ odd-append (map edge_of mine) (map edge_of others) rank
+    ∙ ap (λ test. exclusive_or test (odd_past (map edge_of others) rank))
+    (odd-members n 0 input runs rank own.0 own.1)
+    ∙ ap (λ test. exclusive_or (members runs rank) test)
+    (odd-lists n (input + 1) lists rank (All-tail (IsTouchingIn n) runs lists all))
+
+-- so do their events in order
+pub odd-events : (n : ℕ) (lists : List (List Interval)) (events : List Event) (rank : ℕ)
+    → All (IsTouchingIn n) lists → AreEvents lists events
+    → odd_past (map edge_of events) rank ≡ odd_of (map members lists) rank
+odd-events n lists events rank all are =
+    odd-permutation (all_events lists) events rank are.all ∙ odd-lists n 0 lists rank all
+
+-- no list has a member past the type
+odd-past_end : (n : ℕ) (lists : List (List Interval)) → All (IsTouchingIn n) lists
+    → odd_of (map members lists) n ≡ false
+odd-past_end n [] all = refl
+odd-past_end n (runs ∷ lists) all =
+    let own = All-head (IsTouchingIn n) runs lists all in
+    ap (λ test. exclusive_or test (odd_of (map members lists) n))
+    (members-end n runs n own.1 (omega arith))
+    ∙ odd-past_end n lists (All-tail (IsTouchingIn n) runs lists all)
+
+-- ---- the events of lists in a type
+
+-- those of ranges lie in the type
+events-in : (n low input : ℕ) (runs : List Interval) → IsTouchingFrom low runs
+    → AllEndBelow n runs → All (IsEventIn n) (events_of input runs)
+events-in n low input [] touching below = All-nil (IsEventIn n)
+events-in n low input (run ∷ runs) touching below =
+    let inside = All-head (λ (each : Interval). each.last < n) run runs below in
+    All-cons (IsEventIn n) (Start run input) (End run.last input ∷ events_of input runs)
+    (touching.1, inside)
+    (All-cons (IsEventIn n) (End run.last input) (events_of input runs) inside
+    (events-in n (run.last + 1) input runs touching.2
+    (All-tail (λ (each : Interval). each.last < n) run runs below)))
+
+-- and those of lists
+pub lists-in : (n input : ℕ) (lists : List (List Interval)) → All (IsTouchingIn n) lists
+    → All (IsEventIn n) (events_from input lists)
+lists-in n input [] all = All-nil (IsEventIn n)
+lists-in n input (runs ∷ lists) all =
+    let own = All-head (IsTouchingIn n) runs lists all in
+    All-append (IsEventIn n) (events_of input runs) (events_from (input + 1) lists)
+    (events-in n 0 input runs own.0 own.1)
+    (lists-in n (input + 1) lists (All-tail (IsTouchingIn n) runs lists all))
+
+-- an event that comes before another has no greater edge
+pub precedes-edge : (one other : Event) → Precedes one other → edge_of one ≤ edge_of other
+precedes-edge (Start run input) (Start next place) before = grind (arith, nat_tests)
+precedes-edge (Start run input) (End last place) before = grind (arith, nat_tests)
+precedes-edge (End last input) (Start next place) before = grind (arith, nat_tests)
+precedes-edge (End last input) (End next place) before = grind (arith, nat_tests)
+
+-- events that ascend have their edges in order
+pub ascending-edges : (n low : ℕ) (events : List Event) → All (λ event. low ≤ edge_of event) events
+    → All (IsEventIn n) events → AllPairs Precedes events → HasEdgesFrom n low events
+ascending-edges n low [] past all pairs = tt
+ascending-edges n low (event ∷ events) past all pairs = (
+  All-head (λ each. low ≤ edge_of each) event events past,
+  All-head (IsEventIn n) event events all,
+  ascending-edges n (edge_of event) events
+      (All-weaker (Precedes event) (λ each. edge_of event ≤ edge_of each) (precedes-edge event)
+      events (AllPairs-head Precedes event events pairs))
+      (All-tail (IsEventIn n) event events all) (AllPairs-tail Precedes event events pairs),
+)
+
+-- from the first rank on
+pub edges-any : (events : List Event) → All (λ event. 0 ≤ edge_of event) events
+edges-any [] = All-nil (λ event. 0 ≤ edge_of event)
+edges-any (event ∷ events) =
+    All-cons (λ each. 0 ≤ edge_of each) event events (omega arith) (edges-any events)
+
+-- ---- the events of what streams may give
+
+module _ (n count : ℕ) (may_give : ℕ → Outcomes)
+    (touching : (place : ℕ) → may_give place ⊆ IsTouchingIn n) where
+  -- each list may touch, and lies in the type
+  pub all-touching : (lists : List (List Interval)) → OneOfEach count may_give lists
+      → All (IsTouchingIn n) lists
+  all-touching lists each = one_of_each-all count may_give (IsTouchingIn n) lists
+      (λ place less. touching place) each
+
+  -- where their events are told from the first on, each piece has an end
+  pub whole-events : {T : Type 0} (rank : T → ℕ) (events : List Event)
+      → SomeOfEach count may_give (λ lists. AreEvents lists events) → IsWhole rank n None events
+  whole-events rank events some = record {
+    edges = settled-edges n 0 events (λ fails. some (λ lists each are.
+        let all = all-touching lists each in
+        fails (ascending-edges n 0 events (edges-any events)
+        (All-permutation (IsEventIn n) (all_events lists) events are.all (lists-in n 0 lists all))
+        are.ascending)));
+    closed = inl (settled-same (odd_past (map edge_of events) n) false
+        (λ fails. some (λ lists each are.
+        let all = all-touching lists each in
+        fails (odd-events n lists events n all are ∙ odd-past_end n lists all))));
+  }
+
+  -- the joined pieces are the runs of what lies in an odd number of the lists
+  pub joined-odd : (told : EventOutcomes)
+      → ((events : List Event) → told events
+      → SomeOfEach count may_give (λ lists. AreEvents lists events))
+      → joined n (λ pieces. SomeEvents told
+      (λ events. ArePieces n (odd_past (map edge_of events)) pieces))
+      ⊆ runs_by_all n odd_of count may_give
+  joined-odd told gives runs may = λ nothing. may (λ pieces given all.
+      given (λ events at are_pieces.
+      gives events at (λ lists each are.
+      nothing lists each (runs-along n (members pieces) (odd_of (map members lists)) runs
+      (λ rank below. are_pieces.same rank below
+      ∙ odd-events n lists events rank (all-touching lists each) are) all))))

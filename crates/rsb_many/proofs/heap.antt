@@ -1,0 +1,5 @@
+pub mod DigitExamples
+pub mod Digits
+pub mod Heads
+pub mod Keys
+pub mod Places

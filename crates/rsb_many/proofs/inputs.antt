@@ -1,0 +1,10 @@
+pub mod Begun
+pub mod BegunByHeads
+pub mod Drawn
+pub mod HandedIn
+pub mod HeadLeaves
+pub mod Held
+pub mod Left
+pub mod Listed
+pub mod Rests
+pub mod Steps

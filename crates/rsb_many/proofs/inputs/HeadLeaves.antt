@@ -1,0 +1,312 @@
+-- What a merge and a sweep of many streams hold when the least head leaves, when it is put back, and
+-- when there is none.
+use Rattle.std.proofs.Common.{◌≡◌, inl, inr, ℕ, ◌+◌, ◌*◌, ◌<◌, ◌≤◌, true, false, cond, nat_lt, List, [], ◌∷◌, ◌++◌, length, slice_get, refl, sym, ap, subst, ◌∙◌, arith, All, None}
+use Rattle.std.proofs.lemmas.Bool.{ltb-false}
+use Rattle.std.proofs.lemmas.List.{append-nil}
+use Rattle.std.proofs.lemmas.List.Elements.{All-cons, All-head, All-tail}
+use Rattle.std.proofs.lemmas.List.Sorted.{All-permutation, length_permutation}
+use Rattle.rsb_integer.specs.Runs.{Interval}
+use Rattle.rsb_integer.specs.declared.integer.Integer.{Ghosts as Elements}
+use Rattle.rsb_integer.proofs.ListLemmas.{true_or_false}
+use Rattle.rsb_streams.specs.Lookahead.{Ends, GivesFrom, HasEnded, Input, Uses}
+use Rattle.rsb_streams.specs.Stream.{◌⊆◌, just}
+use Rattle.rsb_streams.specs.declared.draw.Draw.{Ghosts as Stream}
+use Rattle.rsb_many.specs.Drawn.{inputs_of, is_at, started, DrawnReady, HasNoHead, PutsBack, TakesHead}
+use Rattle.rsb_many.specs.Heads.{binary_digits}
+use Rattle.rsb_many.specs.Inputs.{has_ended, held_at, input_at, left_of, run_of_head, AreReady, Inputs}
+use Rattle.rsb_many.specs.KMerge.{comparison_bound}
+use Rattle.rsb_many.specs.Many.{gives_of}
+use Rattle.rsb_many.specs.declared.drawn.Drawn.{Drawn}
+use Rattle.rsb_many.specs.declared.heads.Head.{Head}
+use Rattle.rsb_many.proofs.heap.Digits.{binary_digits-more}
+use Rattle.rsb_many.proofs.inputs.Held.{held_at-permutation}
+use Rattle.rsb_many.proofs.inputs.Steps.{can-same, gives_of-uses, held-head, leaves-gives, leaves-goes, leaves-none, leaves-others, leaves-ready, leaves-spares, nat_eq-differs, nat_eq-itself, uses-same}
+use Rattle.rsb_many.proofs.inputs.Left.{left_of-same}
+
+-- two comparisons for each digit of a number of heads, and two again, are few
+pub few-compared : (count heads before middle made : ℕ) → heads ≤ count
+    → middle ≤ before + 2 * binary_digits count → made ≤ middle + 2 * binary_digits heads
+    → made ≤ before + comparison_bound count
+few-compared count heads before middle made short first second =
+    let few = binary_digits-more heads count short in
+    let some = binary_digits-more count (cond (nat_lt 0 count) count 1) (at-least count) in
+    omega (arith, first, second, few, some)
+  where
+    -- a number, or one where it is none
+    at-least : (count : ℕ) → count ≤ cond (nat_lt 0 count) count 1
+    at-least count = elim (true_or_false (nat_lt 0 count)) [
+      | inl some ↦ rw some (omega arith)
+      | inr none ↦ let nothing = ltb-false 0 count none in rw none (omega (arith, nothing))
+    ]
+
+module _ {T N I A : Type 0} (integer : Elements T N) (stream : Stream I T N) (m : Drawn T I A N)
+    (ready : DrawnReady integer stream m) (none : m.used ≡ None) where
+  open integer use {rank}
+
+  -- the inputs before
+  abbrev before : Inputs T I
+  before = inputs_of m
+
+  -- no range is due
+  none-due : (place : ℕ) → is_at m.used place ≡ false
+  none-due place = rw none refl
+
+  -- ---- the least head leaves
+  module _ (t : Drawn T I A N) (head : Head T) (takes : TakesHead integer stream m head t) where
+    -- the inputs now
+    abbrev now : Inputs T I
+    now = inputs_of t
+
+    -- the same streams
+    pub taken-streams : now.streams ≡ before.streams
+    taken-streams = ap (λ each. each.items) takes.streams
+
+    -- its input is due
+    pub taken-due : now.due head.input ≡ true
+    taken-due = rw takes.used (nat_eq-itself head.input)
+
+    -- no other is
+    pub taken-dues : (place : ℕ) → ¬ (place ≡ head.input) → now.due place ≡ before.due place
+    taken-dues place differs = rw (takes.used, none) (nat_eq-differs head.input place differs)
+
+    -- as many streams are there
+    pub taken-long : length t.streams.items ≡ length m.streams.items
+    taken-long = ap (λ (each : List I). length each) taken-streams
+
+    -- one head less is there
+    pub taken-fewer : length m.heads.heads ≡ length t.heads.heads + 1
+    taken-fewer =
+        let same = length_permutation m.heads.heads (head ∷ t.heads.heads) takes.taken.kept in
+        omega (arith, same)
+
+    -- the head's input is one of them
+    pub taken-less : head.input < length m.streams.items
+    taken-less = All-head (λ (each : Head T). each.input < length m.streams.items) head t.heads.heads
+        (All-permutation (λ (each : Head T). each.input < length m.streams.items) m.heads.heads
+        (head ∷ t.heads.heads) takes.taken.kept ready.inputs.within)
+
+    -- nothing is held of its input now
+    pub taken-none : held_at rank t.heads.heads head.input ≡ []
+    taken-none = leaves-none integer stream before now head ready.inputs taken-streams
+        takes.taken.kept taken-due taken-dues
+
+    -- its range alone was held
+    pub taken-held : held_at rank m.heads.heads head.input ≡ run_of_head rank head ∷ []
+    taken-held = sym (held-head integer stream before now head ready.inputs taken-streams
+        takes.taken.kept taken-due taken-dues)
+        ∙ ap (λ runs. run_of_head rank head ∷ runs) taken-none
+
+    -- its input gives the range
+    pub taken-gives : GivesFrom (input_at integer stream before head.input) (run_of_head rank head)
+        (input_at integer stream now head.input)
+    taken-gives = leaves-gives integer stream before now head ready.inputs taken-streams
+        takes.taken.kept taken-due taken-dues
+
+    -- what is held of the others stays
+    pub taken-others : (place : ℕ) → ¬ (place ≡ head.input)
+        → held_at rank t.heads.heads place ≡ held_at rank m.heads.heads place
+    taken-others = leaves-others integer stream before now head ready.inputs taken-streams
+        takes.taken.kept taken-due taken-dues
+
+    -- the others use nothing
+    pub taken-spares : (place : ℕ) → ¬ (place ≡ head.input)
+        → Uses (input_at integer stream before place) [] (input_at integer stream now place)
+    taken-spares = leaves-spares integer stream before now head ready.inputs taken-streams
+        takes.taken.kept taken-due taken-dues
+
+    -- the inputs are ready again, and there is room for their heads
+    pub taken-ready : DrawnReady integer stream t
+    taken-ready = record {
+      inputs = leaves-ready integer stream before now head ready.inputs taken-streams
+          takes.taken.kept taken-due taken-dues;
+      room = record {
+        used = rw takes.used (omega (arith, taken-less, taken-long));
+        few = rw takes.used few-now;
+        room = omega (arith, ready.room.room, takes.room, taken-long);
+      };
+    }
+      where
+        -- there is room for its input's next
+        few-now : length t.heads.heads + 1 ≤ length t.streams.items
+        few-now = omega (arith, taken-fewer, ready.room.few, taken-long)
+
+    -- the streams have as many ranges left
+    pub taken-left : left_of stream.draws_left (has_ended integer stream now) now.streams
+        ≡ left_of stream.draws_left (has_ended integer stream before) before.streams
+    taken-left = left_of-same stream.draws_left (has_ended integer stream before)
+        (has_ended integer stream now) now.streams
+        (leaves-goes integer stream before now head ready.inputs taken-streams takes.taken.kept
+        taken-due taken-dues)
+        ∙ ap (λ each. left_of stream.draws_left (has_ended integer stream before) each)
+        taken-streams
+
+    -- ---- it is put back
+    module _ (u : Drawn T I A N) (back : PutsBack t head u) where
+      -- the inputs with it
+      abbrev again : Inputs T I
+      again = inputs_of u
+
+      -- the same streams
+      back-streams : again.streams ≡ before.streams
+      back-streams = ap (λ each. each.items) back.streams ∙ taken-streams
+
+      -- as many streams are there
+      pub back-long : length u.streams.items ≡ length m.streams.items
+      back-long = ap (λ (each : List I). length each) back-streams
+
+      -- no range is due
+      pub back-due : (place : ℕ) → again.due place ≡ false
+      back-due place = rw back.used refl
+
+      -- what is held of each input stays
+      pub back-held : (place : ℕ)
+          → held_at rank u.heads.heads place ≡ held_at rank m.heads.heads place
+      back-held place =
+          let whole : held_at rank (head ∷ t.heads.heads) place ≡ held_at rank m.heads.heads place =
+          held_at-permutation rank place m.heads.heads (head ∷ t.heads.heads) takes.taken.kept
+          (omega (arith, ready.inputs.one place)) in
+          let short : length (held_at rank (started head ∷ t.heads.heads) place) ≤ 1 =
+          subst (λ (runs : List Interval). length runs ≤ 1) (sym whole)
+          (omega (arith, ready.inputs.one place)) in
+          held_at-permutation rank place (started head ∷ t.heads.heads) u.heads.heads back.kept
+          short ∙ whole
+
+      -- each input uses nothing
+      pub back-uses : (place : ℕ)
+          → Uses (input_at integer stream before place) [] (input_at integer stream again place)
+      back-uses place = uses-same integer stream before again place (back-held place)
+          (back-due place ∙ sym (none-due place)) (ap (λ each. slice_get each place) back-streams)
+
+      -- each goes on as before
+      back-goes : (place : ℕ)
+          → has_ended integer stream again place ≡ has_ended integer stream before place
+      back-goes place = rw (back-held place, back-due place, none-due place) refl
+
+      -- as many heads are there
+      pub back-many : length u.heads.heads ≡ length m.heads.heads
+      back-many =
+          let same = length_permutation (started head ∷ t.heads.heads) u.heads.heads back.kept in
+          omega (arith, same, taken-fewer)
+
+      -- the inputs are ready again, and there is room for their heads
+      pub back-ready : DrawnReady integer stream u
+      back-ready = record {
+        inputs = record {
+          can = λ place. can-same integer stream before again place (back-held place)
+              (back-due place ∙ sym (none-due place))
+              (ap (λ each. slice_get each place) back-streams) (ready.inputs.can place);
+          sorted = λ place runs gives. ready.inputs.sorted place runs
+              (gives_of-uses (input_at integer stream before place)
+              (input_at integer stream again place) [] (back-uses place) runs gives);
+          one = λ place. rw (back-held place, back-due place) (one-held place);
+          within = subst (λ count. All (λ (each : Head T). each.input < count) u.heads.heads)
+              (sym back-long)
+              (All-permutation (λ (each : Head T). each.input < length m.streams.items)
+              (started head ∷ t.heads.heads) u.heads.heads back.kept all-within);
+        };
+        room = record {
+          used = rw back.used tt;
+          few = rw back.used (omega (arith, back-many, back-long, ready.room.few));
+          room = omega (arith, ready.room.room, takes.room, back.room, back-long);
+        };
+      }
+        where
+          -- one range is held at most of each
+          one-held : (place : ℕ)
+              → length (held_at rank m.heads.heads place) + cond {A = ℕ} false 1 0 ≤ 1
+          one-held place = omega (arith, ready.inputs.one place)
+
+          -- each head is of an input
+          all-within : All (λ (each : Head T). each.input < length m.streams.items)
+              (started head ∷ t.heads.heads)
+          all-within = All-cons (λ (each : Head T). each.input < length m.streams.items)
+              (started head) t.heads.heads taken-less
+              (All-tail (λ (each : Head T). each.input < length m.streams.items) head t.heads.heads
+              (All-permutation (λ (each : Head T). each.input < length m.streams.items)
+              m.heads.heads (head ∷ t.heads.heads) takes.taken.kept ready.inputs.within))
+
+      -- the streams have as many ranges left
+      pub back-left : left_of stream.draws_left (has_ended integer stream again) again.streams
+          ≡ left_of stream.draws_left (has_ended integer stream before) before.streams
+      back-left = left_of-same stream.draws_left (has_ended integer stream before)
+          (has_ended integer stream again) again.streams back-goes
+          ∙ ap (λ each. left_of stream.draws_left (has_ended integer stream before) each)
+          back-streams
+
+  -- ---- no head was there
+  module _ (t : Drawn T I A N) (empty : HasNoHead m t) where
+    -- the inputs are as they were
+    pub none-unchanged : inputs_of t ≡ before
+    none-unchanged = same-by (ap (λ each. each.items) empty.streams) (empty.new ∙ sym empty.old)
+        (empty.used ∙ sym none)
+      where
+        -- by their parts
+        same-by : t.streams.items ≡ m.streams.items → t.heads.heads ≡ m.heads.heads
+            → t.used ≡ m.used → inputs_of t ≡ before
+        same-by first second third = rw (first, second, third) refl
+
+    -- as many streams are there
+    pub none-long : length t.streams.items ≡ length m.streams.items
+    none-long = ap (λ each. length each.items) empty.streams
+
+    -- each input has ended
+    pub none-over : (place : ℕ) → has_ended integer stream (inputs_of t) place ≡ true
+    none-over place = rw (empty.new, empty.used) refl
+
+    -- and gives nothing
+    pub none-ended : (place : ℕ) → HasEnded (input_at integer stream (inputs_of t) place)
+    none-ended place = record {
+      held = rw empty.new refl;
+      gives = λ runs at. rw (none-over place) at at;
+    }
+
+    -- none gives anything
+    pub none-nothing : (place : ℕ)
+        → gives_of (input_at integer stream (inputs_of t) place) ⊆ just []
+    none-nothing place runs gives =
+        let ended = none-ended place in
+        gives.2 ∙ ap (λ each. each ++ gives.0) ended.held ∙ ended.gives gives.0 gives.1
+
+    -- what was due was drawn before
+    module _ (earlier : ℕ → Input)
+        (filled : (place : ℕ) → Uses (earlier place) [] (input_at integer stream before place)) where
+      -- so an input used nothing
+      none-uses : (place : ℕ)
+          → Uses (earlier place) [] (input_at integer stream (inputs_of t) place)
+      none-uses place = subst (λ each. Uses (earlier place) [] (input_at integer stream each place))
+          (sym none-unchanged) (filled place)
+
+      -- and ended
+      pub none-ends : (place : ℕ)
+          → Ends (earlier place) (input_at integer stream (inputs_of t) place)
+      none-ends place =
+          let uses = none-uses place in
+          let ended = none-ended place in
+          record {
+            uses = record {
+              drawn = uses.drawn;
+              drew = λ rest is. uses.drew rest (rw (none-over place) is);
+              in_order = uses.in_order ∙ ended.held;
+            };
+            over = ended;
+          }
+
+      -- it might have given nothing
+      pub none-might : (place : ℕ) → gives_of (earlier place) []
+      none-might place = gives_of-uses (earlier place)
+          (input_at integer stream (inputs_of t) place) [] (none-uses place) [] (
+            [],
+            rw (none-over place) refl,
+            sym (append-nil (held_at rank t.heads.heads place) ∙ (none-ended place).held),
+          )
+
+    -- the inputs are ready again, and there is room for their heads
+    pub none-ready : DrawnReady integer stream t
+    none-ready = record {
+      inputs = subst (AreReady integer stream) (sym none-unchanged) ready.inputs;
+      room = record {
+        used = rw empty.used tt;
+        few = rw (empty.used, empty.new) (omega arith);
+        room = omega (arith, ready.room.room, empty.room, none-long);
+      };
+    }

@@ -1,0 +1,119 @@
+-- What is held of each input, whatever the order of the heads; and the streams by their places.
+use Rattle.std.proofs.Common.{◌≡◌, inl, inr, ℕ, zero, suc, ◌+◌, ◌<◌, ◌≤◌, Bool, true, false, cond, nat_eq, List, [], ◌∷◌, length, set, get_or, slice_get, refl, sym, ap, ◌∙◌, arith, All, sum_by, Some, IsPermutation, Contains}
+use Rattle.std.proofs.lemmas.List.Elements.{All-cons, All-head, All-nil, All-tail, All-weaker}
+use Rattle.std.proofs.lemmas.List.Sorted.{All-permutation, sum_by-IsPermutation}
+use Rattle.std.proofs.lemmas.List.Sums.{sum_by-cons}
+use Rattle.rsb_integer.proofs.ListLemmas.{true_or_false, Contains-cases, Contains-head, Contains-tail}
+use Rattle.rsb_integer.specs.Runs.{Interval}
+use Rattle.rsb_many.specs.Inputs.{held_at, run_of_head}
+use Rattle.rsb_many.specs.declared.heads.Head.{Head}
+
+-- ---- heads
+module _ {T : Type 0} (rank : T → ℕ) (place : ℕ) where
+  -- one for a head of the input, and else none
+  abbrev is_here : Head T → ℕ
+  is_here head = cond (nat_eq head.input place) 1 0
+
+  -- one more is held, or none
+  length-cond : (here : Bool) (run : Interval) (runs : List Interval)
+      → length (cond here (run ∷ runs) runs) ≡ cond here 1 0 + length runs
+  length-cond true run runs = omega arith
+  length-cond false run runs = omega arith
+
+  -- how many heads of an input there are
+  length-held_at : (heads : List (Head T)) → length (held_at rank heads place) ≡ sum_by is_here heads
+  length-held_at [] = refl
+  length-held_at (head ∷ heads) =
+      length-cond (nat_eq head.input place) (run_of_head rank head) (held_at rank heads place)
+      ∙ ap (λ count. is_here head + count) (length-held_at heads)
+      ∙ sym (sum_by-cons is_here head heads)
+
+  -- a head of the input is among those that are held
+  abbrev IsHeld : List Interval → Head T → Type 0
+  IsHeld runs head = nat_eq head.input place ≡ true → Contains runs (run_of_head rank head)
+
+  -- with one more they are held too
+  held-more : (run : Interval) (runs : List Interval) (heads : List (Head T))
+      → All (IsHeld runs) heads → All (IsHeld (run ∷ runs)) heads
+  held-more run runs heads all =
+      All-weaker (IsHeld runs) (IsHeld (run ∷ runs))
+      (λ head held here. Contains-tail run runs (run_of_head rank head) (held here)) heads all
+
+  -- each head of the input is held
+  held-all : (heads : List (Head T)) → All (IsHeld (held_at rank heads place)) heads
+  held-all [] = All-nil (IsHeld [])
+  held-all (head ∷ heads) =
+      let run = run_of_head rank head in
+      let runs = held_at rank heads place in
+      elim (true_or_false (nat_eq head.input place)) [
+        | inl here ↦ rw here (All-cons (IsHeld (run ∷ runs)) head heads
+            (λ at. Contains-head run runs)
+            (held-more run runs heads (held-all heads)))
+        | inr other ↦ rw other (All-cons (IsHeld runs) head heads
+            (λ at. absurd (let no = other in cc)) (held-all heads))
+      ]
+
+  -- a range that is held is one of those that heads of the input have
+  held-contains : (runs : List Interval) (heads : List (Head T)) → All (IsHeld runs) heads
+      → All (λ run. Contains runs run) (held_at rank heads place)
+  held-contains runs [] all = All-nil (λ run. Contains runs run)
+  held-contains runs (head ∷ heads) all =
+      let rest = held-contains runs heads (All-tail (IsHeld runs) head heads all) in
+      elim (true_or_false (nat_eq head.input place)) [
+        | inl here ↦ rw here (All-cons (λ run. Contains runs run) (run_of_head rank head)
+            (held_at rank heads place) (All-head (IsHeld runs) head heads all here) rest)
+        | inr other ↦ rw other rest
+      ]
+
+  -- two lists of one range at most are one, where one has what the other has and is as long
+  one-list : (xs ys : List Interval) → length xs ≤ 1 → length ys ≡ length xs
+      → All (λ run. Contains xs run) ys → ys ≡ xs
+  one-list [] [] short long all = refl
+  one-list [] (run ∷ ys) short long all = absurd (omega (arith, long))
+  one-list (run ∷ xs) [] short long all = absurd (omega (arith, long))
+  one-list (run ∷ []) (other ∷ []) short long all =
+      let found = All-head (λ each. Contains (run ∷ []) each) other [] all in
+      elim (Contains-cases run [] other found) [
+        | inl same ↦ sym (ap (λ each. each ∷ []) same)
+        | inr nothing ↦ let below = nothing.1 in absurd (omega arith)
+      ]
+  one-list (run ∷ []) (other ∷ more ∷ ys) short long all = absurd (omega (arith, long))
+  one-list (run ∷ next ∷ xs) ys short long all = absurd (omega (arith, short))
+
+  -- what is held of an input does not hang on the order of the heads
+  pub held_at-permutation : (xs ys : List (Head T)) → IsPermutation xs ys
+      → length (held_at rank xs place) ≤ 1 → held_at rank ys place ≡ held_at rank xs place
+  held_at-permutation xs ys same short =
+      one-list (held_at rank xs place) (held_at rank ys place) short
+      (length-held_at ys ∙ sum_by-IsPermutation is_here xs ys same ∙ sym (length-held_at xs))
+      (held-contains (held_at rank xs place) ys
+      (All-permutation (IsHeld (held_at rank xs place)) xs ys same (held-all xs)))
+
+-- ---- places
+
+module _ {S : Type 0} where
+  -- the stream at a place that was changed
+  pub slice_get-set_same : (streams : List S) (place : ℕ) (stream : S) → place < length streams
+      → slice_get (set streams place stream) place ≡ Some stream
+  slice_get-set_same [] place stream less = absurd (omega (arith, less))
+  slice_get-set_same (first ∷ streams) zero stream less = refl
+  slice_get-set_same (first ∷ streams) (suc place) stream less =
+      slice_get-set_same streams place stream (omega (arith, less))
+
+  -- the stream at another place
+  pub slice_get-set_other : (streams : List S) (place other : ℕ) (stream : S) → ¬ (other ≡ place)
+      → slice_get (set streams place stream) other ≡ slice_get streams other
+  slice_get-set_other [] place other stream differs = refl
+  slice_get-set_other (first ∷ streams) zero zero stream differs = absurd (differs refl)
+  slice_get-set_other (first ∷ streams) zero (suc other) stream differs = refl
+  slice_get-set_other (first ∷ streams) (suc place) zero stream differs = refl
+  slice_get-set_other (first ∷ streams) (suc place) (suc other) stream differs =
+      slice_get-set_other streams place other stream (λ same. differs (ap suc same))
+
+  -- a stream by its place, with another to fall back on
+  pub slice_get-get_or : (streams : List S) (place : ℕ) (stream : S) → place < length streams
+      → slice_get streams place ≡ Some (get_or streams place stream)
+  slice_get-get_or [] place stream less = absurd (omega (arith, less))
+  slice_get-get_or (first ∷ streams) zero stream less = refl
+  slice_get-get_or (first ∷ streams) (suc place) stream less =
+      slice_get-get_or streams place stream (omega (arith, less))

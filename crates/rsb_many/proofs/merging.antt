@@ -1,0 +1,5 @@
+pub mod Lists
+pub mod OneAnswer
+pub mod Operations
+pub mod Passes
+pub mod Sets

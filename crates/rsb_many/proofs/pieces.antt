@@ -1,0 +1,4 @@
+pub mod AtLeast
+pub mod Deep
+pub mod Odd
+pub mod SymmetricDifference

@@ -1,0 +1,4 @@
+pub mod Nested
+pub mod Operations
+pub mod Results
+pub mod RunCounts

@@ -1,0 +1,5 @@
+pub mod Ends
+pub mod OneMore
+pub mod Ranks
+pub mod States
+pub mod SymmetricDifference

@@ -1,0 +1,311 @@
+-- One more range, for the pieces that an odd number of ranges covers.
+use Rattle.rsb_integer.specs.declared.integer.Integer.{Ghosts as Elements}
+use Rattle.rsb_streams.specs.declared.draw.Draw.{Ghosts as Stream}
+use Rattle.std.proofs.Common.{◌≡◌, ◌+◌, ◌<◌, ◌≤◌, true, false, List, ◌∷◌, ◌++◌, length, refl, sym, ap, ◌∙◌, subst, arith}
+use Rattle.std.specs.Prelude.{Option, Some, None}
+use Rattle.std.specs.Ordering.{partial_lt}
+use Rattle.std.specs.declared.cmp.Ordering.{Ordering}
+use Rattle.std.specs.Iterator.{Count, IsFinite, MakesProgress, size}
+use Rattle.std.specs.Range.{range_inclusive_start, range_inclusive_end, range_inclusive_exhausted}
+use Rattle.std.specs.declared.ops.RangeInclusive.{RangeInclusive}
+use Rattle.rsb_integer.specs.Rank.{interval_of}
+use Rattle.rsb_integer.specs.Runs.{Interval, from_to}
+use Rattle.rsb_integer.proofs.MembersLemmas.{same_interval}
+use Rattle.rsb_streams.specs.OddPieces.{odd_may_give, odd_remaining, oddly_covered, past_both, pieces_of, pending, ends_of, ArePieces, IsGoing, IsTwofold, odd_pieces}
+use Rattle.rsb_streams.specs.Stream.{Outcomes, ◌⊆◌, run_if_any, unless, HasOutcome}
+use Rattle.rsb_streams.specs.declared.odd_pieces.OddPieces.{OddPieces}
+use Rattle.rsb_streams.proofs.checking.Comparisons.{IsRanked, less-rank, not_less-rank}
+use Rattle.rsb_streams.proofs.gaps.Loop.{answered}
+use Rattle.rsb_streams.proofs.odd.Ranks.{past-twofold, pieces-before, pieces-first, pieces-past, twofold-tail}
+use Rattle.rsb_streams.proofs.sources.Known.{IsLawful, range-start, range-end}
+use Rattle.rsb_streams.proofs.joining.Gathered.{head-sorted}
+use Rattle.rsb_streams.proofs.odd.Ends.{so-by}
+use Rattle.rsb_streams.proofs.odd.States.{OddSoFar, state, one-held, HasPassed}
+
+module _ {I T N : Type 0} (integer : Elements T N) (source : Stream I T N) where
+  open integer use {rank, value_count as n}
+
+  -- the pieces may be drawn
+  abbrev can : OddPieces T I → Type 0
+  can = (odd_pieces integer source).can_draw
+
+  -- what they may be
+  abbrev may : OddPieces T I → Outcomes
+  may = odd_may_give integer source
+
+  -- how many are left at most
+  abbrev left_of : OddPieces T I → Count
+  left_of = odd_remaining integer source
+
+  -- what may come now might come at the entry
+  abbrev SoFar : OddPieces T I → OddPieces T I → Type 0
+  SoFar = OddSoFar integer source
+
+  -- what is known of a call
+  abbrev Answered : OddPieces T I → Option (RangeInclusive T) → OddPieces T I → Type 0
+  Answered = (odd_pieces integer source).draw_gives
+
+  -- the values are told apart by their ranks
+  module _ (laws : IsLawful integer source) {partial_cmp : T → T → Option Ordering}
+      {cmp : T → T → Ordering} (ranked : IsRanked rank n partial_cmp cmp) where
+    -- ---- one more range
+    module _ (entry was : OddPieces T I) (j : I) (next next_end : T) (range : RangeInclusive T)
+        (so_now : SoFar entry was) (call : source.draw_gives was.iter (Some range) j)
+        (goes : MakesProgress source.can_draw source.draws_left was.iter (Some range) j)
+        (from : next ≡ range_inclusive_start range) (to : next_end ≡ range_inclusive_end range)
+      where
+        -- something may come after it
+        some : HasOutcome (source.may_give j)
+        some = (laws.sorted j goes.keeps).some
+
+        -- it comes first
+        before : (given : List Interval) → source.may_give j given
+            → source.may_give was.iter (interval_of rank range ∷ given)
+        before given at = laws.answers was.iter j (Some range) call given at
+
+        -- it is non-empty, and lies in the type
+        facts : (0 ≤ (interval_of rank range).first)
+            × ((interval_of rank range).first ≤ (interval_of rank range).last)
+            × ((interval_of rank range).last < n)
+        facts = head-sorted n 0 (interval_of rank range) (source.may_give j) some
+            (λ given at. (laws.sorted was.iter so_now.going.callable).all
+            (interval_of rank range ∷ given) (before given at))
+
+        -- its ranks
+        is_run : interval_of rank range ≡ from_to (rank next) (rank next_end)
+        is_run = same_interval (interval_of rank range) (from_to (rank next) (rank next_end))
+            (range-start rank range facts.1 ∙ sym (ap rank from))
+            (range-end rank range facts.1 ∙ sym (ap rank to))
+
+        -- so it comes first by its ends
+        comes : (given : List Interval) → source.may_give j given
+            → source.may_give was.iter (from_to (rank next) (rank next_end) ∷ given)
+        comes given at =
+            subst (λ run. source.may_give was.iter (run ∷ given)) is_run (before given at)
+
+        -- fewer are to come
+        pub fewer : IsFinite (source.draws_left j) × (size (source.draws_left j) < size (source.draws_left was.iter))
+        fewer =
+            let on = goes.on (laws.sorted was.iter so_now.going.callable).ends in
+            (on.1, on.2)
+
+        -- its ends are values
+        next-values : (rank next < n) × (rank next_end < n)
+        next-values =
+            let all = facts in
+            let low = ap (λ run. run.first) is_run in
+            let high = ap (λ run. run.last) is_run in
+            (omega (arith, all.1, all.2, low, high), omega (arith, all.2, high))
+
+        -- where it alone is pending, the pieces may be drawn
+        going-next : ((given : List Interval) → source.may_give j given
+            → IsTwofold n (from_to (rank next) (rank next_end) ∷ given))
+            → IsGoing integer source (state j next (Some next_end))
+        going-next twofold = record {
+          callable = goes.keeps;
+          twofold = twofold;
+        }
+
+        -- the state where it alone is pending
+        abbrev next_state : OddPieces T I
+        next_state = record { iter = j; done = was.done; start = next; end = Some next_end }
+
+        -- it is not at its end
+        from-state : (Holds : OddPieces T I → Type 0) → Holds (state j next (Some next_end))
+            → Holds next_state
+        from-state Holds at = subst
+            (λ done. Holds (record { iter = j; done = done; start = next; end = Some next_end }))
+            (sym so_now.undone) at
+
+        -- it begins where none is pending
+        pub so-begins : None ≡ was.end → SoFar entry next_state
+        so-begins is =
+            let so = so-by integer source entry was None so_now (sym is) in
+            let less = fewer in
+            let nearer = so.nearer in
+            from-state (SoFar entry) (record {
+              undone = refl;
+              going = going-next (λ given at.
+                  so.going.twofold (from_to (rank next) (rank next_end) ∷ given) (comes given at));
+              same = λ pieces at. so.same pieces (λ nothing. at (λ given might all.
+                  nothing (from_to (rank next) (rank next_end) ∷ given) (comes given might) all));
+              nearer = omega (arith, less.1, nearer);
+            })
+
+        -- one is pending
+        module _ (end : T) (is : Some end ≡ was.end) where
+          -- so it was before
+          so : SoFar entry (state was.iter was.start (Some end))
+          so = so-by integer source entry was (Some end) so_now (sym is)
+
+          -- both, and what comes after them
+          twofold : (given : List Interval) → source.may_give j given
+              → IsTwofold n (from_to (rank was.start) (rank end) ∷ from_to (rank next) (rank next_end) ∷ given)
+          twofold given at = so.going.twofold (from_to (rank next) (rank next_end) ∷ given) (comes given at)
+
+          -- the pending one is non-empty and lies in the type
+          pending-facts : (0 ≤ rank was.start) × (rank was.start ≤ rank end) × (rank end < n)
+          pending-facts = head-sorted n 0 (from_to (rank was.start) (rank end))
+              (λ given. (rest : List Interval) × source.may_give j rest
+              × (given ≡ from_to (rank next) (rank next_end) ∷ rest))
+              (λ never. some (λ given at. never (from_to (rank next) (rank next_end) ∷ given)
+              (given, at, refl)))
+              (λ given at. rw at.2 (twofold at.0 at.1).sorted)
+
+          -- all four ends are values
+          pub both-values : (rank was.start < n) × (rank end < n) × (rank next < n) × (rank next_end < n)
+          both-values =
+              let all = pending-facts in
+              let low = all.1 in
+              let high = all.2 in
+              (omega (arith, low, high), high, next-values.0, next-values.1)
+
+          -- where the pending one starts before the next one, so do others
+          pub next-above : true ≡ partial_lt partial_cmp was.start next → 0 < rank next
+          next-above test =
+              let less = less-rank ranked was.start next both-values.0
+              both-values.2 test in
+              omega (arith, less)
+
+          -- the pending one comes first where the other starts past it
+          pub apart-answers : true ≡ partial_lt partial_cmp end next → (answer : RangeInclusive T)
+              → range_inclusive_exhausted answer ≡ false → range_inclusive_start answer ≡ was.start
+              → range_inclusive_end answer ≡ end
+              → Answered entry (Some answer) next_state
+          apart-answers test answer fresh at_start at_end =
+              let apart = less-rank ranked end next both-values.1
+              both-values.2 test in
+              let first = from_to (rank was.start) (rank end) in
+              let run = from_to (rank next) (rank next_end) in
+              let gap = answered integer source was.start end answer fresh at_start at_end in
+              from-state (Answered entry (Some answer)) (record {
+                answers = λ rest at. so.same (interval_of rank answer ∷ rest) (λ nothing.
+                    at (λ given might all.
+                    let both = (twofold given might).sorted in
+                    nothing (run ∷ given) (comes given might)
+                    (subst (λ each. ArePieces n (oddly_covered (first ∷ run ∷ given)) (each ∷ rest))
+                    (sym gap)
+                    (pieces-first n first (run ∷ given) rest both.1 both.2
+                    (omega arith, both.3.1, both.3.2, both.3.3) all))));
+                rests = tt;
+              })
+
+          -- and fewer are left
+          pub apart-goes : (answer : RangeInclusive T)
+              → MakesProgress can left_of entry (Some answer) next_state
+          apart-goes answer =
+              let going = going-next (λ given at.
+              twofold-tail n (from_to (rank was.start) (rank end)) (from_to (rank next) (rank next_end) ∷ given)
+              (twofold given at)) in
+              let less = fewer in
+              let nearer = so.nearer in
+              from-state (MakesProgress can left_of entry (Some answer)) (record {
+                on = λ finite. ((λ undone. going), less.0, omega (arith, less.1, nearer));
+                keeps = λ undone. going;
+                rests = λ finite. tt;
+              })
+
+          -- they overlap, and what lies past the lesser end is pending
+          module _ (test : false ≡ partial_lt partial_cmp end next) (now : OddPieces T I)
+              (passed : HasPassed rank j end next_end now) where
+            -- the next one starts at the end of the pending one at most
+            meets : rank next ≤ rank end
+            meets = not_less-rank ranked end next both-values.1 both-values.2 test
+
+            -- what is still to come comes of the source as it is then
+            same-source : (given : List Interval) → source.may_give now.iter given
+                → source.may_give j given
+            same-source given at = subst (λ iter. source.may_give iter given) passed.iter at
+
+            -- what is pending and to come
+            twofold-now : (given : List Interval) → source.may_give now.iter given
+                → IsTwofold n (pending rank now ++ given)
+            twofold-now given at = subst (λ each. IsTwofold n (each ++ given)) (sym passed.left)
+                (past-twofold n (from_to (rank was.start) (rank end)) (from_to (rank next) (rank next_end))
+                (past_both rank end next_end) given (twofold given (same-source given at)) meets refl
+                refl)
+
+            -- more pieces may be drawn
+            going-now : IsGoing integer source now
+            going-now = record {
+              callable = subst source.can_draw (sym passed.iter) goes.keeps;
+              twofold = twofold-now;
+            }
+
+            -- what comes then, as pieces
+            then-pieces : (given rest : List Interval)
+                → ArePieces n (oddly_covered (pending rank now ++ given)) rest
+                → ArePieces n (oddly_covered (run_if_any (past_both rank end next_end) ++ given)) rest
+            then-pieces given rest all =
+                subst (λ each. ArePieces n (oddly_covered (each ++ given)) rest) passed.left all
+
+            -- so what may come then are pieces of what is pending and to come
+            now-may : may now ⊆ pieces_of n (pending rank now) (source.may_give now.iter)
+            now-may pieces at = subst (λ each. unless each
+                (pieces_of n (pending rank now) (source.may_give now.iter)) pieces) passed.undone at
+
+            -- fewer are left
+            now-less : size (left_of now) < size (left_of entry)
+            now-less =
+                let less = fewer in
+                let short = one-held now.end in
+                let nearer = so.nearer in
+                let same : size (source.draws_left now.iter) ≡ size (source.draws_left j) =
+                ap (λ iter. size (source.draws_left iter)) passed.iter in
+                let all : size (left_of now) ≡ size (source.draws_left now.iter) + length (ends_of now.end) =
+                rw passed.undone refl in
+                omega (arith, less.1, short, nearer, same, all)
+
+            -- what lies before the second comes first
+            pub gap-answers : true ≡ partial_lt partial_cmp was.start next → (last : T)
+                (answer : RangeInclusive T) → rank last + 1 ≡ rank next
+                → range_inclusive_exhausted answer ≡ false → range_inclusive_start answer ≡ was.start
+                → range_inclusive_end answer ≡ last → Answered entry (Some answer) now
+            gap-answers before_next last answer one fresh at_start at_end =
+                let less = less-rank ranked was.start next both-values.0
+                both-values.2 before_next in
+                let gap = answered integer source was.start last answer fresh at_start at_end in
+                let first = from_to (rank was.start) (rank end) in
+                let run = from_to (rank next) (rank next_end) in
+                record {
+                  answers = λ rest at. so.same (interval_of rank answer ∷ rest) (λ nothing.
+                      now-may rest at (λ given might all. nothing (run ∷ given) (comes given (same-source given might))
+                      (subst (λ each. ArePieces n (oddly_covered (first ∷ run ∷ given)) (each ∷ rest))
+                      (sym gap)
+                      (pieces-before n first run (past_both rank end next_end) given
+                      (twofold given (same-source given might)) meets refl refl (from_to (rank was.start) (rank last)) rest less refl
+                      one (then-pieces given rest all)))));
+                  rests = tt;
+                }
+
+            -- and fewer are left
+            pub gap-goes : (answer : RangeInclusive T) → MakesProgress can left_of entry (Some answer) now
+            gap-goes answer =
+                let less = fewer in
+                record {
+                  on = λ finite. (
+                    (λ undone. going-now),
+                    rw (passed.undone, passed.iter) less.0,
+                    now-less,
+                  );
+                  keeps = λ undone. going-now;
+                  rests = λ finite. tt;
+                }
+
+            -- nothing lies before it, and the loop goes on
+            pub so-passed : false ≡ partial_lt partial_cmp was.start next → SoFar entry now
+            so-passed not_before =
+                let most = not_less-rank ranked was.start next both-values.0
+                both-values.2 not_before in
+                let less = now-less in
+                record {
+                  undone = passed.undone;
+                  going = going-now;
+                  same = λ pieces at. so.same pieces (λ nothing. now-may pieces at (λ given might all.
+                      nothing (from_to (rank next) (rank next_end) ∷ given)
+                      (comes given (same-source given might))
+                      (pieces-past n (from_to (rank was.start) (rank end)) (from_to (rank next) (rank next_end))
+                      (past_both rank end next_end) given (twofold given (same-source given might)) meets refl refl
+                      pieces most (then-pieces given pieces all))));
+                  nearer = omega (arith, less);
+                }

@@ -1,0 +1,5 @@
+pub mod Counting
+pub mod Equality
+pub mod FirstItems
+pub mod Taken
+pub mod Tests

@@ -1,0 +1,6 @@
+pub mod Arrays
+pub mod Known
+pub mod Lawful
+pub mod Listed
+pub mod OneCall
+pub mod Vectors

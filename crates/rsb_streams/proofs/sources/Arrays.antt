@@ -1,0 +1,141 @@
+-- What an array becomes by `into_iter`, as a source of a stream.
+use Rattle.std.proofs.Common.{◌≡◌, ℕ, ◌+◌, ◌<◌, ◌≤◌, false, cond, List, [], ◌∷◌, ◌++◌, length, sym, ap, ◌∙◌, subst}
+use Rattle.std.proofs.lemmas.List.{map-append, nil_from_length}
+use Rattle.std.proofs.lemmas.List.Elements.{All-nil, All-cons}
+use Rattle.std.specs.Array.Iter.{array_into_iter_items, array_steps}
+use Rattle.std.specs.Iterator.{at_most}
+use Rattle.std.specs.Range.{range_inclusive_start, range_inclusive_end, range_inclusive_exhausted}
+use Rattle.std.specs.declared.array.IntoIter.{IntoIter}
+use Rattle.std.specs.declared.iter.Iterator.{Ghosts as Iteration}
+use Rattle.std.specs.declared.ops.RangeInclusive.{RangeInclusive}
+use Rattle.rsb_integer.specs.Rank.{interval_of, intervals_of}
+use Rattle.rsb_integer.specs.Runs.{Interval, AllEndBelow, IsCanonicalFrom, IsCanonicalIn}
+use Rattle.rsb_integer.proofs.CanonicalLemmas.{canonical-front}
+use Rattle.rsb_streams.specs.Calls.{IsSource}
+use Rattle.rsb_streams.specs.CallsLaws.{calls-steps}
+use Rattle.rsb_streams.specs.Stream.{HasSortedStarts, HasSortedStartsFrom}
+use Rattle.rsb_streams.proofs.sources.Lawful.{sorted-front}
+use Rattle.rsb_streams.proofs.sources.Listed.{listed-yields}
+
+-- ---- ranges by their ends, in a type of n values
+module _ {T : Type 0} (rank : T → ℕ) (n : ℕ) where
+  -- the range was not iterated, has a value, and lies in the type
+  pub record IsWhole (range : RangeInclusive T) : Type 0 where
+    pub whole : range_inclusive_exhausted range ≡ false
+    pub in_order : rank (range_inclusive_start range) ≤ rank (range_inclusive_end range)
+    pub in_type : rank (range_inclusive_end range) < n
+
+  -- the first range starts at `low` or past it, and none touches or overlaps another
+  abbrev pub AreApartFrom : ℕ → List (RangeInclusive T) → Type 0
+  AreApartFrom low [] = Unit {0}
+  AreApartFrom low (range ∷ ranges) =
+      (low ≤ rank (range_inclusive_start range)) × IsWhole range
+      × AreApartFrom (rank (range_inclusive_end range) + 2) ranges
+
+  -- the first range starts at `low` or past it, and no start falls
+  abbrev pub AreByStartsFrom : ℕ → List (RangeInclusive T) → Type 0
+  AreByStartsFrom low [] = Unit {0}
+  AreByStartsFrom low (range ∷ ranges) =
+      (low ≤ rank (range_inclusive_start range)) × IsWhole range
+      × AreByStartsFrom (rank (range_inclusive_start range)) ranges
+
+  -- its interval is from its start to its end
+  whole-interval : (range : RangeInclusive T) → IsWhole range → interval_of rank range
+      ≡ record {
+        first = rank (range_inclusive_start range);
+        last = rank (range_inclusive_end range);
+      }
+  whole-interval range is =
+      ap (λ exhausted. cond exhausted (record { first = 1; last = 0 })
+      (record {
+        first = rank (range_inclusive_start range);
+        last = rank (range_inclusive_end range);
+      })) is.whole
+
+  -- ranges apart are a canonical list
+  apart-canonical : (low : ℕ) (ranges : List (RangeInclusive T)) → AreApartFrom low ranges
+      → IsCanonicalFrom low (intervals_of rank ranges) × AllEndBelow n (intervals_of rank ranges)
+  apart-canonical low [] apart = (tt, All-nil (λ (run : Interval). run.last < n))
+  apart-canonical low (range ∷ ranges) apart =
+      let runs = intervals_of rank ranges in
+      let rest = apart-canonical (rank (range_inclusive_end range) + 2) ranges apart.2 in
+      subst (λ (run : Interval). IsCanonicalFrom low (run ∷ runs) × AllEndBelow n (run ∷ runs))
+      (sym (whole-interval range apart.1)) (
+        (apart.0, apart.1.in_order, rest.0),
+        All-cons (λ (run : Interval). run.last < n) _ runs apart.1.in_type rest.1,
+      )
+
+  -- ranges by their starts are a list by starts
+  starts-sorted : (low : ℕ) (ranges : List (RangeInclusive T)) → AreByStartsFrom low ranges
+      → HasSortedStartsFrom n low (intervals_of rank ranges)
+  starts-sorted low [] sorted = tt
+  starts-sorted low (range ∷ ranges) sorted =
+      subst (λ (run : Interval). HasSortedStartsFrom n low (run ∷ intervals_of rank ranges))
+      (sym (whole-interval range sorted.1)) (
+        sorted.0,
+        sorted.1.in_order,
+        sorted.1.in_type,
+        starts-sorted (rank (range_inclusive_start range)) ranges sorted.2,
+      )
+
+-- ---- arrays
+module _ {T : Type 0} (size : ℕ) (rank : T → ℕ) where
+  -- what an array of ranges becomes
+  abbrev Items : Type 0
+  Items = IntoIter (RangeInclusive T) size
+
+  -- it may always be called
+  abbrev items : Iteration Items (RangeInclusive T)
+  items = record {
+    can_next = λ s. Unit {0};
+    next_gives = array_steps;
+    remaining = λ s. at_most (length (array_into_iter_items s));
+  }
+
+  -- it is a source of a law that the fronts of a list keep, where its items keep that
+  array-source : (law : List Interval → Type 0)
+      → ((runs others : List Interval) → law (runs ++ others) → law runs) → (s : Items)
+      → law (intervals_of rank (array_into_iter_items s)) → IsSource rank items law s
+  array-source law front s lawful = record {
+    callable = tt;
+    finite = tt;
+    fronts = λ ranges t all.
+        let whole = listed-yields rank items array_into_iter_items
+        (λ s t range call. call) (λ s t call. nil_from_length (array_into_iter_items s) call.0)
+        ranges s t
+        (calls-steps rank items ranges s t all) in
+        front (intervals_of rank ranges) (intervals_of rank (array_into_iter_items t))
+        (subst law (ap (intervals_of rank) whole
+        ∙ map-append (interval_of rank) ranges (array_into_iter_items t)) lawful);
+  }
+
+  -- so it is of a canonical list
+  pub array-canonical : (n : ℕ) (s : Items)
+      → IsCanonicalIn n (intervals_of rank (array_into_iter_items s))
+      → IsSource rank items (IsCanonicalIn n) s
+  array-canonical n = array-source (IsCanonicalIn n) (canonical-front n)
+
+  -- and of one by starts
+  pub array-sorted : (n : ℕ) (s : Items)
+      → HasSortedStarts n (intervals_of rank (array_into_iter_items s))
+      → IsSource rank items (HasSortedStarts n) s
+  array-sorted n = array-source (HasSortedStarts n) (sorted-front n 0)
+
+  -- an array of ranges apart becomes a source of a canonical list
+  pub array-apart : (n : ℕ) (ranges : List (RangeInclusive T)) → AreApartFrom rank n 0 ranges
+      → (s : Items) → array_into_iter_items s ≡ ranges
+      → IsSource rank items (IsCanonicalIn n) s
+  array-apart n ranges apart s is =
+      array-canonical n s
+      (subst (λ left. IsCanonicalIn n (intervals_of rank left)) (sym is)
+      (apart-canonical rank n 0 ranges apart))
+
+  -- and an array of ranges by their starts, of a list by starts
+  pub array-by_starts : (n : ℕ) (ranges : List (RangeInclusive T))
+      → AreByStartsFrom rank n 0 ranges
+      → (s : Items) → array_into_iter_items s ≡ ranges
+      → IsSource rank items (HasSortedStarts n) s
+  array-by_starts n ranges sorted s is =
+      array-sorted n s
+      (subst (λ left. HasSortedStarts n (intervals_of rank left)) (sym is)
+      (starts-sorted rank n 0 ranges sorted))

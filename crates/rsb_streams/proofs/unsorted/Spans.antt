@@ -1,0 +1,129 @@
+-- The spans of items that are cut into pieces, and their members.
+use Rattle.std.proofs.Common.{◌≡◌, ℕ, true, false, ◌||◌, nat_le, List, [], ◌∷◌, ◌++◌, refl, sym, ap, ◌∙◌, subst, inl, inr, arith}
+use Rattle.std.proofs.lemmas.Bool.{cases_lt}
+use Rattle.std.proofs.lemmas.Bool.Decides.{nat_tests}
+use Rattle.std.proofs.lemmas.List.Elements.{All-cons, All-head, All-nil, All-tail}
+use Rattle.std.specs.List.{All, AllZip}
+use Rattle.rsb_integer.specs.Runs.{Interval, covers, members, HasNoRanks, HasRanks}
+use Rattle.rsb_integer.proofs.ListLemmas.{All-front}
+use Rattle.rsb_integer.proofs.MembersLemmas.{members-append, members-cons}
+use Rattle.rsb_streams.specs.UnsortedDisjoint.{items_of, non_empty, AreSpans, HoldsTogether, IsApart, IsPiece, IsSpan, Meet}
+use Rattle.rsb_streams.proofs.unsorted.Pieces.{not_nil, piece-members, span-same}
+
+-- ---- items that have a rank
+
+-- an item that has none is left out
+pub non_empty-skip : (item : Interval) (items : List Interval) → HasNoRanks item
+    → non_empty (item ∷ items) ≡ non_empty items
+non_empty-skip item items empty =
+    let test : nat_le item.first item.last ≡ false = grind (arith, nat_tests) in rw test refl
+
+-- one that has some stays
+pub non_empty-keep : (item : Interval) (items : List Interval) → HasRanks item
+    → non_empty (item ∷ items) ≡ item ∷ non_empty items
+non_empty-keep item items some =
+    let test : nat_le item.first item.last ≡ true = grind (arith, nat_tests) in rw test refl
+
+-- each of these has a rank
+pub non_empty-fill : (items : List Interval) → All HasRanks (non_empty items)
+non_empty-fill [] = All-nil HasRanks
+non_empty-fill (item ∷ items) = elim (cases_lt item.last item.first) [
+  | inl empty ↦ subst (All HasRanks) (sym (non_empty-skip item items empty)) (non_empty-fill items)
+  | inr some ↦ subst (All HasRanks) (sym (non_empty-keep item items some))
+      (All-cons HasRanks item (non_empty items) some (non_empty-fill items))
+]
+
+-- an empty interval covers nothing
+covers-none : (item : Interval) (place : ℕ) → HasNoRanks item → covers item place ≡ false
+covers-none item place empty = grind (arith, nat_tests)
+
+-- they have the members of all
+non_empty-members : (items : List Interval) (place : ℕ)
+    → members (non_empty items) place ≡ members items place
+non_empty-members [] place = refl
+non_empty-members (item ∷ items) place = elim (cases_lt item.last item.first) [
+  | inl empty ↦
+      ap (λ each. members each place) (non_empty-skip item items empty)
+      ∙ non_empty-members items place
+      ∙ ap (λ test. test || members items place) (sym (covers-none item place empty))
+      ∙ sym (members-cons item items place)
+  | inr some ↦
+      ap (λ each. members each place) (non_empty-keep item items some)
+      ∙ members-cons item (non_empty items) place
+      ∙ ap (λ test. covers item place || test) (non_empty-members items place)
+      ∙ sym (members-cons item items place)
+]
+
+-- ---- their members
+
+-- what holds of each item of two lists put together holds of each of the second
+All-back : {X : Type 0} (P : X → Type 0) (xs ys : List X) → All P (xs ++ ys) → All P ys
+All-back P [] ys all = all
+All-back P (x ∷ xs) ys all = All-back P xs ys (All-tail P x (xs ++ ys) all)
+
+-- the spans of pieces have the members of their items
+pieces-members : (pieces : List (List Interval)) (spans : List Interval) (place : ℕ)
+    → AllZip IsSpan pieces spans → All HoldsTogether pieces → All HasRanks (items_of pieces)
+    → members spans place ≡ members (items_of pieces) place
+pieces-members [] [] place spanned together fill = refl
+pieces-members [] (span ∷ spans) place spanned together fill = absurd spanned
+pieces-members (piece ∷ pieces) [] place spanned together fill = absurd spanned
+pieces-members (piece ∷ pieces) (span ∷ spans) place spanned together fill =
+    members-cons span spans place
+    ∙ ap (λ test. test || members spans place)
+    (sym (piece-members piece span place spanned.0 (All-head HoldsTogether piece pieces together)
+    (All-front HasRanks piece (items_of pieces) fill)))
+    ∙ ap (λ test. members piece place || test)
+    (pieces-members pieces spans place spanned.1 (All-tail HoldsTogether piece pieces together)
+    (All-back HasRanks piece (items_of pieces) fill))
+    ∙ sym (members-append piece (items_of pieces) place)
+
+-- the spans have the same members as the items
+pub spans-members : (items spans : List Interval) (place : ℕ) → AreSpans (non_empty items) spans
+    → members spans place ≡ members items place
+spans-members items spans place are =
+    pieces-members are.pieces spans place are.spanned are.together
+    (subst (All HasRanks) (sym are.whole) (non_empty-fill items))
+    ∙ ap (λ each. members each place) are.whole
+    ∙ non_empty-members items place
+
+-- ---- one more piece
+
+-- no items have no spans
+pub no-spans : AreSpans [] []
+no-spans = record {
+  pieces = [];
+  whole = refl;
+  together = All-nil HoldsTogether;
+  apart = λ before after piece next is. absurd (not_nil before (next ∷ after) piece is);
+  spanned = tt;
+}
+
+module _ (piece : List Interval) (span : Interval) (items spans : List Interval)
+    (is : IsPiece piece span)
+    (are : AreSpans items spans)
+    (begins : (item : Interval) (others : List Interval) → items ≡ item ∷ others
+    → ¬ (Meet span item)) where
+  -- a piece comes before others where the first item of these is apart from it
+  first-apart : (before after : List (List Interval)) (one next : List Interval)
+      → piece ∷ are.pieces ≡ before ++ one ∷ next ∷ after → IsApart one next
+  first-apart [] after one next same = λ item others other starts covered meets.
+      let first : piece ≡ one = cc in
+      let rest : are.pieces ≡ next ∷ after = cc in
+      begins item (others ++ items_of after)
+      (sym are.whole ∙ ap items_of rest ∙ ap (λ each. each ++ items_of after) starts)
+      (subst (λ each. Meet each item)
+      (span-same one other span covered (subst (λ each. IsSpan each span) first is.spans)) meets)
+  first-apart (first ∷ before) after one next same =
+      let rest : are.pieces ≡ before ++ one ∷ next ∷ after = cc in
+      are.apart before after one next rest
+
+  -- a piece and the pieces after it
+  pub more-spans : AreSpans (piece ++ items) (span ∷ spans)
+  more-spans = record {
+    pieces = piece ∷ are.pieces;
+    whole = ap (λ each. piece ++ each) are.whole;
+    together = All-cons HoldsTogether piece are.pieces is.together are.together;
+    apart = first-apart;
+    spanned = (is.spans, are.spanned);
+  }
