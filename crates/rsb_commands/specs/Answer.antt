@@ -5,7 +5,7 @@ use Rattle.std.specs.Io.KnownBytes.{Appends, Keeps}
 use Rattle.std.specs.Option.{IsSomeAnd}
 use Rattle.rsb_integer.specs.Rank.{signed_rank}
 use Rattle.rsb_commands.specs.declared.command.Command.{Command}
-use Rattle.rsb_commands.specs.Commands.{AreReplies, Content, MayTakeMemory}
+use Rattle.rsb_commands.specs.Interpreter.{AreReplies, Content, MayTakeMemory}
 use Rattle.rsb_commands.specs.Spelling.{AreCommands}
 use Rattle.rsb_commands.specs.Text.{text}
 use Rattle.rsb_commands.specs.Transfer.{CutsShort}

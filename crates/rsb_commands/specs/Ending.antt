@@ -4,7 +4,7 @@ use Rattle.std.specs.Io.KnownBytes.{IsAtEnd, Keeps}
 use Rattle.rsb_commands.specs.declared.fault.Fault.{Fault}
 use Rattle.rsb_commands.specs.declared.fault.Fault.TheVariants.{BadLine, NoMemory, Io}
 use Rattle.rsb_commands.specs.Answer.{Answers, HasBytes, KeepsWithoutCommands, WroteFirstReplies, WrotePartOfReplies}
-use Rattle.rsb_commands.specs.Fault.{line_of, status_of}
+use Rattle.rsb_commands.specs.Fault.{fault_line, status_of}
 use Rattle.rsb_commands.specs.Spelling.{IsFirstBadLine}
 use Rattle.rsb_commands.specs.Transfer.{AppendsFrontOf}
 
@@ -17,7 +17,7 @@ status_after (Err fault) = status_of fault
 abbrev pub TellsFault : Option (List ℕ) → Option (List ℕ) → Result (Unit {0}) Fault → Type 0
 TellsFault old new outcome = MatchResult outcome
     (λ _. Keeps old new)
-    (λ fault. AppendsFrontOf old new (line_of fault ++ codes "\n"))
+    (λ fault. AppendsFrontOf old new (fault_line fault ++ codes "\n"))
 
 -- what was read and written where the program ends so
 abbrev pub Leaves : Option (List ℕ) → Option (List ℕ) → Option (List ℕ) → Option (List ℕ)

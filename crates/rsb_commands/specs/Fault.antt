@@ -10,7 +10,7 @@ status_of NoMemory = 3
 status_of Io = 4
 
 -- the line that tells the fault
-abbrev pub line_of : Fault → List ℕ
-line_of (BadLine number) = codes "bad line " ++ decimal number
-line_of NoMemory = codes "no memory"
-line_of Io = codes "read or write failed"
+abbrev pub fault_line : Fault → List ℕ
+fault_line (BadLine number) = codes "bad line " ++ decimal number
+fault_line NoMemory = codes "no memory"
+fault_line Io = codes "read or write failed"

@@ -1,5 +1,5 @@
 pub mod Answer
-pub mod Commands
+pub mod Interpreter
 pub mod Ending
 pub mod Fault
 pub mod Spelling

@@ -23,7 +23,7 @@ has_bytes part = nat_lt 0 (length part)
 abbrev pub words : List ℕ → List (List ℕ)
 words line = filter has_bytes (slice_split is_blank line)
 
--- the word is one digit, which is the number of the set; 48 is the code of '0'
+-- the word is one digit, which is the slot; 48 is the code of '0'
 pub record IsSlot (word : List ℕ) (slot : ℕ) : Type 0 where
   pub digit : word ≡ (48 + slot) ∷ []
   pub one_digit : slot < 10
@@ -53,15 +53,15 @@ pub record Line : Type 0 where
 
 -- the line of each command
 abbrev pub line_of : Command ℤ → Line
-line_of (Add set first last) = record {
+line_of (Add n first last) = record {
   keyword = codes "add";
-  arguments = slot set ∷ number first ∷ number last ∷ [];
+  arguments = slot n ∷ number first ∷ number last ∷ [];
 }
-line_of (Del set value) = record { keyword = codes "del"; arguments = slot set ∷ number value ∷ [] }
-line_of (Has set value) = record { keyword = codes "has"; arguments = slot set ∷ number value ∷ [] }
-line_of (Gap set value) = record { keyword = codes "gap"; arguments = slot set ∷ number value ∷ [] }
-line_of (Count set) = record { keyword = codes "len"; arguments = slot set ∷ [] }
-line_of (Show set) = record { keyword = codes "show"; arguments = slot set ∷ [] }
+line_of (Del n value) = record { keyword = codes "del"; arguments = slot n ∷ number value ∷ [] }
+line_of (Has n value) = record { keyword = codes "has"; arguments = slot n ∷ number value ∷ [] }
+line_of (Gap n value) = record { keyword = codes "gap"; arguments = slot n ∷ number value ∷ [] }
+line_of (Count n) = record { keyword = codes "len"; arguments = slot n ∷ [] }
+line_of (Show n) = record { keyword = codes "show"; arguments = slot n ∷ [] }
 line_of (Union target left right) = record {
   keyword = codes "or";
   arguments = slot target ∷ slot left ∷ slot right ∷ [];

@@ -5,7 +5,7 @@ use Rattle.std.specs.Range.{range_inclusive_start, range_inclusive_end}
 use Rattle.std.specs.declared.ops.RangeInclusive.{RangeInclusive}
 use Rattle.std.specs.declared.cmp.Ordering.{Ordering}
 use Rattle.std.specs.declared.cmp.Ordering.TheVariants.{Less, Equal, Greater}
-use Rattle.rsb_commands.specs.Commands.{Content, flag, number, order, piece, ranges, runs}
+use Rattle.rsb_commands.specs.Interpreter.{Content, flag, number, order, piece, ranges, runs}
 
 -- two numbers in decimal, with `..=` between
 abbrev pub ends_text : ℤ → ℤ → List ℕ

@@ -2,7 +2,7 @@
 
 ghost use Rattle.std.specs.Prelude.{◌≡◌, Some};
 ghost use Rattle.rsb_commands.specs.declared.fault.Fault.TheVariants.{NoMemory};
-ghost use Rattle.rsb_commands.specs.Fault.{line_of, status_of};
+ghost use Rattle.rsb_commands.specs.Fault.{fault_line, status_of};
 
 use std::alloc::{AllocError, AllocFailed};
 use std::error::Error;
@@ -33,7 +33,7 @@ impl Fault {
 }
 
 impl fmt::Display for Fault {
-    ghost output = { λ fault. Some (line_of fault) };
+    ghost output = { λ fault. Some (fault_line fault) };
 
     fn fmt<W: fmt::Write>(&self, f: &mut fmt::Formatter<W>) -> fmt::Result {
         match self {

@@ -3,7 +3,7 @@
 ghost use Rattle.std.specs.Prelude.{◌≡◌, ℕ, ℤ, All, List, take};
 ghost use Rattle.rsb_commands.specs.declared.command.Command.{Command};
 ghost use Rattle.rsb_commands.specs.Answer.{AreNumberReplies};
-ghost use Rattle.rsb_commands.specs.Commands.{AreReplies, Content, NamesValues};
+ghost use Rattle.rsb_commands.specs.Interpreter.{AreReplies, Content, NamesValues};
 ghost use Rattle.rsb_commands.specs.Spelling.{AreCommands};
 
 use rsb_integer::Integer;

@@ -2,8 +2,8 @@
 #![tactic(auto)]
 
 pub mod command;
-pub mod commands;
 pub mod fault;
+pub mod interpreter;
 pub mod laws;
 pub mod outside;
 mod page;
@@ -14,8 +14,8 @@ mod text;
 mod transfer;
 
 pub use crate::command::Command;
-pub use crate::commands::{Reply, Stopped, run_commands};
 pub use crate::fault::Fault;
+pub use crate::interpreter::{Reply, Stopped, run_commands};
 pub use crate::parse::parse_commands;
 pub use crate::program::{finish, run, start};
 pub use crate::set_no::SetNo;

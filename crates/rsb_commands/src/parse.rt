@@ -212,7 +212,7 @@ fn operation_of(keyword: &[u8], arguments: &[u8]) -> Option<Command<i32>>
     }
 }
 
-// A set and two numbers, and nothing after them.
+// A slot and two numbers, and nothing after them.
 #[inline(always)]
 fn slot_and_range(arguments: &[u8]) -> Option<(SetNo, i32, i32)>
     ensures { Reads result (λ read. AllZip IsArgument (words arguments.now)
@@ -229,7 +229,7 @@ fn slot_and_range(arguments: &[u8]) -> Option<(SetNo, i32, i32)>
     }
 }
 
-// A set and a number, and nothing after them.
+// A slot and a number, and nothing after them.
 #[inline(always)]
 fn slot_and_value(arguments: &[u8]) -> Option<(SetNo, i32)>
     ensures { Reads result (λ read. AllZip IsArgument (words arguments.now)
@@ -245,11 +245,11 @@ fn slot_and_value(arguments: &[u8]) -> Option<(SetNo, i32)>
     }
 }
 
-// A set, and nothing after it.
+// A slot, and nothing after it.
 #[inline(always)]
 fn one_slot(arguments: &[u8]) -> Option<SetNo>
-    ensures { Reads result (λ set. AllZip IsArgument (words arguments.now)
-        (slot set ∷ [])) }
+    ensures { Reads result (λ n. AllZip IsArgument (words arguments.now)
+        (slot n ∷ [])) }
 {
     let (word, rest) = first_word(arguments)?;
     let slot = slot(word)?;
@@ -260,7 +260,7 @@ fn one_slot(arguments: &[u8]) -> Option<SetNo>
     }
 }
 
-// Two sets, and nothing after them.
+// Two slots, and nothing after them.
 #[inline(always)]
 fn two_slots(arguments: &[u8]) -> Option<(SetNo, SetNo)>
     ensures { Reads result (λ read. AllZip IsArgument (words arguments.now)
@@ -272,7 +272,7 @@ fn two_slots(arguments: &[u8]) -> Option<(SetNo, SetNo)>
     Some((left, right))
 }
 
-// Three sets, and nothing after them.
+// Three slots, and nothing after them.
 #[inline(always)]
 fn three_slots(arguments: &[u8]) -> Option<(SetNo, SetNo, SetNo)>
     ensures { Reads result (λ read. AllZip IsArgument (words arguments.now)
@@ -284,7 +284,7 @@ fn three_slots(arguments: &[u8]) -> Option<(SetNo, SetNo, SetNo)>
     Some((target, left, right))
 }
 
-// Four sets, and nothing after them.
+// Four slots, and nothing after them.
 #[inline(always)]
 fn four_slots(arguments: &[u8]) -> Option<(SetNo, SetNo, SetNo, SetNo)>
     ensures { Reads result (λ read. AllZip IsArgument (words arguments.now)
@@ -310,7 +310,7 @@ fn first_number(line: &[u8]) -> Option<(i32, &[u8])>
     Some((number(word)?, rest))
 }
 
-// The set that a word names.
+// The slot that a word names.
 #[inline(always)]
 fn slot(word: &[u8]) -> Option<SetNo>
     ensures { Reads result (IsSlot word.now) }

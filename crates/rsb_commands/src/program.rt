@@ -4,14 +4,14 @@ ghost use Rattle.std.specs.Prelude.{◌≡◌, ◌≢◌, ◌<◌, ℕ, ℤ, Err
 ghost use Rattle.std.specs.Io.KnownBytes.{IsAtEnd, Keeps};
 ghost use Rattle.std.specs.Process.{exit_status};
 ghost use Rattle.rsb_commands.specs.Answer.{Answers, AreNumberReplies, HasBytes, KeepsWithoutCommands, Replies, StopsForMemory, WroteFirstReplies, WrotePartOfReplies};
-ghost use Rattle.rsb_commands.specs.Commands.{Content};
+ghost use Rattle.rsb_commands.specs.Interpreter.{Content};
 ghost use Rattle.rsb_commands.specs.Ending.{Ends, TellsFault, status_after};
 ghost use Rattle.rsb_commands.specs.Spelling.{IsFirstBadLine};
 ghost use Rattle.rsb_commands.specs.Text.{text};
 ghost use Rattle.rsb_commands.specs.Transfer.{AppendsShortOf};
 
 use crate::command::Command;
-use crate::commands::{empty_sets, run_command};
+use crate::interpreter::{empty_sets, run_command};
 use crate::fault::Fault;
 use crate::page::Page;
 use crate::parse::parse_commands;

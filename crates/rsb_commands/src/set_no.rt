@@ -1,10 +1,10 @@
-//! The numbers of the ten sets.
+//! The slots of the ten sets.
 
 ghost use Rattle.std.specs.Prelude.{◌≡◌, ◌↔◌, ◌<◌, ℕ, IsSome, IfSome};
 
 use std::marker::Model;
 
-/// The number of a set, from 0 to 9.
+/// A slot: the number of one of the ten sets, from 0 to 9.
 #[derive(Clone, Copy, Debug, PartialEq, Eq)]
 pub struct SetNo {
     number: u8,
@@ -21,7 +21,7 @@ impl Model for SetNo {
 }
 
 impl SetNo {
-    /// The set with this number, where there is one.
+    /// The slot with this number, where there is one.
     pub fn new(n: u8) -> Option<SetNo>
         ensures some { IsSome result ↔ (n < 10) }
         ensures number { IfSome result (λ slot. slot ≡ n) }
@@ -33,7 +33,7 @@ impl SetNo {
         }
     }
 
-    /// The place of the set among the ten.
+    /// The slot as an index into the ten sets.
     pub fn index(self) -> usize
         ensures place { result ≡ self }
         ensures below { result < 10 }

@@ -2,12 +2,12 @@
 
 ghost use Rattle.std.specs.Prelude.{◌≡◌, ◌+◌, ◌≤◌, ◌++◌, codes, decimal, flat_map, length};
 ghost use Rattle.std.specs.Fmt.{signed_decimal};
-ghost use Rattle.rsb_commands.specs.Commands.{content_of, flag as flag_content, number as number_content, order as order_content, piece as piece_content, ranges as ranges_content, runs as runs_content};
-ghost use Rattle.rsb_commands.specs.Fault.{line_of};
+ghost use Rattle.rsb_commands.specs.Interpreter.{content_of, flag as flag_content, number as number_content, order as order_content, piece as piece_content, ranges as ranges_content, runs as runs_content};
+ghost use Rattle.rsb_commands.specs.Fault.{fault_line};
 ghost use Rattle.rsb_commands.specs.Text.{ends_text, line_text, next_range_text, range_text, ranges_text};
 ghost use Rattle.rsb_commands.specs.Transfer.{Lays, Writes};
 
-use crate::commands::Reply;
+use crate::interpreter::Reply;
 use crate::fault::Fault;
 use crate::page::{PAGE, PIECE, Page};
 use itoa::Buffer;
@@ -256,7 +256,7 @@ fn lay_number(page: &mut Page, number: &i32)
 /// Writes the line that tells a fault.
 pub(crate) fn write_fault<W: Write>(output: &mut W, fault: Fault) -> Result<(), Fault>
     ensures { Writes (W.contents output.old) (W.contents output.new) result
-        (line_of fault ++ codes "\n") }
+        (fault_line fault ++ codes "\n") }
 {
     let mut page = Page::new();
     match fault {

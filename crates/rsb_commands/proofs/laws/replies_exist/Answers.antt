@@ -1,5 +1,5 @@
-use Rattle.rsb_commands.specs.Commands.{no_members}
-use Rattle.rsb_commands.proofs.ExistLemmas.{replies_exist}
+use Rattle.rsb_commands.specs.Interpreter.{no_members}
+use Rattle.rsb_commands.proofs.replying.SomeReply.{replies_exist}
 use Rattle.rsb_commands.proofs.laws.replies_exist.Goals as goal
 
 pub returns : goal.returns

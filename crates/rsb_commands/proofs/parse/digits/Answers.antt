@@ -1,6 +1,6 @@
 use Rattle.std.proofs.Common.{◌^◌, ◌<◌, arith, get_or, refl}
 use Rattle.std.specs.Str.Parse.{digits_value}
-use Rattle.rsb_commands.proofs.NumberLemmas.{has_digits_more, no_digits, too_large}
+use Rattle.rsb_commands.proofs.reading.Numbers.{has_digits_more, no_digits, too_large}
 use Rattle.rsb_commands.proofs.parse.digits.Goals as goal
 
 -- a byte is no digit

@@ -1,5 +1,5 @@
 use Rattle.std.proofs.Common.{◌^◌, ◌<◌}
-use Rattle.rsb_commands.proofs.NumberLemmas.{HasDigits}
+use Rattle.rsb_commands.proofs.reading.Numbers.{HasDigits}
 use Rattle.rsb_commands.proofs.parse.digits.Given as goal
 
 abbrev pub invariant-loop-digit : goal.invariant-loop-digit

@@ -1,7 +1,7 @@
 use Rattle.std.proofs.lemmas.Int.{to_z-of_z}
 use Rattle.std.specs.Int.{w32}
 use Rattle.std.specs.Int.RustNames.{FitsSigned}
-use Rattle.rsb_commands.proofs.NumberLemmas.{number_is_word}
+use Rattle.rsb_commands.proofs.reading.Numbers.{number_is_word}
 use Rattle.rsb_commands.proofs.parse.first_number.Goals as goal
 
 -- the number ends the line

@@ -1,6 +1,6 @@
 use Rattle.std.proofs.Common.{[], ◌∷◌}
 use Rattle.rsb_commands.specs.Spelling.{slot}
-use Rattle.rsb_commands.proofs.SpellingLemmas.{no_slot_first, no_words, past_first}
+use Rattle.rsb_commands.proofs.reading.OneCommand.{no_slot_first, no_words, past_first}
 use Rattle.rsb_commands.proofs.parse.four_slots.Goals as goal
 
 -- there is no word
@@ -10,14 +10,14 @@ returns-in_err-word c =
     no_words c.args.arguments.now (slot x.0) (slot x.1 ∷ slot x.2 ∷ slot x.3 ∷ [])
     c.in_err-word.ensures)
 
--- the first word is no set
+-- the first word is no slot
 pub returns-in_err-target : goal.returns-in_err-target
 returns-in_err-target c =
     rw c.from_residual-in_err-target.ensures (λ x.
     no_slot_first c.args.arguments.now c.in_ok-word.rest.now c.in_ok-word.word.now x.0
     (slot x.1 ∷ slot x.2 ∷ slot x.3 ∷ []) c.in_ok-word.ensures c.in_err-target.ensures)
 
--- what comes after it is not three sets
+-- what comes after it is not three slots
 pub returns-in_err-a : goal.returns-in_err-a
 returns-in_err-a c =
     rw c.from_residual-in_err-a.ensures (λ x are.

@@ -1,6 +1,6 @@
 use Rattle.std.proofs.Common.{[]}
 use Rattle.rsb_commands.specs.Spelling.{slot}
-use Rattle.rsb_commands.proofs.SpellingLemmas.{no_more, no_slot_first, no_words, past_first}
+use Rattle.rsb_commands.proofs.reading.OneCommand.{no_more, no_slot_first, no_words, past_first}
 use Rattle.rsb_commands.proofs.parse.one_slot.Goals as goal
 
 -- there is no word
@@ -9,7 +9,7 @@ returns-in_err-word c =
     rw c.from_residual.ensures
     (λ x. no_words c.args.arguments.now (slot x) [] c.in_err-word.ensures)
 
--- the word is no set
+-- the word is no slot
 pub returns-in_err-slot : goal.returns-in_err-slot
 returns-in_err-slot c =
     rw c.from_residual-in_err-slot.ensures (λ x.

@@ -1,7 +1,7 @@
 use Rattle.std.proofs.Common.{◌≡◌, ◌+◌, ◌<◌, ap, arith, length, rules, subst, sym}
 use Rattle.rsb_commands.specs.Spelling.{IsFirstBadLine, Spells, lines_with_words, words}
-use Rattle.rsb_commands.proofs.ParseLemmas.{has_read_silent, has_read_command, has_read_bad, has_read_all, has_read_some}
-use Rattle.rsb_commands.proofs.SpellingLemmas.{one_list}
+use Rattle.rsb_commands.proofs.reading.Lines.{has_read_silent, has_read_command, has_read_bad, has_read_all, has_read_some}
+use Rattle.rsb_commands.proofs.reading.OneCommand.{one_list}
 use Rattle.rsb_commands.proofs.parse.parse_commands.Goals as goal
 
 -- the line that was read last is the first bad one

@@ -1,5 +1,5 @@
 use Rattle.std.proofs.Common.{◌+◌, ◌≤◌, length}
-use Rattle.rsb_commands.proofs.ParseLemmas.{HasRead}
+use Rattle.rsb_commands.proofs.reading.Lines.{HasRead}
 use Rattle.rsb_commands.proofs.parse.parse_commands.Given as goal
 
 -- each line has a byte, so their number fits

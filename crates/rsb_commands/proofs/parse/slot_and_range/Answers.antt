@@ -1,6 +1,6 @@
 use Rattle.std.proofs.Common.{[], ◌∷◌}
 use Rattle.rsb_commands.specs.Spelling.{number, slot}
-use Rattle.rsb_commands.proofs.SpellingLemmas.{no_more, no_number_first, no_slot_first, no_words, past_first}
+use Rattle.rsb_commands.proofs.reading.OneCommand.{no_more, no_number_first, no_slot_first, no_words, past_first}
 use Rattle.rsb_commands.proofs.parse.slot_and_range.Goals as goal
 
 -- there is no word
@@ -10,7 +10,7 @@ returns-in_err-word c =
     no_words c.args.arguments.now (slot x.0) (number x.1 ∷ number x.2 ∷ [])
     c.in_err-word.ensures)
 
--- the first word is no set
+-- the first word is no slot
 pub returns-in_err-slot : goal.returns-in_err-slot
 returns-in_err-slot c =
     rw c.from_residual-in_err-slot.ensures (λ x.

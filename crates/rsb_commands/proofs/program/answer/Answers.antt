@@ -1,13 +1,13 @@
 use Rattle.std.proofs.Common.{[], arith}
-use Rattle.rsb_commands.specs.Commands.{content_of}
-use Rattle.rsb_commands.proofs.AnswerLemmas.{answered_all, answered_front, answered_more, answered_none, answered_part, answered_short}
-use Rattle.rsb_commands.proofs.WriteLemmas.{laid-begun, sent_part, sent_whole}
+use Rattle.rsb_commands.specs.Interpreter.{content_of}
+use Rattle.rsb_commands.proofs.writing.Replies.{replied_all, replied_front, replied_more, replied_none, replied_part, replied_short}
+use Rattle.rsb_commands.proofs.writing.LaidText.{laid-begun, sent_part, sent_whole}
 use Rattle.rsb_commands.proofs.program.answer.Goals as goal
 
 -- there was no room to begin
 pub returns-in_err-sets-clause-no_memory : goal.returns-in_err-sets-clause-no_memory
 returns-in_err-sets-clause-no_memory g c = λ is replies all.
-    answered_none c.args.commands.now replies _
+    replied_none c.args.commands.now replies _
 
 -- no command was run, and nothing was laid
 pub loop-command-init : goal.loop-command-init
@@ -23,13 +23,13 @@ loop-command-init g c = (
 -- a command found no memory, and the replies before it were not all written
 pub returns-in_err-send-clause-io : goal.returns-in_err-send-clause-io
 returns-in_err-send-clause-io g c = λ is.
-    answered_part c.args.commands.now c.loop-command.command-index c.loop-command.sets.items _ _ _ _
+    replied_part c.args.commands.now c.loop-command.command-index c.loop-command.sets.items _ _ _ _
     c.loop-command.invariant.0 c.in_err-send.ensures.written.1
 
 -- they were
 pub returns-in_default-clause-no_memory : goal.returns-in_default-clause-no_memory
 returns-in_default-clause-no_memory g c = λ is.
-    answered_front c.args.commands.now c.loop-command.command-index
+    replied_front c.args.commands.now c.loop-command.command-index
     c.loop-command.sets.items _ _ _ _
     c.loop-command.invariant.0 c.command-item.result c.loop-command-test.true c.command-item.is
     c.in_default.ensures.took_memory c.in_ok-send.ensures.written
@@ -37,7 +37,7 @@ returns-in_default-clause-no_memory g c = λ is.
 -- a reply was cut short
 pub returns-in_err-write_line-clause-io : goal.returns-in_err-write_line-clause-io
 returns-in_err-write_line-clause-io g c = λ is.
-    answered_short c.args.commands.now c.loop-command.command-index
+    replied_short c.args.commands.now c.loop-command.command-index
     c.loop-command.sets.items _ _ _ _
     c.loop-command.invariant.0 c.command-item.result (content_of (λ length. length) c.in-Ok.reply)
     c.run_command.new.sets.items c.loop-command-test.true c.command-item.is c.in-Ok.ensures.reply
@@ -46,7 +46,7 @@ returns-in_err-write_line-clause-io g c = λ is.
 -- one command more was run, and its reply was laid
 pub loop-command-preserved : goal.loop-command-preserved
 loop-command-preserved g c = (
-  answered_more c.args.commands.now c.loop-command.command-index c.loop-command.sets.items _ _ _ _
+  replied_more c.args.commands.now c.loop-command.command-index c.loop-command.sets.items _ _ _ _
       c.loop-command.invariant.0 c.command-item.result
       (content_of (λ length. length) c.in-Ok.reply) c.run_command.new.sets.items _
       c.loop-command-test.true c.command-item.is c.in-Ok.ensures.reply c.in-Ok.ensures.after
@@ -58,13 +58,13 @@ loop-command-preserved g c = (
 pub returns-clause-ok : goal.returns-clause-ok
 returns-clause-ok g c =
     sent_whole _ _ c.send-2.result _ _ c.send-2.ensures.written
-    (answered_all c.args.commands.now c.loop-command.command-index c.loop-command.sets.items _ _ _ _
+    (replied_all c.args.commands.now c.loop-command.command-index c.loop-command.sets.items _ _ _ _
     c.loop-command.invariant.0 (omega arith))
 
 -- and where it was not, not all replies were
 pub returns-clause-io : goal.returns-clause-io
 returns-clause-io g c =
     sent_part _ _ c.send-2.result _ _ _ c.send-2.ensures.written
-    (answered_part c.args.commands.now c.loop-command.command-index
+    (replied_part c.args.commands.now c.loop-command.command-index
     c.loop-command.sets.items _ _ _ _
     c.loop-command.invariant.0)

@@ -1,7 +1,7 @@
 use Rattle.std.proofs.Common.{drop, suc, take}
 use Rattle.std.specs.Prelude.{flat_map}
 use Rattle.rsb_commands.specs.Text.{next_range_text}
-use Rattle.rsb_commands.proofs.WriteLemmas.{items_cut, items_push, laid-then, lays_cut}
+use Rattle.rsb_commands.proofs.writing.LaidText.{items_cut, items_push, laid-then, lays_cut}
 use Rattle.rsb_commands.proofs.text.write_others.Goals as goal
 
 -- a range was cut short

@@ -1,8 +1,8 @@
 use Rattle.std.proofs.Common.{◌≡◌, ◌∙◌, ◌++◌, ℤ, Bool, [], append_assoc}
 use Rattle.std.specs.Prelude.{codes}
-use Rattle.rsb_commands.specs.Commands.{flag, piece}
+use Rattle.rsb_commands.specs.Interpreter.{flag, piece}
 use Rattle.rsb_commands.specs.Text.{ends_text, flag_text, line_text}
-use Rattle.rsb_commands.proofs.WriteLemmas.{laid-nothing, lays_cut, lays_last}
+use Rattle.rsb_commands.proofs.writing.LaidText.{laid-nothing, lays_cut, lays_last}
 use Rattle.rsb_commands.proofs.text.write_piece.Goals as goal
 
 -- the text of a piece is that of its ends, and then that of which of the two it is

@@ -1,7 +1,7 @@
 use Rattle.std.proofs.Common.{[], refl}
 use Rattle.std.specs.Prelude.{codes}
 use Rattle.rsb_commands.specs.Text.{ranges_text}
-use Rattle.rsb_commands.proofs.WriteLemmas.{laid-nothing, lays_cut, lays_last}
+use Rattle.rsb_commands.proofs.writing.LaidText.{laid-nothing, lays_cut, lays_last}
 use Rattle.rsb_commands.proofs.text.write_ranges.Goals as goal
 
 -- the ranges were cut short

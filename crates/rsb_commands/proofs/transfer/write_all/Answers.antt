@@ -1,5 +1,5 @@
 use Rattle.std.proofs.lemmas.List.{take_rest}
-use Rattle.rsb_commands.proofs.TransferLemmas.{has_written_more}
+use Rattle.rsb_commands.proofs.writing.Appended.{has_written_more}
 use Rattle.rsb_commands.proofs.transfer.write_all.Goals as goal
 
 -- what this call took follows what was written before it

@@ -7,7 +7,7 @@ use Rattle.rsb_commands.specs.Spelling.{Argument, slot, number, IsArgument, IsNu
 
 -- ---- what a word stands for, by its kind
 
--- a word is the number of one set at most
+-- a word is one slot at most
 same_slot : (word : List ℕ) (m n : ℕ) → IsSlot word m → IsSlot word n → m ≡ n
 same_slot word m n left right =
     let same : 48 + m ≡ 48 + n = cc (left.digit, right.digit) in omega (arith, same)
@@ -16,12 +16,12 @@ same_slot word m n left right =
 same_number : (word : List ℕ) (y z : ℤ) → IsNumber word y → IsNumber word z → y ≡ z
 same_number word y z left right = left.value ∙ sym right.value
 
--- the argument is the number of a set
+-- the argument is a slot
 abbrev pub is_slot : Argument → Bool
 is_slot (slot n) = true
 is_slot (number z) = false
 
--- which arguments are numbers of sets
+-- which arguments are slots
 abbrev pub kinds : List Argument → List Bool
 kinds arguments = map is_slot arguments
 
@@ -67,7 +67,7 @@ pub no_words : (line : List ℕ) (x : Argument) (xs : List Argument) → words l
 no_words line x xs none are =
     absurd (subst (λ (all : List (List ℕ)). AllZip IsArgument all (x ∷ xs)) none are)
 
--- a line whose first word is no set stands for no arguments that begin with one
+-- a line whose first word is no slot stands for no arguments that begin with one
 pub no_slot_first : (line rest word : List ℕ) (n : ℕ) (xs : List Argument)
     → words line ≡ word ∷ words rest → ((n : ℕ) → IsSlot word n → ⊥)
     → AllZip IsArgument (words line) (slot n ∷ xs) → ⊥

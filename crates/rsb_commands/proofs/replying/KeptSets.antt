@@ -9,7 +9,7 @@ use Rattle.rsb_integer.specs.Runs.{Interval, members, covers, from_to}
 use Rattle.rsb_integer.specs.Selection.{Selection, union, LacksSome}
 use Rattle.range_set_blaze.specs.Set.{Adds, between}
 use Rattle.rsb_commands.specs.declared.command.Command.TheVariants.{Add}
-use Rattle.rsb_commands.specs.Commands.{IsReply, after, flag, no_members, put, sets_of}
+use Rattle.rsb_commands.specs.Interpreter.{IsReply, flag, no_members, put, sets_after, sets_of}
 
 -- ---- sets that have no run
 
@@ -71,10 +71,10 @@ module _ {T : Type 0} (rank : T → ℕ) (value_count : ℕ) (first last : T) wh
       below_next a b = grind (arith, nat_tests)
 
   -- where those ranks were added to one of the sets, the sets are those after the command
-  pub after-added : (kept : List (List Interval)) (slot : ℕ) (old new : List Interval)
+  pub sets_after-added : (kept : List (List Interval)) (slot : ℕ) (old new : List Interval)
       → slot < length kept → old ≡ get_or kept slot [] → Adds old new within_bounds
-      → sets_of (set kept slot new) ≡ after rank value_count (sets_of kept) (Add slot first last)
-  after-added kept slot old new within is added =
+      → sets_of (set kept slot new) ≡ sets_after rank value_count (sets_of kept) (Add slot first last)
+  sets_after-added kept slot old new within is added =
       sets_of-put kept slot new
       (union (sets_of kept slot) (covers (from_to (rank first) (rank last)))) within
       (λ at. added at ∙ ap (λ runs. members runs at || within_bounds at) is

@@ -1,8 +1,8 @@
 use Rattle.std.proofs.Common.{◌≡◌, ◌≤◌, length, vec_len}
 use Rattle.std.specs.Prelude.{vec_capacity}
-use Rattle.rsb_commands.specs.Commands.{contents_of}
-use Rattle.rsb_commands.proofs.RunLemmas.{HasRun}
-use Rattle.rsb_commands.proofs.commands.run_commands.Given as goal
+use Rattle.rsb_commands.specs.Interpreter.{contents_of}
+use Rattle.rsb_commands.proofs.replying.InOrder.{HasRun}
+use Rattle.rsb_commands.proofs.interpreter.run_commands.Given as goal
 
 -- the commands before this one have their replies, and there is room for the others
 abbrev pub invariant-loop-at : goal.invariant-loop-at

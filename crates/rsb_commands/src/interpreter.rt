@@ -5,7 +5,7 @@ ghost use Rattle.rsb_integer.specs.Rank.{intervals_of};
 ghost use Rattle.rsb_integer.specs.Runs.{AreRuns, members};
 ghost use Rattle.rsb_integer.specs.Selection.{Selection};
 ghost use Rattle.range_set_blaze.specs.Set.{IsSetOf};
-ghost use Rattle.rsb_commands.specs.Commands.{AreReplies, Content, IsPieceReply, IsReply, IsRunsReply, MayTakeMemory, after, content_of, contents_of, most_of, no_members, put, sets_of};
+ghost use Rattle.rsb_commands.specs.Interpreter.{AreReplies, Content, IsPieceReply, IsReply, IsRunsReply, MayTakeMemory, content_of, contents_of, most_of, no_members, put, sets_after, sets_of};
 
 use crate::command::Command;
 use crate::set_no::SetNo;
@@ -107,7 +107,7 @@ pub(crate) fn run_command<T: Integer, A: Allocator + Copy>(
     requires { vec_len sets.old ≡ 10 }
     ensures ten { OnOk result (vec_len sets.new ≡ 10) }
     ensures after { OnOk result (sets_of sets.new.items
-        ≡ after T.rank T.value_count (sets_of sets.old.items) command.now) }
+        ≡ sets_after T.rank T.value_count (sets_of sets.old.items) command.now) }
     ensures reply { IfOk result (λ reply. IsReply T.rank T.value_count
         (sets_of sets.old.items) command.now (content_of T.SafeLen.number reply)) }
     ensures took_memory { OnErr result (MayTakeMemory command.now) }

@@ -1,7 +1,7 @@
 use Rattle.std.proofs.Common.{arith}
 use Rattle.rsb_integer.proofs.RunsLemmas.{runs-along}
-use Rattle.rsb_commands.proofs.SetsLemmas.{sets_of-put}
-use Rattle.rsb_commands.proofs.commands.put_set.Goals as goal
+use Rattle.rsb_commands.proofs.replying.KeptSets.{sets_of-put}
+use Rattle.rsb_commands.proofs.interpreter.put_set.Goals as goal
 
 pub returns-clause-put : goal.returns-clause-put
 returns-clause-put g c = λ selected has.

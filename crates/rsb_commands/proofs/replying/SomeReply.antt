@@ -16,7 +16,7 @@ use Rattle.range_set_blaze.specs.OrderLaws.{order-holds}
 use Rattle.range_set_blaze.specs.Set.{IsRunAround}
 use Rattle.rsb_commands.specs.declared.command.Command.{Command}
 use Rattle.rsb_commands.specs.declared.command.Command.TheVariants.{Add, Del, Has, Gap, Count, Show, Union, Intersection, Difference, SymmetricDifference, Complement, Most, Compare}
-use Rattle.rsb_commands.specs.Commands.{Content, flag, number, order, piece, ranges, runs, Sets, after, most_of, whichever, AreRepliesFrom, IsPieceReply, IsReply, IsRunsReply, NamesValues}
+use Rattle.rsb_commands.specs.Interpreter.{Content, flag, number, order, piece, ranges, runs, Sets, most_of, sets_after, whichever, AreRepliesFrom, IsPieceReply, IsReply, IsRunsReply, NamesValues}
 
 -- ---- whether a set lacks some ranks
 
@@ -189,6 +189,6 @@ module _ {T : Type 0} (rank : T → ℕ) (n : ℕ) (value_at : ℕ → T)
   replies_exist sets (command ∷ commands) values =
       let P = NamesValues rank n in
       let first = reply_exists sets command (All-head P command commands values) in
-      let rest = replies_exist (after rank n sets command) commands
+      let rest = replies_exist (sets_after rank n sets command) commands
       (All-tail P command commands values) in
       (first.0 ∷ rest.0, (first.1, rest.1))

@@ -10,7 +10,7 @@ use Rattle.std.specs.Result.{IsErrAnd}
 use Rattle.rsb_commands.specs.declared.fault.Fault.{Fault}
 use Rattle.rsb_commands.specs.declared.fault.Fault.TheVariants.{Io}
 use Rattle.rsb_commands.specs.Transfer.{AppendsFrontOf, AppendsShortOf, Laid, Lays, Writes}
-use Rattle.rsb_commands.proofs.TransferLemmas.{Appends-nothing, Appends-then}
+use Rattle.rsb_commands.proofs.writing.Appended.{Appends-nothing, Appends-then}
 
 -- a piece cut short, after what stands before it in the text
 short_of_text : (old mid new : Option (List ℕ)) (front piece more text : List ℕ)

@@ -5,7 +5,7 @@ use Rattle.std.proofs.lemmas.List.Sums.{position_or_len_is}
 use Rattle.std.proofs.lemmas.Str.Parse.{digit_from_value, digits_value-take-le}
 use Rattle.std.specs.List.{position, position_or_len}
 use Rattle.rsb_commands.specs.Spelling.{BeginsWith, IsNumber, is_blank, words}
-use Rattle.rsb_commands.proofs.CutLemmas.{words-None}
+use Rattle.rsb_commands.proofs.reading.Cuts.{words-None}
 use Rattle.std.proofs.lemmas.Int.Digits.{digits_more, digits_value_more}
 use Rattle.std.specs.Char.{digit_value}
 use Rattle.std.specs.Str.Parse.{AllDigits, IsNumeral, digits_value}

@@ -9,8 +9,8 @@ use Rattle.rsb_integer.proofs.RunsLemmas.{runs-canonical, runs-same}
 use Rattle.range_set_blaze.proofs.order.OneOrder.{order-unique}
 use Rattle.rsb_commands.specs.declared.command.Command.{Command}
 use Rattle.rsb_commands.specs.declared.command.Command.TheVariants.{Add, Del, Has, Gap, Count, Show, Union, Intersection, Difference, SymmetricDifference, Complement, Most, Compare}
-use Rattle.rsb_commands.specs.Commands.{Content, flag, number, order, piece, ranges, runs, Sets, after, most_of, IsReply, AreRepliesFrom}
-use Rattle.rsb_commands.proofs.PieceLemmas.{one_many, one_piece}
+use Rattle.rsb_commands.specs.Interpreter.{Content, flag, number, order, piece, ranges, runs, Sets, most_of, sets_after, IsReply, AreRepliesFrom}
+use Rattle.rsb_commands.proofs.replying.OneRun.{one_many, one_piece}
 
 -- two answers to one question are equal
 same_answer : (left right : Bool) (Fact : Type 0) → IsTrue left ↔ Fact → IsTrue right ↔ Fact
@@ -85,7 +85,7 @@ module _ {T : Type 0} (rank : T → ℕ) (value_count : ℕ)
   replies_unique sets (c ∷ cs) (l ∷ ls) [] are also = absurd also
   replies_unique sets (c ∷ cs) (l ∷ ls) (r ∷ rs) are also =
       let first = one_reply sets c l r are.0 also.0 in
-      let others = replies_unique (after rank value_count sets c) cs ls rs are.1 also.1 in
+      let others = replies_unique (sets_after rank value_count sets c) cs ls rs are.1 also.1 in
       λ i. first i ∷ others i
 
 -- the first commands have the first replies
@@ -98,4 +98,4 @@ replies-take rank value_count sets (suc n) [] [] are = tt
 replies-take rank value_count sets (suc n) [] (r ∷ rs) are = absurd are
 replies-take rank value_count sets (suc n) (c ∷ cs) [] are = absurd are
 replies-take rank value_count sets (suc n) (c ∷ cs) (r ∷ rs) are =
-    (are.0, replies-take rank value_count (after rank value_count sets c) n cs rs are.1)
+    (are.0, replies-take rank value_count (sets_after rank value_count sets c) n cs rs are.1)

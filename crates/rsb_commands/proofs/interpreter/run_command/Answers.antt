@@ -5,9 +5,9 @@ use Rattle.rsb_integer.specs.Selection.{difference, intersection, symmetric_diff
 use Rattle.range_set_blaze.specs.Order.{HasOrder}
 use Rattle.range_set_blaze.specs.OrderLaws.{order-holds}
 use Rattle.range_set_blaze.specs.Set.{only}
-use Rattle.rsb_commands.specs.Commands.{most_of, sets_of}
-use Rattle.rsb_commands.proofs.SetsLemmas.{after-added, reply-added, sets_of-put}
-use Rattle.rsb_commands.proofs.commands.run_command.Goals as goal
+use Rattle.rsb_commands.specs.Interpreter.{most_of, sets_of}
+use Rattle.rsb_commands.proofs.replying.KeptSets.{sets_after-added, reply-added, sets_of-put}
+use Rattle.rsb_commands.proofs.interpreter.run_command.Goals as goal
 
 pub returns-in_ok-ranges_insert-in-Add-clause-after :
     goal.returns-in_ok-ranges_insert-in-Add-clause-after
@@ -20,7 +20,7 @@ returns-in_ok-ranges_insert-in-Add-clause-after g c =
     let added = rw (c.new.ensures.start, c.new.ensures.end)
     at (c.in_ok-ranges_insert-in-Add.ensures.members c.new.ensures.exhausted) in
     rw (c.in-Add.is, ← c.index.ensures.place)
-    (after-added g.T.Integer.rank g.T.Integer.value_count c.in-Add.first c.in-Add.last kept slot old
+    (sets_after-added g.T.Integer.rank g.T.Integer.value_count c.in-Add.first c.in-Add.last kept slot old
     c.ranges_insert.new.self (omega arith) is added)
 
 pub returns-in_ok-ranges_insert-in-Add-clause-reply :

@@ -10,7 +10,7 @@ use Rattle.std.specs.Prelude.{All, ⊤}
 use Rattle.rsb_integer.specs.Rank.{signed_rank}
 use Rattle.rsb_commands.specs.declared.command.Command.{Command}
 use Rattle.rsb_commands.specs.declared.command.Command.TheVariants.{Add, Del, Has, Gap, Count, Show, Union, Intersection, Difference, SymmetricDifference, Complement, Most, Compare}
-use Rattle.rsb_commands.specs.Commands.{NamesValues}
+use Rattle.rsb_commands.specs.Interpreter.{NamesValues}
 use Rattle.rsb_commands.specs.Spelling.{Argument, slot, number, IsArgument, Spells, line_of}
 
 -- a number of 32 bits has a rank below their number
@@ -43,12 +43,12 @@ line_values words command spells =
     -- the same, of its arguments
     go : (command : Command ℤ) → AreValues (line_of command).arguments
         → NamesValues (signed_rank w32) (2 ^ 32) command
-    go (Add set first last) values = (values.0, values.1.0)
-    go (Del set value) values = values.0
-    go (Has set value) values = values.0
-    go (Gap set value) values = values.0
-    go (Count set) values = tt
-    go (Show set) values = tt
+    go (Add n first last) values = (values.0, values.1.0)
+    go (Del n value) values = values.0
+    go (Has n value) values = values.0
+    go (Gap n value) values = values.0
+    go (Count n) values = tt
+    go (Show n) values = tt
     go (Union target left right) values = tt
     go (Intersection target left right) values = tt
     go (Difference target left right) values = tt

@@ -9,8 +9,8 @@ use Rattle.range_set_blaze.specs.Order.{HasOrder}
 use Rattle.range_set_blaze.specs.Set.{only, IsRunAround}
 use Rattle.rsb_commands.specs.declared.command.Command.{Command}
 use Rattle.rsb_commands.specs.declared.command.Command.TheVariants.{Add, Del, Has, Gap, Count, Show, Union, Intersection, Difference, SymmetricDifference, Complement, Most, Compare}
-use Rattle.rsb_commands.specs.declared.commands.Reply.{Reply}
-use Rattle.rsb_commands.specs.declared.commands.Reply.TheVariants as replies
+use Rattle.rsb_commands.specs.declared.interpreter.Reply.{Reply}
+use Rattle.rsb_commands.specs.declared.interpreter.Reply.TheVariants as replies
 
 -- ---- replies
 
@@ -38,7 +38,7 @@ contents_of number_of all = map (content_of number_of) all
 
 -- ---- sets
 
--- the ten sets, by their numbers
+-- the ten sets, by their slots
 abbrev pub Sets : Type 0
 Sets = ℕ → Selection
 
@@ -74,18 +74,18 @@ module _ {T : Type 0} (rank : T → ℕ) (value_count : ℕ) where
   NamesValues _ = ⊤
 
   -- the sets after a command
-  abbrev pub after : Sets → Command T → Sets
-  after sets (Add slot first last) = put sets slot (union (sets slot) (covers (from_to (rank first) (rank last))))
-  after sets (Del slot value) = put sets slot (difference (sets slot) (only (rank value)))
-  after sets (Union target left right) = put sets target (union (sets left) (sets right))
-  after sets (Intersection target left right) =
+  abbrev pub sets_after : Sets → Command T → Sets
+  sets_after sets (Add slot first last) = put sets slot (union (sets slot) (covers (from_to (rank first) (rank last))))
+  sets_after sets (Del slot value) = put sets slot (difference (sets slot) (only (rank value)))
+  sets_after sets (Union target left right) = put sets target (union (sets left) (sets right))
+  sets_after sets (Intersection target left right) =
       put sets target (intersection (sets left) (sets right))
-  after sets (Difference target left right) = put sets target (difference (sets left) (sets right))
-  after sets (SymmetricDifference target left right) =
+  sets_after sets (Difference target left right) = put sets target (difference (sets left) (sets right))
+  sets_after sets (SymmetricDifference target left right) =
       put sets target (symmetric_difference (sets left) (sets right))
-  after sets (Complement target source) = put sets target (complement_in value_count (sets source))
-  after sets (Most target a b c) = put sets target (most_of (sets a) (sets b) (sets c))
-  after sets _ = sets
+  sets_after sets (Complement target source) = put sets target (complement_in value_count (sets source))
+  sets_after sets (Most target a b c) = put sets target (most_of (sets a) (sets b) (sets c))
+  sets_after sets _ = sets
 
   -- the values are the ends of the run that has the rank, where it is present, and else of the gap
   -- that it lies in
@@ -136,7 +136,7 @@ module _ {T : Type 0} (rank : T → ℕ) (value_count : ℕ) where
   abbrev pub AreRepliesFrom : Sets → List (Command T) → List (Content T) → Type 0
   AreRepliesFrom sets [] [] = ⊤
   AreRepliesFrom sets (command ∷ commands) (reply ∷ replies) =
-      IsReply sets command reply × AreRepliesFrom (after sets command) commands replies
+      IsReply sets command reply × AreRepliesFrom (sets_after sets command) commands replies
   AreRepliesFrom sets _ _ = ⊥
 
   -- the commands reply these over sets that are empty at first

@@ -1,7 +1,7 @@
 use Rattle.std.proofs.Common.{ap, ◌∙◌}
-use Rattle.rsb_commands.specs.Commands.{sets_of}
-use Rattle.rsb_commands.proofs.SetsLemmas.{sets_of-empty}
-use Rattle.rsb_commands.proofs.commands.empty_sets.Goals as goal
+use Rattle.rsb_commands.specs.Interpreter.{sets_of}
+use Rattle.rsb_commands.proofs.replying.KeptSets.{sets_of-empty}
+use Rattle.rsb_commands.proofs.interpreter.empty_sets.Goals as goal
 
 pub returns-clause-empty : goal.returns-clause-empty
 returns-clause-empty g c = ap sets_of c.loop.invariant.0 ∙ sets_of-empty c.loop.counter

@@ -4,7 +4,7 @@ use Rattle.std.proofs.lemmas.Iterator.Consumers.{YieldsList-from_first}
 use Rattle.std.proofs.lemmas.Result.{IfOk-weaker}
 use Rattle.rsb_integer.specs.Rank.{intervals_of}
 use Rattle.rsb_integer.specs.Runs.{members, AreRuns}
-use Rattle.rsb_commands.proofs.commands.ranges_of.Goals as goal
+use Rattle.rsb_commands.proofs.interpreter.ranges_of.Goals as goal
 
 pub returns : goal.returns
 returns g c =

@@ -15,15 +15,14 @@ use Rattle.rsb_integer.specs.Runs.{Interval}
 use Rattle.rsb_integer.proofs.RangeLemmas.{one_place}
 use Rattle.rsb_commands.specs.declared.command.Command.{Command}
 use Rattle.rsb_commands.specs.Answer.{AreNumberReplies, HasBytes, Replies, StopsForMemory, WrotePartOfReplies}
-use Rattle.rsb_commands.specs.Commands.{Content, IsReply, MayTakeMemory, no_members, sets_of}
-use Rattle.rsb_commands.specs.Commands.{after as after_command}
+use Rattle.rsb_commands.specs.Interpreter.{Content, IsReply, MayTakeMemory, no_members, sets_after, sets_of}
 use Rattle.rsb_commands.specs.Spelling.{AreCommands}
 use Rattle.rsb_commands.specs.Text.{line_text, text}
 use Rattle.rsb_commands.specs.Transfer.{AppendsShortOf, CutsShort, Laid}
-use Rattle.rsb_commands.proofs.ReplyLemmas.{replies_unique, replies-take}
-use Rattle.rsb_commands.proofs.RunLemmas.{HasRun, has_run_more}
-use Rattle.rsb_commands.proofs.TransferLemmas.{Appends-nothing, Keeps-itself}
-use Rattle.rsb_commands.proofs.WriteLemmas.{laid-all, laid-part, laid-short, laid-then, short_and_more}
+use Rattle.rsb_commands.proofs.replying.OneReply.{replies_unique, replies-take}
+use Rattle.rsb_commands.proofs.replying.InOrder.{HasRun, has_run_more}
+use Rattle.rsb_commands.proofs.writing.Appended.{Appends-nothing, Keeps-itself}
+use Rattle.rsb_commands.proofs.writing.LaidText.{laid-all, laid-part, laid-short, laid-then, short_and_more}
 
 -- ---- the replies to commands over numbers
 
@@ -57,7 +56,7 @@ short_of_all old new at replies cut =
 -- ---- replies that are laid down as commands run
 
 -- the commands before the place `at` have replies, of which the text was laid, and leave these sets
-pub record HasAnswered (commands : List (Command ℤ)) (at : ℕ) (kept : List (List Interval))
+pub record HasReplied (commands : List (Command ℤ)) (at : ℕ) (kept : List (List Interval))
     (old new : Option (List ℕ)) (waiting : List ℕ) : Type 0 where
   pub replies : List (Content ℤ)
   pub run : HasRun (signed_rank w32) (2 ^ 32) commands at replies kept
@@ -70,15 +69,15 @@ text-push replies reply = flat_map-append line_text replies (reply ∷ [])
 
 module _ (commands : List (Command ℤ)) (at : ℕ) (kept : List (List Interval))
     (old mid new : Option (List ℕ)) (waiting : List ℕ)
-    (before : HasAnswered commands at kept old mid waiting) where
+    (before : HasReplied commands at kept old mid waiting) where
   -- one command more, of which the reply was laid
-  pub answered_more : (command : Command ℤ) (reply : Content ℤ) (next : List (List Interval))
+  pub replied_more : (command : Command ℤ) (reply : Content ℤ) (next : List (List Interval))
       (after : List ℕ) → at < length commands → command ≡ get_or commands at command
       → IsReply (signed_rank w32) (2 ^ 32) (sets_of kept) command reply
-      → sets_of next ≡ after_command (signed_rank w32) (2 ^ 32) (sets_of kept) command
+      → sets_of next ≡ sets_after (signed_rank w32) (2 ^ 32) (sets_of kept) command
       → Laid mid new waiting after (line_text reply)
-      → HasAnswered commands (at + 1) next old new after
-  answered_more command reply next after within here replies leaves laid = record {
+      → HasReplied commands (at + 1) next old new after
+  replied_more command reply next after within here replies leaves laid = record {
     replies = before.replies ++ reply ∷ [];
     run = has_run_more (signed_rank w32) (2 ^ 32) commands at command before.replies _ reply kept
         next before.run within here refl replies leaves;
@@ -89,14 +88,14 @@ module _ (commands : List (Command ℤ)) (at : ℕ) (kept : List (List Interval)
   }
 
   -- one command more, of which the reply was cut short
-  pub answered_short : (command : Command ℤ) (reply : Content ℤ) (next : List (List Interval))
+  pub replied_short : (command : Command ℤ) (reply : Content ℤ) (next : List (List Interval))
       → at < length commands → command ≡ get_or commands at command
       → IsReply (signed_rank w32) (2 ^ 32) (sets_of kept) command reply
-      → sets_of next ≡ after_command (signed_rank w32) (2 ^ 32) (sets_of kept) command
+      → sets_of next ≡ sets_after (signed_rank w32) (2 ^ 32) (sets_of kept) command
       → AppendsShortOf mid new (waiting ++ line_text reply)
       → (replies : List (Content ℤ)) → AreNumberReplies commands replies
       → AppendsShortOf old new (text replies)
-  answered_short command reply next within here is leaves cut replies all =
+  replied_short command reply next within here is leaves cut replies all =
       let more = before.replies ++ reply ∷ [] in
       let run = has_run_more (signed_rank w32) (2 ^ 32) commands at command before.replies _ reply
       kept next before.run within here refl is leaves in
@@ -107,11 +106,11 @@ module _ (commands : List (Command ℤ)) (at : ℕ) (kept : List (List Interval)
       (text more) (text-push before.replies reply) before.laid cut))
 
   -- what waits was written, and the next command found no memory
-  pub answered_front : (command : Command ℤ) → at < length commands
+  pub replied_front : (command : Command ℤ) → at < length commands
       → command ≡ get_or commands at command → MayTakeMemory command → Appends mid new waiting
       → (replies : List (Content ℤ)) → AreNumberReplies commands replies
       → StopsForMemory commands replies old new
-  answered_front command within here may written replies all =
+  replied_front command within here may written replies all =
       let first = first_replies commands at before.replies replies before.run.replied all in
       let next : slice_get commands at ≡ Some command =
       slice_get_read commands (length commands) at command refl within here in record {
@@ -122,8 +121,8 @@ module _ (commands : List (Command ℤ)) (at : ℕ) (kept : List (List Interval)
       }
 
   -- what waits was written, and there is no command more
-  pub answered_all : length commands ≤ at → Appends mid new waiting → Replies commands old new
-  answered_all end written = record {
+  pub replied_all : length commands ≤ at → Appends mid new waiting → Replies commands old new
+  replied_all end written = record {
     replies = before.replies;
     replied = subst (λ cs. AreNumberReplies cs before.replies) (take_all at commands end)
         before.run.replied;
@@ -131,18 +130,18 @@ module _ (commands : List (Command ℤ)) (at : ℕ) (kept : List (List Interval)
   }
 
   -- not all that waits was written
-  pub answered_part : AppendsShortOf mid new waiting → (replies : List (Content ℤ))
+  pub replied_part : AppendsShortOf mid new waiting → (replies : List (Content ℤ))
       → AreNumberReplies commands replies → AppendsShortOf old new (text replies)
-  answered_part cut replies all =
+  replied_part cut replies all =
       let first = first_replies commands at before.replies replies before.run.replied all in
       short_of_all old new at replies
       (subst (λ found. AppendsShortOf old new (text found)) first
       (laid-part old mid new waiting (text before.replies) before.laid cut))
 
 -- no command was run
-pub answered_none : (commands : List (Command ℤ)) (replies : List (Content ℤ))
+pub replied_none : (commands : List (Command ℤ)) (replies : List (Content ℤ))
     (known : Option (List ℕ)) → StopsForMemory commands replies known known
-answered_none commands replies known =
+replied_none commands replies known =
     record { at = 0; took_memory = inl refl; written = Appends-nothing known }
 
 -- ---- texts that were not begun

@@ -5,7 +5,7 @@ use Rattle.rsb_integer.specs.Runs.{members}
 use Rattle.rsb_integer.specs.Selection.{at_least}
 use Rattle.range_set_blaze.specs.Set.{IsSetOf}
 use Rattle.range_set_blaze.proofs.gathering.ManySets.{whole-items}
-use Rattle.rsb_commands.proofs.commands.most_of.Goals as goal
+use Rattle.rsb_commands.proofs.interpreter.most_of.Goals as goal
 
 -- what was handed in are the three sets
 pub returns : goal.returns

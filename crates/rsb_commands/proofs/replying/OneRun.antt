@@ -6,7 +6,7 @@ use Rattle.rsb_integer.specs.Selection.{Selection, complement}
 use Rattle.rsb_integer.proofs.MembersLemmas.{covers-bounds, covers-inside}
 use Rattle.rsb_integer.proofs.RunsLemmas.{runs-same}
 use Rattle.range_set_blaze.specs.Set.{IsRunAround}
-use Rattle.rsb_commands.specs.Commands.{piece, whichever, HasRuns, IsPieceAround}
+use Rattle.rsb_commands.specs.Interpreter.{piece, whichever, HasRuns, IsPieceAround}
 
 -- nothing is both
 not_both : (is : Bool) → IsTrue is → IsFalse is → ⊥

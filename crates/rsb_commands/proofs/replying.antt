@@ -1,0 +1,5 @@
+pub mod InOrder
+pub mod KeptSets
+pub mod OneReply
+pub mod OneRun
+pub mod SomeReply
