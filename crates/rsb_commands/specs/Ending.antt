@@ -8,6 +8,12 @@ use Rattle.rsb_commands.specs.Fault.{fault_line, status_of}
 use Rattle.rsb_commands.specs.Spelling.{IsFirstBadLine}
 use Rattle.rsb_commands.specs.Transfer.{AppendsFrontOf}
 
+-- what the input still has, and what was written to the output and to the errors, where it is known
+pub record Channels : Type 0 where
+  pub input : Option (List ℕ)
+  pub output : Option (List ℕ)
+  pub errors : Option (List ℕ)
+
 -- the exit status
 abbrev pub status_after : Result (Unit {0}) Fault → ℕ
 status_after (Ok done) = 0
@@ -20,19 +26,19 @@ TellsFault old new outcome = MatchResult outcome
     (λ fault. AppendsFrontOf old new (fault_line fault ++ codes "\n"))
 
 -- what was read and written where the program ends so
-abbrev pub Leaves : Option (List ℕ) → Option (List ℕ) → Option (List ℕ) → Option (List ℕ)
-    → Result (Unit {0}) Fault → Type 0
-Leaves known left old new (Ok done) = IsAtEnd left × IfSome known (λ bytes. Answers bytes old new)
-Leaves known left old new (Err (BadLine number)) =
-    IfSome known (λ bytes. IsFirstBadLine bytes number) × Keeps old new
-Leaves known left old new (Err NoMemory) = HasBytes known × WroteFirstReplies known old new
-Leaves known left old new (Err Io) = WrotePartOfReplies known old new
+abbrev pub Leaves : Channels → Channels → Result (Unit {0}) Fault → Type 0
+Leaves before after (Ok done) =
+    IsAtEnd after.input × IfSome before.input (λ bytes. Answers bytes before.output after.output)
+Leaves before after (Err (BadLine number)) =
+    IfSome before.input (λ bytes. IsFirstBadLine bytes number) × Keeps before.output after.output
+Leaves before after (Err NoMemory) =
+    HasBytes before.input × WroteFirstReplies before.input before.output after.output
+Leaves before after (Err Io) = WrotePartOfReplies before.input before.output after.output
 
 -- the program ended with this status, and left what belongs to one outcome
-pub record Ends (known left old new old_errors new_errors : Option (List ℕ)) (status : ℕ) : Type 0
-  where
-    pub outcome : Result (Unit {0}) Fault
-    pub status_is : status ≡ status_after outcome
-    pub told : TellsFault old_errors new_errors outcome
-    pub leaves : Leaves known left old new outcome
-    pub no_commands : KeepsWithoutCommands known old new
+pub record Ends (before after : Channels) (status : ℕ) : Type 0 where
+  pub outcome : Result (Unit {0}) Fault
+  pub status_is : status ≡ status_after outcome
+  pub told : TellsFault before.errors after.errors outcome
+  pub leaves : Leaves before after outcome
+  pub no_commands : KeepsWithoutCommands before.input before.output after.output

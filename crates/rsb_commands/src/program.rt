@@ -28,9 +28,12 @@ pub fn start<A: Allocator + Copy, R: Read, W: Write, E: Write>(
     output: &mut W,
     errors: &mut E,
 ) -> ExitCode
-    ensures { Ends (R.remaining input.old) (R.remaining input.new)
-        (W.contents output.old) (W.contents output.new)
-        (E.contents errors.old) (E.contents errors.new) (exit_status result) }
+    ensures { Ends
+        (record { input = R.remaining input.old; output = W.contents output.old;
+            errors = E.contents errors.old })
+        (record { input = R.remaining input.new; output = W.contents output.new;
+            errors = E.contents errors.new })
+        (exit_status result) }
 {
     let outcome = run(alloc, input, output);
     finish(errors, outcome)
