@@ -1,7 +1,8 @@
 pub mod Answer
-pub mod Interpreter
 pub mod Ending
 pub mod Fault
+pub mod Interpreter
+pub mod Page
 pub mod Spelling
 pub mod Text
 pub mod Transfer

@@ -24,19 +24,6 @@ Writes old new result text = MatchResult result
     (λ _. Appends old new text)
     (λ fault. (fault ≡ Io) × AppendsShortOf old new text)
 
--- a piece of text was put after what waited: a front of all that was written, the rest waits
-pub record Laid (old new : Option (List ℕ)) (before after piece : List ℕ) : Type 0 where
-  pub front : List ℕ
-  pub parts : before ++ piece ≡ front ++ after
-  pub written : Appends old new front
-
--- the piece was put after what waited; or a write failed, and known bytes grow by less than both
-abbrev pub Lays : {T : Type 0} → Option (List ℕ) → Option (List ℕ) → List ℕ → List ℕ
-    → Result T Fault → List ℕ → Type 0
-Lays old new before after result piece = MatchResult result
-    (λ _. Laid old new before after piece)
-    (λ fault. (fault ≡ Io) × AppendsShortOf old new (before ++ piece))
-
 -- known bytes grow by a front of the text
 pub record AppendsFrontOf (old new : Option (List ℕ)) (text : List ℕ) : Type 0 where
   pub front : List ℕ

@@ -1,77 +1,69 @@
 //! Text that waits to be written.
 
-ghost use Rattle.std.specs.Prelude.{◌≡◌, ◌+◌, ◌≤◌, [], ◌++◌, length, OnOk};
-ghost use Rattle.rsb_commands.specs.Transfer.{Lays, Writes};
+ghost use Rattle.std.specs.Prelude.{◌≡◌, ◌+◌, ◌≤◌, [], length, OnOk};
+ghost use Rattle.rsb_commands.specs.Page.{Lays, Waits, waiting};
 
 use crate::fault::Fault;
 use crate::transfer::write_all;
 use arrayvec::ArrayVec;
 use std::io::Write;
-use std::marker::Model;
 
 /// How many bytes a page holds.
 pub(crate) const PAGE: usize = 4096;
 
-/// How many bytes have room after `make_room`: no piece that is laid at once has more.
-pub(crate) const PIECE: usize = 32;
+/// How many bytes a page has room for after `make_room`.
+pub(crate) const ROOM: usize = 32;
 
-/// Text that waits for its writer, in a room of fixed size. It takes no memory.
+/// A writer, and text that waits for it in a space of fixed size. It takes no memory.
 #[derive(Drop)]
-pub(crate) struct Page {
+pub(crate) struct Page<'a, W: Write> {
+    output: &'a mut W,
     text: ArrayVec<u8, PAGE>,
     // How many interruptions of the writer are one too many.
     patience: u64,
 }
 
-impl Model for Page {
-    ghost use Rattle.std.specs.Prelude.{ℕ, List};
-
-    ghost Value = { List ℕ };
-
-    ghost view = { λ page. page.text.items };
-}
-
-impl Page {
+impl<'a, W: Write> Page<'a, W> {
     /// An empty page. A writer that is interrupted 2^64 - 1 times over all of its pages has failed.
-    pub(crate) fn new() -> Page
-        ensures { result ≡ [] }
+    pub(crate) fn new(output: &'a mut W) -> Page<'a, W>
+        ensures output { result.output ≡ output.entry }
+        ensures empty { waiting result ≡ [] }
     {
         Page {
+            output,
             text: ArrayVec::new(),
             patience: u64::MAX,
         }
     }
 
-    /// Puts a piece of text after what waits.
+    /// Puts text after what waits.
     #[inline(always)]
-    pub(crate) fn lay(&mut self, piece: &[u8])
-        requires { length self.old + length piece.now ≤ PAGE }
-        ensures { self.new ≡ self.old ++ piece.now }
+    pub(crate) fn lay(&mut self, text: &[u8])
+        requires { length (waiting self.old) + length text.now ≤ PAGE }
+        ensures { Waits self.old self.new text.now }
     {
-        self.text.try_extend_from_slice(piece).unwrap();
+        self.text.try_extend_from_slice(text).unwrap();
     }
 
-    /// Writes what waits, unless there is room for a piece.
+    /// Writes what waits, unless there is room.
     #[inline(always)]
-    pub(crate) fn make_room<W: Write>(&mut self, output: &mut W) -> Result<(), Fault>
-        ensures room { OnOk result (length self.new + PIECE ≤ PAGE) }
-        ensures laid { Lays (W.contents output.old) (W.contents output.new)
-            self.old self.new result [] }
+    pub(crate) fn make_room(&mut self) -> Result<(), Fault>
+        ensures laid { Lays W.contents self.old self.new result [] }
+        ensures room { OnOk result (length (waiting self.new) + ROOM ≤ PAGE) }
     {
-        if self.text.remaining_capacity() < PIECE {
-            return self.send(output);
+        if self.text.remaining_capacity() < ROOM {
+            return self.send();
         }
         Ok(())
     }
 
     /// Writes what waits.
-    pub(crate) fn send<W: Write>(&mut self, output: &mut W) -> Result<(), Fault>
-        ensures written { Writes (W.contents output.old) (W.contents output.new)
-            result self.old }
-        ensures empty { OnOk result (self.new ≡ []) }
+    pub(crate) fn send(&mut self) -> Result<(), Fault>
+        ensures laid { Lays W.contents self.old self.new result [] }
+        ensures empty { OnOk result (waiting self.new ≡ []) }
     {
         let patience = self.patience;
-        self.patience = write_all(output, self.text.as_slice(), patience)?;
+        self.patience = write_all(self.output, self.text.as_slice(), patience)?;
         self.text.clear();
         Ok(())
     }

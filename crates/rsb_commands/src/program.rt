@@ -1,18 +1,19 @@
 //! From an input to an output.
 
-ghost use Rattle.std.specs.Prelude.{◌≡◌, ◌≢◌, ◌<◌, ℕ, ℤ, Err, IfSome, List, OnOk, length};
+ghost use Rattle.std.specs.Prelude.{◌≡◌, ◌≢◌, ◌<◌, [], ℕ, ℤ, Err, IfSome, List, OnOk, length};
 ghost use Rattle.std.specs.Io.KnownBytes.{IsAtEnd, Keeps};
 ghost use Rattle.std.specs.Process.{exit_status};
 ghost use Rattle.rsb_commands.specs.Answer.{Answers, AreNumberReplies, HasBytes, KeepsWithoutCommands, Replies, StopsForMemory, WroteFirstReplies, WrotePartOfReplies};
 ghost use Rattle.rsb_commands.specs.Interpreter.{Content};
 ghost use Rattle.rsb_commands.specs.Ending.{Ends, TellsFault, status_after};
+ghost use Rattle.rsb_commands.specs.Page.{sent, waiting};
 ghost use Rattle.rsb_commands.specs.Spelling.{IsFirstBadLine};
 ghost use Rattle.rsb_commands.specs.Text.{text};
 ghost use Rattle.rsb_commands.specs.Transfer.{AppendsShortOf};
 
 use crate::command::Command;
-use crate::interpreter::{empty_sets, run_command};
 use crate::fault::Fault;
+use crate::interpreter::{empty_sets, run_command};
 use crate::page::Page;
 use crate::parse::parse_commands;
 use crate::text::{write_fault, write_line};
@@ -29,10 +30,16 @@ pub fn start<A: Allocator + Copy, R: Read, W: Write, E: Write>(
     errors: &mut E,
 ) -> ExitCode
     ensures { Ends
-        (record { input = R.remaining input.old; output = W.contents output.old;
-            errors = E.contents errors.old })
-        (record { input = R.remaining input.new; output = W.contents output.new;
-            errors = E.contents errors.new })
+        (record {
+          input = R.remaining input.old;
+          output = W.contents output.old;
+          errors = E.contents errors.old;
+        })
+        (record {
+          input = R.remaining input.new;
+          output = W.contents output.new;
+          errors = E.contents errors.new;
+        })
         (exit_status result) }
 {
     let outcome = run(alloc, input, output);
@@ -89,38 +96,41 @@ pub fn run<A: Allocator + Copy, R: Read, W: Write>(
         let bytes = read_all(alloc, input)?;
         parse_commands(alloc, &bytes)?
     };
-    answer(alloc, &commands, output)
+    let mut page = Page::new(output);
+    answer(alloc, &commands, &mut page)
 }
 
-// Runs the commands, and writes a line for each reply. No list of replies is kept: a page of text
-// goes out when it is full. Where a command finds no memory the replies before it are written.
+// Runs the commands, and writes a line for each reply, by way of a page on which nothing waits. No
+// list of replies is kept: a page of text goes out when it is full. Where a command finds no memory
+// the replies before it are written.
 fn answer<A: Allocator + Copy, W: Write>(
     alloc: A,
     commands: &[Command<i32>],
-    output: &mut W,
+    page: &mut Page<'_, W>,
 ) -> Result<(), Fault>
+    requires { waiting page.old ≡ [] }
+    ensures same_output { page.new.output.ghost_name ≡ page.old.output.ghost_name }
     ensures ok { OnOk result
-        (Replies commands.now (W.contents output.old) (W.contents output.new)) }
+        (Replies commands.now (sent W.contents page.old) (sent W.contents page.new)) }
     ensures no_bad_line { (number : ℕ) → result ≢ Err (Fault.BadLine number) }
     ensures no_memory { result ≡ Err Fault.NoMemory → (replies : List (Content ℤ))
-        → AreNumberReplies commands.now replies
-        → StopsForMemory commands.now replies (W.contents output.old) (W.contents output.new) }
+        → AreNumberReplies commands.now replies → StopsForMemory commands.now replies
+        (sent W.contents page.old) (sent W.contents page.new) }
     ensures io { result ≡ Err Fault.Io → (replies : List (Content ℤ))
         → AreNumberReplies commands.now replies
-        → AppendsShortOf (W.contents output.old) (W.contents output.new) (text replies) }
+        → AppendsShortOf (sent W.contents page.old) (sent W.contents page.new) (text replies) }
     ensures some { result ≡ Err Fault.NoMemory → 0 < length commands.now }
 {
     if commands.is_empty() {
         return Ok(());
     }
     let mut sets = empty_sets(alloc)?;
-    let mut page = Page::new();
     for command in commands {
         let Ok(reply) = run_command(alloc, &mut sets, command) else {
-            page.send(output)?;
+            page.send()?;
             return Err(Fault::NoMemory);
         };
-        write_line(output, &mut page, &reply)?;
+        write_line(page, &reply)?;
     }
-    page.send(output)
+    page.send()
 }

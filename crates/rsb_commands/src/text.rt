@@ -4,12 +4,13 @@ ghost use Rattle.std.specs.Prelude.{◌≡◌, ◌+◌, ◌≤◌, ◌++◌, cod
 ghost use Rattle.std.specs.Fmt.{signed_decimal};
 ghost use Rattle.rsb_commands.specs.Interpreter.{content_of, flag as flag_content, number as number_content, order as order_content, piece as piece_content, ranges as ranges_content, runs as runs_content};
 ghost use Rattle.rsb_commands.specs.Fault.{fault_line};
+ghost use Rattle.rsb_commands.specs.Page.{Lays, Waits, waiting};
 ghost use Rattle.rsb_commands.specs.Text.{ends_text, line_text, next_range_text, range_text, ranges_text};
-ghost use Rattle.rsb_commands.specs.Transfer.{Lays, Writes};
+ghost use Rattle.rsb_commands.specs.Transfer.{Writes};
 
-use crate::interpreter::Reply;
 use crate::fault::Fault;
-use crate::page::{PAGE, PIECE, Page};
+use crate::interpreter::Reply;
+use crate::page::{PAGE, Page};
 use itoa::Buffer;
 use std::alloc::Allocator;
 use std::cmp::Ordering;
@@ -19,34 +20,32 @@ use std::ops::RangeInclusive;
 /// Writes a reply and a line feed, by way of the page.
 #[inline(always)]
 pub(crate) fn write_line<A: Allocator, W: Write>(
-    output: &mut W,
-    page: &mut Page,
+    page: &mut Page<'_, W>,
     reply: &Reply<i32, A>,
 ) -> Result<(), Fault>
-    ensures { Lays (W.contents output.old) (W.contents output.new) page.old page.new result
+    ensures { Lays W.contents page.old page.new result
         (line_text (content_of (λ length. length) reply.now)) }
 {
     match reply {
-        Reply::Flag(flag) => write_flag(output, page, *flag),
+        Reply::Flag(flag) => write_flag(page, *flag),
         Reply::Piece {
             first,
             last,
             present,
-        } => write_piece(output, page, first, last, *present),
-        Reply::Count(length) => write_count(output, page, *length),
-        Reply::Ranges(ranges) => write_ranges(output, page, ranges),
-        Reply::Runs(runs) => write_runs(output, page, *runs),
-        Reply::Order(order) => write_order(output, page, *order),
+        } => write_piece(page, first, last, *present),
+        Reply::Count(length) => write_count(page, *length),
+        Reply::Ranges(ranges) => write_ranges(page, ranges),
+        Reply::Runs(runs) => write_runs(page, *runs),
+        Reply::Order(order) => write_order(page, *order),
     }
 }
 
 // Writes whether something was so, and a line feed.
 #[inline(always)]
-fn write_flag<W: Write>(output: &mut W, page: &mut Page, flag: bool) -> Result<(), Fault>
-    ensures { Lays (W.contents output.old) (W.contents output.new) page.old page.new result
-        (line_text (flag_content flag)) }
+fn write_flag<W: Write>(page: &mut Page<'_, W>, flag: bool) -> Result<(), Fault>
+    ensures { Lays W.contents page.old page.new result (line_text (flag_content flag)) }
 {
-    page.make_room(output)?;
+    page.make_room()?;
     page.lay(flag_line(flag));
     Ok(())
 }
@@ -61,11 +60,10 @@ fn flag_line(flag: bool) -> &'static [u8]
 }
 
 // Writes a number, and a line feed.
-fn write_count<W: Write>(output: &mut W, page: &mut Page, count: u64) -> Result<(), Fault>
-    ensures { Lays (W.contents output.old) (W.contents output.new) page.old page.new result
-        (line_text (number_content count)) }
+fn write_count<W: Write>(page: &mut Page<'_, W>, count: u64) -> Result<(), Fault>
+    ensures { Lays W.contents page.old page.new result (line_text (number_content count)) }
 {
-    page.make_room(output)?;
+    page.make_room()?;
     page.lay(Buffer::new().format(count).as_bytes());
     page.lay(b"\n");
     Ok(())
@@ -73,47 +71,44 @@ fn write_count<W: Write>(output: &mut W, page: &mut Page, count: u64) -> Result<
 
 // Writes the ends of a run or a gap, which of the two it is, and a line feed.
 fn write_piece<W: Write>(
-    output: &mut W,
-    page: &mut Page,
+    page: &mut Page<'_, W>,
     first: &i32,
     last: &i32,
     present: bool,
 ) -> Result<(), Fault>
-    ensures { Lays (W.contents output.old) (W.contents output.new) page.old page.new result
+    ensures { Lays W.contents page.old page.new result
         (line_text (piece_content first.now last.now present)) }
 {
-    write_ends(output, page, first, last)?;
-    write_presence(output, page, present)
+    write_ends(page, first, last)?;
+    write_presence(page, present)
 }
 
 // Writes a space, whether something was so, and a line feed.
-fn write_presence<W: Write>(output: &mut W, page: &mut Page, present: bool) -> Result<(), Fault>
-    ensures { Lays (W.contents output.old) (W.contents output.new) page.old page.new result
+fn write_presence<W: Write>(page: &mut Page<'_, W>, present: bool) -> Result<(), Fault>
+    ensures { Lays W.contents page.old page.new result
         (codes " " ++ line_text (flag_content present)) }
 {
-    page.make_room(output)?;
+    page.make_room()?;
     page.lay(b" ");
     page.lay(flag_line(present));
     Ok(())
 }
 
 // Writes how many runs a set has, and a line feed.
-fn write_runs<W: Write>(output: &mut W, page: &mut Page, runs: usize) -> Result<(), Fault>
-    ensures { Lays (W.contents output.old) (W.contents output.new) page.old page.new result
-        (line_text (runs_content runs)) }
+fn write_runs<W: Write>(page: &mut Page<'_, W>, runs: usize) -> Result<(), Fault>
+    ensures { Lays W.contents page.old page.new result (line_text (runs_content runs)) }
 {
-    page.make_room(output)?;
+    page.make_room()?;
     page.lay(Buffer::new().format(runs).as_bytes());
     page.lay(b"\n");
     Ok(())
 }
 
 // Writes how two sets compare, and a line feed.
-fn write_order<W: Write>(output: &mut W, page: &mut Page, order: Ordering) -> Result<(), Fault>
-    ensures { Lays (W.contents output.old) (W.contents output.new) page.old page.new result
-        (line_text (order_content order)) }
+fn write_order<W: Write>(page: &mut Page<'_, W>, order: Ordering) -> Result<(), Fault>
+    ensures { Lays W.contents page.old page.new result (line_text (order_content order)) }
 {
-    page.make_room(output)?;
+    page.make_room()?;
     page.lay(order_line(order));
     Ok(())
 }
@@ -132,112 +127,89 @@ fn order_line(order: Ordering) -> &'static [u8]
 
 // Writes ranges with a comma and a space between, and a line feed.
 fn write_ranges<W: Write>(
-    output: &mut W,
-    page: &mut Page,
+    page: &mut Page<'_, W>,
     ranges: &[RangeInclusive<i32>],
 ) -> Result<(), Fault>
-    ensures { Lays (W.contents output.old) (W.contents output.new) page.old page.new result
-        (line_text (ranges_content ranges.now)) }
+    ensures { Lays W.contents page.old page.new result (line_text (ranges_content ranges.now)) }
 {
-    write_list(output, page, ranges)?;
-    write_line_feed(output, page)
+    write_list(page, ranges)?;
+    write_line_feed(page)
 }
 
 // Writes a line feed.
-fn write_line_feed<W: Write>(output: &mut W, page: &mut Page) -> Result<(), Fault>
-    ensures { Lays (W.contents output.old) (W.contents output.new) page.old page.new result
-        (codes "\n") }
+fn write_line_feed<W: Write>(page: &mut Page<'_, W>) -> Result<(), Fault>
+    ensures { Lays W.contents page.old page.new result (codes "\n") }
 {
-    page.make_room(output)?;
+    page.make_room()?;
     page.lay(b"\n");
     Ok(())
 }
 
 // Writes ranges with a comma and a space between.
-fn write_list<W: Write>(
-    output: &mut W,
-    page: &mut Page,
-    ranges: &[RangeInclusive<i32>],
-) -> Result<(), Fault>
-    ensures { Lays (W.contents output.old) (W.contents output.new) page.old page.new result
-        (ranges_text ranges.now) }
+fn write_list<W: Write>(page: &mut Page<'_, W>, ranges: &[RangeInclusive<i32>]) -> Result<(), Fault>
+    ensures { Lays W.contents page.old page.new result (ranges_text ranges.now) }
 {
     let Some((first, others)) = ranges.split_first() else {
         return Ok(());
     };
-    write_range(output, page, first)?;
-    write_others(output, page, others)
+    write_range(page, first)?;
+    write_others(page, others)
 }
 
 // Writes ranges, each after a comma and a space.
 fn write_others<W: Write>(
-    output: &mut W,
-    page: &mut Page,
+    page: &mut Page<'_, W>,
     ranges: &[RangeInclusive<i32>],
 ) -> Result<(), Fault>
-    ensures { Lays (W.contents output.old) (W.contents output.new) page.old page.new result
-        (flat_map next_range_text ranges.now) }
+    ensures { Lays W.contents page.old page.new result (flat_map next_range_text ranges.now) }
 {
     for range in ranges {
-        write_next_range(output, page, range)?;
+        write_next_range(page, range)?;
     }
     Ok(())
 }
 
 // Writes a comma, a space and one range.
 fn write_next_range<W: Write>(
-    output: &mut W,
-    page: &mut Page,
+    page: &mut Page<'_, W>,
     range: &RangeInclusive<i32>,
 ) -> Result<(), Fault>
-    ensures { Lays (W.contents output.old) (W.contents output.new) page.old page.new result
-        (next_range_text range.now) }
+    ensures { Lays W.contents page.old page.new result (next_range_text range.now) }
 {
-    page.make_room(output)?;
+    page.make_room()?;
     page.lay(b", ");
     lay_range(page, range);
     Ok(())
 }
 
 // Writes one range.
-fn write_range<W: Write>(
-    output: &mut W,
-    page: &mut Page,
-    range: &RangeInclusive<i32>,
-) -> Result<(), Fault>
-    ensures { Lays (W.contents output.old) (W.contents output.new) page.old page.new result
-        (range_text range.now) }
+fn write_range<W: Write>(page: &mut Page<'_, W>, range: &RangeInclusive<i32>) -> Result<(), Fault>
+    ensures { Lays W.contents page.old page.new result (range_text range.now) }
 {
-    write_ends(output, page, range.start(), range.end())
+    write_ends(page, range.start(), range.end())
 }
 
 // Writes two numbers with `..=` between.
-fn write_ends<W: Write>(
-    output: &mut W,
-    page: &mut Page,
-    start: &i32,
-    end: &i32,
-) -> Result<(), Fault>
-    ensures { Lays (W.contents output.old) (W.contents output.new) page.old page.new result
-        (ends_text start.now end.now) }
+fn write_ends<W: Write>(page: &mut Page<'_, W>, start: &i32, end: &i32) -> Result<(), Fault>
+    ensures { Lays W.contents page.old page.new result (ends_text start.now end.now) }
 {
-    page.make_room(output)?;
+    page.make_room()?;
     lay_ends(page, start, end);
     Ok(())
 }
 
 // Lays one range.
-fn lay_range(page: &mut Page, range: &RangeInclusive<i32>)
-    requires { length page.old + 25 ≤ PAGE }
-    ensures { page.new ≡ page.old ++ range_text range.now }
+fn lay_range<W: Write>(page: &mut Page<'_, W>, range: &RangeInclusive<i32>)
+    requires { length (waiting page.old) + 25 ≤ PAGE }
+    ensures { Waits page.old page.new (range_text range.now) }
 {
     lay_ends(page, range.start(), range.end());
 }
 
 // Lays two numbers with `..=` between.
-fn lay_ends(page: &mut Page, start: &i32, end: &i32)
-    requires { length page.old + 25 ≤ PAGE }
-    ensures { page.new ≡ page.old ++ ends_text start.now end.now }
+fn lay_ends<W: Write>(page: &mut Page<'_, W>, start: &i32, end: &i32)
+    requires { length (waiting page.old) + 25 ≤ PAGE }
+    ensures { Waits page.old page.new (ends_text start.now end.now) }
 {
     lay_number(page, start);
     page.lay(b"..=");
@@ -245,10 +217,10 @@ fn lay_ends(page: &mut Page, start: &i32, end: &i32)
 }
 
 // Lays one number.
-fn lay_number(page: &mut Page, number: &i32)
-    requires { length page.old + 11 ≤ PAGE }
-    ensures laid { page.new ≡ page.old ++ signed_decimal number.now }
-    ensures within { length page.new ≤ length page.old + 11 }
+fn lay_number<W: Write>(page: &mut Page<'_, W>, number: &i32)
+    requires { length (waiting page.old) + 11 ≤ PAGE }
+    ensures laid { Waits page.old page.new (signed_decimal number.now) }
+    ensures within { length (waiting page.new) ≤ length (waiting page.old) + 11 }
 {
     page.lay(Buffer::new().format(*number).as_bytes());
 }
@@ -258,7 +230,7 @@ pub(crate) fn write_fault<W: Write>(output: &mut W, fault: Fault) -> Result<(), 
     ensures { Writes (W.contents output.old) (W.contents output.new) result
         (fault_line fault ++ codes "\n") }
 {
-    let mut page = Page::new();
+    let mut page = Page::new(output);
     match fault {
         Fault::BadLine(number) => {
             page.lay(b"bad line ");
@@ -268,5 +240,5 @@ pub(crate) fn write_fault<W: Write>(output: &mut W, fault: Fault) -> Result<(), 
         Fault::Io => page.lay(b"read or write failed"),
     }
     page.lay(b"\n");
-    page.send(output)
+    page.send()
 }

@@ -1,45 +1,7 @@
--- Bytes that a reader gives and a writer takes, part by part.
-use Rattle.std.proofs.Common.{◌≡◌, ◌∙◌, ℕ, ◌<◌, List, [], ◌++◌, length, take, drop, Option, Some, None, refl, sym, ap, append_assoc, arith}
-use Rattle.std.proofs.lemmas.List.{append-nil, length-append, take-append-drop}
-use Rattle.std.specs.Io.KnownBytes.{Appends, Consumes, Keeps}
-use Rattle.rsb_commands.specs.Answer.{HasBytes}
-
--- ---- reading
-
--- what was read in two parts was read
-pub Consumes-then : (old mid new : Option (List ℕ)) (xs ys both : List ℕ) → both ≡ xs ++ ys
-    → Consumes old mid xs → Consumes mid new ys → Consumes old new both
-Consumes-then None mid new xs ys both parts first second = tt
-Consumes-then (Some before) None new xs ys both parts first second = absurd first
-Consumes-then (Some before) (Some between) None xs ys both parts first second = absurd second
-Consumes-then (Some before) (Some between) (Some after) xs ys both parts first second =
-    first ∙ ap (λ v. xs ++ v) second ∙ sym (append_assoc xs ys after)
-    ∙ ap (λ v. v ++ after) (sym parts)
-
--- what was read stays so while the bytes that are left stay as they were
-pub Consumes-keeps : (old mid new : Option (List ℕ)) (xs : List ℕ)
-    → Consumes old mid xs → Keeps mid new → Consumes old new xs
-Consumes-keeps None mid new xs first same = tt
-Consumes-keeps (Some before) None new xs first same = absurd first
-Consumes-keeps (Some before) (Some between) None xs first same = absurd same
-Consumes-keeps (Some before) (Some between) (Some after) xs first same =
-    first ∙ ap (λ v. xs ++ v) (sym same)
-
--- what gave some bytes had some
-pub some_consumed : (old mid new : Option (List ℕ)) (xs ys : List ℕ)
-    → Consumes old mid xs → Consumes mid new ys → 0 < length ys → HasBytes old
-some_consumed None mid new xs ys first second some = tt
-some_consumed (Some before) None new xs ys first second some = absurd first
-some_consumed (Some before) (Some between) None xs ys first second some = absurd second
-some_consumed (Some before) (Some between) (Some after) xs ys first second some =
-    omega (
-      arith,
-      some,
-      ap length first ∙ length-append xs between,
-      ap length second ∙ length-append ys after,
-    )
-
--- ---- writing
+-- What a writer takes, part by part.
+use Rattle.std.proofs.Common.{◌≡◌, ◌∙◌, ℕ, List, [], ◌++◌, take, drop, Option, Some, None, refl, sym, ap, append_assoc}
+use Rattle.std.proofs.lemmas.List.{append-nil, take-append-drop}
+use Rattle.std.specs.Io.KnownBytes.{Appends, Keeps}
 
 -- known bytes stay as they are
 pub Keeps-itself : (known : Option (List ℕ)) → Keeps known known

@@ -1,149 +1,140 @@
--- A text laid down and written piece by piece.
+-- A text that is laid on a page in parts, and written later.
 use Rattle.std.proofs.Common.{◌≡◌, ◌∙◌, ℕ, ◌+◌, ◌<◌, suc, add-one, List, [], ◌∷◌, ◌++◌, get_or, length, take, drop, Option, Result, Ok, Err, refl, sym, ap, subst, append_assoc, arith}
 use Rattle.std.proofs.lemmas.Grind.{flat_map-append}
 use Rattle.std.proofs.lemmas.List.{append-nil, length-append, take-append-drop}
 use Rattle.std.proofs.Math.Seq.{drop-cons, take-suc}
 use Rattle.std.proofs.lemmas.List.Concat.{flat_map-cons}
 use Rattle.std.specs.Io.KnownBytes.{Appends}
-use Rattle.std.specs.Prelude.{OnOk, flat_map}
+use Rattle.std.specs.Prelude.{flat_map}
 use Rattle.std.specs.Result.{IsErrAnd}
 use Rattle.rsb_commands.specs.declared.fault.Fault.{Fault}
-use Rattle.rsb_commands.specs.declared.fault.Fault.TheVariants.{Io}
-use Rattle.rsb_commands.specs.Transfer.{AppendsFrontOf, AppendsShortOf, Laid, Lays, Writes}
+use Rattle.rsb_commands.specs.declared.page.Page.{Page}
+use Rattle.rsb_commands.specs.Page.{Laid, Lays, sent, waiting}
+use Rattle.rsb_commands.specs.Transfer.{AppendsShortOf}
 use Rattle.rsb_commands.proofs.writing.Appended.{Appends-nothing, Appends-then}
 
--- a piece cut short, after what stands before it in the text
-short_of_text : (old mid new : Option (List ℕ)) (front piece more text : List ℕ)
-    → text ≡ front ++ (piece ++ more) → Appends old mid front → AppendsShortOf mid new piece
+-- ---- texts cut short
+
+-- a text cut short, with known bytes before it and more text after it
+short_of_text : (old mid new : Option (List ℕ)) (front cut more text : List ℕ)
+    → text ≡ front ++ (cut ++ more) → Appends old mid front → AppendsShortOf mid new cut
     → AppendsShortOf old new text
-short_of_text old mid new front piece more text parts whole cut =
-    let rest = cut.is_prefix.rest in
-    let split : text ≡ (front ++ cut.front) ++ (rest ++ more) =
-    parts ∙ ap (λ v. front ++ (v ++ more)) cut.is_prefix.parts
-    ∙ ap (λ v. front ++ v) (append_assoc cut.front rest more)
-    ∙ sym (append_assoc front cut.front (rest ++ more)) in
-    let some = ap length cut.is_prefix.parts ∙ length-append cut.front rest in record {
-      front = front ++ cut.front;
+short_of_text old mid new front cut more text parts whole short =
+    let rest = short.is_prefix.rest in
+    let split : text ≡ (front ++ short.front) ++ (rest ++ more) =
+    parts ∙ ap (λ v. front ++ (v ++ more)) short.is_prefix.parts
+    ∙ ap (λ v. front ++ v) (append_assoc short.front rest more)
+    ∙ sym (append_assoc front short.front (rest ++ more)) in
+    let some = ap length short.is_prefix.parts ∙ length-append short.front rest in record {
+      front = front ++ short.front;
       is_prefix = record { rest = rest ++ more; parts = split };
       shorter = omega (
         arith,
-        cut.shorter,
+        short.shorter,
         some,
-        ap length split ∙ length-append (front ++ cut.front) (rest ++ more),
+        ap length split ∙ length-append (front ++ short.front) (rest ++ more),
         length-append rest more,
       );
-      written = Appends-then old mid new front cut.front whole cut.written;
+      written = Appends-then old mid new front short.front whole short.written;
     }
 
 -- a text cut short, before more text
 pub short_and_more : (old new : Option (List ℕ)) (text more : List ℕ)
     → AppendsShortOf old new text → AppendsShortOf old new (text ++ more)
-short_and_more old new text more cut =
-    short_of_text old old new [] text more (text ++ more) refl (Appends-nothing old) cut
+short_and_more old new text more short =
+    short_of_text old old new [] text more (text ++ more) refl (Appends-nothing old) short
 
--- ---- laid down
+-- ---- texts laid on a page
 
--- nothing was laid
-pub laid-nothing : (known : Option (List ℕ)) (waiting : List ℕ)
-    → Laid known known waiting waiting []
-laid-nothing known waiting =
-    record { front = []; parts = append-nil waiting; written = Appends-nothing known }
+module _ {W : Type 0} (contents : W → Option (List ℕ)) where
+  -- nothing was laid
+  pub lays-nothing : (page : Page W) → Lays contents page page (Ok tt) []
+  lays-nothing page = record {
+    same_output = refl;
+    laid = record {
+      front = [];
+      parts = append-nil (waiting page);
+      written = Appends-nothing (sent contents page);
+    };
+  }
 
--- nothing was laid on an empty page
-pub laid-begun : (known : Option (List ℕ)) (page : List ℕ) → page ≡ []
-    → Laid known known [] page []
-laid-begun known page none =
-    record { front = []; parts = sym none; written = Appends-nothing known }
+  -- a text was laid, and then the next one was cut short, with more text after it
+  laid-short : (old mid new : Page W) (first next more text : List ℕ)
+      → text ≡ first ++ (next ++ more) → Laid contents old mid first
+      → AppendsShortOf (sent contents mid) (sent contents new) (waiting mid ++ next)
+      → AppendsShortOf (sent contents old) (sent contents new) (waiting old ++ text)
+  laid-short old mid new first next more text whole laid short =
+      let before = waiting old in
+      let between = waiting mid in
+      short_of_text (sent contents old) (sent contents mid) (sent contents new) laid.front
+      (between ++ next) more (before ++ text)
+      (ap (λ v. before ++ v) whole ∙ sym (append_assoc before first (next ++ more))
+      ∙ ap (λ v. v ++ (next ++ more)) laid.parts
+      ∙ append_assoc laid.front between (next ++ more)
+      ∙ ap (λ v. laid.front ++ v) (sym (append_assoc between next more)))
+      laid.written short
 
--- one piece was laid, and then another
-pub laid-then : (old mid new : Option (List ℕ)) (before between after piece more text : List ℕ)
-    → text ≡ piece ++ more → Laid old mid before between piece → Laid mid new between after more
-    → Laid old new before after text
-laid-then old mid new before between after piece more text whole first second = record {
-  front = first.front ++ second.front;
-  parts = ap (λ v. before ++ v) whole ∙ sym (append_assoc before piece more)
-      ∙ ap (λ v. v ++ more) first.parts ∙ append_assoc first.front between more
-      ∙ ap (λ v. first.front ++ v) second.parts
-      ∙ sym (append_assoc first.front second.front after);
-  written = Appends-then old mid new first.front second.front first.written second.written;
-}
+  -- a text was laid, and then the last one, or that one was cut short
+  pub lays-then : (old mid new : Page W) (result : Result (Unit {0}) Fault)
+      (first last text : List ℕ) → text ≡ first ++ last → Lays contents old mid (Ok tt) first
+      → Lays contents mid new result last → Lays contents old new result text
+  lays-then old mid new (Ok done) first last text whole one other =
+      let before = waiting old in
+      let between = waiting mid in
+      let front = one.laid.front in
+      let later = other.laid.front in
+      record {
+        same_output = other.same_output ∙ one.same_output;
+        laid = record {
+          front = front ++ later;
+          parts = ap (λ v. before ++ v) whole ∙ sym (append_assoc before first last)
+              ∙ ap (λ v. v ++ last) one.laid.parts ∙ append_assoc front between last
+              ∙ ap (λ v. front ++ v) other.laid.parts
+              ∙ sym (append_assoc front later (waiting new));
+          written = Appends-then (sent contents old) (sent contents mid) (sent contents new) front
+              later one.laid.written other.laid.written;
+        };
+      }
+  lays-then old mid new (Err fault) first last text whole one other =
+      let all = whole ∙ ap (λ v. first ++ v) (sym (append-nil last)) in record {
+        same_output = other.same_output ∙ one.same_output;
+        laid = (other.laid.0, laid-short old mid new first last [] text all one.laid other.laid.1);
+      }
 
--- ---- cut short
+  -- the exit after a text that was cut short, with more text after it
+  pub lays-cut : (old mid new : Page W) (result : Result (Unit {0}) Fault) (fault : Fault)
+      (first next more text : List ℕ) → IsErrAnd result (λ other. other ≡ fault)
+      → text ≡ first ++ (next ++ more) → Lays contents old mid (Ok tt) first
+      → Lays contents mid new (Err fault) next
+      → Lays contents old new result text
+  lays-cut old mid new (Ok done) fault first next more text same whole one other = absurd same
+  lays-cut old mid new (Err found) fault first next more text same whole one other = record {
+    same_output = other.same_output ∙ one.same_output;
+    laid = (
+      same ∙ other.laid.0,
+      laid-short old mid new first next more text whole one.laid other.laid.1,
+    );
+  }
 
--- a piece was laid, and the next one was cut short
-pub laid-short : (old mid new : Option (List ℕ)) (before between piece next more text : List ℕ)
-    → text ≡ piece ++ (next ++ more) → Laid old mid before between piece
-    → AppendsShortOf mid new (between ++ next) → AppendsShortOf old new (before ++ text)
-laid-short old mid new before between piece next more text whole laid cut =
-    short_of_text old mid new laid.front (between ++ next) more (before ++ text)
-    (ap (λ v. before ++ v) whole ∙ sym (append_assoc before piece (next ++ more))
-    ∙ ap (λ v. v ++ (next ++ more)) laid.parts
-    ∙ append_assoc laid.front between (next ++ more)
-    ∙ ap (λ v. laid.front ++ v) (sym (append_assoc between next more)))
-    laid.written cut
+  -- nothing waited and nothing waits, so all of the text was written
+  pub lays-all : (old new : Page W) (text : List ℕ) → waiting old ≡ [] → waiting new ≡ []
+      → Lays contents old new (Ok tt) text
+      → Appends (sent contents old) (sent contents new) text
+  lays-all old new text begun ended lays =
+      subst (Appends (sent contents old) (sent contents new))
+      (sym (ap (λ v. v ++ text) (sym begun) ∙ lays.laid.parts
+      ∙ ap (λ v. lays.laid.front ++ v) ended ∙ append-nil lays.laid.front))
+      lays.laid.written
 
--- the exit after a piece that was cut short
-pub lays_cut : {T : Type 0} (old mid new : Option (List ℕ)) (result : Result T Fault)
-    (fault : Fault) (before between after piece next more text : List ℕ)
-    → IsErrAnd result (λ other. other ≡ fault) → text ≡ piece ++ (next ++ more)
-    → Laid old mid before between piece → (fault ≡ Io) × AppendsShortOf mid new (between ++ next)
-    → Lays old new before after result text
-lays_cut old mid new (Ok done) fault before between after piece next more text same whole laid cut =
-    absurd same
-lays_cut old mid new (Err o) fault before between after piece next more text same whole laid cut =
-    (same ∙ cut.0, laid-short old mid new before between piece next more text whole laid cut.1)
+  -- nothing waited, so less than the text was written
+  pub lays-short : (old new : Page W) (fault : Fault) (text : List ℕ) → waiting old ≡ []
+      → Lays contents old new (Err fault) text
+      → AppendsShortOf (sent contents old) (sent contents new) text
+  lays-short old new fault text begun lays =
+      subst (λ before. AppendsShortOf (sent contents old) (sent contents new) (before ++ text))
+      begun lays.laid.1
 
--- the last piece
-pub lays_last : {T : Type 0} (old mid new : Option (List ℕ)) (result : Result T Fault)
-    (before between after piece last text : List ℕ) → text ≡ piece ++ last
-    → Laid old mid before between piece → Lays mid new between after result last
-    → Lays old new before after result text
-lays_last old mid new (Ok done) before between after piece last text whole laid more =
-    laid-then old mid new before between after piece last text whole laid more
-lays_last old mid new (Err fault) before between after piece last text whole laid more =
-    let all = whole ∙ ap (λ v. piece ++ v) (sym (append-nil last)) in
-    (more.0, laid-short old mid new before between piece last [] text all laid more.1)
-
--- ---- sent
-
--- what waits of a text was written, so all of it was
-pub laid-all : (old mid new : Option (List ℕ)) (waiting text : List ℕ)
-    → Laid old mid [] waiting text → Appends mid new waiting → Appends old new text
-laid-all old mid new waiting text laid sent =
-    subst (λ all. Appends old new all) (sym laid.parts)
-    (Appends-then old mid new laid.front waiting laid.written sent)
-
--- not all that waits of a text was written
-pub laid-part : (old mid new : Option (List ℕ)) (waiting text : List ℕ)
-    → Laid old mid [] waiting text → AppendsShortOf mid new waiting → AppendsShortOf old new text
-laid-part old mid new waiting text laid cut =
-    let all = laid.parts ∙ ap (λ v. laid.front ++ v) (sym (append-nil waiting)) in
-    short_of_text old mid new laid.front waiting [] text all laid.written cut
-
--- what is so where what waited was written whole
-pub sent_whole : {T : Type 0} (old new : Option (List ℕ)) (result : Result T Fault)
-    (waiting : List ℕ) (Fact : Type 0) → Writes old new result waiting
-    → (Appends old new waiting → Fact) → OnOk result Fact
-sent_whole old new (Ok done) waiting Fact sent whole = whole sent
-sent_whole old new (Err fault) waiting Fact sent whole = tt
-
--- what is so where it was not
-pub sent_part : {T : Type 0} (old new : Option (List ℕ)) (result : Result T Fault)
-    (fault : Fault) (waiting : List ℕ) (Fact : Type 0) → Writes old new result waiting
-    → (AppendsShortOf old new waiting → Fact) → result ≡ Err fault → Fact
-sent_part old new (Ok done) fault waiting Fact sent part is = absurd cc
-sent_part old new (Err other) fault waiting Fact sent part is = part sent.1
-
--- whatever became of it, a front of the text was written
-pub front_written : {T : Type 0} (old new : Option (List ℕ)) (result : Result T Fault)
-    (text : List ℕ) → Writes old new result text → AppendsFrontOf old new text
-front_written old new (Ok done) text written = record {
-  front = text;
-  is_prefix = record { rest = []; parts = sym (append-nil text) };
-  written = written;
-}
-front_written old new (Err fault) text written =
-    record { front = written.1.front; is_prefix = written.1.is_prefix; written = written.1.written }
+-- ---- the texts of things
 
 -- the texts of things, one after the other, around that of the thing with index i
 pub items_cut : {A : Type 0} (text_of : A → List ℕ) (xs : List A) (i : ℕ) (default : A)

@@ -1,28 +1,30 @@
--- What was read of an input, and what was written of the replies.
-use Rattle.std.proofs.Common.{◌≡◌, ◌∙◌, ℕ, ℤ, ◌+◌, ◌^◌, ◌<◌, ◌≤◌, List, [], ◌∷◌, ◌++◌, get_or, length, take, drop, Option, None, Some, refl, sym, ap, subst, inl, inr, arith}
+-- Replies whose text goes out by way of a page, while commands run.
+use Rattle.std.proofs.Common.{◌≡◌, ◌∙◌, ℕ, ℤ, ◌+◌, ◌^◌, ◌<◌, ◌≤◌, List, [], ◌∷◌, ◌++◌, get_or, length, take, drop, Option, None, Some, Result, Ok, Err, refl, sym, ap, subst, inl, inr, arith}
 use Rattle.std.proofs.lemmas.Grind.{flat_map-append}
 use Rattle.std.proofs.lemmas.List.{append-nil, take_all, take-append-drop}
 use Rattle.std.proofs.lemmas.Map.Lookups.{exact_signed}
 use Rattle.std.proofs.lemmas.Option.{slice_get_read}
 use Rattle.std.specs.Int.{w32}
-use Rattle.std.specs.Io.KnownBytes.{Appends, Consumes}
+use Rattle.std.specs.Io.KnownBytes.{Appends}
 use Rattle.std.specs.Option.{IsSomeAnd}
 use Rattle.std.specs.Ordering.{int_cmp}
-use Rattle.std.specs.Prelude.{slice_get}
+use Rattle.std.specs.Prelude.{OnOk, slice_get}
 use Rattle.rsb_integer.specs.Rank.{signed_rank}
 use Rattle.rsb_integer.specs.RankLaws.{signed-in_order}
 use Rattle.rsb_integer.specs.Runs.{Interval}
 use Rattle.rsb_integer.proofs.RangeLemmas.{one_place}
 use Rattle.rsb_commands.specs.declared.command.Command.{Command}
-use Rattle.rsb_commands.specs.Answer.{AreNumberReplies, HasBytes, Replies, StopsForMemory, WrotePartOfReplies}
+use Rattle.rsb_commands.specs.declared.fault.Fault.{Fault}
+use Rattle.rsb_commands.specs.declared.page.Page.{Page}
+use Rattle.rsb_commands.specs.Answer.{AreNumberReplies, Replies, StopsForMemory, WrotePartOfReplies}
 use Rattle.rsb_commands.specs.Interpreter.{Content, IsReply, MayTakeMemory, no_members, sets_after, sets_of}
-use Rattle.rsb_commands.specs.Spelling.{AreCommands}
+use Rattle.rsb_commands.specs.Page.{Lays, sent, waiting}
 use Rattle.rsb_commands.specs.Text.{line_text, text}
-use Rattle.rsb_commands.specs.Transfer.{AppendsShortOf, CutsShort, Laid}
-use Rattle.rsb_commands.proofs.replying.OneReply.{replies_unique, replies-take}
+use Rattle.rsb_commands.specs.Transfer.{AppendsShortOf, CutsShort}
 use Rattle.rsb_commands.proofs.replying.InOrder.{HasRun, has_run_more}
+use Rattle.rsb_commands.proofs.replying.OneReply.{replies_unique, replies-take}
 use Rattle.rsb_commands.proofs.writing.Appended.{Appends-nothing, Keeps-itself}
-use Rattle.rsb_commands.proofs.writing.LaidText.{laid-all, laid-part, laid-short, laid-then, short_and_more}
+use Rattle.rsb_commands.proofs.writing.LaidText.{lays-all, lays-short, lays-then, short_and_more}
 
 -- ---- the replies to commands over numbers
 
@@ -56,87 +58,107 @@ short_of_all old new at replies cut =
 -- ---- replies that are laid down as commands run
 
 -- the commands before the place `at` have replies, of which the text was laid, and leave these sets
-pub record HasReplied (commands : List (Command ℤ)) (at : ℕ) (kept : List (List Interval))
-    (old new : Option (List ℕ)) (waiting : List ℕ) : Type 0 where
+pub record HasReplied {W : Type 0} (contents : W → Option (List ℕ)) (commands : List (Command ℤ))
+    (at : ℕ) (kept : List (List Interval)) (old new : Page W) : Type 0 where
   pub replies : List (Content ℤ)
   pub run : HasRun (signed_rank w32) (2 ^ 32) commands at replies kept
-  pub laid : Laid old new [] waiting (text replies)
+  pub laid : Lays contents old new (Ok tt) (text replies)
 
 -- the text of replies and one more
 text-push : (replies : List (Content ℤ)) (reply : Content ℤ)
-    → text (replies ++ reply ∷ []) ≡ text replies ++ (line_text reply ++ [])
-text-push replies reply = flat_map-append line_text replies (reply ∷ [])
+    → text (replies ++ reply ∷ []) ≡ text replies ++ line_text reply
+text-push replies reply =
+    flat_map-append line_text replies (reply ∷ [])
+    ∙ ap (λ v. text replies ++ v) (append-nil (line_text reply))
 
-module _ (commands : List (Command ℤ)) (at : ℕ) (kept : List (List Interval))
-    (old mid new : Option (List ℕ)) (waiting : List ℕ)
-    (before : HasReplied commands at kept old mid waiting) where
+module _ {W : Type 0} (contents : W → Option (List ℕ)) (commands : List (Command ℤ)) (at : ℕ)
+    (kept : List (List Interval)) (old page : Page W)
+    (before : HasReplied contents commands at kept old page) where
   -- one command more, of which the reply was laid
   pub replied_more : (command : Command ℤ) (reply : Content ℤ) (next : List (List Interval))
-      (after : List ℕ) → at < length commands → command ≡ get_or commands at command
+      (new : Page W) → at < length commands → command ≡ get_or commands at command
       → IsReply (signed_rank w32) (2 ^ 32) (sets_of kept) command reply
       → sets_of next ≡ sets_after (signed_rank w32) (2 ^ 32) (sets_of kept) command
-      → Laid mid new waiting after (line_text reply)
-      → HasReplied commands (at + 1) next old new after
-  replied_more command reply next after within here replies leaves laid = record {
+      → Lays contents page new (Ok tt) (line_text reply)
+      → HasReplied contents commands (at + 1) next old new
+  replied_more command reply next new within here is leaves laid = record {
     replies = before.replies ++ reply ∷ [];
     run = has_run_more (signed_rank w32) (2 ^ 32) commands at command before.replies _ reply kept
-        next before.run within here refl replies leaves;
-    laid = laid-then old mid new [] waiting after (text before.replies) (line_text reply)
-        (text (before.replies ++ reply ∷ []))
-        (text-push before.replies reply ∙ ap (λ v. text before.replies ++ v)
-        (append-nil (line_text reply))) before.laid laid;
+        next before.run within here refl is leaves;
+    laid = lays-then contents old page new (Ok tt) (text before.replies) (line_text reply)
+        (text (before.replies ++ reply ∷ [])) (text-push before.replies reply) before.laid laid;
   }
 
-  -- one command more, of which the reply was cut short
-  pub replied_short : (command : Command ℤ) (reply : Content ℤ) (next : List (List Interval))
-      → at < length commands → command ≡ get_or commands at command
-      → IsReply (signed_rank w32) (2 ^ 32) (sets_of kept) command reply
-      → sets_of next ≡ sets_after (signed_rank w32) (2 ^ 32) (sets_of kept) command
-      → AppendsShortOf mid new (waiting ++ line_text reply)
-      → (replies : List (Content ℤ)) → AreNumberReplies commands replies
-      → AppendsShortOf old new (text replies)
-  replied_short command reply next within here is leaves cut replies all =
-      let more = before.replies ++ reply ∷ [] in
-      let run = has_run_more (signed_rank w32) (2 ^ 32) commands at command before.replies _ reply
-      kept next before.run within here refl is leaves in
-      let first = first_replies commands (at + 1) more replies run.replied all in
-      short_of_all old new (at + 1) replies
-      (subst (λ found. AppendsShortOf old new (text found)) first
-      (laid-short old mid new [] waiting (text before.replies) (line_text reply) []
-      (text more) (text-push before.replies reply) before.laid cut))
-
-  -- what waits was written, and the next command found no memory
-  pub replied_front : (command : Command ℤ) → at < length commands
-      → command ≡ get_or commands at command → MayTakeMemory command → Appends mid new waiting
-      → (replies : List (Content ℤ)) → AreNumberReplies commands replies
-      → StopsForMemory commands replies old new
-  replied_front command within here may written replies all =
-      let first = first_replies commands at before.replies replies before.run.replied all in
-      let next : slice_get commands at ≡ Some command =
-      slice_get_read commands (length commands) at command refl within here in record {
-        at = at;
-        took_memory = inr (subst (λ found. IsSomeAnd found MayTakeMemory) (sym next) may);
-        written = subst (λ found. Appends old new (text found)) first
-            (laid-all old mid new waiting (text before.replies) before.laid written);
-      }
+  -- what waits was written, or less was
+  after_sending : (new : Page W) (result : Result (Unit {0}) Fault)
+      → Lays contents page new result [] → Lays contents old new result (text before.replies)
+  after_sending new result laid =
+      lays-then contents old page new result (text before.replies) [] (text before.replies)
+      (sym (append-nil (text before.replies))) before.laid laid
 
   -- what waits was written, and there is no command more
-  pub replied_all : length commands ≤ at → Appends mid new waiting → Replies commands old new
-  replied_all end written = record {
+  pub replied_all : (new : Page W) (result : Result (Unit {0}) Fault) → waiting old ≡ []
+      → length commands ≤ at → Lays contents page new result []
+      → OnOk result (waiting new ≡ [])
+      → OnOk result (Replies commands (sent contents old) (sent contents new))
+  replied_all new (Ok done) begun end laid empty = record {
     replies = before.replies;
     replied = subst (λ cs. AreNumberReplies cs before.replies) (take_all at commands end)
         before.run.replied;
-    written = laid-all old mid new waiting (text before.replies) before.laid written;
+    written = lays-all contents old new (text before.replies) begun empty
+        (after_sending new (Ok tt) laid);
   }
+  replied_all new (Err fault) begun end laid empty = tt
 
-  -- not all that waits was written
-  pub replied_part : AppendsShortOf mid new waiting → (replies : List (Content ℤ))
-      → AreNumberReplies commands replies → AppendsShortOf old new (text replies)
-  replied_part cut replies all =
-      let first = first_replies commands at before.replies replies before.run.replied all in
-      short_of_all old new at replies
-      (subst (λ found. AppendsShortOf old new (text found)) first
-      (laid-part old mid new waiting (text before.replies) before.laid cut))
+  module _ (begun : waiting old ≡ []) (replies : List (Content ℤ))
+      (all : AreNumberReplies commands replies) where
+    -- the replies so far are the first of all
+    are_first : before.replies ≡ take at replies
+    are_first = first_replies commands at before.replies replies before.run.replied all
+
+    -- one command more, of which the reply was cut short
+    pub replied_short : (command : Command ℤ) (reply : Content ℤ) (next : List (List Interval))
+        (new : Page W) (fault : Fault) → at < length commands
+        → command ≡ get_or commands at command
+        → IsReply (signed_rank w32) (2 ^ 32) (sets_of kept) command reply
+        → sets_of next ≡ sets_after (signed_rank w32) (2 ^ 32) (sets_of kept) command
+        → Lays contents page new (Err fault) (line_text reply)
+        → AppendsShortOf (sent contents old) (sent contents new) (text replies)
+    replied_short command reply next new fault within here is leaves laid =
+        let more = before.replies ++ reply ∷ [] in
+        let run = has_run_more (signed_rank w32) (2 ^ 32) commands at command before.replies _
+        reply kept next before.run within here refl is leaves in
+        let first = first_replies commands (at + 1) more replies run.replied all in
+        let cut = lays-then contents old page new (Err fault) (text before.replies)
+        (line_text reply) (text more) (text-push before.replies reply) before.laid laid in
+        short_of_all (sent contents old) (sent contents new) (at + 1) replies
+        (subst (λ found. AppendsShortOf (sent contents old) (sent contents new) (text found)) first
+        (lays-short contents old new fault (text more) begun cut))
+
+    -- what waits was written, and the next command found no memory
+    pub replied_front : (command : Command ℤ) (new : Page W) → at < length commands
+        → command ≡ get_or commands at command → MayTakeMemory command
+        → Lays contents page new (Ok tt) [] → waiting new ≡ []
+        → StopsForMemory commands replies (sent contents old) (sent contents new)
+    replied_front command new within here may laid empty =
+        let next : slice_get commands at ≡ Some command =
+        slice_get_read commands (length commands) at command refl within here in record {
+          at = at;
+          took_memory = inr (subst (λ found. IsSomeAnd found MayTakeMemory) (sym next) may);
+          written = subst
+              (λ found. Appends (sent contents old) (sent contents new) (text found)) are_first
+              (lays-all contents old new (text before.replies) begun empty
+              (after_sending new (Ok tt) laid));
+        }
+
+    -- not all that waits was written
+    pub replied_part : (new : Page W) (fault : Fault) → Lays contents page new (Err fault) []
+        → AppendsShortOf (sent contents old) (sent contents new) (text replies)
+    replied_part new fault laid =
+        short_of_all (sent contents old) (sent contents new) at replies
+        (subst (λ found. AppendsShortOf (sent contents old) (sent contents new) (text found))
+        are_first (lays-short contents old new fault (text before.replies) begun
+        (after_sending new (Err fault) laid)))
 
 -- no command was run
 pub replied_none : (commands : List (Command ℤ)) (replies : List (Content ℤ))
@@ -147,7 +169,7 @@ replied_none commands replies known =
 -- ---- texts that were not begun
 
 -- nothing of a text is a part cut short, or all of an empty one
-pub cut_at_once : (known : Option (List ℕ)) (all : List ℕ) → CutsShort known known all
+cut_at_once : (known : Option (List ℕ)) (all : List ℕ) → CutsShort known known all
 cut_at_once known [] = inr (refl, Keeps-itself known)
 cut_at_once known (byte ∷ bytes) = inl (record {
   front = [];
@@ -161,14 +183,3 @@ pub cut_before_all : (known written : Option (List ℕ)) → WrotePartOfReplies 
 cut_before_all None written = tt
 cut_before_all (Some input) written =
     λ commands replies spelled all. cut_at_once written (text replies)
-
--- an input that was read, and spells some commands, has a byte
-pub some_read : (known left : Option (List ℕ)) (bytes : List ℕ) (commands : List (Command ℤ))
-    → Consumes known left bytes → AreCommands bytes commands → 0 < length commands
-    → HasBytes known
-some_read None left bytes commands read spelled some = tt
-some_read (Some input) None bytes commands read spelled some = absurd read
-some_read (Some input) (Some rest) [] [] read spelled some = absurd (omega (arith, some))
-some_read (Some input) (Some rest) [] (c ∷ cs) read spelled some = absurd spelled
-some_read (Some input) (Some rest) (byte ∷ bytes) commands read spelled some =
-    omega (arith, ap length read)

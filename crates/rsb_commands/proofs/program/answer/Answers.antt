@@ -1,7 +1,8 @@
-use Rattle.std.proofs.Common.{[], arith}
+use Rattle.std.proofs.Common.{[], arith, subst}
 use Rattle.rsb_commands.specs.Interpreter.{content_of}
+use Rattle.rsb_commands.specs.Page.{Lays}
+use Rattle.rsb_commands.proofs.writing.LaidText.{lays-nothing}
 use Rattle.rsb_commands.proofs.writing.Replies.{replied_all, replied_front, replied_more, replied_none, replied_part, replied_short}
-use Rattle.rsb_commands.proofs.writing.LaidText.{laid-begun, sent_part, sent_whole}
 use Rattle.rsb_commands.proofs.program.answer.Goals as goal
 
 -- there was no room to begin
@@ -15,38 +16,38 @@ loop-command-init g c = (
   record {
     replies = [];
     run = record { replied = tt; left = c.in_ok-sets.ensures.empty };
-    laid = laid-begun _ _ c.new-page.ensures;
+    laid = lays-nothing _ _;
   },
   c.in_ok-sets.ensures.ten,
 )
 
 -- a command found no memory, and the replies before it were not all written
 pub returns-in_err-send-clause-io : goal.returns-in_err-send-clause-io
-returns-in_err-send-clause-io g c = λ is.
-    replied_part c.args.commands.now c.loop-command.command-index c.loop-command.sets.items _ _ _ _
-    c.loop-command.invariant.0 c.in_err-send.ensures.written.1
+returns-in_err-send-clause-io g c = λ is replies all.
+    replied_part _ c.args.commands.now c.loop-command.command-index c.loop-command.sets.items _ _
+    c.loop-command.invariant.0 c.requires replies all _ _ c.in_err-send.ensures.laid
 
 -- they were
 pub returns-in_default-clause-no_memory : goal.returns-in_default-clause-no_memory
-returns-in_default-clause-no_memory g c = λ is.
-    replied_front c.args.commands.now c.loop-command.command-index
-    c.loop-command.sets.items _ _ _ _
-    c.loop-command.invariant.0 c.command-item.result c.loop-command-test.true c.command-item.is
-    c.in_default.ensures.took_memory c.in_ok-send.ensures.written
+returns-in_default-clause-no_memory g c = λ is replies all.
+    replied_front _ c.args.commands.now c.loop-command.command-index c.loop-command.sets.items _ _
+    c.loop-command.invariant.0 c.requires replies all c.command-item.result _
+    c.loop-command-test.true c.command-item.is c.in_default.ensures.took_memory
+    c.in_ok-send.ensures.laid c.in_ok-send.ensures.empty
 
 -- a reply was cut short
 pub returns-in_err-write_line-clause-io : goal.returns-in_err-write_line-clause-io
-returns-in_err-write_line-clause-io g c = λ is.
-    replied_short c.args.commands.now c.loop-command.command-index
-    c.loop-command.sets.items _ _ _ _
-    c.loop-command.invariant.0 c.command-item.result (content_of (λ length. length) c.in-Ok.reply)
-    c.run_command.new.sets.items c.loop-command-test.true c.command-item.is c.in-Ok.ensures.reply
-    c.in-Ok.ensures.after c.in_err-write_line.ensures.1
+returns-in_err-write_line-clause-io g c = λ is replies all.
+    replied_short _ c.args.commands.now c.loop-command.command-index c.loop-command.sets.items _ _
+    c.loop-command.invariant.0 c.requires replies all c.command-item.result
+    (content_of (λ length. length) c.in-Ok.reply) c.run_command.new.sets.items _ _
+    c.loop-command-test.true c.command-item.is c.in-Ok.ensures.reply c.in-Ok.ensures.after
+    c.in_err-write_line.ensures
 
 -- one command more was run, and its reply was laid
 pub loop-command-preserved : goal.loop-command-preserved
 loop-command-preserved g c = (
-  replied_more c.args.commands.now c.loop-command.command-index c.loop-command.sets.items _ _ _ _
+  replied_more _ c.args.commands.now c.loop-command.command-index c.loop-command.sets.items _ _
       c.loop-command.invariant.0 c.command-item.result
       (content_of (λ length. length) c.in-Ok.reply) c.run_command.new.sets.items _
       c.loop-command-test.true c.command-item.is c.in-Ok.ensures.reply c.in-Ok.ensures.after
@@ -57,14 +58,14 @@ loop-command-preserved g c = (
 -- all replies were laid, and what waits was written
 pub returns-clause-ok : goal.returns-clause-ok
 returns-clause-ok g c =
-    sent_whole _ _ c.send-2.result _ _ c.send-2.ensures.written
-    (replied_all c.args.commands.now c.loop-command.command-index c.loop-command.sets.items _ _ _ _
-    c.loop-command.invariant.0 (omega arith))
+    replied_all _ c.args.commands.now c.loop-command.command-index c.loop-command.sets.items _ _
+    c.loop-command.invariant.0 _ c.send-2.result c.requires (omega arith) c.send-2.ensures.laid
+    c.send-2.ensures.empty
 
 -- and where it was not, not all replies were
 pub returns-clause-io : goal.returns-clause-io
-returns-clause-io g c =
-    sent_part _ _ c.send-2.result _ _ _ c.send-2.ensures.written
-    (replied_part c.args.commands.now c.loop-command.command-index
-    c.loop-command.sets.items _ _ _ _
-    c.loop-command.invariant.0)
+returns-clause-io g c = λ is replies all.
+    replied_part _ c.args.commands.now c.loop-command.command-index c.loop-command.sets.items _ _
+    c.loop-command.invariant.0 c.requires replies all _ _
+    (subst (λ result. Lays g.W.Write.contents c.loop-command.page c.send-2.new.self result []) is
+    c.send-2.ensures.laid)

@@ -1,6 +1,7 @@
 use Rattle.std.proofs.Common.{◌<◌, length, subst}
 use Rattle.rsb_commands.specs.Spelling.{AreCommands}
-use Rattle.rsb_commands.proofs.writing.Replies.{cut_before_all, some_read}
+use Rattle.rsb_commands.proofs.reading.Consumed.{some_read}
+use Rattle.rsb_commands.proofs.writing.Replies.{cut_before_all}
 use Rattle.rsb_commands.proofs.program.run.Goals as goal
 
 -- a read failed, and nothing was written

@@ -1,21 +1,21 @@
 use Rattle.std.proofs.Common.{◌≡◌, ◌∷◌, [], ap, rules}
 use Rattle.std.specs.Prelude.{flat_map}
 use Rattle.rsb_commands.specs.Text.{next_range_text, range_text, ranges_text}
-use Rattle.rsb_commands.proofs.writing.LaidText.{laid-nothing, lays_cut, lays_last}
+use Rattle.rsb_commands.proofs.writing.LaidText.{lays-cut, lays-nothing, lays-then}
 use Rattle.rsb_commands.proofs.text.write_list.Goals as goal
 
 -- the first range was cut short
 pub returns-in_err-write_range : goal.returns-in_err-write_range
 returns-in_err-write_range g c =
     let split : c.args.ranges.now ≡ c.in-Some.first.now ∷ c.in-Some.others.now = search rules in
-    lays_cut _ _ _ _ c.in_err-write_range.field-0.0 _ _ _ [] (range_text c.in-Some.first.now)
+    lays-cut _ _ _ _ _ _ [] (range_text c.in-Some.first.now)
     (flat_map next_range_text c.in-Some.others.now) _ c.from_residual.ensures.1
-    (ap (λ ranges. ranges_text ranges) split) (laid-nothing _ _) c.in_err-write_range.ensures
+    (ap (λ ranges. ranges_text ranges) split) (lays-nothing _ _) c.in_err-write_range.ensures
 
 -- the others come after it
 pub returns : goal.returns
 returns g c =
     let split : c.args.ranges.now ≡ c.in-Some.first.now ∷ c.in-Some.others.now = search rules in
-    lays_last _ _ _ _ _ _ _ (range_text c.in-Some.first.now)
+    lays-then _ _ _ _ _ (range_text c.in-Some.first.now)
     (flat_map next_range_text c.in-Some.others.now) _ (ap (λ ranges. ranges_text ranges) split)
     c.in_ok-write_range.ensures c.write_others.ensures

@@ -1,11 +1,11 @@
-use Rattle.std.proofs.Common.{take}
+use Rattle.std.proofs.Common.{Ok, take}
 use Rattle.std.specs.Prelude.{flat_map}
+use Rattle.rsb_commands.specs.Page.{Lays}
 use Rattle.rsb_commands.specs.Text.{next_range_text}
-use Rattle.rsb_commands.specs.Transfer.{Laid}
 use Rattle.rsb_commands.proofs.text.write_others.Given as goal
 
 -- the ranges before this one were laid
 abbrev pub invariant-loop-range : goal.invariant-loop-range
 invariant-loop-range g l =
-    Laid (g.W.Write.contents l.initial.output) (g.W.Write.contents l.output)
-    l.initial.page l.page (flat_map next_range_text (take l.range-index l.ranges))
+    Lays g.W.Write.contents l.initial.page l.page (Ok tt)
+    (flat_map next_range_text (take l.range-index l.ranges))

@@ -2,10 +2,10 @@ use Rattle.std.proofs.Common.{◌≡◌, ◌∙◌, ◌++◌, ℤ, Bool, [], app
 use Rattle.std.specs.Prelude.{codes}
 use Rattle.rsb_commands.specs.Interpreter.{flag, piece}
 use Rattle.rsb_commands.specs.Text.{ends_text, flag_text, line_text}
-use Rattle.rsb_commands.proofs.writing.LaidText.{laid-nothing, lays_cut, lays_last}
+use Rattle.rsb_commands.proofs.writing.LaidText.{lays-cut, lays-nothing, lays-then}
 use Rattle.rsb_commands.proofs.text.write_piece.Goals as goal
 
--- the text of a piece is that of its ends, and then that of which of the two it is
+-- the text of a run or a gap is that of its ends, and then that of which of the two it is
 piece_text : (first last : ℤ) (present : Bool) → line_text (piece first last present)
     ≡ ends_text first last ++ (codes " " ++ line_text (flag present))
 piece_text first last present =
@@ -17,14 +17,14 @@ piece_text first last present =
 pub returns-in_err-write_ends : goal.returns-in_err-write_ends
 returns-in_err-write_ends g c =
     let ends = ends_text c.args.first.now c.args.last.now in
-    lays_cut _ _ _ _ c.in_err-write_ends.field-0.0 _ _ _ [] ends
-    (codes " " ++ line_text (flag c.args.present)) _ c.from_residual.ensures.1
-    (piece_text c.args.first.now c.args.last.now c.args.present) (laid-nothing _ _) c.in_err-write_ends.ensures
+    lays-cut _ _ _ _ _ _ [] ends (codes " " ++ line_text (flag c.args.present)) _
+    c.from_residual.ensures.1 (piece_text c.args.first.now c.args.last.now c.args.present)
+    (lays-nothing _ _) c.in_err-write_ends.ensures
 
 -- which of the two it is comes after them
 pub returns : goal.returns
 returns g c =
     let ends = ends_text c.args.first.now c.args.last.now in
-    lays_last _ _ _ _ _ _ _ ends (codes " " ++ line_text (flag c.args.present)) _
+    lays-then _ _ _ _ _ ends (codes " " ++ line_text (flag c.args.present)) _
     (piece_text c.args.first.now c.args.last.now c.args.present)
     c.in_ok-write_ends.ensures c.write_presence.ensures

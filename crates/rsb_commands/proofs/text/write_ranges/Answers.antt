@@ -1,17 +1,17 @@
 use Rattle.std.proofs.Common.{[], refl}
 use Rattle.std.specs.Prelude.{codes}
 use Rattle.rsb_commands.specs.Text.{ranges_text}
-use Rattle.rsb_commands.proofs.writing.LaidText.{laid-nothing, lays_cut, lays_last}
+use Rattle.rsb_commands.proofs.writing.LaidText.{lays-cut, lays-nothing, lays-then}
 use Rattle.rsb_commands.proofs.text.write_ranges.Goals as goal
 
 -- the ranges were cut short
 pub returns-in_err-write_list : goal.returns-in_err-write_list
 returns-in_err-write_list g c =
-    lays_cut _ _ _ _ c.in_err-write_list.field-0.0 _ _ _ [] (ranges_text c.args.ranges.now)
-    (codes "\n") _ c.from_residual.ensures.1 refl (laid-nothing _ _) c.in_err-write_list.ensures
+    lays-cut _ _ _ _ _ _ [] (ranges_text c.args.ranges.now) (codes "\n") _
+    c.from_residual.ensures.1 refl (lays-nothing _ _) c.in_err-write_list.ensures
 
 -- a line feed comes after them
 pub returns : goal.returns
 returns g c =
-    lays_last _ _ _ _ _ _ _ (ranges_text c.args.ranges.now) (codes "\n") _ refl
+    lays-then _ _ _ _ _ (ranges_text c.args.ranges.now) (codes "\n") _ refl
     c.in_ok-write_list.ensures c.write_line_feed.ensures

@@ -1,5 +1,5 @@
 use Rattle.std.proofs.Common.{◌≡◌, ◌++◌, ap, take, ◌∙◌}
-use Rattle.rsb_commands.proofs.writing.Appended.{Consumes-then, Consumes-keeps}
+use Rattle.rsb_commands.proofs.reading.Consumed.{Consumes-then, Consumes-keeps}
 use Rattle.rsb_commands.proofs.transfer.read_all.Goals as goal
 use Rattle.rsb_commands.proofs.transfer.read_all.Goals.{in-Ok+in_ok-extend_from_slice-in-Ok, in-Err+else-ne}
 
