@@ -75,15 +75,20 @@ module _ {T : Type 0} (rank : T → ℕ) (value_count : ℕ) where
 
   -- the sets after a command
   abbrev pub sets_after : Sets → Command T → Sets
-  sets_after sets (Add slot first last) = put sets slot (union (sets slot) (covers (from_to (rank first) (rank last))))
-  sets_after sets (Del slot value) = put sets slot (difference (sets slot) (only (rank value)))
-  sets_after sets (Union target left right) = put sets target (union (sets left) (sets right))
+  sets_after sets (Add slot first last) =
+      put sets slot (union (sets slot) (covers (from_to (rank first) (rank last))))
+  sets_after sets (Del slot value) =
+      put sets slot (difference (sets slot) (only (rank value)))
+  sets_after sets (Union target left right) =
+      put sets target (union (sets left) (sets right))
   sets_after sets (Intersection target left right) =
       put sets target (intersection (sets left) (sets right))
-  sets_after sets (Difference target left right) = put sets target (difference (sets left) (sets right))
+  sets_after sets (Difference target left right) =
+      put sets target (difference (sets left) (sets right))
   sets_after sets (SymmetricDifference target left right) =
       put sets target (symmetric_difference (sets left) (sets right))
-  sets_after sets (Complement target source) = put sets target (complement_in value_count (sets source))
+  sets_after sets (Complement target source) =
+      put sets target (complement_in value_count (sets source))
   sets_after sets (Most target a b c) = put sets target (most_of (sets a) (sets b) (sets c))
   sets_after sets _ = sets
 
@@ -127,7 +132,8 @@ module _ {T : Type 0} (rank : T → ℕ) (value_count : ℕ) where
       IsRunsReply (difference (sets left) (sets right)) reply
   IsReply sets (SymmetricDifference target left right) reply =
       IsRunsReply (symmetric_difference (sets left) (sets right)) reply
-  IsReply sets (Complement target source) reply = IsRunsReply (complement_in value_count (sets source)) reply
+  IsReply sets (Complement target source) reply =
+      IsRunsReply (complement_in value_count (sets source)) reply
   IsReply sets (Most target a b c) reply = IsRunsReply (most_of (sets a) (sets b) (sets c)) reply
   IsReply sets (Compare left right) (order is) = HasOrder value_count (sets left) (sets right) is
   IsReply sets _ _ = ⊥

@@ -118,9 +118,12 @@ alike (Gap m v) (Gap n x) is = record { same_kinds = refl; told_apart = λ same.
 alike (Count m) (Count n) is = record { same_kinds = refl; told_apart = λ same. cc }
 alike (Show m) (Show n) is = record { same_kinds = refl; told_apart = λ same. cc }
 alike (Union k l m) (Union n o p) is = record { same_kinds = refl; told_apart = λ same. cc }
-alike (Intersection k l m) (Intersection n o p) is = record { same_kinds = refl; told_apart = λ same. cc }
-alike (Difference k l m) (Difference n o p) is = record { same_kinds = refl; told_apart = λ same. cc }
-alike (SymmetricDifference k l m) (SymmetricDifference n o p) is = record { same_kinds = refl; told_apart = λ same. cc }
+alike (Intersection k l m) (Intersection n o p) is =
+    record { same_kinds = refl; told_apart = λ same. cc }
+alike (Difference k l m) (Difference n o p) is =
+    record { same_kinds = refl; told_apart = λ same. cc }
+alike (SymmetricDifference k l m) (SymmetricDifference n o p) is =
+    record { same_kinds = refl; told_apart = λ same. cc }
 alike (Complement l m) (Complement n o) is = record { same_kinds = refl; told_apart = λ same. cc }
 alike (Most j k l m) (Most n o p q) is = record { same_kinds = refl; told_apart = λ same. cc }
 alike (Compare l m) (Compare n o) is = record { same_kinds = refl; told_apart = λ same. cc }

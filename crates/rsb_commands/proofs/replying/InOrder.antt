@@ -13,14 +13,16 @@ module _ {T : Type 0} (rank : T → ℕ) (value_count : ℕ) where
   -- the sets after commands
   abbrev pub sets_after_all : Sets → List (Command T) → Sets
   sets_after_all sets [] = sets
-  sets_after_all sets (command ∷ commands) = sets_after_all (sets_after rank value_count sets command) commands
+  sets_after_all sets (command ∷ commands) =
+      sets_after_all (sets_after rank value_count sets command) commands
 
   -- the sets after commands and one more are what that one makes of the sets after the others
   sets_after_all-push : (sets : Sets) (commands : List (Command T)) (command : Command T)
       → sets_after_all sets (commands ++ command ∷ [])
       ≡ sets_after rank value_count (sets_after_all sets commands) command
   sets_after_all-push sets [] command = refl
-  sets_after_all-push sets (c ∷ cs) command = sets_after_all-push (sets_after rank value_count sets c) cs command
+  sets_after_all-push sets (c ∷ cs) command =
+      sets_after_all-push (sets_after rank value_count sets c) cs command
 
   -- with one command more, which is given the sets after the others, there is one reply more
   replies-push : (sets : Sets) (commands : List (Command T)) (replies : List (Content T))

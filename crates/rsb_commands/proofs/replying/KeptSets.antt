@@ -73,7 +73,8 @@ module _ {T : Type 0} (rank : T → ℕ) (value_count : ℕ) (first last : T) wh
   -- where those ranks were added to one of the sets, the sets are those after the command
   pub sets_after-added : (kept : List (List Interval)) (slot : ℕ) (old new : List Interval)
       → slot < length kept → old ≡ get_or kept slot [] → Adds old new within_bounds
-      → sets_of (set kept slot new) ≡ sets_after rank value_count (sets_of kept) (Add slot first last)
+      → sets_of (set kept slot new)
+      ≡ sets_after rank value_count (sets_of kept) (Add slot first last)
   sets_after-added kept slot old new within is added =
       sets_of-put kept slot new
       (union (sets_of kept slot) (covers (from_to (rank first) (rank last)))) within

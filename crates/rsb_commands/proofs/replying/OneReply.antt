@@ -46,17 +46,23 @@ module _ {T : Type 0} (rank : T → ℕ) (value_count : ℕ)
   one_reply sets (Show slot) (ranges l) (ranges r) is also =
       ap ranges (one_ranges (sets slot) l r is also)
   one_reply sets (Union target left right) (runs l) (runs r) is also =
-      ap runs (one_many rank value_count one_place (union (sets left) (sets right)) l r is also)
+      ap runs (one_many rank value_count one_place
+      (union (sets left) (sets right)) l r is also)
   one_reply sets (Intersection target left right) (runs l) (runs r) is also =
-      ap runs (one_many rank value_count one_place (intersection (sets left) (sets right)) l r is also)
+      ap runs (one_many rank value_count one_place
+      (intersection (sets left) (sets right)) l r is also)
   one_reply sets (Difference target left right) (runs l) (runs r) is also =
-      ap runs (one_many rank value_count one_place (difference (sets left) (sets right)) l r is also)
+      ap runs (one_many rank value_count one_place
+      (difference (sets left) (sets right)) l r is also)
   one_reply sets (SymmetricDifference target left right) (runs l) (runs r) is also =
-      ap runs (one_many rank value_count one_place (symmetric_difference (sets left) (sets right)) l r is also)
+      ap runs (one_many rank value_count one_place
+      (symmetric_difference (sets left) (sets right)) l r is also)
   one_reply sets (Complement target source) (runs l) (runs r) is also =
-      ap runs (one_many rank value_count one_place (complement_in value_count (sets source)) l r is also)
+      ap runs (one_many rank value_count one_place
+      (complement_in value_count (sets source)) l r is also)
   one_reply sets (Most target a b c) (runs l) (runs r) is also =
-      ap runs (one_many rank value_count one_place (most_of (sets a) (sets b) (sets c)) l r is also)
+      ap runs (one_many rank value_count one_place
+      (most_of (sets a) (sets b) (sets c)) l r is also)
   one_reply sets (Compare left right) (order l) (order r) is also =
       ap order (order-unique value_count (sets left) (sets right) l r is also)
   one_reply sets (Add slot first last) (flag l) _ is also = absurd also

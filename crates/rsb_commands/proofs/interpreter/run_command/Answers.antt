@@ -20,7 +20,8 @@ returns-in_ok-ranges_insert-in-Add-clause-after g c =
     let added = rw (c.new.ensures.start, c.new.ensures.end)
     at (c.in_ok-ranges_insert-in-Add.ensures.members c.new.ensures.exhausted) in
     rw (c.in-Add.is, ← c.index.ensures.place)
-    (sets_after-added g.T.Integer.rank g.T.Integer.value_count c.in-Add.first c.in-Add.last kept slot old
+    (sets_after-added g.T.Integer.rank g.T.Integer.value_count c.in-Add.first c.in-Add.last kept
+    slot old
     c.ranges_insert.new.self (omega arith) is added)
 
 pub returns-in_ok-ranges_insert-in-Add-clause-reply :
@@ -66,26 +67,39 @@ returns-in_ok-set-in-Union-clause-reply g c =
     rw (c.in-Union.is, ← c.set_at-in-Union.ensures, ← c.set_at-in-Union-2.ensures)
     (c.put_set.ensures.runs (union left right) c.in_ok-set-in-Union.ensures.members)
 
-pub returns-in_ok-set-in-Intersection-clause-reply : goal.returns-in_ok-set-in-Intersection-clause-reply
+pub returns-in_ok-set-in-Intersection-clause-reply :
+    goal.returns-in_ok-set-in-Intersection-clause-reply
 returns-in_ok-set-in-Intersection-clause-reply g c =
     let left = members c.set_at-in-Intersection.result.now in
     let right = members c.set_at-in-Intersection-2.result.now in
-    rw (c.in-Intersection.is, ← c.set_at-in-Intersection.ensures, ← c.set_at-in-Intersection-2.ensures)
-    (c.put_set-in-Intersection.ensures.runs (intersection left right) c.in_ok-set-in-Intersection.ensures.members)
+    rw (
+      c.in-Intersection.is,
+      ← c.set_at-in-Intersection.ensures,
+      ← c.set_at-in-Intersection-2.ensures,
+    )
+    (c.put_set-in-Intersection.ensures.runs (intersection left right)
+    c.in_ok-set-in-Intersection.ensures.members)
 
 pub returns-in_ok-set-in-Difference-clause-reply : goal.returns-in_ok-set-in-Difference-clause-reply
 returns-in_ok-set-in-Difference-clause-reply g c =
     let left = members c.set_at-in-Difference.result.now in
     let right = members c.set_at-in-Difference-2.result.now in
     rw (c.in-Difference.is, ← c.set_at-in-Difference.ensures, ← c.set_at-in-Difference-2.ensures)
-    (c.put_set-in-Difference.ensures.runs (difference left right) c.in_ok-set-in-Difference.ensures.members)
+    (c.put_set-in-Difference.ensures.runs (difference left right)
+    c.in_ok-set-in-Difference.ensures.members)
 
-pub returns-in_ok-set-in-SymmetricDifference-clause-reply : goal.returns-in_ok-set-in-SymmetricDifference-clause-reply
+pub returns-in_ok-set-in-SymmetricDifference-clause-reply :
+    goal.returns-in_ok-set-in-SymmetricDifference-clause-reply
 returns-in_ok-set-in-SymmetricDifference-clause-reply g c =
     let left = members c.set_at-in-SymmetricDifference.result.now in
     let right = members c.set_at-in-SymmetricDifference-2.result.now in
-    rw (c.in-SymmetricDifference.is, ← c.set_at-in-SymmetricDifference.ensures, ← c.set_at-in-SymmetricDifference-2.ensures)
-    (c.put_set-in-SymmetricDifference.ensures.runs (symmetric_difference left right) c.in_ok-set-in-SymmetricDifference.ensures.members)
+    rw (
+      c.in-SymmetricDifference.is,
+      ← c.set_at-in-SymmetricDifference.ensures,
+      ← c.set_at-in-SymmetricDifference-2.ensures,
+    )
+    (c.put_set-in-SymmetricDifference.ensures.runs (symmetric_difference left right)
+    c.in_ok-set-in-SymmetricDifference.ensures.members)
 
 pub returns-in_ok-set-in-Complement-clause-reply : goal.returns-in_ok-set-in-Complement-clause-reply
 returns-in_ok-set-in-Complement-clause-reply g c =

@@ -36,7 +36,8 @@ returns-clause-only g c = λ others are.
     let value_count = g.T.Integer.value_count in
     let found = contents_of g.T.SafeLen.SafeLength.number c.loop-at.replies.items in
     let all = subst (λ commands. AreReplies rank value_count commands found)
-    (take_all c.loop-at.at c.args.commands.now c.loop-at-test.false) c.loop-at.invariant.0.replied in
+    (take_all c.loop-at.at c.args.commands.now c.loop-at-test.false)
+    c.loop-at.invariant.0.replied in
     replies_unique rank value_count
     (one_place rank value_count g.T.Ord.cmp laws.exact laws.in_order)
     no_members c.args.commands.now others found are all
