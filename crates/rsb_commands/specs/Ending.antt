@@ -14,6 +14,10 @@ pub record Channels : Type 0 where
   pub output : Option (List ℕ)
   pub errors : Option (List ℕ)
 
+-- the same, of each of the three
+abbrev pub channels : Option (List ℕ) → Option (List ℕ) → Option (List ℕ) → Channels
+channels input output errors = record { input = input; output = output; errors = errors }
+
 -- the exit status
 abbrev pub status_after : Result (Unit {0}) Fault → ℕ
 status_after (Ok done) = 0

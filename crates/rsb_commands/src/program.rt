@@ -5,7 +5,7 @@ ghost use Rattle.std.specs.Io.KnownBytes.{IsAtEnd, Keeps};
 ghost use Rattle.std.specs.Process.{exit_status};
 ghost use Rattle.rsb_commands.specs.Answer.{Answers, AreNumberReplies, HasBytes, KeepsWithoutCommands, Replies, StopsForMemory, WroteFirstReplies, WrotePartOfReplies};
 ghost use Rattle.rsb_commands.specs.Interpreter.{Content};
-ghost use Rattle.rsb_commands.specs.Ending.{Ends, TellsFault, status_after};
+ghost use Rattle.rsb_commands.specs.Ending.{Ends, TellsFault, channels, status_after};
 ghost use Rattle.rsb_commands.specs.Page.{sent, waiting};
 ghost use Rattle.rsb_commands.specs.Spelling.{IsFirstBadLine};
 ghost use Rattle.rsb_commands.specs.Text.{text};
@@ -30,16 +30,8 @@ pub fn start<A: Allocator + Copy, R: Read, W: Write, E: Write>(
     errors: &mut E,
 ) -> ExitCode
     ensures { Ends
-        (record {
-          input = R.remaining input.old;
-          output = W.contents output.old;
-          errors = E.contents errors.old;
-        })
-        (record {
-          input = R.remaining input.new;
-          output = W.contents output.new;
-          errors = E.contents errors.new;
-        })
+        (channels (R.remaining input.old) (W.contents output.old) (E.contents errors.old))
+        (channels (R.remaining input.new) (W.contents output.new) (E.contents errors.new))
         (exit_status result) }
 {
     let outcome = run(alloc, input, output);

@@ -9,13 +9,13 @@ use std::alloc::Global;
 use std::process::Abort;
 use std::test::*;
 
-// The set of a number up to nine.
+// The slot of a number up to nine.
 fn slot(rt: &impl Abort, n: u8) -> SetNo {
-    SetNo::new(n).expect(rt, "a set number")
+    SetNo::new(n).expect(rt, "a slot")
 }
 
 #[test]
-fn set_numbers_end_at_nine(rt: HostRuntime) {
+fn slots_end_at_nine(rt: HostRuntime) {
     for n in 0..=9u8 {
         assert_eq!(rt; slot(&rt, n).index(), n as usize);
     }

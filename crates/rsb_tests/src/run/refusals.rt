@@ -49,18 +49,15 @@ fn replies_before_a_refused_growth_are_written(rt: HostRuntime) -> Result<(), Fa
 // Commands that are stopped keep the replies to those before.
 #[test]
 fn stopped_commands_keep_their_replies(rt: HostRuntime) -> Result<(), Fail> {
-    let set = SetNo::new(0).expect(&rt, "a set number");
+    let slot = SetNo::new(0).expect(&rt, "a slot");
     let commands = [
         Command::Add {
-            slot: set,
+            slot,
             first: 1,
             last: 5,
         },
-        Command::Has {
-            slot: set,
-            value: 9,
-        },
-        Command::Show { slot: set },
+        Command::Has { slot, value: 9 },
+        Command::Show { slot },
     ];
     let mut is_stopped_at_last = false;
     let mut is_done = false;
@@ -97,7 +94,7 @@ fn stopped_commands_keep_their_replies(rt: HostRuntime) -> Result<(), Fail> {
 fn a_question_without_room_to_begin_is_stopped_at_0(rt: HostRuntime) -> Result<(), Fail> {
     let heap = LocalHeap::new(rt.alloc(), 16)?;
     let commands = [Command::Has {
-        slot: SetNo::new(0).expect(&rt, "a set number"),
+        slot: SetNo::new(0).expect(&rt, "a slot"),
         value: 1,
     }];
     let Err(stopped) = run_commands(&heap, &commands) else {
