@@ -38,7 +38,7 @@ module _ (n : ℕ) (selected : Selection) (rank : ℕ) (run other : Interval)
 
 module _ {T : Type 0} (rank : T → ℕ) (value_count : ℕ)
     (one_place : (x y : T) → rank x < value_count → rank x ≡ rank y → x ≡ y) where
-  -- there is one piece around a rank
+  -- there is one run or gap around a rank, with one first and one last value
   pub one_piece : (set : Selection) (at : ℕ) (first last start end : T) (present other : Bool)
       → IsPieceAround rank value_count set at first last present
       → IsPieceAround rank value_count set at start end other
