@@ -25,7 +25,7 @@ pub(crate) fn last_run<T: Integer>(entries: &mut Range<'_, T, T>) -> Option<Run<
 }
 
 /// Takes the first run off some entries.
-pub(crate) fn next_run<T: Integer>(entries: &mut Iter<'_, T, T>) -> Option<Run<T>>
+pub(crate) fn next_run<T: Copy>(entries: &mut Iter<'_, T, T>) -> Option<Run<T>>
     ensures { MatchOption result (entries.old ≡ [])
         (λ run. entries.old ≡ entry_of run ∷ entries.new) }
 {
@@ -41,12 +41,7 @@ pub(crate) fn first_run<T: Integer, A: Allocator>(map: &BTreeMap<T, T, A>) -> Op
     ensures { MatchOption result (runs_of T.rank map.now.entries ≡ [])
         (λ run. StartsWith (runs_of T.rank map.now.entries) (run_of T.rank run)) }
 {
-    let mut entries = map.iter();
-    let (start, end) = entries.next()?;
-    Some(Run {
-        start: *start,
-        end: *end,
-    })
+    next_run(&mut map.iter())
 }
 
 /// The last run that starts at a value or before it.

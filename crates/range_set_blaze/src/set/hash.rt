@@ -6,7 +6,7 @@ ghost use Rattle.range_set_blaze.specs.Hash.{ends_of_runs, hashed_runs, run_boun
 ghost use Rattle.range_set_blaze.specs.HashLaws.{hashed_runs-same};
 
 use crate::set::RangeSetBlaze;
-use crate::set::order::next_run;
+use crate::set::entries::next_run;
 use rsb_integer::Integer;
 use std::alloc::Allocator;
 use std::collections::BTreeMap;

@@ -1,15 +1,15 @@
 //! How sets compare.
 
-ghost use Rattle.std.specs.Prelude.{◌≡◌, ◌↔◌, ℕ, ◌+◌, ◌≤◌, List, [], ◌∷◌, length, min, refl, IsTrue, MatchOption, Some, cond, nat_lt};
+ghost use Rattle.std.specs.Prelude.{◌≡◌, ◌↔◌, ℕ, ◌+◌, ◌≤◌, List, [], length, min, refl, IsTrue, Some, cond, nat_lt};
 ghost use Rattle.std.specs.declared.cmp.Ordering.TheVariants.{Greater, Less};
 ghost use Rattle.rsb_integer.specs.Runs.{Interval, members, IsCanonicalIn};
 ghost use Rattle.rsb_integer.specs.Selection.{Agree};
-ghost use Rattle.range_set_blaze.specs.Kept.{entry_of, runs_of};
+ghost use Rattle.range_set_blaze.specs.Kept.{runs_of};
 ghost use Rattle.range_set_blaze.specs.Order.{AreTurns, HasOrder};
 ghost use Rattle.range_set_blaze.specs.OrderLaws.{set_cmp, set_eq, sets_equivalence, sets_partial_equivalence, sets_partial_order, sets_ties, sets_total};
 
 use crate::set::RangeSetBlaze;
-use crate::set::run::Run;
+use crate::set::entries::next_run;
 use rsb_integer::Integer;
 use std::alloc::Allocator;
 use std::cmp::Ordering;
@@ -132,16 +132,4 @@ fn order_by_rest<T>(rest: &mut Iter<'_, T, T>) -> Ordering
         Some(_) => Ordering::Greater,
         None => Ordering::Less,
     }
-}
-
-/// Takes the first run off some entries.
-pub(crate) fn next_run<T: Copy>(entries: &mut Iter<'_, T, T>) -> Option<Run<T>>
-    ensures { MatchOption result (entries.old ≡ [])
-        (λ run. entries.old ≡ entry_of run ∷ entries.new) }
-{
-    let (start, end) = entries.next()?;
-    Some(Run {
-        start: *start,
-        end: *end,
-    })
 }

@@ -130,10 +130,8 @@ module _ (rests : List Rest) (input : ℕ) (default : Rest) (event : Event) (aft
             (All-permutation (Precedes event) lefts events given.all before-left) given.ascending;
       }
 
--- ---- starts, ends, and the end of the sweep
+-- ---- the end of the sweep
 
-module _ (rests : List Rest) (input : ℕ) (default : Rest) (touching : All IsTouchingRest rests)
-    (within : input < length rests) where
 -- inputs of which nothing is left have no events left
 pub nothing-left : (input : ℕ) (rests : List Rest) → All (λ rest. rest ≡ nothing_left) rests
     → rest_events_from input rests ≡ []
