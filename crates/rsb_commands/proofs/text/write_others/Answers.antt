@@ -1,4 +1,4 @@
-use Rattle.std.proofs.Common.{drop, suc, take}
+use Rattle.std.proofs.Common.{Ok, drop, suc, take}
 use Rattle.std.specs.Prelude.{flat_map}
 use Rattle.rsb_commands.specs.Text.{next_range_text}
 use Rattle.rsb_commands.proofs.writing.LaidText.{items_cut, items_push, lays-cut, lays-then}
@@ -19,6 +19,6 @@ pub loop-range-preserved : goal.loop-range-preserved
 loop-range-preserved g c =
     let ranges = c.args.ranges.now in
     let at = c.loop-range.range-index in
-    lays-then _ _ _ _ _ (flat_map next_range_text (take at ranges)) _ _
+    lays-then _ _ _ _ (Ok tt) (flat_map next_range_text (take at ranges)) _ _
     (items_push next_range_text ranges at _ c.loop-range-test.true) c.loop-range.invariant
     c.in_ok-write_next_range.ensures
