@@ -1,5 +1,5 @@
 -- What sets are made of and united with: others, and lists of runs of which a front may be added.
-use Rattle.std.specs.Prelude.{◌≡◌, ℕ, not, ◌&&◌, nat_lt, List, map}
+use Rattle.std.specs.Prelude.{ℕ, List, map}
 use Rattle.rsb_integer.specs.Prefix.{IsPrefix}
 use Rattle.rsb_integer.specs.Rank.{intervals_of}
 use Rattle.rsb_integer.specs.Runs.{Interval, members}

@@ -1,9 +1,7 @@
 -- What answers of exports stand for.
-use Rattle.std.specs.Prelude.{◌≡◌, ◌⊎◌, ℕ, ℤ, pos, negsuc, zero, suc}
+use Rattle.std.specs.Prelude.{◌≡◌, ◌⊎◌, ℤ, pos, negsuc, zero, suc}
 use Rattle.std.specs.declared.cmp.Ordering.{Ordering}
 use Rattle.std.specs.declared.cmp.Ordering.TheVariants.{Less, Equal, Greater}
-use Rattle.rsb_integer.specs.Runs.{covers}
-use Rattle.rsb_integer.specs.Selection.{Selection}
 
 -- the order that a negative number, 0 and a positive one stand for
 abbrev pub order_told : ℤ → Ordering

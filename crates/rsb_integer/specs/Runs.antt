@@ -1,5 +1,5 @@
 -- Lists of intervals of ranks, and when such a list is the runs of a set.
-use Rattle.std.specs.Prelude.{◌≡◌, ℕ, Bool, ◌&&◌, cond, ◌+◌, ◌-◌, ◌<◌, ◌≤◌, nat_le, nat_lt, List, [], ◌∷◌, All, AllPairs, Contains, IsTrue, IsFalse}
+use Rattle.std.specs.Prelude.{◌≡◌, ℕ, ◌&&◌, cond, ◌+◌, ◌-◌, ◌<◌, ◌≤◌, nat_le, nat_lt, List, [], ◌∷◌, All, AllPairs, Contains, IsTrue, IsFalse}
 use Rattle.rsb_integer.specs.Selection.{Selection}
 
 -- the ranks from first to last, both included: none where last is below first

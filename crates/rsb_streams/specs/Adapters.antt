@@ -1,5 +1,5 @@
 -- What std's adapters over a stream may give: some ranges of what their stream may give.
-use Rattle.std.proofs.Common.{◌≡◌, ◌⊎◌, ℕ, ◌<◌, ◌≤◌, Bool, true, false, List, [], ◌++◌, take, drop, length}
+use Rattle.std.proofs.Common.{◌≡◌, ◌⊎◌, ℕ, ◌<◌, ◌≤◌, Bool, true, false, List, [], take, drop, length}
 use Rattle.std.specs.Prelude.{Option, None, MatchBool}
 use Rattle.std.specs.Iterator.{CallableOnAllAt, CallableWhileAt, YieldsThen}
 use Rattle.std.specs.Iterator.Adapters.{filter_callee, filter_source, skip_count, skip_source, skip_while_callee, skip_while_done_skipping, skip_while_source, take_count, take_source, take_while_callee, take_while_done, take_while_source}

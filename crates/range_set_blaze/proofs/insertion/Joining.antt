@@ -4,12 +4,11 @@ use Rattle.std.specs.List.{Contains}
 use Rattle.std.proofs.lemmas.Bool.{cases_lt}
 use Rattle.rsb_integer.specs.Selection.{LacksSome}
 use Rattle.rsb_integer.specs.Runs.{Interval, covers, members, IsCanonicalIn}
-use Rattle.rsb_integer.proofs.ListLemmas.{true_or_false, not_both}
+use Rattle.rsb_integer.proofs.ListLemmas.{not_both}
 use Rattle.rsb_integer.proofs.MembersLemmas.{covers-bounds, covers-inside, members-end}
 use Rattle.range_set_blaze.specs.Joining.{IsHull, IsInside, IsJoining, IsReaching, IsUnreached, KnowsInside, NoneInside}
 use Rattle.range_set_blaze.specs.Kept.{run_of}
 use Rattle.range_set_blaze.specs.Starts.{IsLastBelow, IsLastTwo, NoneBelow}
-use Rattle.range_set_blaze.specs.Set.{Adds}
 use Rattle.range_set_blaze.specs.declared.set.run.Run.{Run}
 use Rattle.range_set_blaze.proofs.runs.Apart.{contained-after, contained-before, contained-maximal, contained-members, contained-starts, last-gap, none-gap}
 use Rattle.range_set_blaze.proofs.runs.Kept.{le-fails}

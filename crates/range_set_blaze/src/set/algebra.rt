@@ -68,7 +68,8 @@ impl<T: Integer, A: Allocator + Copy> RangeSetBlaze<T, A> {
     /// The values that the set lacks. They have at most one run more than the set. Without memory
     /// nothing is made. (`Not` of `RangeSetBlaze`: `a.not()?` for `!&a`.)
     pub fn not(&self) -> Result<Self, AllocError>
-        ensures members { IfOk result (λ set. IsSetOf set (complement_in T.value_count (members self.now))) }
+        ensures members { IfOk result (λ set.
+            IsSetOf set (complement_in T.value_count (members self.now))) }
         ensures run_count { IfOk result (λ set. HasOneRunMoreAtMost self.now set) }
     {
         Self::from_sorted_disjoint(self.alloc, self.ranges().complement())

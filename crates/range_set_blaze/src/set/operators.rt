@@ -92,7 +92,8 @@ impl<'a, T: Integer, A: Allocator + Copy> Not for &'a RangeSetBlaze<T, A> {
         IsSetOf lacking (complement_in T.value_count (members set.now))) };
 
     fn not(self) -> Self::Output
-        ensures members { IfOk result (λ lacking. IsSetOf lacking (complement_in T.value_count (members self.now))) }
+        ensures members { IfOk result (λ lacking.
+            IsSetOf lacking (complement_in T.value_count (members self.now))) }
         ensures run_count { IfOk result (λ lacking. HasOneRunMoreAtMost self.now lacking) }
     {
         RangeSetBlaze::not(self)

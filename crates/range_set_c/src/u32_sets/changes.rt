@@ -19,9 +19,12 @@ pub extern "C" fn rsb_u32_insert_range(
     last: u32,
 ) -> u32
     ensures answer { result ≤ 2 }
-    ensures members { result < 2 → Adds set.old.kept.set set.new.kept.set (covers (from_to first last)) }
-    ensures unchanged { result ≡ 0 → ¬ LacksSome (members set.old.kept.set) (covers (from_to first last)) }
-    ensures changed { result ≡ 1 → LacksSome (members set.old.kept.set) (covers (from_to first last)) }
+    ensures members { result < 2
+        → Adds set.old.kept.set set.new.kept.set (covers (from_to first last)) }
+    ensures unchanged { result ≡ 0
+        → ¬ LacksSome (members set.old.kept.set) (covers (from_to first last)) }
+    ensures changed { result ≡ 1
+        → LacksSome (members set.old.kept.set) (covers (from_to first last)) }
     ensures refused { result ≡ 2 → set.new.kept.set ≡ set.old.kept.set }
     ensures nothing { last < first → result ≡ 0 }
     ensures spared { IsReached set.old.kept.set first → result < 2 }

@@ -26,7 +26,8 @@ pub extern "C" fn rsb_u32_clone(alloc: Global, out: &mut Handle, set: &mut Handl
 #[unsafe(no_mangle)]
 pub extern "C" fn rsb_u32_complement(alloc: Global, out: &mut Handle, set: &mut Handle) -> u32
     ensures answer { (result ≡ 1) ⊎ (result ≡ 2) }
-    ensures members { result ≡ 1 → IsSetOf out.new.kept.set (complement_in (2 ^ 32) (members set.old.kept.set)) }
+    ensures members { result ≡ 1
+        → IsSetOf out.new.kept.set (complement_in (2 ^ 32) (members set.old.kept.set)) }
     ensures refused { result ≡ 2 → out.new.kept.set ≡ out.old.kept.set }
     ensures set { set.new.kept.set ≡ set.old.kept.set }
 {

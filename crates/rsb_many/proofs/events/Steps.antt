@@ -1,13 +1,11 @@
 -- A sweep goes on event by event: from what is left of its inputs to what is left after one.
-use Rattle.std.proofs.Common.{◌≡◌, ◌≢◌, ℕ, zero, suc, ◌+◌, ◌<◌, List, [], ◌∷◌, ◌++◌, length, get_or, get_or-set_other, get_or-set_same, length-set, set, All, AllPairs, IsPermutation, IsFalse, refl, sym, ap, ◌∙◌, subst, inl, inr, arith}
-use Rattle.std.proofs.lemmas.List.Elements.{All-append, All-get_or, All-head, All-nil, All-set, All-tail}
+use Rattle.std.proofs.Common.{◌≡◌, ◌≢◌, ℕ, zero, suc, ◌+◌, ◌<◌, List, [], ◌∷◌, ◌++◌, length, get_or, get_or-set_other, get_or-set_same, length-set, set, All, AllPairs, IsPermutation, IsFalse, refl, sym, ◌∙◌, subst, inl, inr, arith}
+use Rattle.std.proofs.lemmas.List.Elements.{All-append, All-get_or, All-head, All-nil, All-tail}
 use Rattle.std.proofs.lemmas.List.Sorted.{All-permutation, IsPermutation-append_right, IsPermutation-cons, IsPermutation-middle, IsPermutation-refl, IsPermutation-trans}
 use Rattle.rsb_integer.proofs.ListLemmas.{AllPairs-cons}
-use Rattle.rsb_integer.specs.Runs.{Interval}
 use Rattle.std.proofs.lemmas.Bool.{cases_eq}
-use Rattle.rsb_streams.specs.TouchingLaws.{touching-lower}
 use Rattle.rsb_many.specs.Keys.{comes_before}
-use Rattle.rsb_many.specs.Sweep.{begun_to, events_of_rest, key_of_event, not_begun, nothing_left, rest_events_from, AreEventsOf, End, Event, IsTouchingRest, Precedes, Rest, Start}
+use Rattle.rsb_many.specs.Sweep.{events_of_rest, key_of_event, nothing_left, rest_events_from, AreEventsOf, Event, IsTouchingRest, Precedes, Rest}
 use Rattle.rsb_many.proofs.events.Ascending.{before-all, AllPairs-head, AllPairs-nil}
 use Rattle.rsb_many.proofs.heap.Keys.{comes_before-other}
 use Rattle.rsb_many.proofs.events.Lists.{end_then-ascending, end_then-input, precedes-through}

@@ -1,8 +1,8 @@
 -- What tests between two streams tell.
-use Rattle.std.proofs.Common.{◌↔◌, ℕ, ◌<◌, Bool, List, refl, sym, ◌∙◌, inl, inr}
+use Rattle.std.proofs.Common.{◌↔◌, ℕ, ◌<◌, Bool, refl, sym, ◌∙◌, inl, inr}
 use Rattle.std.proofs.lemmas.Bool.{cases_lt}
 use Rattle.std.specs.Prelude.{IsTrue, IsFalse}
-use Rattle.rsb_integer.specs.Runs.{Interval, members}
+use Rattle.rsb_integer.specs.Runs.{members}
 use Rattle.rsb_integer.specs.Selection.{Selection, AreDisjoint, IsEmpty, IsSubset, difference, intersection}
 use Rattle.rsb_integer.proofs.ListLemmas.{not_both, true_or_false}
 use Rattle.rsb_integer.proofs.MembersLemmas.{members-end}

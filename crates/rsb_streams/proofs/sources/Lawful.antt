@@ -14,8 +14,6 @@ use Rattle.rsb_streams.specs.Calls.{Call, IsSource}
 use Rattle.rsb_streams.specs.CallsLaws.{calls-steps}
 use Rattle.rsb_streams.specs.StreamLaws.{settled_canonical_in, settled_sorted}
 use Rattle.rsb_streams.specs.Stream.{◌⊆◌, HasSortedStarts, HasSortedStartsFrom}
-use Rattle.rsb_streams.specs.Touching.{IsTouchingIn}
-use Rattle.rsb_streams.proofs.checking.Placed.{settled_touching_in, touching-front}
 use Rattle.rsb_streams.proofs.sources.Known.{IsLawful}
 
 -- a front of a list by starts is such a list

@@ -1,4 +1,4 @@
-use Rattle.std.proofs.Common.{◌≡◌, ◌+◌, ◌*◌, ◌<◌, ◌≤◌, ◌∷◌, drop, length, refl, set, sym, ap, subst, arith, IsPermutation}
+use Rattle.std.proofs.Common.{◌+◌, ◌*◌, ◌≤◌, ◌∷◌, drop, length, refl, set, sym, subst, arith, IsPermutation}
 use Rattle.std.proofs.lemmas.List.Elements.{All-cons, All-drop}
 use Rattle.std.proofs.lemmas.List.Sorted.{All-permutation, IsPermutation-refl}
 use Rattle.rsb_many.specs.Heads.{binary_digits, standing, HasValues}
