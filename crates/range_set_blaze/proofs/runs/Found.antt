@@ -76,21 +76,6 @@ module _ {T : Type 0} (rank : T → ℕ) (n : ℕ) (runs : List Interval)
       let maximal = contained-maximal n runs canonical (run_of rank run) found.among in
       (omega (arith, maximal.in_order, maximal.in_type), maximal.in_type)
 
-  -- and so is the last of two, if there is one
-  pub two-values : (last before : Option (Run T)) → IsLastTwo rank runs bound last before
-      → IfSome last (λ run. (rank run.start < n) × (rank run.end < n))
-  two-values None before none = tt
-  two-values (Some last) before two = last-value last two.0
-
-  -- and the one before that
-  pub before-values : (last before : Option (Run T)) → (IsNone last → IsNone before)
-      → IsLastTwo rank runs bound last before → IfSome before (λ run. rank run.start < n)
-  before-values last None none two = tt
-  before-values None (Some before) none two = let no = none refl in absurd (cc)
-  before-values (Some last) (Some before) none two =
-      let maximal = contained-maximal n runs canonical (run_of rank before) two.1.among in
-      omega (arith, maximal.in_order, maximal.in_type)
-
 module _ {T : Type 0} (rank : T → ℕ) (runs : List Interval) (bound : ℕ) (last before : Option (Run T))
     (two : IsLastTwo rank runs bound last before) where
   -- the last of two that was found, and what comes before it

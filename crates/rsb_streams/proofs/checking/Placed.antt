@@ -92,23 +92,3 @@ touching-tail n run runs touching = (
   touching-lower (run.last + 1) 0 runs (omega arith) touching.0.2,
   All-tail (λ (other : Interval). other.last < n) run runs touching.1,
 )
-
--- ---- what is decided holds where it does not fail
-
--- a list may touch from a rank on where that does not fail
-settled_touching : (low : ℕ) (runs : List Interval) → ¬ (¬ (IsTouchingFrom low runs))
-    → IsTouchingFrom low runs
-settled_touching low [] holds = tt
-settled_touching low (run ∷ runs) holds = (
-  settled_le low run.first (λ fails. holds (λ all. fails all.0)),
-  settled_le run.first run.last (λ fails. holds (λ all. fails all.1)),
-  settled_touching (run.last + 1) runs (λ fails. holds (λ all. fails all.2)),
-)
-
--- and in a type of n values where that does not fail
-pub settled_touching_in : (n : ℕ) (runs : List Interval) → ¬ (¬ (IsTouchingIn n runs))
-    → IsTouchingIn n runs
-settled_touching_in n runs holds = (
-  settled_touching 0 runs (λ fails. holds (λ all. fails all.0)),
-  settled_below n runs (λ fails. holds (λ all. fails all.1)),
-)
