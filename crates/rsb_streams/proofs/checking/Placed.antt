@@ -3,7 +3,6 @@ use Rattle.std.proofs.Common.{◌≡◌, ℕ, Bool, true, false, ◌+◌, ◌<�
 use Rattle.std.proofs.lemmas.List.Elements.{All-tail}
 use Rattle.rsb_integer.specs.Runs.{Interval, AllEndBelow, IsCanonicalFrom, IsCanonicalIn}
 use Rattle.rsb_integer.proofs.ListLemmas.{All-front}
-use Rattle.rsb_streams.specs.StreamLaws.{settled_below, settled_le}
 use Rattle.rsb_streams.specs.OutOfPlace.{past_end, IsPlacedFrom, IsPlacedIn}
 use Rattle.rsb_streams.specs.Touching.{IsTouchingFrom, IsTouchingIn}
 use Rattle.rsb_streams.specs.TouchingLaws.{touching-lower}

@@ -1,6 +1,6 @@
 -- How far the union of a stream is ahead of the inputs of that stream, whatever their places.
-use Rattle.std.proofs.Common.{◌≡◌, ◌⊎◌, inl, inr, ℕ, ◌+◌, ◌≤◌, Bool, true, false, List, [], ◌∷◌, ◌++◌, length, refl, ap, subst, sym, arith}
-use Rattle.std.proofs.lemmas.List.{append-nil, length-append}
+use Rattle.std.proofs.Common.{◌≡◌, ◌⊎◌, inl, inr, ℕ, ◌+◌, ◌≤◌, Bool, true, false, List, [], ◌∷◌, ◌++◌, refl, subst, sym}
+use Rattle.std.proofs.lemmas.List.{append-nil}
 use Rattle.std.specs.Iterator.{Yields}
 use Rattle.std.specs.Prelude.{Option, Some, None, MatchBool}
 use Rattle.std.specs.declared.ops.RangeInclusive.{RangeInclusive}
@@ -8,7 +8,7 @@ use Rattle.rsb_integer.specs.Rank.{interval_of, intervals_of}
 use Rattle.rsb_integer.specs.Runs.{Interval}
 use Rattle.rsb_integer.specs.declared.integer.Integer.{Ghosts as Elements}
 use Rattle.rsb_streams.specs.Fused.{fused, Fused}
-use Rattle.rsb_streams.specs.Lookahead.{at_side, holding, if_same, same_side, undrawn, AreUndrawn, AreWithin, AsksOne, Drew, GivesFrom, HasEnded, Input, IsOneFrom, IsUndrawn, Left, LooksAhead, Right, Sameness, Spares, TakesOne, Uses}
+use Rattle.rsb_streams.specs.Lookahead.{at_side, holding, if_same, same_side, undrawn, AreUndrawn, AreWithin, AsksOne, GivesFrom, HasEnded, Input, IsOneFrom, IsUndrawn, Left, LooksAhead, Right, Sameness, Spares, TakesOne, Uses}
 use Rattle.rsb_streams.specs.Merge.{merge_inputs, MergesUndrawn}
 use Rattle.rsb_streams.specs.PutBack.{fused_of, held_list, IsFresh}
 use Rattle.rsb_streams.specs.Stream.{just, Outcomes}
