@@ -46,12 +46,6 @@ abbrev pub next_start : ℕ → List Interval → ℕ
 next_start low [] = low
 next_start low (run ∷ runs) = next_start (run.last + 2) runs
 
--- a list with this interval last may go on two ranks past its end
-pub next_start-push : (low : ℕ) (runs : List Interval) (run : Interval)
-    → next_start low (runs ++ run ∷ []) ≡ run.last + 2
-next_start-push low [] run = refl
-next_start-push low (other ∷ runs) run = next_start-push (other.last + 2) runs run
-
 -- both parts of a canonical list are canonical, the second from where the first lets it go on
 pub canonical-parts : (low : ℕ) (runs others : List Interval) → IsCanonicalFrom low (runs ++ others)
     → IsCanonicalFrom low runs × IsCanonicalFrom (next_start low runs) others
@@ -59,13 +53,6 @@ canonical-parts low [] others canonical = (tt, canonical)
 canonical-parts low (run ∷ runs) others canonical =
     let parts = canonical-parts (run.last + 2) runs others canonical.2 in
     ((canonical.0, canonical.1, parts.0), parts.1)
-
--- and two lists that are so make one canonical list
-pub canonical-append : (low : ℕ) (runs others : List Interval) → IsCanonicalFrom low runs
-    → IsCanonicalFrom (next_start low runs) others → IsCanonicalFrom low (runs ++ others)
-canonical-append low [] others front rest = rest
-canonical-append low (run ∷ runs) others front rest =
-    (front.0, front.1, canonical-append (run.last + 2) runs others front.2 rest)
 
 -- a front of a canonical list is canonical
 pub canonical-front : (n : ℕ) (runs others : List Interval) → IsCanonicalIn n (runs ++ others)

@@ -18,13 +18,6 @@ once-at_most true large within = let same : once large ≡ 1 = ap once (within r
 once-at_most false true within = omega arith
 once-at_most false false within = omega arith
 
--- where a test adds less than another, the other passes and it fails
-once-less : (small large : Bool) → once small < once large → (large ≡ true) × (small ≡ false)
-once-less true true less = absurd (omega arith)
-once-less true false less = absurd (omega arith)
-once-less false true less = (refl, refl)
-once-less false false less = absurd (omega arith)
-
 -- of two tests that do not both pass, either one adds what the two add together
 once-or : (left right : Bool) → (left ≡ true → right ≡ false) → once (left || right)
     ≡ once left + once right
@@ -98,19 +91,6 @@ count-less (suc n) small large within rank below has lacks = elim (cases_lt rank
       let none : once (small n) ≡ 0 = ap once (sym (ap small same) ∙ lacks) in
       let one : once (large n) ≡ 1 = ap once (sym (ap large same) ∙ has) in
       omega arith
-]
-
--- of two sets the one with the larger count has a rank that the other lacks
-pub count-finds : (n : ℕ) (small large : Selection) → count n small < count n large
-    → (rank : ℕ) × (rank < n) × (large rank ≡ true) × (small rank ≡ false)
-unfolding count
-count-finds zero small large less = absurd (omega arith)
-count-finds (suc n) small large less = elim (cases_lt (once (small n)) (once (large n))) [
-  | inl more ↦ let tells = once-less (small n) (large n) more in (n, omega arith, tells.0, tells.1)
-  | inr same ↦
-      let found = count-finds n small large (omega arith) in
-      let below = found.1 in
-      (found.0, omega arith, found.2, found.3)
 ]
 
 -- the count of two sets with no common rank

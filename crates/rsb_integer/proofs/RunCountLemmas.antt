@@ -541,16 +541,7 @@ begins-at_least least sets (suc rank) positive =
     more-by least (how_many sets (suc rank)) (how_many sets rank)
     (how_many (map begins sets) (suc rank)) (how_many-next sets rank)
 
--- no rank has no set that begins
-begin_together-zero : (sets : List Selection) → begin_together 0 sets ≡ 0
-unfolding count
-begin_together-zero [] = refl
-begin_together-zero (set ∷ sets) =
-    let others = begin_together-zero sets in
-    let sum = sum_by-cons (λ each. count 0 (begins each)) set sets in
-    omega arith
-
--- and one rank more has those that begin there
+-- one rank more has those that begin there
 begin_together-next : (n : ℕ) (sets : List Selection)
     → begin_together (suc n) sets ≡ begin_together n sets + how_many (map begins sets) n
 unfolding count

@@ -51,11 +51,6 @@ pub record HasRoomForAll {T I A N : Type 0} (s : Drawn T I A N) : Type 0 where
   pub few : length s.heads.heads + option_len s.used ≤ length s.streams.items
   pub room : length s.streams.items ≤ s.heads.room
 
--- it draws from the same streams as before
-pub record KeepsStreams {T I A N : Type 0} (s t : Drawn T I A N) : Type 0 where
-  pub count : length t.streams.items ≡ length s.streams.items
-  pub room : HasRoomForAll t
-
 module _ {T N I A : Type 0} (integer : Elements T N) (stream : Stream I T N) where
   -- the inputs are ready, and there is room for their heads
   pub record DrawnReady (s : Drawn T I A N) : Type 0 where

@@ -1,5 +1,5 @@
 -- The last runs of a range of a map.
-use Rattle.std.proofs.Common.{◌≡◌, ℕ, nat_lt, ◌<◌, ◌≤◌, List, [], ◌∷◌, ◌++◌, refl, sym, ap, ◌∙◌, arith, subst, Option, Some, None, IfSome, IsNone, MatchOption}
+use Rattle.std.proofs.Common.{◌≡◌, ℕ, nat_lt, ◌<◌, ◌≤◌, List, [], ◌∷◌, ◌++◌, sym, ap, ◌∙◌, arith, subst, Option, Some, None, MatchOption}
 use Rattle.std.proofs.lemmas.Bool.Decides.{nat_tests}
 use Rattle.std.proofs.lemmas.List.{map-append}
 use Rattle.rsb_integer.specs.Runs.{Interval, IsCanonicalIn}
@@ -75,21 +75,6 @@ module _ {T : Type 0} (rank : T → ℕ) (n : ℕ) (runs : List Interval)
   last-value run found =
       let maximal = contained-maximal n runs canonical (run_of rank run) found.among in
       (omega (arith, maximal.in_order, maximal.in_type), maximal.in_type)
-
-  -- and so is the last of two, if there is one
-  pub two-values : (last before : Option (Run T)) → IsLastTwo rank runs bound last before
-      → IfSome last (λ run. (rank run.start < n) × (rank run.end < n))
-  two-values None before none = tt
-  two-values (Some last) before two = last-value last two.0
-
-  -- and the one before that
-  pub before-values : (last before : Option (Run T)) → (IsNone last → IsNone before)
-      → IsLastTwo rank runs bound last before → IfSome before (λ run. rank run.start < n)
-  before-values last None none two = tt
-  before-values None (Some before) none two = let no = none refl in absurd (cc)
-  before-values (Some last) (Some before) none two =
-      let maximal = contained-maximal n runs canonical (run_of rank before) two.1.among in
-      omega (arith, maximal.in_order, maximal.in_type)
 
 module _ {T : Type 0} (rank : T → ℕ) (runs : List Interval) (bound : ℕ) (last before : Option (Run T))
     (two : IsLastTwo rank runs bound last before) where

@@ -110,16 +110,6 @@ module _ {T N I : Type 0} (integer : Elements T N) (stream : Stream I T N) where
   complements-at (of ∷ streams) (gap ∷ gaps) all (suc place) less =
       complements-at streams gaps all.1 place (omega (arith, less))
 
-  -- one stream more, and its complement
-  pub complements-more : (streams : List I) (gaps : List (NotIter T I)) (of : I) (gap : NotIter T I)
-      → AreComplements integer stream streams gaps → MakesComplement integer stream gaps_of of gap
-      → AreComplements integer stream (streams ++ of ∷ []) (gaps ++ gap ∷ [])
-  complements-more [] [] of gap all more = (more, tt)
-  complements-more [] (other ∷ gaps) of gap all more = absurd all
-  complements-more (one ∷ streams) [] of gap all more = absurd all
-  complements-more (one ∷ streams) (other ∷ gaps) of gap all more =
-      (all.0, complements-more streams gaps of gap all.1 more)
-
   -- what the union of the complements leaves out is what lies in all of the streams
   pub complements-give : (streams : List I) (gaps : List (NotIter T I)) (Outside : Outcomes)
       → AreComplements integer stream streams gaps

@@ -3,7 +3,6 @@ use Rattle.std.proofs.Common.{◌≡◌, ℕ, Bool, true, false, ◌+◌, ◌<�
 use Rattle.std.proofs.lemmas.List.Elements.{All-tail}
 use Rattle.rsb_integer.specs.Runs.{Interval, AllEndBelow, IsCanonicalFrom, IsCanonicalIn}
 use Rattle.rsb_integer.proofs.ListLemmas.{All-front}
-use Rattle.rsb_streams.specs.StreamLaws.{settled_below, settled_le}
 use Rattle.rsb_streams.specs.OutOfPlace.{past_end, IsPlacedFrom, IsPlacedIn}
 use Rattle.rsb_streams.specs.Touching.{IsTouchingFrom, IsTouchingIn}
 use Rattle.rsb_streams.specs.TouchingLaws.{touching-lower}
@@ -91,24 +90,4 @@ pub touching-tail : (n : ℕ) (run : Interval) (runs : List Interval) → IsTouc
 touching-tail n run runs touching = (
   touching-lower (run.last + 1) 0 runs (omega arith) touching.0.2,
   All-tail (λ (other : Interval). other.last < n) run runs touching.1,
-)
-
--- ---- what is decided holds where it does not fail
-
--- a list may touch from a rank on where that does not fail
-settled_touching : (low : ℕ) (runs : List Interval) → ¬ (¬ (IsTouchingFrom low runs))
-    → IsTouchingFrom low runs
-settled_touching low [] holds = tt
-settled_touching low (run ∷ runs) holds = (
-  settled_le low run.first (λ fails. holds (λ all. fails all.0)),
-  settled_le run.first run.last (λ fails. holds (λ all. fails all.1)),
-  settled_touching (run.last + 1) runs (λ fails. holds (λ all. fails all.2)),
-)
-
--- and in a type of n values where that does not fail
-pub settled_touching_in : (n : ℕ) (runs : List Interval) → ¬ (¬ (IsTouchingIn n runs))
-    → IsTouchingIn n runs
-settled_touching_in n runs holds = (
-  settled_touching 0 runs (λ fails. holds (λ all. fails all.0)),
-  settled_below n runs (λ fails. holds (λ all. fails all.1)),
 )

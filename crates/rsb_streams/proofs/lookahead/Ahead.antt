@@ -1,6 +1,6 @@
 -- How far the union of a stream is ahead of the inputs of that stream, whatever their places.
-use Rattle.std.proofs.Common.{◌≡◌, ◌⊎◌, inl, inr, ℕ, ◌+◌, ◌≤◌, Bool, true, false, List, [], ◌∷◌, ◌++◌, length, refl, ap, subst, sym, arith}
-use Rattle.std.proofs.lemmas.List.{append-nil, length-append}
+use Rattle.std.proofs.Common.{◌≡◌, ◌⊎◌, inl, inr, ℕ, ◌+◌, ◌≤◌, Bool, true, false, List, [], ◌∷◌, ◌++◌, refl, subst, sym}
+use Rattle.std.proofs.lemmas.List.{append-nil}
 use Rattle.std.specs.Iterator.{Yields}
 use Rattle.std.specs.Prelude.{Option, Some, None, MatchBool}
 use Rattle.std.specs.declared.ops.RangeInclusive.{RangeInclusive}
@@ -8,7 +8,7 @@ use Rattle.rsb_integer.specs.Rank.{interval_of, intervals_of}
 use Rattle.rsb_integer.specs.Runs.{Interval}
 use Rattle.rsb_integer.specs.declared.integer.Integer.{Ghosts as Elements}
 use Rattle.rsb_streams.specs.Fused.{fused, Fused}
-use Rattle.rsb_streams.specs.Lookahead.{at_side, holding, if_same, same_side, undrawn, AreUndrawn, AreWithin, AsksOne, Drew, GivesFrom, HasEnded, Input, IsOneFrom, IsUndrawn, Left, LooksAhead, Right, Sameness, Spares, TakesOne, Uses}
+use Rattle.rsb_streams.specs.Lookahead.{at_side, holding, if_same, same_side, undrawn, AreUndrawn, AreWithin, AsksOne, GivesFrom, HasEnded, Input, IsOneFrom, IsUndrawn, Left, LooksAhead, Right, Sameness, Spares, TakesOne, Uses}
 use Rattle.rsb_streams.specs.Merge.{merge_inputs, MergesUndrawn}
 use Rattle.rsb_streams.specs.PutBack.{fused_of, held_list, IsFresh}
 use Rattle.rsb_streams.specs.Stream.{just, Outcomes}
@@ -17,7 +17,7 @@ use Rattle.rsb_streams.specs.UnionIter.{joined_inputs, unless_ended, AsksAhead, 
 use Rattle.rsb_streams.specs.declared.draw.Draw.{Ghosts as Stream}
 use Rattle.rsb_streams.specs.declared.merge.Merge.{Merge}
 use Rattle.rsb_streams.specs.declared.union_iter.UnionIter.{UnionIter}
-use Rattle.rsb_streams.proofs.lookahead.EachCall.{fresh-undrawn, from-lower, from-one, uses-back, uses-ended, uses-front, uses-nothing, uses-then, within-first, within-join, within-second}
+use Rattle.rsb_streams.proofs.lookahead.EachCall.{fresh-undrawn, from-lower, uses-back, uses-ended, uses-front, uses-nothing, uses-then, within-first, within-join, within-second}
 
 -- what was used of an input lies within an answer
 record UsesWithin (answer : Interval) (before now : Input) : Type 0 where
@@ -54,21 +54,6 @@ at-place : {Place : Type 0} (before : Place → Input) (run : Interval) (now : P
 at-place before run now takes place (inl same) =
     subst (λ each. GivesFrom (before each) run (now each)) (sym same) takes.here
 at-place before run now takes place (inr other) = takes.elsewhere place other
-
--- so it drew of an input only where nothing was held of it, and one range at most
-pub draws-one : {Same Other : Type 0} (at : Same ⊎ Other) (before : Input) (run : Interval)
-    (now : Input) → AtPlace at before run now → (drawn : List Interval)
-    × Drew before.undrawn drawn now.undrawn × (length before.held + length drawn ≤ 1)
-draws-one (inl same) before run now gives =
-    let order = ap (λ (runs : List Interval). length runs) gives.uses.in_order in
-    let sum = length-append before.held gives.uses.drawn in
-    let none = ap (λ (runs : List Interval). length runs) gives.room in
-    (gives.uses.drawn, gives.uses.drew, omega (arith, order, sum, none))
-draws-one (inr other) before run now spares =
-    let order = ap (λ (runs : List Interval). length runs) spares.uses.in_order in
-    let sum = length-append before.held spares.uses.drawn in
-    let one = from-one run.first now.held spares.later in
-    (spares.uses.drawn, spares.uses.drew, omega (arith, order, sum, one))
 
 -- the last draw gave a range, which is held
 leaves-by : {Same Other : Type 0} (at : Same ⊎ Other) (first : ℕ) (run : Interval)
