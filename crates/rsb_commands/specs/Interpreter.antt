@@ -1,5 +1,5 @@
 -- What commands do to ten sets, and what they reply.
-use Rattle.std.specs.Prelude.{◌≡◌, ◌↔◌, ◌==◌, ◌&&◌, ◌<◌, ⊤, ℕ, Bool, false, not, nat_lt, if◌then◌else◌, IsTrue, IsFalse, List, [], ◌∷◌, length, map, slice_index_or}
+use Rattle.std.specs.Prelude.{◌≡◌, ◌↔◌, ◌==◌, ◌<◌, ⊤, ℕ, Bool, false, if◌then◌else◌, IsTrue, List, [], ◌∷◌, length, map, slice_index_or}
 use Rattle.std.specs.declared.cmp.Ordering.{Ordering}
 use Rattle.std.specs.declared.ops.RangeInclusive.{RangeInclusive}
 use Rattle.rsb_integer.specs.Rank.{intervals_of}

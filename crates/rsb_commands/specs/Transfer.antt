@@ -1,5 +1,5 @@
 -- What writing a text does to the bytes of a writer, where they are known.
-use Rattle.std.specs.Prelude.{◌≡◌, ℕ, ◌<◌, ◌⊎◌, List, [], ◌++◌, length, MatchResult, Option, Result}
+use Rattle.std.specs.Prelude.{◌≡◌, ℕ, ◌<◌, ◌⊎◌, List, [], length, MatchResult, Option, Result}
 use Rattle.std.specs.Io.KnownBytes.{Appends, Keeps}
 use Rattle.rsb_integer.specs.Prefix.{IsPrefix}
 use Rattle.rsb_commands.specs.declared.fault.Fault.{Fault}

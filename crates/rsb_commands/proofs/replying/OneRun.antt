@@ -1,7 +1,7 @@
 -- A rank lies in one run or gap, which one first and one last value tell, and a set has one number
 -- of runs.
 use Rattle.std.proofs.Common.{◌≡◌, ◌∙◌, ℕ, Bool, ◌+◌, ◌-◌, ◌<◌, IsTrue, IsFalse, length, refl, sym, ap, subst, arith}
-use Rattle.rsb_integer.specs.Runs.{Interval, covers, from_to}
+use Rattle.rsb_integer.specs.Runs.{Interval, from_to}
 use Rattle.rsb_integer.specs.Selection.{Selection, complement}
 use Rattle.rsb_integer.proofs.MembersLemmas.{covers-bounds, covers-inside}
 use Rattle.rsb_integer.proofs.RunsLemmas.{runs-same}
