@@ -6,7 +6,7 @@ use Rattle.rsb_commands.specs.declared.fault.Fault.TheVariants.{BadLine, NoMemor
 use Rattle.rsb_commands.specs.Answer.{Answers, HasBytes, KeepsWithoutCommands, WroteFirstReplies, WrotePartOfReplies}
 use Rattle.rsb_commands.specs.Fault.{fault_line, status_of}
 use Rattle.rsb_commands.specs.Spelling.{IsFirstBadLine}
-use Rattle.rsb_commands.specs.Transfer.{AppendsFrontOf}
+use Rattle.rsb_commands.specs.Transfer.{AppendsPrefixOf}
 
 -- what the input still has, and what was written to the output and to the errors, where it is known
 pub record Channels : Type 0 where
@@ -27,7 +27,7 @@ status_after (Err fault) = status_of fault
 abbrev pub TellsFault : Option (List ℕ) → Option (List ℕ) → Result (Unit {0}) Fault → Type 0
 TellsFault old new outcome = MatchResult outcome
     (λ _. Keeps old new)
-    (λ fault. AppendsFrontOf old new (fault_line fault ++ codes "\n"))
+    (λ fault. AppendsPrefixOf old new (fault_line fault ++ codes "\n"))
 
 -- what was read and written where the program ends so
 abbrev pub Leaves : Channels → Channels → Result (Unit {0}) Fault → Type 0

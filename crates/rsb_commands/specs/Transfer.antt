@@ -25,7 +25,7 @@ Writes old new result text = MatchResult result
     (λ fault. (fault ≡ Io) × AppendsShortOf old new text)
 
 -- known bytes grow by a front of the text
-pub record AppendsFrontOf (old new : Option (List ℕ)) (text : List ℕ) : Type 0 where
+pub record AppendsPrefixOf (old new : Option (List ℕ)) (text : List ℕ) : Type 0 where
   pub front : List ℕ
   pub is_prefix : IsPrefix front text
   pub written : Appends old new front

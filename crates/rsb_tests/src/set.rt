@@ -22,7 +22,7 @@ mod ranges;
 mod refusals;
 mod removals;
 mod retained;
-mod rows;
+pub(crate) mod rows;
 mod splits;
 mod std_traits;
 mod steps;

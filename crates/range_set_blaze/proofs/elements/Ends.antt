@@ -65,6 +65,30 @@ module _ {T : Type 0} (I : Type 0) (rank : T → ℕ) (n : ℕ) where
         → IsTaken 0 n (front others) (back others) run rest (edge run)
         → IsFound (members (put front back (run ∷ []) others)) (edge run)
 
+  -- where nothing is held at the front, what is drawn comes first
+  pub between_ends-without_front : (s : Iter T I) (run : Interval) (rest : List Interval)
+      → HasNoRanks (interval_of rank s.front)
+      → between_ends rank s ((run ∷ []) ++ rest)
+      ≡ (run ∷ []) ++ (rest ++ run_if_any (interval_of rank s.back))
+  between_ends-without_front s run rest empty = grind (arith, none-if_empty _ empty)
+
+  -- or what is held at the back
+  pub between_ends-back_alone : (s : Iter T I) → HasNoRanks (interval_of rank s.front)
+      → between_ends rank s [] ≡ run_if_any (interval_of rank s.back) ++ []
+  between_ends-back_alone s empty = grind (arith, none-if_empty _ empty, append-nil)
+
+  -- where nothing is held at the back, what is drawn comes last
+  pub between_ends-without_back : (s : Iter T I) (run : Interval) (rest : List Interval)
+      → HasNoRanks (interval_of rank s.back)
+      → between_ends rank s (rest ++ ((run ∷ []) ++ []))
+      ≡ (run_if_any (interval_of rank s.front) ++ (rest ++ [])) ++ ((run ∷ []) ++ [])
+  between_ends-without_back s run rest empty = grind (arith, none-if_empty _ empty, append-nil, append_assoc)
+
+  -- or what is held at the front
+  pub between_ends-front_alone : (s : Iter T I) → HasNoRanks (interval_of rank s.back)
+      → between_ends rank s [] ≡ run_if_any (interval_of rank s.front) ++ []
+  between_ends-front_alone s empty = grind (arith, none-if_empty _ empty, append-nil)
+
   -- where the least element is taken
   abbrev pub least : End
   least = record {
@@ -75,8 +99,8 @@ module _ {T : Type 0} (I : Type 0) (rank : T → ℕ) (n : ℕ) where
     back = λ others. others;
     apart = λ s rest. refl;
     nothing = refl;
-    drawn = λ s run rest empty. grind (arith, none-if_empty _ empty);
-    alone = λ s empty. grind (arith, none-if_empty _ empty, append-nil);
+    drawn = between_ends-without_front;
+    alone = between_ends-back_alone;
     edge = λ run. run.first;
     Pops = λ run item rest. record {
       value : run.last < n;
@@ -102,8 +126,8 @@ module _ {T : Type 0} (I : Type 0) (rank : T → ℕ) (n : ℕ) where
     back = λ others. [];
     apart = λ s rest. simp (append-nil, append_assoc) refl;
     nothing = refl;
-    drawn = λ s run rest empty. grind (arith, none-if_empty _ empty, append-nil, append_assoc);
-    alone = λ s empty. grind (arith, none-if_empty _ empty, append-nil);
+    drawn = between_ends-without_back;
+    alone = between_ends-front_alone;
     edge = λ run. run.last;
     Pops = λ run item rest. record {
       value : run.last < n;

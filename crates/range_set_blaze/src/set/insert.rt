@@ -268,6 +268,7 @@ fn last_up_to<T: Integer, A: Allocator>(
     }
     run_up_to(map, start)
 }
+
 // Whether a value lies up to the end of the run that was found.
 fn ends_in<T: Integer>(first: Option<Run<T>>, end: T) -> bool
     requires value { T.rank end < T.value_count }

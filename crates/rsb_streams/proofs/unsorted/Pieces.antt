@@ -156,31 +156,31 @@ or-false false = refl
 
 -- two intervals that overlap or touch cover what the one from the lesser start to the greater end
 -- covers
-meet-covers : (place : ℕ) (one other : Interval) → Meet one other → one.first ≤ one.last
+meet-covers : (rank : ℕ) (one other : Interval) → Meet one other → one.first ≤ one.last
     → other.first ≤ other.last
-    → (covers one place || covers other place)
-    ≡ covers (record { first = min one.first other.first; last = max one.last other.last }) place
-meet-covers place one other meets some also =
+    → (covers one rank || covers other rank)
+    ≡ covers (record { first = min one.first other.first; last = max one.last other.last }) rank
+meet-covers rank one other meets some also =
     let left = meets.0 in let right = meets.1 in grind (arith, nat_tests)
 
 -- the members of a list and one more item
-members-push : (items : List Interval) (item : Interval) (place : ℕ)
-    → members (items ++ item ∷ []) place ≡ (members items place || covers item place)
-members-push items item place =
-    members-append items (item ∷ []) place
-    ∙ ap (λ test. members items place || test)
-    (members-cons item [] place ∙ or-false (covers item place))
+members-push : (items : List Interval) (item : Interval) (rank : ℕ)
+    → members (items ++ item ∷ []) rank ≡ (members items rank || covers item rank)
+members-push items item rank =
+    members-append items (item ∷ []) rank
+    ∙ ap (λ test. members items rank || test)
+    (members-cons item [] rank ∙ or-false (covers item rank))
 
 -- a piece has the members of its span, where some first items of it have those of theirs
-members-along : (rest before : List Interval) (span whole : Interval) (place : ℕ)
-    → IsSpan before span → span.first ≤ span.last → members before place ≡ covers span place
+members-along : (rest before : List Interval) (span whole : Interval) (rank : ℕ)
+    → IsSpan before span → span.first ≤ span.last → members before rank ≡ covers span rank
     → All HasRanks rest → HoldsTogether (before ++ rest) → IsSpan (before ++ rest) whole
-    → members (before ++ rest) place ≡ covers whole place
-members-along [] before span whole place is some same fill together covered =
+    → members (before ++ rest) rank ≡ covers whole rank
+members-along [] before span whole rank is some same fill together covered =
     let all = append-nil before in
     let one = span-same before span whole is (subst (λ each. IsSpan each whole) all covered) in
-    ap (λ each. members each place) all ∙ same ∙ ap (λ each. covers each place) one
-members-along (item ∷ rest) before span whole place is some same fill together covered =
+    ap (λ each. members each rank) all ∙ same ∙ ap (λ each. covers each rank) one
+members-along (item ∷ rest) before span whole rank is some same fill together covered =
     let meets = together before rest item span refl is in
     let item_some = All-head HasRanks item rest fill in
     let next : Interval = record {
@@ -189,21 +189,21 @@ members-along (item ∷ rest) before span whole place is some same fill together
     } in
     let longer : (before ++ item ∷ []) ++ rest ≡ before ++ item ∷ rest =
     append_assoc before (item ∷ []) rest in
-    subst (λ each. members each place ≡ covers whole place) longer
-    (members-along rest (before ++ item ∷ []) next whole place
+    subst (λ each. members each rank ≡ covers whole rank) longer
+    (members-along rest (before ++ item ∷ []) next whole rank
     (span-push before span item next is refl refl) (omega arith)
-    (members-push before item place ∙ ap (λ test. test || covers item place) same
-    ∙ meet-covers place span item meets some item_some)
+    (members-push before item rank ∙ ap (λ test. test || covers item rank) same
+    ∙ meet-covers rank span item meets some item_some)
     (All-tail HasRanks item rest fill)
     (subst HoldsTogether (sym longer) together)
     (subst (λ each. IsSpan each whole) (sym longer) covered))
 
 -- a piece has the members of its span
-pub piece-members : (items : List Interval) (span : Interval) (place : ℕ) → IsSpan items span
-    → HoldsTogether items → All HasRanks items → members items place ≡ covers span place
-piece-members [] span place is together fill = absurd (span-some span is)
-piece-members (item ∷ rest) span place is together fill =
-    members-along rest (item ∷ []) item span place (span-one item)
+pub piece-members : (items : List Interval) (span : Interval) (rank : ℕ) → IsSpan items span
+    → HoldsTogether items → All HasRanks items → members items rank ≡ covers span rank
+piece-members [] span rank is together fill = absurd (span-some span is)
+piece-members (item ∷ rest) span rank is together fill =
+    members-along rest (item ∷ []) item span rank (span-one item)
     (All-head HasRanks item rest fill)
-    (members-cons item [] place ∙ or-false (covers item place)) (All-tail HasRanks item rest fill)
+    (members-cons item [] rank ∙ or-false (covers item rank)) (All-tail HasRanks item rest fill)
     together is

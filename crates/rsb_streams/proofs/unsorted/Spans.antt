@@ -34,24 +34,24 @@ non_empty-fill (item ∷ items) = elim (cases_lt item.last item.first) [
 ]
 
 -- an empty interval covers nothing
-covers-none : (item : Interval) (place : ℕ) → HasNoRanks item → covers item place ≡ false
-covers-none item place empty = grind (arith, nat_tests)
+covers-none : (item : Interval) (rank : ℕ) → HasNoRanks item → covers item rank ≡ false
+covers-none item rank empty = grind (arith, nat_tests)
 
 -- they have the members of all
-non_empty-members : (items : List Interval) (place : ℕ)
-    → members (non_empty items) place ≡ members items place
-non_empty-members [] place = refl
-non_empty-members (item ∷ items) place = elim (cases_lt item.last item.first) [
+non_empty-members : (items : List Interval) (rank : ℕ)
+    → members (non_empty items) rank ≡ members items rank
+non_empty-members [] rank = refl
+non_empty-members (item ∷ items) rank = elim (cases_lt item.last item.first) [
   | inl empty ↦
-      ap (λ each. members each place) (non_empty-skip item items empty)
-      ∙ non_empty-members items place
-      ∙ ap (λ test. test || members items place) (sym (covers-none item place empty))
-      ∙ sym (members-cons item items place)
+      ap (λ each. members each rank) (non_empty-skip item items empty)
+      ∙ non_empty-members items rank
+      ∙ ap (λ test. test || members items rank) (sym (covers-none item rank empty))
+      ∙ sym (members-cons item items rank)
   | inr some ↦
-      ap (λ each. members each place) (non_empty-keep item items some)
-      ∙ members-cons item (non_empty items) place
-      ∙ ap (λ test. covers item place || test) (non_empty-members items place)
-      ∙ sym (members-cons item items place)
+      ap (λ each. members each rank) (non_empty-keep item items some)
+      ∙ members-cons item (non_empty items) rank
+      ∙ ap (λ test. covers item rank || test) (non_empty-members items rank)
+      ∙ sym (members-cons item items rank)
 ]
 
 -- ---- their members
@@ -62,30 +62,30 @@ All-back P [] ys all = all
 All-back P (x ∷ xs) ys all = All-back P xs ys (All-tail P x (xs ++ ys) all)
 
 -- the spans of pieces have the members of their items
-pieces-members : (pieces : List (List Interval)) (spans : List Interval) (place : ℕ)
+pieces-members : (pieces : List (List Interval)) (spans : List Interval) (rank : ℕ)
     → AllZip IsSpan pieces spans → All HoldsTogether pieces → All HasRanks (items_of pieces)
-    → members spans place ≡ members (items_of pieces) place
-pieces-members [] [] place spanned together fill = refl
-pieces-members [] (span ∷ spans) place spanned together fill = absurd spanned
-pieces-members (piece ∷ pieces) [] place spanned together fill = absurd spanned
-pieces-members (piece ∷ pieces) (span ∷ spans) place spanned together fill =
-    members-cons span spans place
-    ∙ ap (λ test. test || members spans place)
-    (sym (piece-members piece span place spanned.0 (All-head HoldsTogether piece pieces together)
+    → members spans rank ≡ members (items_of pieces) rank
+pieces-members [] [] rank spanned together fill = refl
+pieces-members [] (span ∷ spans) rank spanned together fill = absurd spanned
+pieces-members (piece ∷ pieces) [] rank spanned together fill = absurd spanned
+pieces-members (piece ∷ pieces) (span ∷ spans) rank spanned together fill =
+    members-cons span spans rank
+    ∙ ap (λ test. test || members spans rank)
+    (sym (piece-members piece span rank spanned.0 (All-head HoldsTogether piece pieces together)
     (All-front HasRanks piece (items_of pieces) fill)))
-    ∙ ap (λ test. members piece place || test)
-    (pieces-members pieces spans place spanned.1 (All-tail HoldsTogether piece pieces together)
+    ∙ ap (λ test. members piece rank || test)
+    (pieces-members pieces spans rank spanned.1 (All-tail HoldsTogether piece pieces together)
     (All-back HasRanks piece (items_of pieces) fill))
-    ∙ sym (members-append piece (items_of pieces) place)
+    ∙ sym (members-append piece (items_of pieces) rank)
 
 -- the spans have the same members as the items
-pub spans-members : (items spans : List Interval) (place : ℕ) → AreSpans (non_empty items) spans
-    → members spans place ≡ members items place
-spans-members items spans place are =
-    pieces-members are.pieces spans place are.spanned are.together
+pub spans-members : (items spans : List Interval) (rank : ℕ) → AreSpans (non_empty items) spans
+    → members spans rank ≡ members items rank
+spans-members items spans rank are =
+    pieces-members are.pieces spans rank are.spanned are.together
     (subst (All HasRanks) (sym are.whole) (non_empty-fill items))
-    ∙ ap (λ each. members each place) are.whole
-    ∙ non_empty-members items place
+    ∙ ap (λ each. members each rank) are.whole
+    ∙ non_empty-members items rank
 
 -- ---- one more piece
 

@@ -2,16 +2,19 @@
 
 use crate::integer::ends::{are_neighbors, leads_across};
 
+/// Whether a character is the one at this place, from 1 on, and follows another.
+fn is_at(count: u32, c: char, before: Option<char>) -> bool {
+    let others = 1_112_065_u32.saturating_sub(count);
+    leads_across('\0', c, count)
+        && leads_across(c, char::MAX, others)
+        && before.is_none_or(|before| are_neighbors(before, c))
+}
+
 #[test]
 fn characters_are_counted_and_stepped_without_the_surrogates(rt: HostRuntime) {
     let mut before: Option<char> = None;
     for (count, c) in (1_u32..).zip('\0'..=char::MAX) {
-        let others = 1_112_065_u32.saturating_sub(count);
-        assert!(rt; leads_across('\0', c, count), "up to {c:?}");
-        assert!(rt; leads_across(c, char::MAX, others), "from {c:?}");
-        if let Some(before) = before {
-            assert!(rt; are_neighbors(before, c), "before {c:?}");
-        }
+        assert!(rt; is_at(count, c, before), "{c:?}");
         before = Some(c);
     }
     assert!(rt; before == Some(char::MAX));
@@ -19,6 +22,6 @@ fn characters_are_counted_and_stepped_without_the_surrogates(rt: HostRuntime) {
 
 #[test]
 fn steps_of_characters_leave_the_surrogates_out(rt: HostRuntime) {
-    assert!(rt; are_neighbors('\u{D7FF}', '\u{E000}'));
-    assert!(rt; leads_across('\u{D7FF}', '\u{E000}', 2));
+    let (before, after) = ('\u{D7FF}', '\u{E000}');
+    assert!(rt; are_neighbors(before, after) && leads_across(before, after, 2));
 }

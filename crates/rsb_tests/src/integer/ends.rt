@@ -1,6 +1,6 @@
 //! Every call of `Integer` at both ends of each type.
 
-ghost use Rattle.std.specs.Prelude.{◌<◌, ◌≤◌};
+ghost use Rattle.std.specs.Prelude.{◌<◌, ◌≤◌, IsTrue};
 
 use rsb_commands::outside::{Side, Slot};
 use rsb_integer::Integer;
@@ -16,11 +16,22 @@ pub(crate) fn are_neighbors<T: Integer>(before: T, after: T) -> bool {
     before.add_one() == after && after.sub_one() == before && stepped == before
 }
 
-/// Whether a range has this length, which leads from each of its ends to the other.
-pub(crate) fn leads_across<T: Integer>(first: T, last: T, length: T::SafeLen) -> bool
-    requires order { T.rank first ≤ T.rank last }
-    requires bound { T.rank last < T.value_count }
+/// Whether two values are in order, which is then known of their ranks.
+fn are_in_order<T: Integer>(first: T, last: T) -> bool
+    ensures order { IsTrue result → T.rank first ≤ T.rank last }
+    ensures bound { T.rank last < T.value_count }
 {
+    // Called for what these say of the ranks.
+    first.checked_add_one();
+    last.checked_add_one();
+    first <= last
+}
+
+/// Whether a range has this length, which leads from each of its ends to the other.
+pub(crate) fn leads_across<T: Integer>(first: T, last: T, length: T::SafeLen) -> bool {
+    if !are_in_order(first, last) {
+        return false;
+    }
     let found = T::safe_len(&(first..=last));
     found == length
         && first.inclusive_end_from_start(found) == last
@@ -43,11 +54,10 @@ fn comes_from_the_back<T: Integer>(value: T) -> bool {
         && T::range_next(&mut range).is_none()
 }
 
-/// Whether the range of all values gives the last from the back and then the first from the front.
-fn all_come_from_both_ends<T: Integer>() -> bool {
-    let mut range = T::min_value()..=T::max_value();
-    T::range_next_back(&mut range) == Some(T::max_value())
-        && T::range_next(&mut range) == Some(T::min_value())
+/// Whether a range gives its last value from the back and then its first from the front.
+fn comes_from_both_ends<T: Integer>(first: T, last: T) -> bool {
+    let mut range = first..=last;
+    T::range_next_back(&mut range) == Some(last) && T::range_next(&mut range) == Some(first)
 }
 
 /// Whether the range with no member leads from the greatest value to the least, and gives nothing.
@@ -75,7 +85,7 @@ fn calls_end_well<T: Integer>(two: T::SafeLen, whole: T::SafeLen) -> bool {
         && comes_from_the_front(greatest)
         && comes_from_the_back(least)
         && comes_from_the_back(greatest)
-        && all_come_from_both_ends::<T>()
+        && comes_from_both_ends(least, greatest)
         && exhausted_gives_nothing::<T>()
 }
 

@@ -39,15 +39,12 @@ fn lengths_are_told_apart_and_ordered_as_the_numbers_are(rt: HostRuntime) -> Res
 #[test]
 fn one_past_the_greatest_is_reached_and_left(rt: HostRuntime) -> Result<(), Fail> {
     let half = UIntPlusOne::UInt(128u8);
-    let mut length = half + half;
-    assert!(rt; length == UIntPlusOne::MaxPlusOne);
-    assert!(rt; format!(in rt.alloc(); "{length}")?.as_str() == "256");
-    length -= UIntPlusOne::UInt(1);
-    assert!(rt; length == UIntPlusOne::UInt(255));
     let sixteen = UIntPlusOne::UInt(16u8);
-    assert!(rt; sixteen * sixteen == UIntPlusOne::MaxPlusOne);
-    let zero = UIntPlusOne::<u8>::zero();
-    assert!(rt; format!(in rt.alloc(); "{length} {zero}")?.as_str() == "255 0");
+    let mut length = half + half;
+    assert!(rt; length == UIntPlusOne::MaxPlusOne && sixteen * sixteen == length);
+    let text = format!(in rt.alloc(); "{length} {}", UIntPlusOne::<u8>::zero())?;
+    length -= UIntPlusOne::UInt(1);
+    assert!(rt; text.as_str() == "256 0" && length == UIntPlusOne::UInt(255));
     Ok(())
 }
 
@@ -55,19 +52,20 @@ fn one_past_the_greatest_is_reached_and_left(rt: HostRuntime) -> Result<(), Fail
 fn one_past_the_widest_is_reached_and_left(rt: HostRuntime) -> Result<(), Fail> {
     let half = UIntPlusOne::UInt(1u128 << 127);
     let mut length = half + half;
-    assert!(rt; length == UIntPlusOne::MaxPlusOne);
-    assert!(rt; length.clone()? == UIntPlusOne::MaxPlusOne);
-    assert!(rt; format!(in rt.alloc(); "{length}")?.as_str() == "(u128::MAX + 1)");
-    assert!(rt; length != UIntPlusOne::UInt(u128::MAX));
+    let past = format!(in rt.alloc(); "{length}")?;
+    assert!(rt; length.clone()? == UIntPlusOne::MaxPlusOne && past.as_str() == "(u128::MAX + 1)");
+    assert!(rt; length != UIntPlusOne::UInt(u128::MAX) && !length.is_zero());
     length -= UIntPlusOne::UInt(1);
-    assert!(rt; length == UIntPlusOne::UInt(u128::MAX));
-    assert!(rt; length != UIntPlusOne::UInt(u128::MAX - 1));
+    assert!(rt; length == UIntPlusOne::UInt(u128::MAX) && length != UIntPlusOne::MaxPlusOne);
     let text = format!(in rt.alloc(); "{length}")?;
     assert!(rt; text.as_str() == "340282366920938463463374607431768211455");
+    Ok(())
+}
+
+#[test]
+fn zero_and_one_of_the_widest_are_told_apart(rt: HostRuntime) {
     let mut two = UIntPlusOne::<u128>::one();
     assert!(rt; UIntPlusOne::<u128>::zero().is_zero() && !two.is_zero());
-    assert!(rt; !length.is_zero() && !(half + half).is_zero());
     two += UIntPlusOne::UInt(1);
     assert!(rt; two == UIntPlusOne::UInt(2));
-    Ok(())
 }

@@ -28,7 +28,7 @@ pub(crate) fn streams_of(
 }
 
 /// What is made of many streams or sets.
-#[derive(Clone, Copy, Debug)]
+#[derive(Clone, Copy)]
 pub(crate) enum Form {
     /// What lies in some of them.
     Some,
@@ -88,33 +88,23 @@ fn of_no_streams_nothing_everything_nothing(rt: HostRuntime) -> Result<(), Fail>
     Ok(())
 }
 
+/// Three streams that have one value in common.
+static DEEP: [Ranges; 3] = [&[(1, 5)], &[(3, 8)], &[(5, 6)]];
+
 #[test]
 fn what_is_three_deep_lies_in_an_odd_number(rt: HostRuntime) -> Result<(), Fail> {
-    let tables: [Ranges; 3] = [&[(1, 5)], &[(3, 8)], &[(5, 6)]];
-    assert!(rt;
-        makes(
-            rt.alloc(),
-            &tables,
-            &[(1, 8)],
-            &[(5, 5)],
-            &[(1, 2), (5, 5), (7, 8)]
-        )?
-    );
+    let odd = &[(1, 2), (5, 5), (7, 8)];
+    assert!(rt; makes(rt.alloc(), &DEEP, &[(1, 8)], &[(5, 5)], odd)?);
     Ok(())
 }
 
+/// Three streams that end at the greatest value.
+static AT_THE_END: [Ranges; 3] = [&[(250, 255)], &[(255, 255)], &[(0, 255)]];
+
 #[test]
 fn streams_may_end_at_the_greatest_value(rt: HostRuntime) -> Result<(), Fail> {
-    let tables: [Ranges; 3] = [&[(250, 255)], &[(255, 255)], &[(0, 255)]];
-    assert!(rt;
-        makes(
-            rt.alloc(),
-            &tables,
-            &[(0, 255)],
-            &[(255, 255)],
-            &[(0, 249), (255, 255)]
-        )?
-    );
+    let odd = &[(0, 249), (255, 255)];
+    assert!(rt; makes(rt.alloc(), &AT_THE_END, &[(0, 255)], &[(255, 255)], odd)?);
     Ok(())
 }
 

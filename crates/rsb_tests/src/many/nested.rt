@@ -45,15 +45,23 @@ fn some_not_all<T: Integer, I: DrawDisjoint<T>, A: Allocator + Copy>(
     Ok(union - intersection)
 }
 
-#[test]
-fn many_streams_in_operations_on_one_and_on_two(rt: HostRuntime) -> Result<(), Fail> {
-    let tables: [Ranges; 3] = [&[(1, 2)], &[(5, 6)], &[(2, 3), (200, 255)]];
-    let none = none_of(rt.alloc(), streams_of(rt.alloc(), &tables)?)?;
-    assert!(rt; gives(none, &[(0, 0), (4, 4), (7, 199)]));
+/// Three streams that lie apart.
+static APART: [Ranges; 3] = [&[(1, 2)], &[(5, 6)], &[(2, 3), (200, 255)]];
 
-    let tables: [Ranges; 3] = [&[(0, 9), (20, 255)], &[(5, 30)], &[(7, 8), (25, 255)]];
-    let some = streams_of(rt.alloc(), &tables)?;
-    let each = streams_of(rt.alloc(), &tables)?;
+/// Three streams that lie over one another.
+static MEETING: [Ranges; 3] = [&[(0, 9), (20, 255)], &[(5, 30)], &[(7, 8), (25, 255)]];
+
+#[test]
+fn many_streams_in_an_operation_on_one(rt: HostRuntime) -> Result<(), Fail> {
+    let none = none_of(rt.alloc(), streams_of(rt.alloc(), &APART)?)?;
+    assert!(rt; gives(none, &[(0, 0), (4, 4), (7, 199)]));
+    Ok(())
+}
+
+#[test]
+fn many_streams_in_operations_on_two(rt: HostRuntime) -> Result<(), Fail> {
+    let some = streams_of(rt.alloc(), &MEETING)?;
+    let each = streams_of(rt.alloc(), &MEETING)?;
     let mixed = some_not_all(rt.alloc(), some, each)? ^ stream_of(&[(10, 12)]);
     assert!(rt; gives(mixed, &[(0, 6), (9, 9), (13, 24), (31, 255)]));
     Ok(())

@@ -56,19 +56,27 @@ fn of_a_symmetric_difference(alloc: Global, operation: Operation) -> Result<bool
     })
 }
 
+/// Whether an operator of what lies in at least two of the streams, which is 3..=12, is right.
+fn of_what_is_two_deep(alloc: Global, operation: Operation) -> Result<bool, AllocError> {
+    let stream = streams_of(alloc, &THREE)?.at_least(alloc, 2)?;
+    Ok(match operation {
+        Operation::Union => gives(stream | stream_of(OTHER), &[(3, 25)]),
+        Operation::Intersection => gives(stream & stream_of(OTHER), &[(8, 12)]),
+        Operation::Difference => gives(stream - stream_of(OTHER), &[(3, 7)]),
+        Operation::SymmetricDifference => gives(stream ^ stream_of(OTHER), &[(3, 7), (13, 25)]),
+        Operation::Complement => gives(!stream, &[(0, 2), (13, 255)]),
+    })
+}
+
 #[test]
 fn operators_of_what_many_streams_make(rt: HostRuntime) -> Result<(), Fail> {
     for operation in OPERATIONS {
         let alloc = rt.alloc();
-        assert!(rt; of_a_union(alloc, operation)?, "{operation:?} of a union");
-        assert!(rt;
-            of_an_intersection(alloc, operation)?,
-            "{operation:?} of an intersection"
-        );
-        assert!(rt;
-            of_a_symmetric_difference(alloc, operation)?,
-            "{operation:?} of a symmetric difference"
-        );
+        let is_right = of_a_union(alloc, operation)?
+            && of_an_intersection(alloc, operation)?
+            && of_a_symmetric_difference(alloc, operation)?
+            && of_what_is_two_deep(alloc, operation)?;
+        assert!(rt; is_right, "{operation:?}");
     }
     Ok(())
 }

@@ -4,7 +4,7 @@
 ghost use Rattle.std.specs.Prelude.{All, IfOk};
 
 use crate::many::forms::{Form, form_gives};
-use crate::many::sets::{of_lent, of_sets};
+use crate::many::sets::{lent, of_lent, of_sets};
 use crate::set::many_runs::every_fifth;
 use crate::tables::gives;
 use range_set_blaze::RangeSetBlaze;
@@ -41,17 +41,24 @@ fn are_one_run(alloc: Global, count: i32, run: (i32, i32)) -> Result<bool, Alloc
     )
 }
 
+/// Whether a form of twenty thousand streams, each of 7, is 7.
+fn share_seven(alloc: Global, form: Form) -> Result<bool, AllocError> {
+    form_gives(alloc, form, singles(alloc, &[7; 20_000])?, &[(7, 7)])
+}
+
+/// Whether a merge of so many streams, joined, has all numbers, which are one run.
+fn are_merged(alloc: Global, count: i32, run: (i32, i32)) -> Result<bool, AllocError> {
+    let merged = KMerge::new(alloc, numbers(alloc, count)?)?;
+    Ok(gives(UnionIter::new(merged), &[run]))
+}
+
 #[test]
 fn a_thousand_single_values_are_one_run(rt: HostRuntime) -> Result<(), Fail> {
     let alloc = rt.alloc();
     assert!(rt; are_one_run(alloc, 1000, (0, 999))?);
     assert!(rt; are_one_run(alloc, 20_000, (0, 19_999))?);
-    let merged = KMerge::new(alloc, numbers(alloc, 20_000)?)?;
-    assert!(rt; gives(UnionIter::new(merged), &[(0, 19_999)]));
-    for form in [Form::All, Form::AtLeast(20_000)] {
-        let alike = singles(alloc, &[7; 20_000])?;
-        assert!(rt; form_gives(alloc, form, alike, &[(7, 7)])?, "{form:?}");
-    }
+    assert!(rt; are_merged(alloc, 20_000, (0, 19_999))?);
+    assert!(rt; share_seven(alloc, Form::All)? && share_seven(alloc, Form::AtLeast(20_000))?);
     Ok(())
 }
 
@@ -83,11 +90,7 @@ fn twenty_thousand_sets_make_one(rt: HostRuntime) -> Result<(), Fail> {
     for value in 0..20_000i32 {
         sets.push(RangeSetBlaze::from(alloc, value..=value)?)?;
     }
-    let mut lent = Vec::new(alloc);
-    for set in &sets {
-        lent.push(set)?;
-    }
-    let all = of_lent(alloc, Form::Some, lent)?;
+    let all = of_lent(alloc, Form::Some, lent(alloc, &sets)?)?;
     assert!(rt; gives(all.ranges(), &[(0, 19_999)]));
     assert!(rt; of_sets(alloc, Form::Odd, sets)? == all);
     Ok(())
@@ -102,18 +105,29 @@ static OF_TWO: [(Form, usize, u64); 4] = [
     (Form::AtLeast(2), 70_000, 140_000),
 ];
 
+/// Whether a form of two sets, which are lent, has so many runs and so many members.
+fn lent_have(
+    alloc: Global,
+    sets: [&RangeSetBlaze<i32>; 2],
+    row: &(Form, usize, u64),
+) -> Result<bool, AllocError> {
+    let made = of_lent(alloc, row.0, Vec::from_array(alloc, sets)?)?;
+    Ok(made.ranges_len() == row.1 && made.len() == row.2)
+}
+
+/// Whether a form of the two sets, which are given up, has so many runs and so many members.
+fn given_up_have(alloc: Global, row: &(Form, usize, u64)) -> Result<bool, AllocError> {
+    let sets = [every_fifth(alloc, 0, 2)?, every_fifth(alloc, 1, 2)?];
+    let made = of_sets(alloc, row.0, Vec::from_array(alloc, sets)?)?;
+    Ok(made.ranges_len() == row.1 && made.len() == row.2)
+}
+
 #[test]
 fn two_sets_of_seventy_thousand_runs_make_one(rt: HostRuntime) -> Result<(), Fail> {
     let alloc = rt.alloc();
     let (first, middle) = (every_fifth(alloc, 0, 2)?, every_fifth(alloc, 1, 2)?);
-    for (form, runs, members) in &OF_TWO {
-        let lent = of_lent(alloc, *form, Vec::from_array(alloc, [&first, &middle])?)?;
-        assert!(rt;
-            lent.ranges_len() == *runs && lent.len() == *members,
-            "{form:?}"
-        );
-        let copies = Vec::from_array(alloc, [first.clone()?, middle.clone()?])?;
-        assert!(rt; of_sets(alloc, *form, copies)? == lent, "{form:?}");
+    for row in &OF_TWO {
+        assert!(rt; lent_have(alloc, [&first, &middle], row)? && given_up_have(alloc, row)?);
     }
     Ok(())
 }

@@ -8,7 +8,7 @@ use rsb_many::{MultiwaySweep, MultiwaySymmetricDifference};
 use std::test::Fail;
 
 /// Two inputs: the ranges of the first touch, and the other lies across the place where they do.
-const TWO: [Ranges; 2] = [&[(1, 2), (3, 4)], &[(2, 3)]];
+static TWO: [Ranges; 2] = [&[(1, 2), (3, 4)], &[(2, 3)]];
 
 #[test]
 fn ranges_that_touch_are_told_apart(rt: HostRuntime) -> Result<(), Fail> {
@@ -30,7 +30,11 @@ fn ranges_that_touch_are_joined_in_a_symmetric_difference(rt: HostRuntime) -> Re
     let both = [neighbors_of(TWO[0]), neighbors_of(TWO[1])];
     let odd = MultiwaySymmetricDifference::new_touching(rt.alloc(), both)?;
     assert!(rt; gives(odd, &[(1, 1), (4, 4)]));
+    Ok(())
+}
 
+#[test]
+fn ranges_of_one_stream_that_touch_are_joined(rt: HostRuntime) -> Result<(), Fail> {
     let first = [neighbors_of(TWO[0])];
     let odd = MultiwaySymmetricDifference::new_touching(rt.alloc(), first)?;
     assert!(rt; gives(odd, &[(1, 4)]));

@@ -3,7 +3,7 @@
 use crate::run::ends::{Dripping, Filling, KINDS};
 use crate::run::sessions::{ALL_COMMANDS, ALL_REPLIES, MOST, MOST_REPLIES, REPLIES, SESSION};
 use rsb_commands::{Fault, finish, run, start};
-use std::alloc::Global;
+use std::alloc::{AllocError, Global};
 use std::fmt::Write;
 use std::io::ErrorKind;
 use std::process::ExitCode;
@@ -90,13 +90,17 @@ static ANSWERED: [(&str, &[u8], &[u8]); 21] = [
     ),
 ];
 
+/// Whether lines are answered with these replies.
+fn are_answered(alloc: Global, lines: &[u8], replies: &[u8]) -> bool {
+    let mut rest = lines;
+    let mut output = Vec::new(alloc);
+    run(alloc, &mut rest, &mut output) == Ok(()) && output.as_slice() == replies
+}
+
 #[test]
 fn lines_are_answered(rt: HostRuntime) {
-    for (what, input, wanted) in &ANSWERED {
-        let mut rest = *input;
-        let mut output = Vec::new(rt.alloc());
-        assert!(rt; run(rt.alloc(), &mut rest, &mut output) == Ok(()), "{what}");
-        assert!(rt; output.as_slice() == *wanted, "{what}");
+    for (what, lines, replies) in &ANSWERED {
+        assert!(rt; are_answered(rt.alloc(), lines, replies), "{what}");
     }
 }
 
@@ -157,63 +161,68 @@ static BAD_LINES: [(&[u8], u64); 53] = [
     (b"len 0\nMost 0 1 2 3\n", 2),
 ];
 
+/// Whether lines are told to be bad at the one of a number, and nothing is written.
+fn are_told_as_bad(alloc: Global, lines: &[u8], number: u64) -> bool {
+    let mut rest = lines;
+    let mut output = Vec::new(alloc);
+    run(alloc, &mut rest, &mut output) == Err(Fault::BadLine(number)) && output.is_empty()
+}
+
 #[test]
 fn bad_lines_are_told_by_their_number(rt: HostRuntime) {
-    for (row, (input, number)) in BAD_LINES.iter().enumerate() {
-        let mut rest = *input;
-        let mut output = Vec::new(rt.alloc());
-        let told = run(rt.alloc(), &mut rest, &mut output);
-        assert!(rt; told == Err(Fault::BadLine(*number)), "row {row}");
-        assert!(rt; output.is_empty(), "row {row}");
+    for (row, (lines, number)) in BAD_LINES.iter().enumerate() {
+        assert!(rt; are_told_as_bad(rt.alloc(), lines, *number), "row {row}");
     }
 }
 
 /// The worked sessions, each with its replies.
 static SESSIONS: [(&[u8], &[u8]); 2] = [(SESSION, REPLIES), (ALL_COMMANDS, ALL_REPLIES)];
 
+/// Whether lines that come a byte a call, with interruptions, are answered with these replies, by a
+/// writer that takes as much.
+fn are_answered_in_drops(alloc: Global, lines: &[u8], replies: &[u8]) -> bool {
+    let mut input = Dripping {
+        bytes: lines,
+        failure: None,
+        is_interrupted: false,
+    };
+    let mut output = Filling {
+        taken: Vec::new(alloc),
+        room: replies.len(),
+        failure: Some(ErrorKind::Other),
+        is_interrupted: false,
+    };
+    run(alloc, &mut input, &mut output) == Ok(()) && output.taken.as_slice() == replies
+}
+
 #[test]
 fn one_byte_a_call_and_interruptions_change_nothing(rt: HostRuntime) {
     for (lines, replies) in &SESSIONS {
-        let mut input = Dripping {
-            bytes: *lines,
-            failure: None,
-            is_interrupted: false,
-        };
-        let mut output = Filling {
-            taken: Vec::new(rt.alloc()),
-            room: replies.len(),
-            failure: Some(ErrorKind::Other),
-            is_interrupted: false,
-        };
-        assert!(rt; run(rt.alloc(), &mut input, &mut output) == Ok(()));
-        assert!(rt; output.taken.as_slice() == *replies);
+        assert!(rt; are_answered_in_drops(rt.alloc(), lines, replies));
     }
 }
 
-// With no bytes it is the first call that fails; a second one would find the input's end.
+/// Whether a read that fails once after these bytes is told, and nothing is written. With no bytes it
+/// is the first call that fails; a second one would find the input's end.
+fn is_told_unread(alloc: Global, bytes: &[u8], kind: ErrorKind) -> bool {
+    let mut input = Dripping {
+        bytes,
+        failure: Some(kind),
+        is_interrupted: bytes.is_empty(),
+    };
+    let mut output = Vec::new(alloc);
+    run(alloc, &mut input, &mut output) == Err(Fault::Io) && output.is_empty()
+}
+
 #[test]
 fn a_read_that_fails_once_in_any_way_is_told_and_nothing_is_written(rt: HostRuntime) {
-    for kind in KINDS {
-        for bytes in [
-            b"".as_slice(),
-            b"len 0\n".as_slice(),
-            b"nonsense\n".as_slice(),
-        ] {
-            let mut input = Dripping {
-                bytes,
-                failure: Some(kind),
-                is_interrupted: bytes.is_empty(),
-            };
-            let mut output = Vec::new(rt.alloc());
-            let told = run(rt.alloc(), &mut input, &mut output);
-            assert_eq!(rt;
-                told,
-                Err(Fault::Io),
-                "{kind:?} after {} bytes",
-                bytes.len()
-            );
-            assert!(rt; output.is_empty(), "{kind:?} after {} bytes", bytes.len());
-        }
+    for kind in &KINDS {
+        assert!(rt;
+            is_told_unread(rt.alloc(), b"", *kind)
+                && is_told_unread(rt.alloc(), b"len 0\n", *kind)
+                && is_told_unread(rt.alloc(), b"nonsense\n", *kind),
+            "{kind:?}"
+        );
     }
 }
 
@@ -235,54 +244,59 @@ fn is_told_where_it_stopped(
         is_interrupted: room == 0,
     };
     run(alloc, &mut input, &mut output) == Err(Fault::Io)
-        && replies.get(..room) == Some(output.taken.as_slice())
+        && output.taken.len() == room
+        && replies.starts_with(&output.taken)
+}
+
+/// Whether a write that fails once, or takes no more, at any of three places is told where it stopped.
+fn is_told_at_each(alloc: Global, session: (&[u8], &[u8]), failure: Option<ErrorKind>) -> bool {
+    is_told_where_it_stopped(alloc, session, 0, failure)
+        && is_told_where_it_stopped(alloc, session, 3, failure)
+        && is_told_where_it_stopped(alloc, session, 33, failure)
 }
 
 // A second write would be taken.
 #[test]
 fn a_write_that_fails_once_in_any_way_is_told_where_it_stopped(rt: HostRuntime) {
-    for session in SESSIONS {
-        for room in [0, 3, 33] {
+    for session in &SESSIONS {
+        assert!(rt; is_told_at_each(rt.alloc(), *session, None));
+        for kind in &KINDS {
             assert!(rt;
-                is_told_where_it_stopped(rt.alloc(), session, room, None),
-                "room for {room} bytes"
+                is_told_at_each(rt.alloc(), *session, Some(*kind)),
+                "{kind:?}"
             );
-            for kind in KINDS {
-                assert!(rt;
-                    is_told_where_it_stopped(rt.alloc(), session, room, Some(kind)),
-                    "{kind:?} at {room} bytes"
-                );
-            }
         }
     }
 }
 
-// Ten thousand lines, and one that is longer than a page, a byte a call.
-#[test]
-fn many_lines_and_a_long_one_are_answered(rt: HostRuntime) -> Result<(), Fail> {
-    let mut lines = Vec::new(rt.alloc());
-    let mut wanted = Vec::new(rt.alloc());
+/// Ten thousand lines, and one that is longer than a page.
+fn many_lines(alloc: Global) -> Result<Vec<u8>, AllocError> {
+    let mut lines = Vec::new(alloc);
     for _ in 0..5_000u16 {
         lines.extend_from_slice(b"has 7 12\nlen 3\n")?;
-        wanted.extend_from_slice(b"false\n0\n")?;
     }
     lines.extend_from_slice(b"len ")?;
     lines.resize(lines.len() + 5_000, b' ')?;
     lines.extend_from_slice(b"3\n")?;
-    wanted.extend_from_slice(b"0\n")?;
-    let mut input = Dripping {
-        bytes: &lines,
-        failure: None,
-        is_interrupted: false,
-    };
-    let mut output = Filling {
-        taken: Vec::new(rt.alloc()),
-        room: wanted.len(),
-        failure: Some(ErrorKind::Other),
-        is_interrupted: false,
-    };
-    assert_eq!(rt; run(rt.alloc(), &mut input, &mut output), Ok(()));
-    assert!(rt; output.taken.as_slice() == wanted.as_slice());
+    Ok(lines)
+}
+
+/// What is replied to those lines.
+fn replies_to_many(alloc: Global) -> Result<Vec<u8>, AllocError> {
+    let mut replies = Vec::new(alloc);
+    for _ in 0..5_000u16 {
+        replies.extend_from_slice(b"false\n0\n")?;
+    }
+    replies.extend_from_slice(b"0\n")?;
+    Ok(replies)
+}
+
+// A byte a call.
+#[test]
+fn many_lines_and_a_long_one_are_answered(rt: HostRuntime) -> Result<(), Fail> {
+    let lines = many_lines(rt.alloc())?;
+    let replies = replies_to_many(rt.alloc())?;
+    assert!(rt; are_answered_in_drops(rt.alloc(), &lines, &replies));
     Ok(())
 }
 
@@ -320,51 +334,63 @@ fn many_replies(alloc: Global) -> Result<String, Fail> {
 #[test]
 fn a_hundred_thousand_lines_are_answered(rt: HostRuntime) -> Result<(), Fail> {
     let lines = many_values(rt.alloc())?;
-    let wanted = many_replies(rt.alloc())?;
-    let mut rest = lines.as_bytes();
-    let mut output = Vec::new(rt.alloc());
-    assert!(rt; run(rt.alloc(), &mut rest, &mut output) == Ok(()));
-    assert!(rt; output.as_slice() == wanted.as_bytes());
+    let replies = many_replies(rt.alloc())?;
+    assert!(rt; are_answered(rt.alloc(), lines.as_bytes(), replies.as_bytes()));
     Ok(())
 }
 
+/// Whether an outcome is finished with this status and this line.
+fn finishes(alloc: Global, outcome: Result<(), Fault>, code: ExitCode, line: &[u8]) -> bool {
+    let mut errors = Vec::new(alloc);
+    finish(&mut errors, outcome) == code && errors.as_slice() == line
+}
+
+/// Faults, each with its status and its line.
+static FAULTS: [(Fault, u8, &[u8]); 3] = [
+    (Fault::BadLine(2), 2, b"bad line 2\n"),
+    (Fault::NoMemory, 3, b"no memory\n"),
+    (Fault::Io, 4, b"read or write failed\n"),
+];
+
 #[test]
 fn each_outcome_has_its_status_and_line(rt: HostRuntime) {
-    let mut errors = Vec::new(rt.alloc());
-    assert_eq!(rt; finish(&mut errors, Ok(())), ExitCode::SUCCESS);
-    assert!(rt; errors.is_empty());
-    let rows: [(Fault, u8, &[u8]); 3] = [
-        (Fault::BadLine(2), 2, b"bad line 2\n"),
-        (Fault::NoMemory, 3, b"no memory\n"),
-        (Fault::Io, 4, b"read or write failed\n"),
-    ];
-    for (fault, status, line) in rows {
-        let mut errors = Vec::new(rt.alloc());
-        let code = finish(&mut errors, Err(fault));
-        assert!(rt; code == ExitCode::from(status), "status {status}");
-        assert!(rt; errors.as_slice() == line, "status {status}");
+    assert!(rt; finishes(rt.alloc(), Ok(()), ExitCode::SUCCESS, b""));
+    for (fault, status, line) in &FAULTS {
+        let code = ExitCode::from(*status);
+        assert!(rt;
+            finishes(rt.alloc(), Err(*fault), code, line),
+            "status {status}"
+        );
     }
 }
 
+/// How the program ends: its status, what it wrote, and its line of error.
+type End<'a> = (u8, &'a [u8], &'a [u8]);
+
+/// Whether lines, written by a writer with so much room, end so.
+fn ends(alloc: Global, lines: &[u8], room: usize, end: End<'_>) -> bool {
+    let mut rest = lines;
+    let mut errors = Vec::new(alloc);
+    let mut output = Filling {
+        taken: Vec::new(alloc),
+        room,
+        failure: Some(ErrorKind::Other),
+        is_interrupted: false,
+    };
+    let code = start(alloc, &mut rest, &mut output, &mut errors);
+    code == ExitCode::from(end.0) && output.taken.as_slice() == end.1 && errors.as_slice() == end.2
+}
+
+/// Lines, for how many replied bytes a writer has room, and how the program ends.
+static ENDS: [(&[u8], usize, End<'static>); 3] = [
+    (SESSION, 35, (0, REPLIES, b"")),
+    (b"len 0\nlen 10\n", 35, (2, b"", b"bad line 2\n")),
+    (SESSION, 3, (4, b"tru", b"read or write failed\n")),
+];
+
 #[test]
 fn the_program_ends_by_its_outcome(rt: HostRuntime) {
-    let rows: [(&[u8], usize, u8, &[u8], &[u8]); 3] = [
-        (SESSION, 35, 0, REPLIES, b""),
-        (b"len 0\nlen 10\n", 35, 2, b"", b"bad line 2\n"),
-        (SESSION, 3, 4, b"tru", b"read or write failed\n"),
-    ];
-    for (lines, room, status, wanted, line) in rows {
-        let mut rest = lines;
-        let mut errors = Vec::new(rt.alloc());
-        let mut output = Filling {
-            taken: Vec::new(rt.alloc()),
-            room,
-            failure: Some(ErrorKind::Other),
-            is_interrupted: false,
-        };
-        let code = start(rt.alloc(), &mut rest, &mut output, &mut errors);
-        assert!(rt; code == ExitCode::from(status), "status {status}");
-        assert!(rt; output.taken.as_slice() == wanted, "status {status}");
-        assert!(rt; errors.as_slice() == line, "status {status}");
+    for (lines, room, end) in &ENDS {
+        assert!(rt; ends(rt.alloc(), lines, *room, *end), "status {}", end.0);
     }
 }

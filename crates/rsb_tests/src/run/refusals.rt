@@ -14,43 +14,45 @@ const FIRST: &[u8] = b"true\n";
 
 const ALL: &[u8] = b"true\n1..=5\n";
 
+/// Whether an outcome goes with what was written: all replies where the lines were done, and none or
+/// the first where memory was refused.
+fn goes_with(outcome: Result<(), Fault>, written: &[u8]) -> bool {
+    match outcome {
+        Ok(()) => written == ALL,
+        Err(fault) => fault == Fault::NoMemory && (written.is_empty() || written == FIRST),
+    }
+}
+
+/// How many bytes of the replies are written over a heap of this size. `None` where the outcome does
+/// not go with them.
+fn written_over(alloc: Global, size: usize) -> Result<Option<usize>, AllocError> {
+    let heap = LocalHeap::new(alloc, size)?;
+    let mut input = COMMANDS;
+    let mut output = Vec::new(alloc);
+    let outcome = run(&heap, &mut input, &mut output);
+    Ok(goes_with(outcome, &output).then_some(output.len()))
+}
+
 // Over heaps of growing size the growth that is refused comes later and later.
 #[test]
 fn replies_before_a_refused_growth_are_written(rt: HostRuntime) -> Result<(), Fail> {
+    let mut last = Some(0);
     let mut is_stopped_early = false;
     let mut is_stopped_at_last = false;
-    let mut is_done = false;
-    for size in 4..200usize {
-        let heap = LocalHeap::new(rt.alloc(), 16 * size)?;
-        let mut input = COMMANDS;
-        let mut output = Vec::new(rt.alloc());
-        match run(&heap, &mut input, &mut output) {
-            Ok(()) => {
-                assert!(rt; output.as_slice() == ALL, "size {size}");
-                is_done = true;
-            }
-            Err(fault) => {
-                assert!(rt; fault == Fault::NoMemory, "size {size}");
-                assert!(rt; !is_done, "size {size}");
-                if output.is_empty() {
-                    assert!(rt; !is_stopped_at_last, "size {size}");
-                    is_stopped_early = true;
-                } else {
-                    assert!(rt; output.as_slice() == FIRST, "size {size}");
-                    is_stopped_at_last = true;
-                }
-            }
-        }
+    for step in 4..200usize {
+        let written = written_over(rt.alloc(), 16 * step)?;
+        assert!(rt; written >= last, "step {step}");
+        is_stopped_early = is_stopped_early || written == Some(0);
+        is_stopped_at_last = is_stopped_at_last || written == Some(FIRST.len());
+        last = written;
     }
-    assert!(rt; is_stopped_early && is_stopped_at_last && is_done);
+    assert!(rt; is_stopped_early && is_stopped_at_last && last == Some(ALL.len()));
     Ok(())
 }
 
-// Commands that are stopped keep the replies to those before.
-#[test]
-fn stopped_commands_keep_their_replies(rt: HostRuntime) -> Result<(), Fail> {
-    let slot = SetNo::new(0).expect(&rt, "a slot");
-    let commands = [
+/// Three commands on the set in a slot.
+fn three_commands(slot: SetNo) -> [Command<i32>; 3] {
+    [
         Command::Add {
             slot,
             first: 1,
@@ -58,34 +60,46 @@ fn stopped_commands_keep_their_replies(rt: HostRuntime) -> Result<(), Fail> {
         },
         Command::Has { slot, value: 9 },
         Command::Show { slot },
-    ];
-    let mut is_stopped_at_last = false;
-    let mut is_done = false;
-    for size in 4..200usize {
-        let heap = LocalHeap::new(rt.alloc(), 16 * size)?;
-        match run_commands(&heap, &commands) {
-            Ok(replies) => {
-                assert!(rt; replies.len() == 3, "size {size}");
-                is_done = true;
-            }
-            Err(stopped) => {
-                if stopped.at == 0 {
-                    assert!(rt;
-                        stopped.replies.is_empty() && !is_stopped_at_last,
-                        "size {size}"
-                    );
-                } else {
-                    let are_kept = matches!(
-                        stopped.replies.as_slice(),
-                        [Reply::Flag(true), Reply::Flag(false)]
-                    );
-                    assert!(rt; stopped.at == 2 && are_kept, "size {size}");
-                    is_stopped_at_last = true;
-                }
-            }
-        }
+    ]
+}
+
+/// Whether replies are those to so many of the three commands, the last of which is not looked at.
+fn are_kept(replies: &[Reply<i32, &LocalHeap>], count: usize) -> bool {
+    match replies {
+        [] => count == 0,
+        [Reply::Flag(true), Reply::Flag(false)] => count == 2,
+        [_, _, _] => count == 3,
+        _ => false,
     }
-    assert!(rt; is_stopped_at_last && is_done);
+}
+
+/// How many of the three commands are done over a heap of this size. `None` where the replies are not
+/// those to as many.
+fn done_over(
+    alloc: Global,
+    size: usize,
+    commands: &[Command<i32>],
+) -> Result<Option<usize>, AllocError> {
+    let heap = LocalHeap::new(alloc, size)?;
+    match run_commands(&heap, commands) {
+        Ok(replies) => Ok(are_kept(&replies, 3).then_some(3)),
+        Err(stopped) => Ok(are_kept(&stopped.replies, stopped.at).then_some(stopped.at)),
+    }
+}
+
+// Commands that are stopped keep the replies to those before.
+#[test]
+fn stopped_commands_keep_their_replies(rt: HostRuntime) -> Result<(), Fail> {
+    let commands = three_commands(SetNo::new(0).expect(&rt, "a slot"));
+    let mut last = Some(0);
+    let mut is_stopped_at_last = false;
+    for step in 4..200usize {
+        let done = done_over(rt.alloc(), 16 * step, &commands)?;
+        assert!(rt; done >= last, "step {step}");
+        is_stopped_at_last = is_stopped_at_last || done == Some(2);
+        last = done;
+    }
+    assert!(rt; is_stopped_at_last && last == Some(3));
     Ok(())
 }
 
@@ -104,19 +118,22 @@ fn a_question_without_room_to_begin_is_stopped_at_0(rt: HostRuntime) -> Result<(
     Ok(())
 }
 
+/// Whether lines over a heap end with this status and this line, and with no reply.
+fn ends(alloc: Global, heap: &LocalHeap, lines: &[u8], status: u8, line: &[u8]) -> bool {
+    let mut input = lines;
+    let mut output = Vec::new(alloc);
+    let mut errors = Vec::new(alloc);
+    let code = start(heap, &mut input, &mut output, &mut errors);
+    code == ExitCode::from(status) && output.is_empty() && errors.as_slice() == line
+}
+
 #[test]
 fn refused_memory_ends_with_status_3_and_no_commands_with_0(rt: HostRuntime) -> Result<(), Fail> {
     let heap = LocalHeap::new(rt.alloc(), 64)?;
-    let mut input = COMMANDS;
-    let mut output = Vec::new(rt.alloc());
-    let mut errors = Vec::new(rt.alloc());
-    let code = start(&heap, &mut input, &mut output, &mut errors);
-    assert_eq!(rt; code, ExitCode::from(3));
-    assert_eq!(rt; errors.as_slice(), b"no memory\n".as_slice());
     // No commands want no memory.
-    let mut nothing = b"".as_slice();
-    let code = start(&heap, &mut nothing, &mut output, &mut errors);
-    assert!(rt; code == ExitCode::SUCCESS && output.is_empty());
+    assert!(rt;
+        ends(rt.alloc(), &heap, COMMANDS, 3, b"no memory\n") && ends(rt.alloc(), &heap, b"", 0, b"")
+    );
     Ok(())
 }
 

@@ -4,6 +4,7 @@
 use crate::set::calls::{Answer, Change};
 use crate::set::rows::{Table, changes, has};
 use crate::tables::set_of;
+use range_set_blaze::RangeSetBlaze;
 use std::alloc::{AllocError, Global};
 use std::test::*;
 
@@ -14,17 +15,14 @@ fn all_add(
     other: Table<'_>,
     after: Table<'_>,
 ) -> Result<bool, AllocError> {
-    let calls: [(Change, Table<'_>); 4] = [
-        (Change::Extend, other),
-        (Change::BitorAssign, other),
-        (Change::Append, &[]),
-        (Change::BitorAssignOwned, &[]),
-    ];
-    let mut is_right = true;
-    for (call, left) in calls {
-        is_right = is_right && changes(alloc, call, (set, other), Answer::Nothing, (after, left))?;
-    }
-    Ok(is_right)
+    let nothing = Answer::Nothing;
+    let sets = (set, other);
+    Ok(
+        changes(alloc, Change::Extend, sets, nothing, (after, other))?
+            && changes(alloc, Change::BitorAssign, sets, nothing, (after, other))?
+            && changes(alloc, Change::Append, sets, nothing, (after, &[]))?
+            && changes(alloc, Change::BitorAssignOwned, sets, nothing, (after, &[]))?,
+    )
 }
 
 /// A set, another that is added to it, and what it becomes.
@@ -49,21 +47,28 @@ static ADDED: [(Table<'static>, Table<'static>, Table<'static>); 9] = [
 ];
 
 #[test]
-fn other_sets_are_added(rt: HostRuntime) {
+fn other_sets_are_added(rt: HostRuntime) -> Result<(), Fail> {
     for (set, other, after) in &ADDED {
-        assert!(rt;
-            all_add(rt.alloc(), set, other, after) == Ok(true),
-            "{other:?} to {set:?}"
-        );
+        assert!(rt; all_add(rt.alloc(), set, other, after)?);
     }
+    Ok(())
+}
+
+/// Whether values are added in any order.
+fn values_are_added(set: &mut RangeSetBlaze<i32>) -> Result<bool, AllocError> {
+    set.extend_values([9, 0, 9, -3, 8])?;
+    Ok(has(set, &[(-3, -3), (0, 4), (8, 9)]))
+}
+
+/// Whether ranges are then added in any order.
+fn ranges_are_added(set: &mut RangeSetBlaze<i32>) -> Result<bool, AllocError> {
+    set.extend([9..=12, 7..=6, -7..=-4, 10..=10, 5..=5])?;
+    Ok(has(set, &[(-7, -3), (0, 5), (8, 12)]))
 }
 
 #[test]
 fn ranges_and_values_are_added_in_any_order(rt: HostRuntime) -> Result<(), Fail> {
     let mut set = set_of(rt.alloc(), &[(1, 4)])?;
-    set.extend_values([9, 0, 9, -3, 8])?;
-    assert!(rt; has(&set, &[(-3, -3), (0, 4), (8, 9)]));
-    set.extend([9..=12, 7..=6, -7..=-4, 10..=10, 5..=5])?;
-    assert!(rt; has(&set, &[(-7, -3), (0, 5), (8, 12)]));
+    assert!(rt; values_are_added(&mut set)? && ranges_are_added(&mut set)?);
     Ok(())
 }

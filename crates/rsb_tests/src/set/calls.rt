@@ -66,7 +66,7 @@ impl Change {
 }
 
 /// What a change answers, or how often it asks.
-#[derive(Clone, Copy, Debug, PartialEq)]
+#[derive(Clone, Copy, PartialEq)]
 pub(crate) enum Answer {
     Nothing,
     Truth(bool),
@@ -79,6 +79,24 @@ pub(crate) fn is_kept(value: i32, divisor: i32, rest: i32) -> bool {
     value.checked_rem_euclid(divisor) != Some(rest)
 }
 
+/// Adds each fourth value from one to another, by the trait of std.
+fn add_by_std<A: Allocator + Copy>(
+    set: &mut RangeSetBlaze<i32, A>,
+    start: i32,
+    end: i32,
+) -> Result<(), AllocError> {
+    Extend::extend(set, (start..=end).step_by(4))
+}
+
+/// Adds each fourth value from one to another.
+fn add_fourths<A: Allocator + Copy>(
+    set: &mut RangeSetBlaze<i32, A>,
+    start: i32,
+    end: i32,
+) -> Result<(), AllocError> {
+    set.extend_values((start..=end).step_by(4))
+}
+
 /// Adds another set by one of the calls; the last takes it for its own.
 fn add<A: Allocator + Copy>(
     alloc: A,
@@ -88,11 +106,11 @@ fn add<A: Allocator + Copy>(
 ) -> Result<(), AllocError> {
     match change {
         Change::Extend => set.extend(other.ranges()),
-        Change::ExtendValues(start, end) => set.extend_values((start..=end).step_by(4)),
+        Change::StdExtend => Extend::extend(set, other.ranges()),
+        Change::StdExtendValues(start, end) => add_by_std(set, start, end),
+        Change::ExtendValues(start, end) => add_fourths(set, start, end),
         Change::Append => set.append(other),
         Change::BitorAssign => set.bitor_assign(other),
-        Change::StdExtend => Extend::extend(set, other.ranges()),
-        Change::StdExtendValues(start, end) => Extend::extend(set, (start..=end).step_by(4)),
         _ => set.bitor_assign_owned(mem::replace(other, RangeSetBlaze::new(alloc))),
     }
 }
@@ -142,6 +160,19 @@ fn reduce<A: Allocator + Copy>(
     Ok(Answer::Nothing)
 }
 
+/// Puts values in by one of the calls, and tells whether they were there.
+fn put<A: Allocator + Copy>(
+    change: Change,
+    set: &mut RangeSetBlaze<i32, A>,
+) -> Result<Answer, AllocError> {
+    match change {
+        Change::Insert(value) => Ok(Answer::Truth(set.insert(value)?)),
+        Change::Replace(value) => Ok(Answer::Value(set.replace(value)?)),
+        Change::RangesInsert(start, end) => Ok(Answer::Truth(set.ranges_insert(start..=end)?)),
+        _ => Ok(Answer::Nothing),
+    }
+}
+
 /// Changes a set by one of the calls.
 pub(crate) fn carry_out<A: Allocator + Copy>(
     alloc: A,
@@ -149,16 +180,14 @@ pub(crate) fn carry_out<A: Allocator + Copy>(
     set: &mut RangeSetBlaze<i32, A>,
     other: &mut RangeSetBlaze<i32, A>,
 ) -> Result<Answer, AllocError> {
+    if change.adds() {
+        add(alloc, change, set, other)?;
+        return Ok(Answer::Nothing);
+    }
     match change {
-        Change::Insert(value) => Ok(Answer::Truth(set.insert(value)?)),
-        Change::Replace(value) => Ok(Answer::Value(set.replace(value)?)),
-        Change::RangesInsert(start, end) => Ok(Answer::Truth(set.ranges_insert(start..=end)?)),
+        Change::Insert(_) | Change::Replace(_) | Change::RangesInsert(_, _) => put(change, set),
         Change::Retain(divisor, rest) => retain(set, divisor, rest),
         Change::RangesRetain(divisor, rest) => Ok(retain_ranges(set, divisor, rest)),
-        _ if change.adds() => {
-            add(alloc, change, set, other)?;
-            Ok(Answer::Nothing)
-        }
         _ => reduce(change, set, other),
     }
 }

@@ -85,29 +85,48 @@ fn is_added(change: Change, cell: &Cell) -> bool {
     }
 }
 
-/// Whether a change leaves the values of a cell in a set, of whose members the first and the last
+/// Whether a change is about the values of a cell in a set, of whose members the first and the last
 /// are these, and whose run at the cell begins at a value.
-fn is_member_after(change: Change, cell: Cell, first: i32, last: i32, begin: i32) -> bool {
-    let was = cell.is_member;
+fn is_meant(change: Change, cell: &Cell, first: i32, last: i32, begin: i32) -> bool {
     match change {
-        Change::Insert(value) => was || cell.start == value,
-        Change::Replace(value) => was || cell.start == value,
-        Change::RangesInsert(start, end) => was || start <= cell.start && cell.end <= end,
-        Change::Remove(value) => was && cell.start != value,
-        Change::Take(value) => was && cell.start != value,
-        Change::PopFirst => was && cell.start != first,
-        Change::PopLast => was && cell.end != last,
-        Change::SplitOff(key) => was && cell.start < key,
-        Change::Retain(divisor, rest) => was && is_kept(cell.start, divisor, rest),
-        Change::RangesRetain(divisor, rest) => was && is_kept(begin, divisor, rest),
-        Change::Clear => false,
+        Change::Insert(value) => cell.start == value,
+        Change::Replace(value) => cell.start == value,
+        Change::RangesInsert(start, end) => start <= cell.start && cell.end <= end,
+        Change::Remove(value) => cell.start == value,
+        Change::Take(value) => cell.start == value,
+        Change::PopFirst => cell.start == first,
+        Change::PopLast => cell.end == last,
+        Change::SplitOff(key) => key <= cell.start,
+        Change::Retain(divisor, rest) => !is_kept(cell.start, divisor, rest),
+        Change::RangesRetain(divisor, rest) => !is_kept(begin, divisor, rest),
+        Change::Clear => true,
         Change::Extend
         | Change::ExtendValues(_, _)
         | Change::Append
         | Change::BitorAssign
         | Change::BitorAssignOwned
         | Change::StdExtend
-        | Change::StdExtendValues(_, _) => was || is_added(change, &cell),
+        | Change::StdExtendValues(_, _) => is_added(change, cell),
+    }
+}
+
+/// Whether a change puts in what it is about, and does not take it out.
+fn puts(change: Change) -> bool {
+    let is_put = matches!(
+        change,
+        Change::Insert(_) | Change::Replace(_) | Change::RangesInsert(_, _)
+    );
+    is_put || change.adds()
+}
+
+/// Whether a change leaves the values of a cell in a set, of whose members the first and the last
+/// are these, and whose run at the cell begins at a value.
+fn is_member_after(change: Change, cell: Cell, first: i32, last: i32, begin: i32) -> bool {
+    let is_meant = is_meant(change, &cell, first, last, begin);
+    if puts(change) {
+        cell.is_member || is_meant
+    } else {
+        cell.is_member && !is_meant
     }
 }
 

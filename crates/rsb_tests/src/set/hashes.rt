@@ -58,16 +58,36 @@ fn unlike_sets_feed_unlike_bytes(rt: HostRuntime) -> Result<(), Fail> {
     Ok(())
 }
 
-#[test]
-fn characters_and_own_types_feed_their_own(rt: HostRuntime) -> Result<(), Fail> {
-    let letters = RangeSetBlaze::from(rt.alloc(), 'a'..='c')?;
-    assert!(rt; fed_by(&letters) == fed_by_bytes(&[3, 0, 0, 0, 97, 0, 0, 0, 99, 0, 0, 0]));
-    let mut sides = RangeSetBlaze::<Side>::new(rt.alloc());
+/// Whether a run of letters feeds its length and its ends, in four bytes each.
+fn letters_feed(alloc: Global) -> Result<bool, AllocError> {
+    let letters = RangeSetBlaze::from(alloc, 'a'..='c')?;
+    Ok(fed_by(&letters) == fed_by_bytes(&[3, 0, 0, 0, 97, 0, 0, 0, 99, 0, 0, 0]))
+}
+
+/// The set of both sides, put in one after the other.
+fn both_sides(alloc: Global) -> Result<RangeSetBlaze<Side>, AllocError> {
+    let mut sides = RangeSetBlaze::new(alloc);
     sides.insert(Side::Hi)?;
     sides.insert(Side::Lo)?;
-    assert!(rt; fed_by(&sides) == fed_by(&RangeSetBlaze::<Side>::universe(rt.alloc())?));
-    let mut booked = RangeSetBlaze::<Slot>::from(rt.alloc(), slots(48, 51))?;
+    Ok(sides)
+}
+
+/// Whether both sides feed what every side does.
+fn sides_feed(alloc: Global) -> Result<bool, AllocError> {
+    let fed = fed_by(&both_sides(alloc)?);
+    Ok(fed == fed_by(&RangeSetBlaze::<Side>::universe(alloc)?))
+}
+
+/// Whether two runs of slots feed their length and their ends.
+fn slots_feed(alloc: Global) -> Result<bool, AllocError> {
+    let mut booked = RangeSetBlaze::<Slot>::from(alloc, slots(48, 51))?;
     booked.ranges_insert(slots(32, 39))?;
-    assert!(rt; fed_by(&booked) == fed_by_bytes(&[12, 0, 32, 39, 48, 51]));
+    Ok(fed_by(&booked) == fed_by_bytes(&[12, 0, 32, 39, 48, 51]))
+}
+
+#[test]
+fn characters_and_own_types_feed_their_own(rt: HostRuntime) -> Result<(), Fail> {
+    let alloc = rt.alloc();
+    assert!(rt; letters_feed(alloc)? && sides_feed(alloc)? && slots_feed(alloc)?);
     Ok(())
 }

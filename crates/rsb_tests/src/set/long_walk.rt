@@ -1,6 +1,6 @@
 //! Some thousand changes of two sets, drawn by a fixed seed, beside a cell for each value.
 
-use crate::set::calls::{Change, carry_out};
+use crate::set::calls::{Answer, Change, carry_out};
 use crate::set::cells::{Cell, agree, cells, reckon};
 use range_set_blaze::RangeSetBlaze;
 use std::alloc::{AllocError, Global};
@@ -55,6 +55,29 @@ fn exchange(cells: &mut Vec<Cell>) {
     }
 }
 
+/// Changes cells, and says whether they tell an answer.
+fn is_told(
+    alloc: Global,
+    change: Change,
+    told: Answer,
+    cells: &mut Vec<Cell>,
+) -> Result<bool, AllocError> {
+    Ok(reckon(alloc, change, cells)? == told)
+}
+
+/// Changes two sets and the cells that tell of them, and says whether the answer and the sets are
+/// what the cells tell.
+fn turns(
+    alloc: Global,
+    change: Change,
+    set: &mut RangeSetBlaze<i32>,
+    other: &mut RangeSetBlaze<i32>,
+    cells: &mut Vec<Cell>,
+) -> Result<bool, AllocError> {
+    let told = carry_out(alloc, change, set, other)?;
+    Ok(is_told(alloc, change, told, cells)? && agree(alloc, set, other, cells)?)
+}
+
 /// The first turn of some thousand after which a set is not what the cells tell, or at which an
 /// answer is not: every ninth time the sets change places.
 fn first_wrong(alloc: Global, first: i32) -> Result<Option<(u16, Change)>, AllocError> {
@@ -65,9 +88,7 @@ fn first_wrong(alloc: Global, first: i32) -> Result<Option<(u16, Change)>, Alloc
     for turn in 0..6000u16 {
         drawn = drawn.wrapping_mul(1664525).wrapping_add(1013904223);
         let change = drawn_change(first, drawn);
-        let told = carry_out(alloc, change, &mut set, &mut other)?;
-        let is_told = told == reckon(alloc, change, &mut cells)?;
-        if !is_told || !agree(alloc, &set, &other, &cells)? {
+        if !turns(alloc, change, &mut set, &mut other, &mut cells)? {
             return Ok(Some((turn, change)));
         }
         if turn % 9 == 8 {

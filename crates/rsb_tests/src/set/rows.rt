@@ -39,6 +39,19 @@ pub(crate) fn set_in<A: Allocator + Copy>(
 /// A set and another beside it: what a change is carried out on, and what it leaves.
 pub(crate) type Pair<'a> = (Table<'a>, Table<'a>);
 
+/// Whether a change of two sets gives this answer, and leaves those of two tables.
+fn comes_to(
+    alloc: Global,
+    call: Change,
+    set: &mut RangeSetBlaze<i32>,
+    other: &mut RangeSetBlaze<i32>,
+    wanted: (Answer, Pair<'_>),
+) -> Result<bool, AllocError> {
+    let (answer, after) = wanted;
+    let is_told = carry_out(alloc, call, set, other)? == answer;
+    Ok(is_told && has(set, after.0) && has(other, after.1))
+}
+
 /// Whether a change of the first of two sets gives this answer, and leaves these two.
 pub(crate) fn changes(
     alloc: Global,
@@ -49,8 +62,7 @@ pub(crate) fn changes(
 ) -> Result<bool, AllocError> {
     let mut set = set_of(alloc, before.0)?;
     let mut other = set_of(alloc, before.1)?;
-    let told = carry_out(alloc, call, &mut set, &mut other)?;
-    Ok(told == answer && has(&set, after.0) && has(&other, after.1))
+    comes_to(alloc, call, &mut set, &mut other, (answer, after))
 }
 
 /// Whether a making gives the set of a table, of those of two others.

@@ -158,16 +158,31 @@ static LETTERS: Row<char> = Row {
     lacking: &[('\0', '`'), ('g', '\u{D7FE}'), ('\u{E000}', char::MAX)],
 };
 
+/// Whether a set was made, with these runs.
+fn is_made<T: Integer>(made: Result<RangeSetBlaze<T>, AllocError>, wanted: &[(T, T)]) -> bool {
+    match made {
+        Ok(set) => gives(set.ranges(), wanted),
+        Err(_) => false,
+    }
+}
+
+/// Whether the operators make of two sets what a row says.
+fn make_of<T: Integer + 'static>(
+    left: &RangeSetBlaze<T>,
+    right: &RangeSetBlaze<T>,
+    row: &Row<T>,
+) -> bool {
+    is_made(either(left, right), row.either)
+        && is_made(both(left, right), row.both)
+        && is_made(rest(left, right), row.rest)
+        && is_made(alone(left, right), row.alone)
+}
+
 /// Whether the operators make of the sets of a row what it says.
 fn operators_make<T: Integer + 'static>(alloc: Global, row: &Row<T>) -> Result<bool, AllocError> {
     let left = of_ends(alloc, row.left)?;
     let right = of_ends(alloc, row.right)?;
-    Ok(
-        gives(either(&left, &right)?.ranges(), row.either)
-            && gives(both(&left, &right)?.ranges(), row.both)
-            && gives(rest(&left, &right)?.ranges(), row.rest)
-            && gives(alone(&left, &right)?.ranges(), row.alone),
-    )
+    Ok(make_of(&left, &right, row))
 }
 
 /// Whether a user's operator makes of the first set of a row what that lacks.
@@ -227,16 +242,44 @@ fn values_are_collected_and_added(rt: HostRuntime) -> Result<(), Fail> {
     Ok(())
 }
 
+/// Whether a set of numbers has these runs, and its members come from the back.
+fn numbers_come(set: &RangeSetBlaze<i32>) -> bool {
+    gives(set.ranges(), &[(1, 2), (4, 4)]) && set.iter().rev().eq([4, 2, 1])
+}
+
+/// Whether the values of a list are collected.
+fn a_list_is_collected(alloc: Global) -> Result<bool, AllocError> {
+    let set = of_list(alloc, Vec::from_array(alloc, [4, 1, 4, 2])?)?;
+    Ok(numbers_come(&set))
+}
+
+/// Whether an array of ranges is added to the values of a list.
+fn an_array_is_added(alloc: Global) -> Result<bool, AllocError> {
+    let mut set = of_slice(alloc, &[4, 1, 4, 2])?;
+    Extend::extend(&mut set, [8..=9, 3..=1, -1..=1])?;
+    Ok(gives(set.ranges(), &[(-1, 2), (4, 4), (8, 9)]))
+}
+
+/// Whether letters come from the back.
+fn letters_come(set: &RangeSetBlaze<char>) -> bool {
+    set.iter().rev().eq(['d', 'c', 'a'])
+}
+
+/// Whether the ranges of two lists are collected and added.
+fn lists_of_ranges_are_collected(alloc: Global) -> Result<bool, AllocError> {
+    let mut letters = of_ranges(alloc, Vec::from_array(alloc, ['c'..='d', 'b'..='a'])?)?;
+    add_ranges(&mut letters, Vec::from_array(alloc, ['a'..='a'])?)?;
+    Ok(letters_come(&letters))
+}
+
 #[test]
 fn lists_and_ranges_are_collected_and_added(rt: HostRuntime) -> Result<(), Fail> {
     let alloc = rt.alloc();
-    let mut set = of_list(alloc, Vec::from_array(alloc, [4, 1, 4, 2])?)?;
-    assert!(rt; gives(set.ranges(), &[(1, 2), (4, 4)]) && set.iter().rev().eq([4, 2, 1]));
-    Extend::extend(&mut set, [8..=9, 3..=1, -1..=1])?;
-    assert!(rt; gives(set.ranges(), &[(-1, 2), (4, 4), (8, 9)]));
-    let mut letters = of_ranges(alloc, Vec::from_array(alloc, ['c'..='d', 'b'..='a'])?)?;
-    add_ranges(&mut letters, Vec::from_array(alloc, ['a'..='a'])?)?;
-    assert!(rt; letters.iter().rev().eq(['d', 'c', 'a']));
+    assert!(rt;
+        a_list_is_collected(alloc)?
+            && an_array_is_added(alloc)?
+            && lists_of_ranges_are_collected(alloc)?
+    );
     Ok(())
 }
 

@@ -1,10 +1,11 @@
 //! A nest of eight operations of all five kinds, of one type, over any lawful streams.
 
-use crate::tables::{gives, slot, slots};
-use rsb_commands::outside::Side;
+use crate::streams::deep_nests::range;
+use crate::tables::{gives, slot};
+use rsb_commands::outside::{Side, Slot};
 use rsb_integer::Integer;
 use rsb_streams::{
-    Difference, Draw, DrawDisjoint, Intersection, NotIter, RangeOnce, SymmetricDifference, Union,
+    Difference, Draw, DrawDisjoint, Intersection, NotIter, SymmetricDifference, Union,
 };
 
 /// What neither of two streams has.
@@ -50,65 +51,63 @@ fn eight<T: Integer, S: DrawDisjoint<T>, I: DrawDisjoint<T>>(
     three(three(two(stream, first), some), others)
 }
 
-#[test]
-fn eight_operations_of_five_kinds(rt: HostRuntime) {
-    // Of 0..=19 and 81..=255 these make 5..=9, 13..=19, 81..=89 and 100..=200.
-    let some = (
-        RangeOnce::new(10..=200),
-        RangeOnce::new(90..=99),
-        RangeOnce::new(5..=12),
-    );
-    // And these the gaps of 7..=9, 13..=19, 81..=89 and 100..=119.
-    let others = (
-        RangeOnce::new(7..=150),
-        RangeOnce::new(120..=255),
-        RangeOnce::new(0..=255),
-    );
-    let nest = eight(
-        RangeOnce::new(20u8..=29),
-        RangeOnce::new(25..=80),
-        some,
-        others,
-    );
-    assert!(rt; gives(nest, &[(0, 6), (10, 12), (20, 80), (90, 99), (120, 255)]));
+/// Whether eight operations on the ranges with these ends give those with others.
+fn eight_gives<T: Integer>(ends: &[(T, T); 8], wanted: &[(T, T)]) -> bool {
+    let [stream, first, a, b, c, d, e, f] = *ends;
+    let some = (range(a), range(b), range(c));
+    let others = (range(d), range(e), range(f));
+    gives(eight(range(stream), range(first), some, others), wanted)
 }
 
 #[test]
-fn eight_operations_at_own_types(rt: HostRuntime) {
-    // Of the upper side these make the lower one.
-    let some = (
-        RangeOnce::new(Side::Lo..=Side::Hi),
-        RangeOnce::new(Side::Lo..=Side::Lo),
-        RangeOnce::new(Side::Lo..=Side::Hi),
-    );
-    let others = (
-        RangeOnce::new(Side::Lo..=Side::Lo),
-        RangeOnce::new(Side::Hi..=Side::Lo),
-        RangeOnce::new(Side::Hi..=Side::Hi),
-    );
-    let low = RangeOnce::new(Side::Lo..=Side::Lo);
-    let nest = eight(low, RangeOnce::new(Side::Hi..=Side::Lo), some, others);
-    assert!(rt; gives(nest, &[(Side::Lo, Side::Hi)]));
-
-    // Of 0..=19 and 81..=95 these make 5..=9, 13..=19, 81..=84 and 88..=90.
-    let some = (
-        RangeOnce::new(slots(10, 90)),
-        RangeOnce::new(slots(85, 87)),
-        RangeOnce::new(slots(5, 12)),
-    );
-    // And these the gaps of 7..=9, 13..=19 and 81..=81.
-    let others = (
-        RangeOnce::new(slots(7, 88)),
-        RangeOnce::new(slots(82, 95)),
-        RangeOnce::new(slots(0, 95)),
-    );
-    let first = RangeOnce::new(slots(25, 80));
-    let nest = eight(RangeOnce::new(slots(20, 29)), first, some, others);
-    let wanted = [
-        (slot(0), slot(6)),
-        (slot(10), slot(12)),
-        (slot(20), slot(80)),
-        (slot(82), slot(95)),
+fn eight_operations_of_five_kinds(rt: HostRuntime) {
+    // The first five make 5..=9, 13..=19, 81..=89 and 100..=200 of 0..=19 and 81..=255, and the others
+    // the gaps of 7..=9, 13..=19, 81..=89 and 100..=119.
+    let ends = [
+        (20u8, 29),
+        (25, 80),
+        (10, 200),
+        (90, 99),
+        (5, 12),
+        (7, 150),
+        (120, 255),
+        (0, 255),
     ];
-    assert!(rt; gives(nest, &wanted));
+    assert!(rt; eight_gives(&ends, &[(0, 6), (10, 12), (20, 80), (90, 99), (120, 255)]));
+}
+
+#[test]
+fn eight_operations_on_two_values(rt: HostRuntime) {
+    // The first five make the lower side of the upper one.
+    let (all, low) = ((Side::Lo, Side::Hi), (Side::Lo, Side::Lo));
+    let (none, high) = ((Side::Hi, Side::Lo), (Side::Hi, Side::Hi));
+    assert!(rt; eight_gives(&[low, none, all, low, all, low, none, high], &[all]));
+}
+
+/// Two slots.
+fn two_slots(first: u8, last: u8) -> (Slot, Slot) {
+    (slot(first), slot(last))
+}
+
+#[test]
+fn eight_operations_on_slots(rt: HostRuntime) {
+    // The first five make 5..=9, 13..=19, 81..=84 and 88..=90 of 0..=19 and 81..=95, and the others the
+    // gaps of 7..=9, 13..=19 and 81..=81.
+    let ends = [
+        two_slots(20, 29),
+        two_slots(25, 80),
+        two_slots(10, 90),
+        two_slots(85, 87),
+        two_slots(5, 12),
+        two_slots(7, 88),
+        two_slots(82, 95),
+        two_slots(0, 95),
+    ];
+    let wanted = [
+        two_slots(0, 6),
+        two_slots(10, 12),
+        two_slots(20, 80),
+        two_slots(82, 95),
+    ];
+    assert!(rt; eight_gives(&ends, &wanted));
 }

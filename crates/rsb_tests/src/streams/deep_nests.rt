@@ -1,14 +1,15 @@
 //! A nest of eight symmetric differences, and one of eight complements.
 
 use crate::tables::gives;
+use rsb_integer::Integer;
 use rsb_streams::{Draw, DrawDisjoint, RangeOnce, SymmetricDifference};
 
 /// The ends of four ranges.
 type Ends = [(u8, u8); 4];
 
 /// The range with these ends.
-fn range(ends: (u8, u8)) -> RangeOnce<u8>
-    ensures { ⟦<RangeOnce<u8> as Draw<u8>>⟧.can_draw result }
+pub(crate) fn range<T: Integer>(ends: (T, T)) -> RangeOnce<T>
+    ensures { ⟦<RangeOnce<T> as Draw<T>>⟧.can_draw result }
 {
     RangeOnce::new(ends.0..=ends.1)
 }
@@ -54,5 +55,5 @@ fn eight_symmetric_differences_keep_what_an_odd_number_has(rt: HostRuntime) {
 
 #[test]
 fn eight_complements_give_the_range_back(rt: HostRuntime) {
-    assert!(rt; gives(!!!!!!!!range((3, 5)), &[(3, 5)]));
+    assert!(rt; gives(!!!!!!!!range((3u8, 5)), &[(3, 5)]));
 }

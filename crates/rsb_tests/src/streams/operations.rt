@@ -50,7 +50,7 @@ pub(crate) fn operation_gives<T: Integer, L: DrawDisjoint<T>, R: DrawDisjoint<T>
 }
 
 /// The first operation that does not give what a row has for it.
-fn first_wrong(row: &Row) -> Option<Operation> {
+fn wrong_operation(row: &Row) -> Option<Operation> {
     for operation in OPERATIONS {
         let (left, right) = (stream_of(row.left), stream_of(row.right));
         if !operation_gives(operation, left, right, row.wanted(operation)) {
@@ -60,43 +60,32 @@ fn first_wrong(row: &Row) -> Option<Operation> {
     None
 }
 
+/// The place of the first row of which an operation does not give what it has, and that operation.
+fn first_wrong(rows: &[Row]) -> Option<(usize, Operation)> {
+    for place in 0..rows.len() {
+        if let Some(operation) = wrong_operation(&rows[place]) {
+            return Some((place, operation));
+        }
+    }
+    None
+}
+
 #[test]
 fn operations_on_ranges(rt: HostRuntime) {
-    for row in &RANGES {
-        assert_eq!(rt;
-            first_wrong(row),
-            None,
-            "{:?} and {:?}",
-            row.left,
-            row.right
-        );
-    }
+    let wrong = first_wrong(&RANGES);
+    assert!(rt; wrong.is_none(), "{wrong:?}");
 }
 
 #[test]
 fn operations_on_streams_with_gaps(rt: HostRuntime) {
-    for row in &GAPS {
-        assert_eq!(rt;
-            first_wrong(row),
-            None,
-            "{:?} and {:?}",
-            row.left,
-            row.right
-        );
-    }
+    let wrong = first_wrong(&GAPS);
+    assert!(rt; wrong.is_none(), "{wrong:?}");
 }
 
 #[test]
 fn operations_at_the_ends_of_the_type(rt: HostRuntime) {
-    for row in &ENDS {
-        assert_eq!(rt;
-            first_wrong(row),
-            None,
-            "{:?} and {:?}",
-            row.left,
-            row.right
-        );
-    }
+    let wrong = first_wrong(&ENDS);
+    assert!(rt; wrong.is_none(), "{wrong:?}");
 }
 
 /// Whether an operation on the ranges of two tables gives these.

@@ -16,15 +16,20 @@ fn two_ranges() -> Listed<'static>
     stream_of(&[(3, 5), (7, 9)])
 }
 
+/// The ends of ranges.
+type Ranges = &'static [(u8, u8)];
+
+/// How many ranges come first, the gaps of these, and those of the others.
+static BY_NUMBER: [(usize, Ranges, Ranges); 4] = [
+    (0, &[(0, 255)], &[(0, 2), (6, 6), (10, 255)]),
+    (1, &[(0, 2), (6, 255)], &[(0, 6), (10, 255)]),
+    (2, &[(0, 2), (6, 6), (10, 255)], &[(0, 255)]),
+    (3, &[(0, 2), (6, 6), (10, 255)], &[(0, 255)]),
+];
+
 #[test]
 fn gaps_of_the_first_ranges_and_of_those_after_them(rt: HostRuntime) {
-    let rows: [(usize, &[(u8, u8)], &[(u8, u8)]); 4] = [
-        (0, &[(0, 255)], &[(0, 2), (6, 6), (10, 255)]),
-        (1, &[(0, 2), (6, 255)], &[(0, 6), (10, 255)]),
-        (2, &[(0, 2), (6, 6), (10, 255)], &[(0, 255)]),
-        (3, &[(0, 2), (6, 6), (10, 255)], &[(0, 255)]),
-    ];
-    for (count, first, others) in &rows {
+    for (count, first, others) in &BY_NUMBER {
         assert!(rt;
             gives(two_ranges().take(*count).complement(), first),
             "take({count})"
@@ -36,25 +41,30 @@ fn gaps_of_the_first_ranges_and_of_those_after_them(rt: HostRuntime) {
     }
 }
 
+/// Whether the gaps of the ranges before the first that does not end below a limit are these.
+fn gaps_before(limit: u8, gaps: Ranges) -> bool {
+    let some = two_ranges().take_while(move |range| *range.end() < limit);
+    gives(some.complement(), gaps)
+}
+
+/// Whether the gaps of the ranges from that one on are these.
+fn gaps_from(limit: u8, gaps: Ranges) -> bool {
+    let others = two_ranges().skip_while(move |range| *range.end() < limit);
+    gives(others.complement(), gaps)
+}
+
+/// A limit, the gaps of the ranges before the first that does not end below it, and those of the others.
+static BY_LIMIT: [(u8, Ranges, Ranges); 3] = [
+    (5, &[(0, 255)], &[(0, 2), (6, 6), (10, 255)]),
+    (6, &[(0, 2), (6, 255)], &[(0, 6), (10, 255)]),
+    (10, &[(0, 2), (6, 6), (10, 255)], &[(0, 255)]),
+];
+
 #[test]
 fn gaps_of_ranges_up_to_one_that_fails_and_from_it_on(rt: HostRuntime) {
-    let rows: [(u8, &[(u8, u8)], &[(u8, u8)]); 3] = [
-        (5, &[(0, 255)], &[(0, 2), (6, 6), (10, 255)]),
-        (6, &[(0, 2), (6, 255)], &[(0, 6), (10, 255)]),
-        (10, &[(0, 2), (6, 6), (10, 255)], &[(0, 255)]),
-    ];
-    for (limit, before, from) in &rows {
-        let limit = *limit;
-        let some = two_ranges().take_while(move |range| *range.end() < limit);
-        assert!(rt;
-            gives(some.complement(), before),
-            "take_while below {limit}"
-        );
-        let others = two_ranges().skip_while(move |range| *range.end() < limit);
-        assert!(rt;
-            gives(others.complement(), from),
-            "skip_while below {limit}"
-        );
+    for (limit, before, from) in &BY_LIMIT {
+        assert!(rt; gaps_before(*limit, before), "take_while below {limit}");
+        assert!(rt; gaps_from(*limit, from), "skip_while below {limit}");
     }
 }
 

@@ -4,7 +4,7 @@ use crate::streams::listed::list_of;
 use crate::streams::neighbors::neighbors_of;
 use crate::tables::gives;
 use rsb_streams::{CheckSortedTouching, NotSortedTouching, SortedTouching};
-use std::alloc::Global;
+use std::alloc::{AllocError, Global};
 use std::test::Fail;
 
 /// Whether a list is refused at a position, and then given back, or accepted, and then gives its
@@ -41,25 +41,32 @@ fn lists_that_overlap_are_refused_and_those_that_touch_are_not(
     Ok(())
 }
 
+/// Whether a list is accepted, and is joined to these ranges.
+fn is_joined_to(
+    alloc: Global,
+    ranges: &[(u8, u8)],
+    wanted: &[(u8, u8)],
+) -> Result<bool, AllocError> {
+    match CheckSortedTouching::try_new(list_of(alloc, ranges)?) {
+        Ok(known) => Ok(gives(known.joined(), wanted)),
+        Err(_) => Ok(false),
+    }
+}
+
 #[test]
 fn ranges_that_touch_are_joined(rt: HostRuntime) -> Result<(), Fail> {
-    let Ok(known) = CheckSortedTouching::try_new(vec![in rt.alloc(); 1u8..=2, 3..=4, 9..=9]?) else {
-        assert!(rt; false, "a list that may touch was refused");
-        return Ok(());
-    };
-    assert!(rt; gives(known.joined(), &[(1, 4), (9, 9)]));
-
+    let wanted = [(1, 4), (9, 9)];
+    assert!(rt; is_joined_to(rt.alloc(), &[(1, 2), (3, 4), (9, 9)], &wanted)?);
     let own = neighbors_of(&[(0, 0), (1, 1), (3, 254), (255, 255)]);
     assert!(rt; gives(own.joined(), &[(0, 1), (3, 255)]));
+    Ok(())
+}
 
+#[test]
+fn a_refusal_of_what_may_touch_tells_the_position(rt: HostRuntime) -> Result<(), Fail> {
     let ranges = list_of(rt.alloc(), &[(1u8, 2), (2, 3)])?;
-    let text = format!(in rt.alloc();
-        "{}",
-        NotSortedTouching {
-            position: 1,
-            ranges
-        }
-    )?;
+    let position = 1;
+    let text = format!(in rt.alloc(); "{}", NotSortedTouching { position, ranges })?;
     let wanted = "the range at position 1 is empty, or does not lie past the one before it";
     assert!(rt; text.as_str() == wanted);
     Ok(())

@@ -7,6 +7,9 @@ use std::alloc::Global;
 use std::ops::RangeInclusive;
 use std::test::Fail;
 
+/// The ends of ranges, and of those that they make.
+type Row = (&'static [(u8, u8)], &'static [(u8, u8)]);
+
 /// Whether ranges are joined to these as they come.
 fn joins(
     alloc: Global,
@@ -29,19 +32,21 @@ fn single_values_are_joined_while_they_touch_what_was_gathered(
     Ok(())
 }
 
+/// Ranges, and what they are joined to as they come.
+static JOINED: [Row; 5] = [
+    (
+        &[(255, 255), (254, 254), (0, 0), (1, 1), (3, 255), (2, 9)],
+        &[(254, 255), (0, 1), (2, 255)],
+    ),
+    (&[(5, 4), (9, 9), (4, 3), (10, 12)], &[(9, 12)]),
+    (&[(0, 255), (0, 255)], &[(0, 255)]),
+    (&[(5, 4)], &[]),
+    (&[], &[]),
+];
+
 #[test]
 fn ranges_are_joined_as_they_come(rt: HostRuntime) -> Result<(), Fail> {
-    let rows: [(&[(u8, u8)], &[(u8, u8)]); 5] = [
-        (
-            &[(255, 255), (254, 254), (0, 0), (1, 1), (3, 255), (2, 9)],
-            &[(254, 255), (0, 1), (2, 255)],
-        ),
-        (&[(5, 4), (9, 9), (4, 3), (10, 12)], &[(9, 12)]),
-        (&[(0, 255), (0, 255)], &[(0, 255)]),
-        (&[(5, 4)], &[]),
-        (&[], &[]),
-    ];
-    for (ranges, wanted) in &rows {
+    for (ranges, wanted) in &JOINED {
         let list = list_of(rt.alloc(), ranges)?;
         assert!(rt; joins(rt.alloc(), list, wanted)?, "{ranges:?}");
     }
@@ -64,16 +69,18 @@ fn joined_ranges_promise_no_item(rt: HostRuntime) {
     assert!(rt; joined.next() == None);
 }
 
+/// Ranges, and their union.
+static UNITED: [Row; 5] = [
+    (&[], &[]),
+    (&[(5, 4), (9, 8)], &[]),
+    (&[(255, 255), (0, 0), (254, 254)], &[(0, 0), (254, 255)]),
+    (&[(1, 0), (2, 2), (5, 9), (1, 2)], &[(1, 2), (5, 9)]),
+    (&[(7, 255), (0, 3), (2, 6)], &[(0, 255)]),
+];
+
 #[test]
 fn unions_of_ranges_in_any_order(rt: HostRuntime) -> Result<(), Fail> {
-    let rows: [(&[(u8, u8)], &[(u8, u8)]); 5] = [
-        (&[], &[]),
-        (&[(5, 4), (9, 8)], &[]),
-        (&[(255, 255), (0, 0), (254, 254)], &[(0, 0), (254, 255)]),
-        (&[(1, 0), (2, 2), (5, 9), (1, 2)], &[(1, 2), (5, 9)]),
-        (&[(7, 255), (0, 3), (2, 6)], &[(0, 255)]),
-    ];
-    for (ranges, wanted) in &rows {
+    for (ranges, wanted) in &UNITED {
         let union = UnionIter::from_iter(rt.alloc(), list_of(rt.alloc(), ranges)?)?;
         assert!(rt; gives(union, wanted), "{ranges:?}");
     }

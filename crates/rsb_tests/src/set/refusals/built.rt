@@ -19,7 +19,7 @@ use std::ops::RangeInclusive;
 use std::vec::IntoIter;
 
 /// A call that builds something of two sets.
-#[derive(Clone, Copy, Debug)]
+#[derive(Clone, Copy)]
 pub(crate) enum Building {
     /// Of the first alone, as the next one.
     UnionOfRanges,
@@ -177,26 +177,30 @@ fn streams_give(
     form_gives(heap, form, streams, wanted)
 }
 
-/// The runs of two sets as streams whose ranges may touch, in ample memory.
-fn touching(
+/// Ranges in ample memory, which may touch.
+type Touching = CheckSortedTouching<i32, IntoIter<RangeInclusive<i32>>>;
+
+/// Adds the runs of a set to streams whose ranges may touch.
+fn add_touching(
     alloc: Global,
-    one: &Set,
-    other: &Set,
-) -> Result<Vec<CheckSortedTouching<i32, IntoIter<RangeInclusive<i32>>>>, AllocError>
-    ensures { IfOk result (λ streams.
-        All ⟦<CheckSortedTouching<i32, IntoIter<RangeInclusive<i32>>> as Draw<i32>>⟧.can_draw
-        streams.items) }
+    set: &Set,
+    streams: Vec<Touching>,
+) -> Result<Vec<Touching>, AllocError>
+    requires { All ⟦<Touching as Draw<i32>>⟧.can_draw streams.items }
+    ensures { IfOk result (λ streams. All ⟦<Touching as Draw<i32>>⟧.can_draw streams.items) }
 {
-    let mut streams = Vec::new(alloc);
-    let Ok(stream) = CheckSortedTouching::try_new(Vec::from_iter(alloc, one.ranges())?) else {
-        return Ok(streams);
-    };
-    streams.push(stream)?;
-    let Ok(stream) = CheckSortedTouching::try_new(Vec::from_iter(alloc, other.ranges())?) else {
-        return Ok(streams);
-    };
-    streams.push(stream)?;
+    let mut streams = streams;
+    if let Ok(stream) = CheckSortedTouching::try_new(Vec::from_iter(alloc, set.ranges())?) {
+        streams.push(stream)?;
+    }
     Ok(streams)
+}
+
+/// The runs of two sets as streams whose ranges may touch, in ample memory.
+fn touching(alloc: Global, one: &Set, other: &Set) -> Result<Vec<Touching>, AllocError>
+    ensures { IfOk result (λ streams. All ⟦<Touching as Draw<i32>>⟧.can_draw streams.items) }
+{
+    add_touching(alloc, other, add_touching(alloc, one, Vec::new(alloc))?)
 }
 
 /// Whether what lies in an odd number of streams whose ranges may touch is this.

@@ -90,7 +90,7 @@ pub(crate) fn spaced(alloc: Global, count: i32, others: i32) -> Result<Vec<Cell>
 }
 
 /// What a change answers where a full heap has so much room in one place, or that it is refused.
-fn tried<'a>(
+pub(crate) fn tried<'a>(
     alloc: Global,
     heap: &'a LocalHeap,
     room: usize,
@@ -123,6 +123,18 @@ fn are_left<'a>(
     agree(alloc, set, other, cells)
 }
 
+/// Whether a change that passed answers as it is to, and leaves two sets as it is to.
+fn is_passed<'a>(
+    alloc: Global,
+    change: Change,
+    answer: Answer,
+    set: &HeapSet<'a>,
+    other: &HeapSet<'a>,
+    cells: &mut Vec<Cell>,
+) -> Result<bool, AllocError> {
+    Ok(answer == reckon(alloc, change, cells)? && agree(alloc, set, other, cells)?)
+}
+
 /// How many tries of a change are refused before one passes. `None` where a refused one leaves what
 /// it must not, or where the one that passes goes wrong from there.
 fn refusals<'a>(
@@ -136,8 +148,8 @@ fn refusals<'a>(
     for step in 0..150u32 {
         let told = tried(alloc, heap, 96 * step as usize, change, set, other)?;
         if let Some(answer) = told {
-            let is_told = answer == reckon(alloc, change, cells)?;
-            return Ok((is_told && agree(alloc, set, other, cells)?).then_some(step));
+            let is_right = is_passed(alloc, change, answer, set, other, cells)?;
+            return Ok(is_right.then_some(step));
         }
         if !are_left(alloc, heap, change, set, other, cells)? {
             return Ok(None);
@@ -157,27 +169,50 @@ fn places(change: Change, count: i32) -> i32 {
     }
 }
 
-/// Whether some tries of a change are refused, at so many places, eight apart, from the last on. `None`
-/// where one leaves what it must not.
-fn is_refused_somewhere(
+/// Whether some tries of a change of two sets are refused, at so many places, eight apart, from the
+/// last on. `None` where one leaves what it must not.
+fn is_refused_somewhere<'a>(
+    alloc: Global,
+    heap: &'a LocalHeap,
+    change: Change,
+    places: i32,
+    set: &mut HeapSet<'a>,
+    other: &mut HeapSet<'a>,
+    cells: &mut Vec<Cell>,
+) -> Result<Option<bool>, AllocError> {
+    let mut is_refused = false;
+    for place in 0..places {
+        let moved = change.moved(places.saturating_sub(place + 1).saturating_mul(8));
+        match refusals(alloc, heap, moved, set, other, cells)? {
+            Some(times) => is_refused = is_refused || times > 0,
+            None => return Ok(None),
+        }
+    }
+    Ok(Some(is_refused))
+}
+
+/// The set of one side of these cells, in a heap.
+fn set_of_side<'a>(
+    alloc: Global,
+    heap: &'a LocalHeap,
+    cells: &[Cell],
+    side: Side,
+) -> Result<HeapSet<'a>, AllocError> {
+    set_in(heap, &runs(alloc, cells, side)?)
+}
+
+/// Whether some tries of a change of the sets of these cells are refused. `None` where one leaves
+/// what it must not.
+fn is_refused(
     alloc: Global,
     heap: &LocalHeap,
     change: Change,
     places: i32,
     cells: &mut Vec<Cell>,
 ) -> Result<Option<bool>, AllocError> {
-    let mut set = set_in(heap, &runs(alloc, cells, Side::One)?)?;
-    let mut other = set_in(heap, &runs(alloc, cells, Side::Other)?)?;
-    let mut is_refused = false;
-    for place in 0..places {
-        let moved = change.moved(places.saturating_sub(place + 1).saturating_mul(8));
-        let times = refusals(alloc, heap, moved, &mut set, &mut other, cells)?;
-        let Some(times) = times else {
-            return Ok(None);
-        };
-        is_refused = is_refused || times > 0;
-    }
-    Ok(Some(is_refused))
+    let mut set = set_of_side(alloc, heap, cells, Side::One)?;
+    let mut other = set_of_side(alloc, heap, cells, Side::Other)?;
+    is_refused_somewhere(alloc, heap, change, places, &mut set, &mut other, cells)
 }
 
 /// Whether a change is refused as it is to be, and no room is kept once the sets are dropped.
@@ -186,7 +221,7 @@ fn is_right(alloc: Global, change: Change, count: i32, others: i32) -> Result<bo
     let free = heap.free();
     let mut cells = spaced(alloc, count, others)?;
     let places = places(change, count);
-    let refused = is_refused_somewhere(alloc, &heap, change, places, &mut cells)?;
+    let refused = is_refused(alloc, &heap, change, places, &mut cells)?;
     Ok(refused == Some(wants(change, count, others)) && heap.free() == free)
 }
 

@@ -13,7 +13,7 @@ use std::alloc::{AllocError, Global};
 use std::test::*;
 
 /// What is made of a set in a heap and of two sets beside it, the first of which is the same.
-#[derive(Clone, Copy, Debug)]
+#[derive(Clone, Copy)]
 enum Made {
     /// All elements of the set in the heap.
     Elements,
@@ -120,40 +120,66 @@ fn is_refused_rightly<'a>(
     Ok(false)
 }
 
-/// Whether what is made of sets of so many runs is refused as it is to be.
-fn is_right(alloc: Global, made: Made, count: i32) -> Result<bool, AllocError> {
+/// Whether what is made of a set of these runs in a heap is refused as it is to be.
+fn is_right_in_heap(
+    alloc: Global,
+    made: Made,
+    runs: Table<'_>,
+    given: Given<'_>,
+) -> Result<bool, AllocError> {
     let heap = LocalHeap::new(alloc, 32768)?;
-    let cells = spaced(alloc, count, count)?;
-    let runs_of_one = runs(alloc, &cells, Side::One)?;
-    let set = set_in(&heap, &runs_of_one)?;
-    let one = set_of(alloc, &runs_of_one)?;
-    let other = set_of(alloc, &runs(alloc, &cells, Side::Other)?)?;
-    let wanted = runs_made(alloc, made.meaning(), &cells)?;
-    let given = Given {
-        one: &one,
-        other: &other,
-        wanted: &wanted,
-    };
+    let set = set_in(&heap, runs)?;
     is_refused_rightly(alloc, &heap, made, &set, given)
 }
 
-/// What is not refused as it is to be of sets of so many runs, if anything is.
-fn first_wrong(alloc: Global, count: i32) -> Option<Made> {
+/// Whether what is made of the sets of two tables is refused as it is to be.
+fn is_right_of(
+    alloc: Global,
+    made: Made,
+    runs: Table<'_>,
+    others: Table<'_>,
+    wanted: Table<'_>,
+) -> Result<bool, AllocError> {
+    let one = set_of(alloc, runs)?;
+    let other = set_of(alloc, others)?;
+    let given = Given {
+        one: &one,
+        other: &other,
+        wanted,
+    };
+    is_right_in_heap(alloc, made, runs, given)
+}
+
+/// Whether what is made of sets of so many runs is refused as it is to be.
+fn is_right(alloc: Global, made: Made, count: i32) -> Result<bool, AllocError> {
+    let cells = spaced(alloc, count, count)?;
+    let runs_of_one = runs(alloc, &cells, Side::One)?;
+    let runs_of_other = runs(alloc, &cells, Side::Other)?;
+    let wanted = runs_made(alloc, made.meaning(), &cells)?;
+    is_right_of(alloc, made, &runs_of_one, &runs_of_other, &wanted)
+}
+
+/// Whether all that is made of sets of so many runs is refused as it is to be.
+fn all_are_right(alloc: Global, count: i32) -> bool {
     let mut next = Some(Made::Elements);
     for _ in 0..u8::MAX {
-        let made = next?;
+        let Some(made) = next else {
+            return true;
+        };
         if is_right(alloc, made, count) != Ok(true) {
-            return Some(made);
+            return false;
         }
         next = made.after();
     }
-    next
+    false
 }
+
+/// Of how many runs the sets are.
+static COUNTS: [i32; 4] = [0, 1, 3, 100];
 
 #[test]
 fn each_growth_of_what_is_made_is_refused_in_turn(rt: HostRuntime) {
-    for count in [0, 1, 3, 100] {
-        let wrong = first_wrong(rt.alloc(), count);
-        assert!(rt; wrong.is_none(), "{wrong:?} of {count} runs");
+    for count in &COUNTS {
+        assert!(rt; all_are_right(rt.alloc(), *count), "{count} runs");
     }
 }

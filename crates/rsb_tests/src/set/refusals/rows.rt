@@ -1,6 +1,8 @@
 //! Rows worked by hand of what is refused in a full heap, and of what is not.
 
-use crate::set::refusals::heaps::{filled, filled_but};
+use crate::set::calls::Change;
+use crate::set::refusals::changes::{HeapSet, tried};
+use crate::set::refusals::heaps::filled;
 use crate::set::rows::{Table, has, set_in};
 use linked_list_allocator::LocalHeap;
 use std::alloc::{AllocError, Global};
@@ -65,6 +67,12 @@ fn one_and_a_hundred(alloc: Global) -> Result<Vec<(i32, i32)>, AllocError> {
     Ok(runs)
 }
 
+/// Whether a set has one run at least, and a front of these runs.
+fn has_front(set: &HeapSet<'_>, runs: Table<'_>) -> bool {
+    let front = &runs[..set.ranges_len().min(runs.len())];
+    !front.is_empty() && has(set, front)
+}
+
 /// Whether `append` of all runs but the first to the set of the first passes where a full heap has so
 /// much room in one place. `None` where it leaves what it must not: refused, it adds a front of those
 /// runs, and their set is equal to a clone that was taken before.
@@ -80,15 +88,13 @@ fn is_appended(
     let mut set = set_in(heap, &[*first])?;
     let mut other = set_in(heap, others)?;
     let before = other.clone()?;
-    let filler = filled_but(alloc, heap, room)?;
-    let answer = set.append(&mut other);
-    drop(filler);
-    if answer.is_ok() {
-        return Ok((has(&set, runs) && other.is_empty()).then_some(true));
-    }
-    let front = &runs[..set.ranges_len().min(runs.len())];
-    let is_front = !front.is_empty() && has(&set, front);
-    Ok((is_front && other == before).then_some(false))
+    let told = tried(alloc, heap, room, Change::Append, &mut set, &mut other)?;
+    let is_left = if told.is_some() {
+        has(&set, runs) && other.is_empty()
+    } else {
+        has_front(&set, runs) && other == before
+    };
+    Ok(is_left.then_some(told.is_some()))
 }
 
 #[test]
