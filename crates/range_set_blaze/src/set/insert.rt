@@ -1,6 +1,7 @@
 //! Insertions.
 
 ghost use Rattle.std.specs.Prelude.{◌≡◌, ◌↔◌, ℕ, ◌+◌, ◌-◌, ◌<◌, ◌≤◌, max, Some, IfOk, IfSome, IsFalse, IsNone, IsOk, IsSome, IsTrue, MatchOption, OnErr, OnOk};
+ghost use Rattle.std.specs.Range.Bound.{bound_map};
 ghost use Rattle.rsb_integer.specs.Runs.{covers, length_of, members, IsCanonicalIn, HasRanks};
 ghost use Rattle.rsb_integer.specs.Selection.{IsEmpty, LacksSome};
 ghost use Rattle.range_set_blaze.specs.Joining.{Has, IsHull, IsInserted, IsJoining, IsReaching, IsUnreached};
@@ -12,7 +13,7 @@ ghost use Rattle.range_set_blaze.specs.Set.{first_rank, only, past_rank, ranks_i
 use crate::set::RangeSetBlaze;
 use crate::set::entries::{last_run, put_entry, run_up_to};
 use crate::set::lengths::{add_length, take_off_length};
-use crate::set::run::{Run, greater, is_below, known, next_or_greatest, reaches};
+use crate::set::run::{Run, greater, is_below, known, next_or_greatest, previous, reaches};
 use crate::set::take_in::take_in;
 use rsb_integer::Integer;
 use std::alloc::{AllocError, Allocator};
@@ -114,6 +115,36 @@ impl<T: Integer, A: Allocator + Clone> RangeSetBlaze<T, A> {
     }
 }
 
+// The last value up to an upper bound, or `None` where there is none.
+fn last_to<T: Integer>(bound: Bound<&T>) -> Option<T>
+    ensures none { IsNone result
+        → past_rank T.rank T.value_count (bound_map (λ value. value.now) bound.entry) ≡ 0 }
+    ensures last { IfSome result (λ last.
+        T.rank last + 1 ≡ past_rank T.rank T.value_count (bound_map (λ value. value.now) bound.entry)) }
+    ensures value { IfSome result (λ last. T.rank last < T.value_count) }
+{
+    match bound {
+        Bound::Included(last) => Some(known(*last)),
+        Bound::Excluded(past) => previous(known(*past)),
+        Bound::Unbounded => Some(T::max_value()),
+    }
+}
+
+// The first value from a lower bound on, or `None` where there is none.
+fn first_from<T: Integer>(bound: Bound<&T>) -> Option<T>
+    ensures none { IsNone result
+        → T.value_count ≤ first_rank T.rank (bound_map (λ value. value.now) bound.entry) }
+    ensures first { IfSome result (λ first.
+        T.rank first ≡ first_rank T.rank (bound_map (λ value. value.now) bound.entry)) }
+    ensures value { IfSome result (λ first. T.rank first < T.value_count) }
+{
+    match bound {
+        Bound::Included(first) => Some(known(*first)),
+        Bound::Excluded(before) => before.checked_add_one(),
+        Bound::Unbounded => Some(T::min_value()),
+    }
+}
+
 // The values between two bounds as a run, or `None` where there are none.
 pub(crate) fn run_between<T: Integer, R: RangeBounds<T>>(range: &R) -> Option<Run<T>>
     ensures none { R.has_bounds range.now → IsNone result →
@@ -126,21 +157,8 @@ pub(crate) fn run_between<T: Integer, R: RangeBounds<T>>(range: &R) -> Option<Ru
     ensures order { IfSome result (λ run. T.rank run.start ≤ T.rank run.end) }
     ensures value { IfSome result (λ run. T.rank run.end < T.value_count) }
 {
-    let end = match range.end_bound() {
-        Bound::Included(last) => known(*last),
-        Bound::Excluded(past) => {
-            if !is_below(T::min_value(), known(*past)) {
-                return None;
-            }
-            past.sub_one()
-        }
-        Bound::Unbounded => T::max_value(),
-    };
-    let start = match range.start_bound() {
-        Bound::Included(first) => known(*first),
-        Bound::Excluded(before) => before.checked_add_one()?,
-        Bound::Unbounded => T::min_value(),
-    };
+    let end = last_to(range.end_bound())?;
+    let start = first_from(range.start_bound())?;
     if is_below(end, start) {
         return None;
     }

@@ -1,6 +1,6 @@
 //! A run of values, and comparisons of values in ranks.
 
-ghost use Rattle.std.specs.Prelude.{◌≡◌, ◌↔◌, ◌+◌, ◌-◌, ◌<◌, ◌≤◌, max, min, IsTrue};
+ghost use Rattle.std.specs.Prelude.{◌≡◌, ◌↔◌, ◌+◌, ◌-◌, ◌<◌, ◌≤◌, max, min, IfSome, IsNone, IsTrue};
 
 use rsb_integer::Integer;
 
@@ -28,6 +28,19 @@ pub(crate) fn next_or_greatest<T: Integer>(value: T) -> T
     match value.checked_add_one() {
         Some(next) => next,
         None => value,
+    }
+}
+
+/// The value one rank lower, or `None` of the least value.
+pub(crate) fn previous<T: Integer>(value: T) -> Option<T>
+    requires { T.rank value < T.value_count }
+    ensures none { IsNone result → T.rank value ≡ 0 }
+    ensures some { IfSome result (λ previous. T.rank previous + 1 ≡ T.rank value) }
+{
+    if is_below(T::min_value(), value) {
+        Some(value.sub_one())
+    } else {
+        None
     }
 }
 

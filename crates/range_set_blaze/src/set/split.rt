@@ -10,7 +10,7 @@ ghost use Rattle.range_set_blaze.specs.Split.{from_on, IsParting, NoneOver};
 use crate::set::RangeSetBlaze;
 use crate::set::entries::{next_run, put_entry, run_up_to, split_entries, take_entry};
 use crate::set::lengths::add_length;
-use crate::set::run::{Run, is_below, known};
+use crate::set::run::{Run, is_below, known, previous};
 use num_traits::Zero;
 use rsb_integer::Integer;
 use std::alloc::{AllocError, Allocator};
@@ -89,10 +89,8 @@ fn run_over<T: Integer, A: Allocator>(map: &BTreeMap<T, T, A>, key: T) -> Option
         (λ run. Contains (runs_of T.rank map.now.entries) (run_of T.rank run)
         × (T.rank run.start < T.rank key) × (T.rank key ≤ T.rank run.end)) }
 {
-    if !is_below(T::min_value(), key) {
-        return None;
-    }
-    let run = run_up_to(map, key.sub_one())?;
+    let before = previous(key)?;
+    let run = run_up_to(map, before)?;
     if is_below(run.end, key) {
         return None;
     }

@@ -98,27 +98,30 @@ fn twenty_thousand_sets_make_one(rt: HostRuntime) -> Result<(), Fail> {
 
 /// A form of the first three and the middle three of each five values, how many runs it has, and how
 /// many members.
-static OF_TWO: [(Form, usize, u64); 4] = [
+static OF_TWO: [Row; 4] = [
     (Form::Some, 70_000, 280_000),
     (Form::All, 70_000, 140_000),
     (Form::Odd, 140_000, 140_000),
     (Form::AtLeast(2), 70_000, 140_000),
 ];
 
+/// A form, how many runs it has, and how many members.
+type Row = (Form, usize, u64);
+
 /// Whether a form of two sets, which are lent, has so many runs and so many members.
-fn lent_have(
-    alloc: Global,
-    sets: [&RangeSetBlaze<i32>; 2],
-    row: &(Form, usize, u64),
-) -> Result<bool, AllocError> {
+fn lent_have(alloc: Global, sets: [&RangeSetBlaze<i32>; 2], row: &Row) -> Result<bool, AllocError> {
     let made = of_lent(alloc, row.0, Vec::from_array(alloc, sets)?)?;
     Ok(made.ranges_len() == row.1 && made.len() == row.2)
 }
 
-/// Whether a form of the two sets, which are given up, has so many runs and so many members.
-fn given_up_have(alloc: Global, row: &(Form, usize, u64)) -> Result<bool, AllocError> {
-    let sets = [every_fifth(alloc, 0, 2)?, every_fifth(alloc, 1, 2)?];
-    let made = of_sets(alloc, row.0, Vec::from_array(alloc, sets)?)?;
+/// Whether a form of copies of two sets, which are given up, has so many runs and so many members.
+fn given_up_have(
+    alloc: Global,
+    sets: [&RangeSetBlaze<i32>; 2],
+    row: &Row,
+) -> Result<bool, AllocError> {
+    let copies = [sets[0].clone()?, sets[1].clone()?];
+    let made = of_sets(alloc, row.0, Vec::from_array(alloc, copies)?)?;
     Ok(made.ranges_len() == row.1 && made.len() == row.2)
 }
 
@@ -127,7 +130,8 @@ fn two_sets_of_seventy_thousand_runs_make_one(rt: HostRuntime) -> Result<(), Fai
     let alloc = rt.alloc();
     let (first, middle) = (every_fifth(alloc, 0, 2)?, every_fifth(alloc, 1, 2)?);
     for row in &OF_TWO {
-        assert!(rt; lent_have(alloc, [&first, &middle], row)? && given_up_have(alloc, row)?);
+        let sets = [&first, &middle];
+        assert!(rt; lent_have(alloc, sets, row)? && given_up_have(alloc, sets, row)?);
     }
     Ok(())
 }

@@ -13,14 +13,14 @@ run_up_to-requires-clause-ascending g c =
 -- no run starts below the value
 pub returns-in_err-run : goal.returns-in_err-run
 returns-in_err-run g c =
-    rw c.from_residual.ensures
+    rw c.from_residual-in_err-run.ensures
     (λ run found starts reaches. subst (NoneBelow (runs_of g.T.Integer.rank c.args.map.now.entries))
-    c.sub_one.ensures c.in_err-run.ensures run found starts)
+    c.in_ok-before.ensures.some c.in_err-run.ensures run found starts)
 
 -- or the last one ends below it
 pub returns-then-is_below : goal.returns-then-is_below
 returns-then-is_below g c =
     last-over _ _ c.requires.canonical _ _
     (subst (λ bound. IsLastBelow (runs_of g.T.Integer.rank c.args.map.now.entries) bound
-    (run_of g.T.Integer.rank c.in_ok-run.run')) c.sub_one.ensures c.in_ok-run.ensures)
-    (c.is_below-2.ensures.0 c.if-is_below.true)
+    (run_of g.T.Integer.rank c.in_ok-run.run')) c.in_ok-before.ensures.some c.in_ok-run.ensures)
+    (c.is_below.ensures.0 c.if-is_below.true)
