@@ -25,10 +25,7 @@ pub(crate) fn known<T: Integer>(value: T) -> T
 pub(crate) fn next_or_greatest<T: Integer>(value: T) -> T
     ensures { T.rank result ≡ min (T.rank value + 1) (T.value_count - 1) }
 {
-    match value.checked_add_one() {
-        Some(next) => next,
-        None => value,
-    }
+    value.checked_add_one().unwrap_or(value)
 }
 
 /// The value one rank lower, or `None` of the least value.

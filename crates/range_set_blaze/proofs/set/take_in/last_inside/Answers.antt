@@ -1,0 +1,27 @@
+use Rattle.std.proofs.Common.{arith}
+use Rattle.range_set_blaze.proofs.runs.Kept.{lt-fails}
+use Rattle.range_set_blaze.proofs.set.take_in.last_inside.Goals as goal
+
+-- no run starts up to the end
+pub returns-in_err-last : goal.returns-in_err-last
+returns-in_err-last g c = rw c.from_residual.ensures (λ other inside.
+    c.in_err-last.ensures other inside.among (omega (arith, inside.within)))
+
+-- the last one starts inside
+pub returns-then-is_below : goal.returns-then-is_below
+returns-then-is_below g c = record {
+  among = c.in_ok-last.ensures.among;
+  later = c.is_below.ensures.0 c.if-is_below.true;
+  within = omega (arith, c.in_ok-last.ensures.starts);
+}
+
+-- or none does
+pub returns-else-is_below : goal.returns-else-is_below
+returns-else-is_below g c other inside =
+    let up_to = c.in_ok-last.ensures.last other inside.among (omega (arith, inside.within)) in
+    absurd (omega (
+      arith,
+      inside.later,
+      up_to,
+      lt-fails c.is_below.result _ _ c.is_below.ensures c.if-is_below.false,
+    ))
