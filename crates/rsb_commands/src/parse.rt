@@ -11,6 +11,7 @@ ghost use Rattle.rsb_commands.specs.Spelling.{AreCommands, IsArgument, IsFirstBa
 use crate::command::Command;
 use crate::fault::Fault;
 use crate::set_no::SetNo;
+use memchr::memchr;
 use std::alloc::Allocator;
 
 /// The commands that the lines spell, or the number of the first line that spells none. The list of
@@ -65,7 +66,7 @@ fn line_feed(bytes: &[u8]) -> Option<usize>
     ensures place { result ≡ position (λ byte. byte == 10) bytes.now }
     ensures within { IfSome result (λ i. i < length bytes.now) }
 {
-    bytes.iter().position(|byte| *byte == b'\n')
+    memchr(b'\n', bytes)
 }
 
 // The line without the carriage return at its end, if it has one.
@@ -221,7 +222,7 @@ fn slot_and_range(arguments: &[u8]) -> Option<(SetNo, i32, i32)>
     let (word, rest) = first_word(arguments)?;
     let slot = slot(word)?;
     let (first, rest) = first_number(rest)?;
-    let (last, rest) = first_number(rest)?;
+    let (last, rest) = last_number(rest)?;
     if is_blank_line(rest) {
         Some((slot, first, last))
     } else {
@@ -237,7 +238,7 @@ fn slot_and_value(arguments: &[u8]) -> Option<(SetNo, i32)>
 {
     let (word, rest) = first_word(arguments)?;
     let slot = slot(word)?;
-    let (value, rest) = first_number(rest)?;
+    let (value, rest) = last_number(rest)?;
     if is_blank_line(rest) {
         Some((slot, value))
     } else {
@@ -301,13 +302,20 @@ fn four_slots(arguments: &[u8]) -> Option<(SetNo, SetNo, SetNo, SetNo)>
 fn first_number(line: &[u8]) -> Option<(i32, &[u8])>
     ensures { ReadsFirst result IsNumber line.now }
 {
+    let (word, rest) = first_word(line)?;
+    Some((number(word)?, rest))
+}
+
+// The same where the word ends its line in most cases, and is then read in one pass.
+#[inline(always)]
+fn last_number(line: &[u8]) -> Option<(i32, &[u8])>
+    ensures { ReadsFirst result IsNumber line.now }
+{
     let rest = without_blanks(line);
-    // Most numbers end their line, and are then read in one pass.
     if let Some(last) = number(rest) {
         return Some((last, &[]));
     }
-    let (word, rest) = first_word(rest)?;
-    Some((number(word)?, rest))
+    first_number(line)
 }
 
 // The slot that a word names.

@@ -46,17 +46,21 @@ fn write_flag<W: Write>(page: &mut Page<'_, W>, flag: bool) -> Result<(), Fault>
     ensures { Lays W.contents page.old page.new result (line_text (flag_content flag)) }
 {
     page.make_room()?;
-    page.lay(flag_line(flag));
+    lay_flag(page, flag);
     Ok(())
 }
 
-// The line that says whether something was so.
+// Lays whether something was so, and a line feed. A text of known length takes no call to copy it.
 #[inline(always)]
-fn flag_line(flag: bool) -> &'static [u8]
-    ensures line { result.now ≡ line_text (flag_content flag) }
-    ensures bound { length result.now ≤ 6 }
+fn lay_flag<W: Write>(page: &mut Page<'_, W>, flag: bool)
+    requires { length (waiting page.old) + 6 ≤ PAGE }
+    ensures { Waits page.old page.new (line_text (flag_content flag)) }
 {
-    if flag { b"true\n" } else { b"false\n" }
+    if flag {
+        page.lay(b"true\n");
+    } else {
+        page.lay(b"false\n");
+    }
 }
 
 // Writes a number, and a line feed.
@@ -90,7 +94,7 @@ fn write_presence<W: Write>(page: &mut Page<'_, W>, present: bool) -> Result<(),
 {
     page.make_room()?;
     page.lay(b" ");
-    page.lay(flag_line(present));
+    lay_flag(page, present);
     Ok(())
 }
 

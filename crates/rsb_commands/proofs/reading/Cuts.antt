@@ -1,11 +1,13 @@
 -- Bytes cut at the first line feed, and at the first blank.
-use Rattle.std.proofs.Common.{◌≡◌, ◌∙◌, ℕ, zero, suc, ◌+◌, ◌<◌, ◌≤◌, Bool, true, false, cond, eqb, ltb, List, [], ◌∷◌, ◌++◌, length, take, drop, Some, None, refl, ap, subst, arith}
-use Rattle.std.proofs.lemmas.Bool.{ltb-true, ltb-false, lt-ltb, ne_eqb}
+use Rattle.std.proofs.Common.{◌≡◌, ◌∙◌, ℕ, zero, suc, ◌+◌, ◌<◌, ◌≤◌, Bool, true, false, cond, eqb, ltb, List, [], ◌∷◌, ◌++◌, length, take, drop, Option, Some, None, refl, sym, ap, subst, arith}
+use Rattle.std.proofs.lemmas.Bool.{false_from_ne_true, ltb-true, ltb-false, le-ltb, lt-ltb, ne_eqb}
 use Rattle.std.proofs.lemmas.List.{length-take}
 use Rattle.std.proofs.lemmas.List.Elements.{All-from_get_or}
 use Rattle.std.proofs.lemmas.List.Splits.{slice_split_first, slice_split_none, length-slice_split}
-use Rattle.std.proofs.lemmas.List.Sums.{fails_before_first}
+use Rattle.std.proofs.lemmas.List.Sums.{fails_before_first, position_or_len_is}
 use Rattle.std.specs.List.{slice_split, position, position_or_len, filter}
+use Rattle.memchr.specs.Find.{IsFirstByte}
+use Rattle.std.specs.Option.{IfSome}
 use Rattle.std.specs.Str.Lines.{lines, lines_of_parts, strip_carriage_return}
 use Rattle.rsb_commands.specs.Spelling.{is_blank, has_bytes, words}
 
@@ -20,6 +22,30 @@ found false n i is = absurd cc
 not_found : (passes : Bool) (n : ℕ) → cond passes (Some n) None ≡ None → passes ≡ false
 not_found true n is = absurd cc
 not_found false n is = refl
+
+-- the first byte that passes is at the first index
+pub position-IsFirstByte : (test : ℕ → Bool) (bytes : List ℕ) (first : Option ℕ)
+    → IsFirstByte test bytes first → first ≡ position test bytes
+position-IsFirstByte test bytes None none =
+    let past : position_or_len test bytes ≡ length bytes =
+    position_or_len_is test bytes (length bytes) 0 (omega arith)
+    (λ k within. false_from_ne_true _ (none k (omega arith) within))
+    (λ within. absurd (omega (arith, within))) in
+    sym (ap (λ (passes : Bool). cond passes (Some (position_or_len test bytes)) None)
+    (le-ltb (position_or_len test bytes) (length bytes) (omega (arith, past))))
+position-IsFirstByte test bytes (Some i) is =
+    let at : position_or_len test bytes ≡ i =
+    position_or_len_is test bytes i 0 (omega (arith, is.0.high))
+    (λ k before. false_from_ne_true _ (is.0.before k (omega arith) before)) (λ within. is.1) in
+    sym (ap (λ (passes : Bool). cond passes (Some (position_or_len test bytes)) None)
+    (lt-ltb (position_or_len test bytes) (length bytes) (omega (arith, at, is.0.high)))
+    ∙ ap Some at)
+
+-- and is one of the bytes
+pub IsFirstByte-within : (test : ℕ → Bool) (bytes : List ℕ) (first : Option ℕ)
+    → IsFirstByte test bytes first → IfSome first (λ i. i < length bytes)
+IsFirstByte-within test bytes None none = tt
+IsFirstByte-within test bytes (Some i) is = is.0.high
 
 -- a list is split at the first element that passes, and what comes after that is split again
 slice_split-Some : (test : ℕ → Bool) (xs : List ℕ) (i : ℕ) → position test xs ≡ Some i

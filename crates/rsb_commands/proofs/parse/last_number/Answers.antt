@@ -2,7 +2,7 @@ use Rattle.std.proofs.lemmas.Int.{to_z-of_z}
 use Rattle.std.specs.Int.{w32}
 use Rattle.std.specs.Int.RustNames.{FitsSigned}
 use Rattle.rsb_commands.proofs.reading.Numbers.{number_is_word}
-use Rattle.rsb_commands.proofs.parse.first_number.Goals as goal
+use Rattle.rsb_commands.proofs.parse.last_number.Goals as goal
 
 -- the number ends the line
 pub returns-in-Some : goal.returns-in-Some
