@@ -3,4 +3,5 @@ pub mod Cuts
 pub mod Lines
 pub mod Numbers
 pub mod OneCommand
+pub mod Parts
 pub mod Values

@@ -1,6 +1,7 @@
 pub mod Answer
 pub mod Ending
 pub mod Fault
+pub mod Input
 pub mod Interpreter
 pub mod Page
 pub mod Spelling

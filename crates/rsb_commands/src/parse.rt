@@ -29,6 +29,22 @@ pub fn parse_commands<A: Allocator + Copy>(
     ensures no_io { result ≢ Err Fault.Io }
     ensures took_memory { result ≡ Err Fault.NoMemory → StartsWithCommand input.now }
 {
+    let (commands, _) = parse_lines(alloc, input)?;
+    Ok(commands)
+}
+
+/// The same, and how many lines there are.
+pub(crate) fn parse_lines<A: Allocator + Copy>(
+    alloc: A,
+    input: &[u8],
+) -> Result<(Vec<Command<i32>, A>, u64), Fault>
+    ensures commands { IfOk result (λ read. AreCommands input.now read.0.items) }
+    ensures counted { IfOk result (λ read. read.1 ≡ length (lines input.now)) }
+    ensures bad_line { (number : ℕ) → result ≡ Err (Fault.BadLine number)
+        → IsFirstBadLine input.now number }
+    ensures no_io { result ≢ Err Fault.Io }
+    ensures took_memory { result ≡ Err Fault.NoMemory → StartsWithCommand input.now }
+{
     let mut commands = Vec::new(alloc);
     let mut rest = input;
     let mut number = 0u64;
@@ -43,7 +59,7 @@ pub fn parse_commands<A: Allocator + Copy>(
         }
         rest = later;
     }
-    Ok(commands)
+    Ok((commands, number))
 }
 
 // The first line without its ending, and the bytes after it.

@@ -13,11 +13,10 @@ ghost use Rattle.rsb_commands.specs.Transfer.{AppendsShortOf};
 
 use crate::command::Command;
 use crate::fault::Fault;
+use crate::input::read_commands;
 use crate::interpreter::{empty_sets, run_command};
 use crate::page::Page;
-use crate::parse::parse_commands;
 use crate::text::{write_fault, write_line};
-use crate::transfer::read_all;
 use std::alloc::Allocator;
 use std::io::{Read, Write};
 use std::process::ExitCode;
@@ -84,10 +83,7 @@ pub fn run<A: Allocator + Copy, R: Read, W: Write>(
     // No memory is wanted of an empty input.
     ensures some_input { result ≡ Err Fault.NoMemory → HasBytes (R.remaining input.old) }
 {
-    let commands = {
-        let bytes = read_all(alloc, input)?;
-        parse_commands(alloc, &bytes)?
-    };
+    let commands = read_commands(alloc, input)?;
     let mut page = Page::new(output);
     answer(alloc, &commands, &mut page)
 }

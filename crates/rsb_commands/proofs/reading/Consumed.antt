@@ -1,10 +1,13 @@
 -- What a reader gives, part by part.
-use Rattle.std.proofs.Common.{◌≡◌, ◌∙◌, ℕ, ℤ, ◌<◌, List, [], ◌∷◌, ◌++◌, length, Option, Some, None, sym, ap, append_assoc, arith}
-use Rattle.std.proofs.lemmas.List.{length-append}
-use Rattle.std.specs.Io.KnownBytes.{Consumes, Keeps}
+use Rattle.std.proofs.Common.{◌≡◌, ◌∙◌, ℕ, ℤ, ◌<◌, List, [], ◌∷◌, ◌++◌, length, take, Option, Some, None, Result, Ok, Err, sym, ap, subst, append_assoc, arith}
+use Rattle.std.proofs.lemmas.List.{append-nil, length-append}
+use Rattle.std.specs.Io.KnownBytes.{Consumes, IsAtEnd, Keeps}
+use Rattle.std.specs.Option.{IfSome}
+use Rattle.std.specs.Result.{IfOk}
 use Rattle.rsb_commands.specs.declared.command.Command.{Command}
 use Rattle.rsb_commands.specs.Answer.{HasBytes}
-use Rattle.rsb_commands.specs.Spelling.{AreCommands}
+use Rattle.rsb_commands.specs.Spelling.{AreCommands, lines_with_words}
+use Rattle.rsb_commands.proofs.reading.OneCommand.{one_list}
 
 -- what was read in two parts was read
 pub Consumes-then : (old mid new : Option (List ℕ)) (xs ys both : List ℕ) → both ≡ xs ++ ys
@@ -39,13 +42,45 @@ some_consumed (Some before) (Some between) (Some after) xs ys first second some 
       ap length second ∙ length-append ys after,
     )
 
--- an input that was read, and spells some commands, has a byte
-pub some_read : (known left : Option (List ℕ)) (bytes : List ℕ) (commands : List (Command ℤ))
-    → Consumes known left bytes → AreCommands bytes commands → 0 < length commands
-    → HasBytes known
-some_read None left bytes commands read spelled some = tt
-some_read (Some input) None bytes commands read spelled some = absurd read
-some_read (Some input) (Some rest) [] [] read spelled some = absurd (omega (arith, some))
-some_read (Some input) (Some rest) [] (c ∷ cs) read spelled some = absurd spelled
-some_read (Some input) (Some rest) (byte ∷ bytes) commands read spelled some =
-    omega (arith, ap length read)
+-- a read of no bytes takes none
+pub Consumes-end : (old mid new : Option (List ℕ)) (xs buf : List ℕ) (n : ℕ) → n ≡ 0
+    → Consumes old mid xs → Consumes mid new (take n buf) → Consumes old new xs
+Consumes-end old mid new xs buf n none first second =
+    Consumes-then old mid new xs [] xs (sym (append-nil xs)) first
+    (subst (λ m. Consumes mid new (take m buf)) none second)
+
+-- what was read to its end is all that there was
+pub consumed-all : (old new : Option (List ℕ)) (xs : List ℕ) (Fact : List ℕ → Type 0)
+    → Consumes old new xs → IsAtEnd new → Fact xs → IfSome old Fact
+consumed-all None new xs Fact read end fact = tt
+consumed-all (Some input) None xs Fact read end fact = absurd read
+consumed-all (Some input) (Some rest) xs Fact read end fact =
+    subst Fact (sym (read ∙ ap (λ v. xs ++ v) end ∙ append-nil xs)) fact
+
+-- so it spells no other commands than those that were read
+pub consumed-only : {V E : Type 0} (items : V → List (Command ℤ)) (old new : Option (List ℕ))
+    (xs : List ℕ) → Consumes old new xs → IsAtEnd new → (result : Result V E)
+    → IfOk result (λ read. AreCommands xs (items read))
+    → IfOk result (λ read. IfSome old (λ bytes.
+    (others : List (Command ℤ)) → AreCommands bytes others → others ≡ items read))
+consumed-only items old new xs read end (Ok value) spelled =
+    consumed-all old new xs
+    (λ bytes. (others : List (Command ℤ)) → AreCommands bytes others → others ≡ items value) read end
+    (λ others are. one_list (lines_with_words xs) others (items value) are spelled)
+consumed-only items old new xs read end (Err error) spelled = tt
+
+-- what gave some bytes in all had some
+pub some_read : (old new : Option (List ℕ)) (xs : List ℕ) → Consumes old new xs → 0 < length xs
+    → HasBytes old
+some_read None new xs read some = tt
+some_read (Some input) None xs read some = absurd read
+some_read (Some input) (Some rest) xs read some =
+    omega (arith, some, ap length read, length-append xs rest)
+
+-- an input that spells some commands has a byte
+pub some_spelled : (known : Option (List ℕ)) (commands : List (Command ℤ))
+    → IfSome known (λ bytes. AreCommands bytes commands) → 0 < length commands → HasBytes known
+some_spelled None commands spelled some = tt
+some_spelled (Some []) [] spelled some = absurd (omega (arith, some))
+some_spelled (Some []) (c ∷ cs) spelled some = absurd spelled
+some_spelled (Some (byte ∷ bytes)) commands spelled some = omega arith

@@ -10,11 +10,11 @@ use Rattle.rsb_commands.specs.declared.command.Command.{Command}
 use Rattle.rsb_commands.specs.Spelling.{AreCommands, IsBadLine, IsFirstBadLine, Spells, StartsWithCommand, has_words, lines_with_words, words}
 
 -- the words of each line that has some
-abbrev spoken : List (List ℕ) → List (List (List ℕ))
+abbrev pub spoken : List (List ℕ) → List (List (List ℕ))
 spoken ls = filter has_words (map words ls)
 
 -- the line is no bad one
-abbrev IsGood : List ℕ → Type 0
+abbrev pub IsGood : List ℕ → Type 0
 IsGood line = IsBadLine line → ⊥
 
 -- the lines before `rest` were read: they are this many, and spell these commands
@@ -26,7 +26,7 @@ pub record HasRead (input rest : List ℕ) (number : ℕ) (commands : List (Comm
   pub good : All IsGood front
 
 -- the lines with words of two lists are those of the one and then of the other
-spoken-append : (xs ys : List (List ℕ)) → spoken (xs ++ ys) ≡ spoken xs ++ spoken ys
+pub spoken-append : (xs ys : List (List ℕ)) → spoken (xs ++ ys) ≡ spoken xs ++ spoken ys
 spoken-append xs ys =
     ap (filter has_words) (map-append words xs ys)
     ∙ filter-append has_words (map words xs) (map words ys)
@@ -129,11 +129,22 @@ has_read_some input rest number commands command before =
     starts_with input (spoken before.front) (spoken (lines rest)) commands command
     (ap spoken before.parts ∙ spoken-append before.front (lines rest)) before.spelled
 
--- nothing is left
+-- nothing is left: the lines are all
+has_read-lines : (input rest : List ℕ) (number : ℕ) (commands : List (Command ℤ))
+    → length rest ≡ 0 → (before : HasRead input rest number commands) → lines input ≡ before.front
+has_read-lines input rest number commands none before =
+    before.parts ∙ ap (λ r. before.front ++ lines r) (nil_from_length rest none)
+    ∙ append-nil before.front
+
+-- they are counted
+pub has_read_count : (input rest : List ℕ) (number : ℕ) (commands : List (Command ℤ))
+    → length rest ≡ 0 → HasRead input rest number commands → number ≡ length (lines input)
+has_read_count input rest number commands none before =
+    before.counted ∙ ap length (sym (has_read-lines input rest number commands none before))
+
+-- and spell the commands
 pub has_read_all : (input rest : List ℕ) (number : ℕ) (commands : List (Command ℤ))
     → length rest ≡ 0 → HasRead input rest number commands → AreCommands input commands
 has_read_all input rest number commands none before =
-    let all : lines input ≡ before.front =
-    before.parts ∙ ap (λ r. before.front ++ lines r) (nil_from_length rest none)
-    ∙ append-nil before.front in
-    subst (λ ls. AllZip Spells (spoken ls) commands) (sym all) before.spelled
+    subst (λ ls. AllZip Spells (spoken ls) commands)
+    (sym (has_read-lines input rest number commands none before)) before.spelled

@@ -1,6 +1,6 @@
 use Rattle.std.proofs.Common.{◌+◌, ◌≤◌, length}
 use Rattle.rsb_commands.proofs.reading.Lines.{HasRead}
-use Rattle.rsb_commands.proofs.parse.parse_commands.Given as goal
+use Rattle.rsb_commands.proofs.parse.parse_lines.Given as goal
 
 -- each line has a byte, so their number fits
 abbrev pub invariant-loop-rest : goal.invariant-loop-rest
