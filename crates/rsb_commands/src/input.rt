@@ -82,9 +82,10 @@ impl<A: Allocator + Copy> Reading<A> {
         if self.bad_line.is_some() {
             return Ok(());
         }
+        let before = self.rest.len();
         self.rest.extend_from_slice(bytes)?;
-        match memrchr(b'\n', &self.rest) {
-            Some(last) => self.take_lines(last + 1),
+        match memrchr(b'\n', bytes) {
+            Some(last) => self.take_lines(before + last + 1),
             None => Ok(()),
         }
     }

@@ -9,7 +9,7 @@ use arrayvec::ArrayVec;
 use std::io::Write;
 
 /// How many bytes a page holds.
-pub(crate) const PAGE: usize = 4096;
+pub(crate) const PAGE: usize = 65_536;
 
 /// How many bytes a page has room for after `make_room`.
 pub(crate) const ROOM: usize = 32;

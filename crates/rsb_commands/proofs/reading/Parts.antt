@@ -2,7 +2,7 @@
 use Rattle.std.proofs.Common.{◌≡◌, ◌∙◌, ℕ, ℤ, suc, ◌+◌, ◌<◌, Bool, true, false, cond, eqb, List, [], ◌∷◌, ◌++◌, length, map, take, get_or, Option, Some, None, refl, sym, ap, subst, append_assoc, arith}
 use Rattle.std.proofs.Math.Seq.{take-suc}
 use Rattle.std.proofs.lemmas.Bool.{eqb-true, true≢false}
-use Rattle.std.proofs.lemmas.List.{append-nil, length-append}
+use Rattle.std.proofs.lemmas.List.{append-nil, get_or-append-add, length-append}
 use Rattle.std.proofs.lemmas.List.Elements.{All-append, All-cons, All-nil}
 use Rattle.std.proofs.lemmas.List.Splits.{length-slice_split}
 use Rattle.std.specs.Prelude.{All, IsNone, MatchOption}
@@ -69,13 +69,20 @@ IsClosed-line_feed xs more =
     ∙ ap (λ ls. ls ++ lines more) (sym own)
 
 -- so are the bytes up to a line feed that stands among others
-pub IsClosed-take : (bytes : List ℕ) (i : ℕ) → i < length bytes → eqb (get_or bytes i 0) 10 ≡ true
+IsClosed-take : (bytes : List ℕ) (i : ℕ) → i < length bytes → eqb (get_or bytes i 0) 10 ≡ true
     → IsClosed (take (i + 1) bytes)
 IsClosed-take bytes i within is =
     let one_more : suc i ≡ i + 1 = omega arith in
     subst IsClosed (sym (ap (λ n. take n bytes) (sym one_more) ∙ take-suc bytes i 0 within
     ∙ ap (λ byte. take i bytes ++ byte ∷ []) (eqb-true (get_or bytes i 0) 10 is)))
     (IsClosed-line_feed (take i bytes))
+
+-- also where bytes come before these
+pub IsClosed-take-append : (rest bytes : List ℕ) (i : ℕ) → i < length bytes
+    → eqb (get_or bytes i 0) 10 ≡ true → IsClosed (take (length rest + i + 1) (rest ++ bytes))
+IsClosed-take-append rest bytes i within is =
+    IsClosed-take (rest ++ bytes) (length rest + i) (omega (arith, within, length-append rest bytes))
+    (ap (λ byte. eqb byte 10) (get_or-append-add rest bytes i 0) ∙ is)
 
 -- and no bytes
 IsClosed-nil : IsClosed []

@@ -276,7 +276,7 @@ fn many_lines(alloc: Global) -> Result<Vec<u8>, AllocError> {
         lines.extend_from_slice(b"has 7 12\nlen 3\n")?;
     }
     lines.extend_from_slice(b"len ")?;
-    lines.resize(lines.len() + 5_000, b' ')?;
+    lines.resize(lines.len() + 70_000, b' ')?;
     lines.extend_from_slice(b"3\n")?;
     Ok(lines)
 }
@@ -300,8 +300,17 @@ fn many_lines_and_a_long_one_are_answered(rt: HostRuntime) -> Result<(), Fail> {
     Ok(())
 }
 
+// What is read at once ends before that line.
+#[test]
+fn a_bad_line_after_many_is_told_by_its_number(rt: HostRuntime) -> Result<(), Fail> {
+    let mut lines = many_lines(rt.alloc())?;
+    lines.extend_from_slice(b"len 0\nnonsense\nlen 1\nmore of it\n")?;
+    assert!(rt; are_told_as_bad(rt.alloc(), &lines, 10_003));
+    Ok(())
+}
+
 /// Lines that add a hundred thousand single values, apart, work on sets of as many runs, and show
-/// two thousand of these.
+/// twenty thousand of these.
 fn many_values(alloc: Global) -> Result<String, Fail> {
     let mut lines = String::new(alloc);
     for half in 0..100_000u32 {
@@ -309,7 +318,7 @@ fn many_values(alloc: Global) -> Result<String, Fail> {
         write!(lines, "add 0 {value} {value}\n")?;
     }
     lines.push_str("or 1 0 9\nand 2 0 1\nxor 3 0 9\nsub 4 0 9\nnot 5 0\ndel 1 100000\n")?;
-    lines.push_str("cmp 2 3\nlen 4\nadd 6 0 3999\nand 6 6 0\nshow 6\n")?;
+    lines.push_str("cmp 2 3\nlen 4\nadd 6 0 39999\nand 6 6 0\nshow 6\n")?;
     Ok(lines)
 }
 
@@ -320,8 +329,8 @@ fn many_replies(alloc: Global) -> Result<String, Fail> {
         replies.push_str("true\n")?;
     }
     replies.push_str("100000\n100000\n100000\n100000\n100001\ntrue\n")?;
-    replies.push_str("equal\n100000\ntrue\n2000\n0..=0")?;
-    for half in 1..2_000u32 {
+    replies.push_str("equal\n100000\ntrue\n20000\n0..=0")?;
+    for half in 1..20_000u32 {
         let value = half.saturating_mul(2);
         write!(replies, ", {value}..={value}")?;
     }

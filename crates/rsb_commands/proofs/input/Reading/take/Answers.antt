@@ -1,10 +1,14 @@
-use Rattle.std.proofs.Common.{◌+◌, subst, take}
+use Rattle.std.proofs.Common.{◌≡◌, ◌+◌, ◌++◌, length, rules, take}
 use Rattle.rsb_commands.specs.Input.{IsClosed}
-use Rattle.rsb_commands.proofs.reading.Parts.{IsClosed-take}
+use Rattle.rsb_commands.proofs.reading.Parts.{IsClosed-take-append}
 use Rattle.rsb_commands.proofs.input.Reading.take.Goals as goal
 
 -- the bytes up to a line feed are whole lines
 pub take_lines-requires-clause-closed : goal.take_lines-requires-clause-closed
 take_lines-requires-clause-closed g c =
-    subst (λ bytes. IsClosed (take (c.in-Some.last + 1) bytes)) c.deref.ensures.value
-    (IsClosed-take c.deref.result.now c.in-Some.last c.in-Some.ensures.0.high c.in-Some.ensures.1)
+    let rest = c.args.self.now.rest.items in
+    let bytes = c.args.bytes.now in
+    let last = c.in-Some.last in
+    let before : c.len-before.result ≡ length rest = search rules in
+    rw (before, c.in_ok-extend_from_slice.ensures.items)
+    (IsClosed-take-append rest bytes last c.in-Some.ensures.0.high c.in-Some.ensures.1)
