@@ -11,7 +11,7 @@ ghost use Rattle.rsb_commands.specs.Spelling.{AreCommands, IsArgument, IsFirstBa
 use crate::command::Command;
 use crate::fault::Fault;
 use crate::set_no::SetNo;
-use memchr::memchr;
+use memchr::memchr_iter;
 use std::alloc::Allocator;
 
 /// The commands that the lines spell, or the number of the first line that spells none. The list of
@@ -77,12 +77,12 @@ fn first_line(bytes: &[u8]) -> (&[u8], &[u8])
     }
 }
 
-// The place of the first line feed.
+// The place of the first line feed. The iterator looks near by first, and lines are short.
 fn line_feed(bytes: &[u8]) -> Option<usize>
     ensures place { result ≡ position (λ byte. byte == 10) bytes.now }
     ensures within { IfSome result (λ i. i < length bytes.now) }
 {
-    memchr(b'\n', bytes)
+    memchr_iter(b'\n', bytes).next()
 }
 
 // The line without the carriage return at its end, if it has one.

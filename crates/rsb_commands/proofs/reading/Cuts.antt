@@ -1,14 +1,15 @@
 -- Bytes cut at the first line feed, and at the first blank.
 use Rattle.std.proofs.Common.{◌≡◌, ◌∙◌, ℕ, zero, suc, ◌+◌, ◌<◌, ◌≤◌, Bool, true, false, cond, eqb, ltb, List, [], ◌∷◌, ◌++◌, length, take, drop, Option, Some, None, refl, sym, ap, subst, arith}
-use Rattle.std.proofs.lemmas.Bool.{false_from_ne_true, ltb-true, ltb-false, le-ltb, lt-ltb, ne_eqb}
+use Rattle.std.proofs.lemmas.Bool.{ltb-true, ltb-false, lt-ltb, ne_eqb, true≢false}
 use Rattle.std.proofs.lemmas.List.{length-take}
 use Rattle.std.proofs.lemmas.List.Elements.{All-from_get_or}
 use Rattle.std.proofs.lemmas.List.Splits.{slice_split_first, slice_split_none, length-slice_split}
-use Rattle.std.proofs.lemmas.List.Sums.{fails_before_first, position_or_len_is}
+use Rattle.std.proofs.lemmas.List.Sums.{fails_before_first, passes_at_first}
 use Rattle.std.specs.List.{slice_split, position, position_or_len, filter}
-use Rattle.memchr.specs.Find.{IsFirstByte}
 use Rattle.std.specs.Option.{IfSome}
 use Rattle.std.specs.Str.Lines.{lines, lines_of_parts, strip_carriage_return}
+use Rattle.memchr.specs.Find.{IsFirstByte, TakesFirst, first_of, places}
+use Rattle.memchr.proofs.lemmas.ValueLemmas.{IsFirstByte-value}
 use Rattle.rsb_commands.specs.Spelling.{is_blank, has_bytes, words}
 
 -- ---- at the first element that passes a test
@@ -23,29 +24,44 @@ not_found : (passes : Bool) (n : ℕ) → cond passes (Some n) None ≡ None →
 not_found true n is = absurd cc
 not_found false n is = refl
 
--- the first byte that passes is at the first index
-pub position-IsFirstByte : (test : ℕ → Bool) (bytes : List ℕ) (first : Option ℕ)
-    → IsFirstByte test bytes first → first ≡ position test bytes
-position-IsFirstByte test bytes None none =
-    let past : position_or_len test bytes ≡ length bytes =
-    position_or_len_is test bytes (length bytes) 0 (omega arith)
-    (λ k within. false_from_ne_true _ (none k (omega arith) within))
-    (λ within. absurd (omega (arith, within))) in
-    sym (ap (λ (passes : Bool). cond passes (Some (position_or_len test bytes)) None)
-    (le-ltb (position_or_len test bytes) (length bytes) (omega (arith, past))))
-position-IsFirstByte test bytes (Some i) is =
-    let at : position_or_len test bytes ≡ i =
-    position_or_len_is test bytes i 0 (omega (arith, is.0.high))
-    (λ k before. false_from_ne_true _ (is.0.before k (omega arith) before)) (λ within. is.1) in
-    sym (ap (λ (passes : Bool). cond passes (Some (position_or_len test bytes)) None)
-    (lt-ltb (position_or_len test bytes) (length bytes) (omega (arith, at, is.0.high)))
-    ∙ ap Some at)
+-- the byte at the first index is the first that passes
+IsFirstByte-position : (test : ℕ → Bool) (bytes : List ℕ) → IsFirstByte test bytes (position test bytes)
+IsFirstByte-position test bytes = by (ltb (position_or_len test bytes) (length bytes)) refl
+  where
+    by : (passes : Bool) → ltb (position_or_len test bytes) (length bytes) ≡ passes
+        → IsFirstByte test bytes (position test bytes)
+    by true is =
+        let within = ltb-true (position_or_len test bytes) (length bytes) is in
+        rw is (
+          record {
+            low = omega arith;
+            high = within;
+            before = λ k from below passes.
+                true≢false (sym passes ∙ fails_before_first test bytes k 0 below);
+          },
+          passes_at_first test bytes 0 within,
+        )
+    by false is =
+        let past = ltb-false (position_or_len test bytes) (length bytes) is in
+        rw is (λ k from within passes.
+        true≢false (sym passes ∙ fails_before_first test bytes k 0 (omega (arith, past, within))))
 
--- and is one of the bytes
-pub IsFirstByte-within : (test : ℕ → Bool) (bytes : List ℕ) (first : Option ℕ)
-    → IsFirstByte test bytes first → IfSome first (λ i. i < length bytes)
-IsFirstByte-within test bytes None none = tt
-IsFirstByte-within test bytes (Some i) is = is.0.high
+-- so it is the first of all places
+pub position-places : (test : ℕ → Bool) (bytes later : List ℕ) (first : Option ℕ)
+    → TakesFirst (places test bytes) first later → first ≡ position test bytes
+unfolding first_of
+position-places test bytes later None none =
+    sym (IsFirstByte-value test bytes _ (IsFirstByte-position test bytes) ∙ ap first_of none.0)
+position-places test bytes later (Some i) is =
+    sym (IsFirstByte-value test bytes _ (IsFirstByte-position test bytes) ∙ ap first_of is)
+
+-- and lies within the bytes
+pub position-within : (test : ℕ → Bool) (bytes : List ℕ) → IfSome (position test bytes) (λ i. i < length bytes)
+position-within test bytes = by (position test bytes) (IsFirstByte-position test bytes)
+  where
+    by : (first : Option ℕ) → IsFirstByte test bytes first → IfSome first (λ i. i < length bytes)
+    by None none = tt
+    by (Some i) is = is.0.high
 
 -- a list is split at the first element that passes, and what comes after that is split again
 slice_split-Some : (test : ℕ → Bool) (xs : List ℕ) (i : ℕ) → position test xs ≡ Some i
