@@ -8,11 +8,11 @@ use std::io::ErrorKind;
 use std::process::ExitCode;
 use std::test::*;
 
-const COMMANDS: &[u8] = b"add 0 1 5\nshow 0\n";
+const COMMANDS: &[u8] = b"add 0 1 5\nnot 1 0\n";
 
 const FIRST: &[u8] = b"true\n";
 
-const ALL: &[u8] = b"true\n1..=5\n";
+const ALL: &[u8] = b"true\n2\n";
 
 /// Whether an outcome goes with what was written: all replies where the lines were done, and none or
 /// the first where memory was refused.
