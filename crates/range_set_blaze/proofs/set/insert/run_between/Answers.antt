@@ -1,0 +1,56 @@
+use Rattle.std.proofs.Common.{◌∙◌, ap, arith, refl}
+use Rattle.std.proofs.lemmas.Bool.{true≢false}
+use Rattle.range_set_blaze.specs.Set.{first_rank, past_rank}
+use Rattle.range_set_blaze.proofs.runs.Kept.{lt-fails}
+use Rattle.range_set_blaze.proofs.set.insert.run_between.Goals as goal
+
+-- there are no values up to the upper bound
+pub returns-in_err-end : goal.returns-in_err-end
+returns-in_err-end g c =
+    rw c.from_residual.ensures (record {
+      none = λ has is. omega (
+        arith,
+        c.in_err-end.ensures.none refl,
+        ap (past_rank g.T.Integer.rank g.T.Integer.value_count) (c.end_bound.ensures has),
+      );
+      start = λ has. tt;
+      end = λ has. tt;
+      order = tt;
+      value = tt;
+    })
+
+-- nor from the lower bound on
+pub returns-in_err-start-clause-none : goal.returns-in_err-start-clause-none
+returns-in_err-start-clause-none g c = λ has is.
+    omega (
+      arith,
+      c.in_err-start.ensures.none refl,
+      c.in_ok-end.ensures.last,
+      c.in_ok-end.ensures.value,
+      ap (past_rank g.T.Integer.rank g.T.Integer.value_count) (c.end_bound.ensures has),
+      ap (first_rank g.T.Integer.rank) (c.start_bound.ensures has),
+    )
+
+-- the bounds are the wrong way round
+pub returns-then-is_below-clause-none : goal.returns-then-is_below-clause-none
+returns-then-is_below-clause-none g c = λ has is.
+    omega (
+      arith,
+      c.in_ok-start.ensures.first,
+      c.in_ok-end.ensures.last,
+      c.is_below.ensures.0 c.if-is_below.true,
+      ap (past_rank g.T.Integer.rank g.T.Integer.value_count) (c.end_bound.ensures has),
+      ap (first_rank g.T.Integer.rank) (c.start_bound.ensures has),
+    )
+
+-- there are some between
+pub returns : goal.returns
+returns g c = record {
+  none = λ has is. absurd (true≢false is);
+  start = λ has.
+      c.in_ok-start.ensures.first ∙ ap (first_rank g.T.Integer.rank) (c.start_bound.ensures has);
+  end = λ has. c.in_ok-end.ensures.last
+      ∙ ap (past_rank g.T.Integer.rank g.T.Integer.value_count) (c.end_bound.ensures has);
+  order = lt-fails c.is_below.result _ _ c.is_below.ensures c.if-is_below.false;
+  value = c.in_ok-end.ensures.value;
+}

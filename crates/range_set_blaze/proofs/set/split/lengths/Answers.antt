@@ -1,0 +1,37 @@
+use Rattle.std.proofs.Common.{arith}
+use Rattle.range_set_blaze.proofs.set.split.lengths.Goals as goal
+
+-- no more are counted than there are
+pub sub_assign-requires : goal.sub_assign-requires
+sub_assign-requires g c =
+    g.met.T.SafeLen.SafeLength.difference_allowed c.args.total c.length_of_runs-counted.result
+    (omega (arith, c.length_of_runs-counted.ensures, c.requires.total))
+
+pub sub_assign-requires-else-len : goal.sub_assign-requires-else-len
+sub_assign-requires-else-len g c =
+    g.met.T.SafeLen.SafeLength.difference_allowed c.args.total
+    c.length_of_runs-counted-else-len.result
+    (omega (arith, c.length_of_runs-counted-else-len.ensures, c.requires.total))
+
+-- the lower part was counted, and the rest is the upper one
+pub returns-then-len-clause-low : goal.returns-then-len-clause-low
+returns-then-len-clause-low g c = c.length_of_runs-counted.ensures
+
+pub returns-then-len-clause-high : goal.returns-then-len-clause-high
+returns-then-len-clause-high g c =
+    let counted = c.length_of_runs-counted.ensures in
+    let exact = g.met.T.SafeLen.SafeLength.difference_exact c.args.total
+    c.length_of_runs-counted.result c.sub_assign.new.self (omega (arith, counted, c.requires.total))
+    c.sub_assign.ensures.after in omega (arith, exact, counted, c.requires.total)
+
+-- or the upper part was
+pub returns-else-len-clause-low : goal.returns-else-len-clause-low
+returns-else-len-clause-low g c =
+    let counted = c.length_of_runs-counted-else-len.ensures in
+    let exact = g.met.T.SafeLen.SafeLength.difference_exact c.args.total
+    c.length_of_runs-counted-else-len.result c.sub_assign-else-len.new.self
+    (omega (arith, counted, c.requires.total)) c.sub_assign-else-len.ensures.after in
+    omega (arith, exact, counted, c.requires.total)
+
+pub returns-else-len-clause-high : goal.returns-else-len-clause-high
+returns-else-len-clause-high g c = c.length_of_runs-counted-else-len.ensures
