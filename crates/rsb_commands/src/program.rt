@@ -55,7 +55,8 @@ pub fn finish<W: Write>(errors: &mut W, outcome: Result<(), Fault>) -> ExitCode
 /// Reads all of the input, runs the commands that its lines spell, and writes a line for each
 /// reply. After `BadLine` nothing was written. After `NoMemory` the replies before the command that
 /// found none were written, and no more. After `Io` a beginning of the replies was, short of the
-/// whole unless that is empty. Where the lines spell no commands nothing is written.
+/// whole unless that is empty; an input of 2^64 lines or more ends in `Io` too. Where the lines
+/// spell no commands nothing is written.
 pub fn run<A: Allocator + Copy, R: Read, W: Write>(
     alloc: A,
     input: &mut R,

@@ -9,13 +9,10 @@ use std::fmt::{self, Debug, Display, Formatter, Write};
 /// other flags change nothing, as in the Rust crate.
 impl<T: Integer, A: Allocator> Display for RangeSetBlaze<T, A> {
     fn fmt<W: Write>(&self, f: &mut Formatter<W>) -> fmt::Result {
-        let mut runs = self.map.iter();
-        let Some((start, end)) = runs.next() else {
-            return Ok(());
-        };
-        write!(f, "{start:?}..={end:?}")?;
-        for (start, end) in runs {
-            write!(f, ", {start:?}..={end:?}")?;
+        let mut separator = "";
+        for (start, end) in self.map.iter() {
+            write!(f, "{separator}{start:?}..={end:?}")?;
+            separator = ", ";
         }
         Ok(())
     }

@@ -1,6 +1,6 @@
 -- What a reader gives, part by part.
 use Rattle.std.proofs.Common.{◌≡◌, ◌∙◌, ℕ, ℤ, ◌<◌, List, [], ◌∷◌, ◌++◌, length, take, Option, Some, None, Result, Ok, Err, sym, ap, subst, append_assoc, arith}
-use Rattle.std.proofs.lemmas.List.{append-nil, length-append}
+use Rattle.std.proofs.lemmas.List.{append-nil}
 use Rattle.std.specs.Io.KnownBytes.{Consumes, IsAtEnd, Keeps}
 use Rattle.std.specs.Option.{IfSome}
 use Rattle.std.specs.Result.{IfOk}
@@ -28,20 +28,6 @@ Consumes-keeps (Some before) (Some between) None xs first same = absurd same
 Consumes-keeps (Some before) (Some between) (Some after) xs first same =
     first ∙ ap (λ v. xs ++ v) (sym same)
 
--- what gave some bytes had some
-pub some_consumed : (old mid new : Option (List ℕ)) (xs ys : List ℕ)
-    → Consumes old mid xs → Consumes mid new ys → 0 < length ys → HasBytes old
-some_consumed None mid new xs ys first second some = tt
-some_consumed (Some before) None new xs ys first second some = absurd first
-some_consumed (Some before) (Some between) None xs ys first second some = absurd second
-some_consumed (Some before) (Some between) (Some after) xs ys first second some =
-    omega (
-      arith,
-      some,
-      ap length first ∙ length-append xs between,
-      ap length second ∙ length-append ys after,
-    )
-
 -- a read of no bytes takes none
 pub Consumes-end : (old mid new : Option (List ℕ)) (xs buf : List ℕ) (n : ℕ) → n ≡ 0
     → Consumes old mid xs → Consumes mid new (take n buf) → Consumes old new xs
@@ -68,14 +54,6 @@ consumed-only items old new xs read end (Ok value) spelled =
     (λ bytes. (others : List (Command ℤ)) → AreCommands bytes others → others ≡ items value) read end
     (λ others are. one_list (lines_with_words xs) others (items value) are spelled)
 consumed-only items old new xs read end (Err error) spelled = tt
-
--- what gave some bytes in all had some
-pub some_read : (old new : Option (List ℕ)) (xs : List ℕ) → Consumes old new xs → 0 < length xs
-    → HasBytes old
-some_read None new xs read some = tt
-some_read (Some input) None xs read some = absurd read
-some_read (Some input) (Some rest) xs read some =
-    omega (arith, some, ap length read, length-append xs rest)
 
 -- an input that spells some commands has a byte
 pub some_spelled : (known : Option (List ℕ)) (commands : List (Command ℤ))

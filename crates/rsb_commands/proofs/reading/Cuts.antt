@@ -1,5 +1,5 @@
 -- Bytes cut at the first line feed, and at the first blank.
-use Rattle.std.proofs.Common.{◌≡◌, ◌∙◌, ℕ, zero, suc, ◌+◌, ◌<◌, ◌≤◌, Bool, true, false, cond, eqb, ltb, List, [], ◌∷◌, ◌++◌, length, take, drop, Option, Some, None, refl, sym, ap, subst, arith}
+use Rattle.std.proofs.Common.{◌≡◌, ◌∙◌, ℕ, zero, suc, ◌+◌, ◌<◌, ◌≤◌, Bool, true, false, cond, eqb, ltb, List, [], ◌∷◌, ◌++◌, length, map, take, drop, Option, Some, None, refl, sym, ap, subst, arith}
 use Rattle.std.proofs.lemmas.Bool.{ltb-true, ltb-false, lt-ltb, ne_eqb, true≢false}
 use Rattle.std.proofs.lemmas.List.{length-take}
 use Rattle.std.proofs.lemmas.List.Elements.{All-from_get_or}
@@ -56,7 +56,8 @@ position-places test bytes later (Some i) is =
     sym (IsFirstByte-value test bytes _ (IsFirstByte-position test bytes) ∙ ap first_of is)
 
 -- and lies within the bytes
-pub position-within : (test : ℕ → Bool) (bytes : List ℕ) → IfSome (position test bytes) (λ i. i < length bytes)
+pub position-within : (test : ℕ → Bool) (bytes : List ℕ)
+    → IfSome (position test bytes) (λ i. i < length bytes)
 position-within test bytes = by (position test bytes) (IsFirstByte-position test bytes)
   where
     by : (first : Option ℕ) → IsFirstByte test bytes first → IfSome first (λ i. i < length bytes)
@@ -83,7 +84,7 @@ slice_split-None test xs is =
 -- ---- lines
 
 -- a line feed
-abbrev is_line_feed : ℕ → Bool
+abbrev pub is_line_feed : ℕ → Bool
 is_line_feed byte = eqb byte 10
 
 -- what stands after the last line feed is a line, where it is not empty
@@ -91,11 +92,14 @@ last_line : (bytes : List ℕ) → 0 < length bytes → lines_of_parts (bytes �
 last_line bytes some =
     rw (ne_eqb (length bytes) 0 (λ none. absurd (omega (arith, none, some)))) refl
 
--- what stands before a line feed is a line, less a carriage return at its end
-more_lines : (part : List ℕ) (parts : List (List ℕ)) → 0 < length parts
-    → lines_of_parts (part ∷ parts) ≡ strip_carriage_return part ∷ lines_of_parts parts
-more_lines part [] some = absurd (omega (arith, some))
-more_lines part (next ∷ parts) some = refl
+-- parts that others follow are lines, less a carriage return at the end of each
+pub lines_of_parts-append : (xs ys : List (List ℕ)) → 0 < length ys
+    → lines_of_parts (xs ++ ys) ≡ map strip_carriage_return xs ++ lines_of_parts ys
+lines_of_parts-append [] ys some = refl
+lines_of_parts-append (x ∷ []) [] some = absurd (omega (arith, some))
+lines_of_parts-append (x ∷ []) (y ∷ ys) some = refl
+lines_of_parts-append (x ∷ next ∷ xs) ys some =
+    ap (λ ls. strip_carriage_return x ∷ ls) (lines_of_parts-append (next ∷ xs) ys some)
 
 -- bytes without a line feed are one line, where there are some
 pub lines-None : (bytes : List ℕ) → 0 < length bytes → position is_line_feed bytes ≡ None
@@ -109,7 +113,7 @@ pub lines-Some : (bytes : List ℕ) (i : ℕ) → position is_line_feed bytes �
 lines-Some bytes i is =
     let rest = drop (i + 1) bytes in
     ap lines_of_parts (slice_split-Some is_line_feed bytes i is)
-    ∙ more_lines (take i bytes) (slice_split is_line_feed rest)
+    ∙ lines_of_parts-append (take i bytes ∷ []) (slice_split is_line_feed rest)
     (omega (arith, length-slice_split is_line_feed rest))
 
 -- ---- words

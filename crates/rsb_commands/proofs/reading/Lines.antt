@@ -42,15 +42,14 @@ spoken-one : (line : List ℕ) → 0 < length (words line) → spoken (line ∷ 
 spoken-one line some =
     ap (λ kept. cond kept (words line ∷ []) []) (lt-ltb 0 (length (words line)) some)
 
--- with one line more that spells a command, the lines spell one command more
-spells-push : (lines : List (List (List ℕ))) (commands : List (Command ℤ)) (line : List (List ℕ))
-    (command : Command ℤ) → AllZip Spells lines commands → Spells line command
-    → AllZip Spells (lines ++ line ∷ []) (commands ++ command ∷ [])
-spells-push [] [] line command all one = (one, tt)
-spells-push [] (c ∷ cs) line command all one = absurd all
-spells-push (l ∷ ls) [] line command all one = absurd all
-spells-push (l ∷ ls) (c ∷ cs) line command all one =
-    (all.0, spells-push ls cs line command all.1 one)
+-- the lines with words of two lists spell the commands of the one and then of the other
+pub AllZip-append : (ls ms : List (List (List ℕ))) (cs ds : List (Command ℤ)) → AllZip Spells ls cs
+    → AllZip Spells ms ds → AllZip Spells (ls ++ ms) (cs ++ ds)
+AllZip-append [] ms [] ds first second = second
+AllZip-append [] ms (c ∷ cs) ds first second = absurd first
+AllZip-append (l ∷ ls) ms [] ds first second = absurd first
+AllZip-append (l ∷ ls) ms (c ∷ cs) ds first second =
+    (first.0, AllZip-append ls ms cs ds first.1 second)
 
 module _ (input rest line later : List ℕ) (number : ℕ) (commands : List (Command ℤ))
     (next : lines rest ≡ line ∷ lines later) (before : HasRead input rest number commands) where
@@ -82,7 +81,8 @@ module _ (input rest line later : List ℕ) (number : ℕ) (commands : List (Com
     parts = one_more;
     counted = omega (arith, before.counted, length-append before.front (line ∷ []));
     spelled = rw (spoken-append before.front (line ∷ []), spoken-one line some)
-        (spells-push (spoken before.front) commands (words line) command before.spelled one);
+        (AllZip-append (spoken before.front) (words line ∷ []) commands (command ∷ []) before.spelled
+        (one, tt));
     good = All-push IsGood before.front line before.good (λ bad. bad.none command one);
   }
 
@@ -130,9 +130,9 @@ has_read_some input rest number commands command before =
     (ap spoken before.parts ∙ spoken-append before.front (lines rest)) before.spelled
 
 -- nothing is left: the lines are all
-has_read-lines : (input rest : List ℕ) (number : ℕ) (commands : List (Command ℤ))
+has_read_lines : (input rest : List ℕ) (number : ℕ) (commands : List (Command ℤ))
     → length rest ≡ 0 → (before : HasRead input rest number commands) → lines input ≡ before.front
-has_read-lines input rest number commands none before =
+has_read_lines input rest number commands none before =
     before.parts ∙ ap (λ r. before.front ++ lines r) (nil_from_length rest none)
     ∙ append-nil before.front
 
@@ -140,11 +140,11 @@ has_read-lines input rest number commands none before =
 pub has_read_count : (input rest : List ℕ) (number : ℕ) (commands : List (Command ℤ))
     → length rest ≡ 0 → HasRead input rest number commands → number ≡ length (lines input)
 has_read_count input rest number commands none before =
-    before.counted ∙ ap length (sym (has_read-lines input rest number commands none before))
+    before.counted ∙ ap length (sym (has_read_lines input rest number commands none before))
 
 -- and spell the commands
 pub has_read_all : (input rest : List ℕ) (number : ℕ) (commands : List (Command ℤ))
     → length rest ≡ 0 → HasRead input rest number commands → AreCommands input commands
 has_read_all input rest number commands none before =
     subst (λ ls. AllZip Spells (spoken ls) commands)
-    (sym (has_read-lines input rest number commands none before)) before.spelled
+    (sym (has_read_lines input rest number commands none before)) before.spelled

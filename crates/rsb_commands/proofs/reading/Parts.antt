@@ -11,13 +11,10 @@ use Rattle.std.specs.Str.Lines.{lines, lines_of_parts, strip_carriage_return}
 use Rattle.rsb_commands.specs.declared.command.Command.{Command}
 use Rattle.rsb_commands.specs.Input.{HasBadLine, HasLines, IsClosed}
 use Rattle.rsb_commands.specs.Spelling.{AreCommands, IsFirstBadLine, Spells, has_words, words}
-use Rattle.rsb_commands.proofs.reading.Lines.{IsGood, spoken, spoken-append}
+use Rattle.rsb_commands.proofs.reading.Cuts.{is_line_feed, lines_of_parts-append}
+use Rattle.rsb_commands.proofs.reading.Lines.{AllZip-append, IsGood, spoken, spoken-append}
 
 -- ---- lines of two parts
-
--- a line feed
-abbrev is_line_feed : ℕ → Bool
-is_line_feed byte = eqb byte 10
 
 -- a byte goes to the first part, also where other parts follow
 onto_first-append : (byte : ℕ) (xs ys : List (List ℕ)) → 0 < length xs
@@ -41,15 +38,6 @@ slice_split-line_feed (x ∷ xs) ys = by (is_line_feed x) (slice_split-line_feed
     by false rest = ap (onto_first x) rest
         ∙ onto_first-append x (slice_split is_line_feed xs) (slice_split is_line_feed ys)
         (omega (arith, length-slice_split is_line_feed xs))
-
--- parts that others follow are lines, less a carriage return at the end of each
-lines_of_parts-append : (xs ys : List (List ℕ)) → 0 < length ys
-    → lines_of_parts (xs ++ ys) ≡ map strip_carriage_return xs ++ lines_of_parts ys
-lines_of_parts-append [] ys some = refl
-lines_of_parts-append (x ∷ []) [] some = absurd (omega (arith, some))
-lines_of_parts-append (x ∷ []) (y ∷ ys) some = refl
-lines_of_parts-append (x ∷ next ∷ xs) ys some =
-    ap (λ ls. strip_carriage_return x ∷ ls) (lines_of_parts-append (next ∷ xs) ys some)
 
 -- the lines up to a line feed come before those after it
 lines-line_feed : (xs ys : List ℕ) → lines (xs ++ 10 ∷ ys)
@@ -103,15 +91,6 @@ unfolding IsClosed
 lines-closed xs ys closed = closed ys
 
 -- ---- what the lines of two parts spell
-
--- two lists in step with two others follow each other in step
-AllZip-append : (ls ms : List (List (List ℕ))) (cs ds : List (Command ℤ)) → AllZip Spells ls cs
-    → AllZip Spells ms ds → AllZip Spells (ls ++ ms) (cs ++ ds)
-AllZip-append [] ms [] ds first second = second
-AllZip-append [] ms (c ∷ cs) ds first second = absurd first
-AllZip-append (l ∷ ls) ms [] ds first second = absurd first
-AllZip-append (l ∷ ls) ms (c ∷ cs) ds first second =
-    (first.0, AllZip-append ls ms cs ds first.1 second)
 
 -- what follows closed bytes spells its commands after theirs
 AreCommands-append : (xs ys : List ℕ) (cs ds : List (Command ℤ)) → IsClosed xs → AreCommands xs cs
@@ -172,17 +151,6 @@ first_bad-before xs more number closed bad = record {
 pub HasLines-nil : HasLines [] [] 0 []
 HasLines-nil = record { whole = []; parts = refl; closed = IsClosed-nil; spelled = tt; counted = refl }
 
--- more bytes go to the rest
-pub HasLines-more : (bytes more rest : List ℕ) (cs : List (Command ℤ)) (count : ℕ)
-    → HasLines bytes cs count rest → HasLines (bytes ++ more) cs count (rest ++ more)
-HasLines-more bytes more rest cs count has = record {
-  whole = has.whole;
-  parts = ap (λ all. all ++ more) has.parts ∙ append_assoc has.whole rest more;
-  closed = has.closed;
-  spelled = has.spelled;
-  counted = has.counted;
-}
-
 -- closed bytes of the rest are whole lines too
 pub HasLines-lines : (bytes front rest left : List ℕ) (cs ds : List (Command ℤ)) (count more : ℕ)
     → HasLines bytes cs count rest → rest ≡ front ++ left → IsClosed front → AreCommands front ds
@@ -217,26 +185,23 @@ HasBadLine-lines bytes front rest left cs count number has cut closed bad more =
     (first_bad-after has.whole (front ++ (left ++ more)) cs number has.closed has.spelled
     (first_bad-before front (left ++ more) number closed bad)))
 
--- and stays so
-pub HasBadLine-more : (bytes more : List ℕ) (number : ℕ) → HasBadLine bytes number
-    → HasBadLine (bytes ++ more) number
-HasBadLine-more bytes more number bad later =
-    subst (λ all. IsFirstBadLine all number) (sym (append_assoc bytes more later)) (bad (more ++ later))
-
--- what is known where no bad line was found, and where one was
+-- where no bad line was found, what whole lines spell is known
 pub taken-lines : (bytes : List ℕ) (bad : Option ℕ) (Lines : Type 0) → IsNone bad
     → MatchOption bad Lines (HasBadLine bytes) → Lines
 taken-lines bytes None Lines none taken = taken
 taken-lines bytes (Some number) Lines none taken = absurd (true≢false none)
 
+-- so it is of `None`
 pub none_is : (bad : Option ℕ) → bad ≡ None → IsNone bad
 none_is bad is = rw is refl
 
+-- and that is all that is known
 pub lines-taken : (bytes : List ℕ) (bad : Option ℕ) (Lines : Type 0) → IsNone bad
     → Lines → MatchOption bad Lines (HasBadLine bytes)
 lines-taken bytes None Lines none lines = lines
 lines-taken bytes (Some number) Lines none lines = absurd (true≢false none)
 
+-- where one was, its number is
 pub taken-bad : (bytes : List ℕ) (bad : Option ℕ) (number : ℕ) (Lines : Type 0)
     → bad ≡ Some number → MatchOption bad Lines (HasBadLine bytes) → HasBadLine bytes number
 taken-bad bytes bad number Lines is taken =
@@ -265,9 +230,3 @@ pub IsFirstBadLine-bytes : (bytes : List ℕ) (number : ℕ) → HasBadLine byte
     → IsFirstBadLine bytes number
 IsFirstBadLine-bytes bytes number bad =
     subst (λ all. IsFirstBadLine all number) (append-nil bytes) (bad [])
-
--- bytes of which some are left are some
-pub some-rest : (bytes rest : List ℕ) (cs : List (Command ℤ)) (count : ℕ)
-    → HasLines bytes cs count rest → 0 < length rest → 0 < length bytes
-some-rest bytes rest cs count has some =
-    omega (arith, some, ap length has.parts, length-append has.whole rest)

@@ -338,8 +338,8 @@ fn many_replies(alloc: Global) -> Result<String, Fail> {
     Ok(replies)
 }
 
-// More than a megabyte of input, more runs than a length of sixteen bits counts, and a reply that is
-// longer than many pages.
+// More than a megabyte of input, more runs than a length of sixteen bits counts, and a reply of
+// several pages.
 #[test]
 fn a_hundred_thousand_lines_are_answered(rt: HostRuntime) -> Result<(), Fail> {
     let lines = many_values(rt.alloc())?;

@@ -1,5 +1,4 @@
 use Rattle.std.proofs.Common.{◌++◌, refl, rules, sym, subst, take}
-use Rattle.std.specs.Io.KnownBytes.{IsAtEnd}
 use Rattle.rsb_commands.specs.Input.{HasTaken}
 use Rattle.rsb_commands.specs.Spelling.{IsFirstBadLine}
 use Rattle.rsb_commands.proofs.reading.Consumed.{Consumes-end, Consumes-keeps, Consumes-then, consumed-all, consumed-only}
@@ -32,24 +31,16 @@ loop-preserved g c =
 -- what was read is the whole input at its end
 pub returns-in-Ok-eq0-clause-only : goal.returns-in-Ok-eq0-clause-only
 returns-in-Ok-eq0-clause-only g c =
-    let start = g.R.Read.remaining c.args.input.now in
-    let before = g.R.Read.remaining c.loop.input in
-    let after = g.R.Read.remaining c.read.new.self in
     let bytes = c.loop.invariant.0 in
-    let ended : IsAtEnd after = search rules in
-    let all = Consumes-end start before after bytes c.read.new.buf c.in-Ok-eq0.field-0
-    c.in-Ok-eq0.field-0-test c.loop.invariant.1 c.in-Ok-eq0.ensures.bytes.0 in
-    consumed-only (λ commands. commands.items) start after bytes all ended c.finish.result
+    let all = Consumes-end _ _ _ bytes _ _ c.in-Ok-eq0.field-0-test c.loop.invariant.1
+    c.in-Ok-eq0.ensures.bytes.0 in
+    consumed-only (λ commands. commands.items) _ _ bytes all (search rules) c.finish.result
     (c.finish.ensures.commands bytes c.loop.invariant.2)
 
 pub returns-in-Ok-eq0-clause-bad_line : goal.returns-in-Ok-eq0-clause-bad_line
 returns-in-Ok-eq0-clause-bad_line g c = λ number is.
-    let start = g.R.Read.remaining c.args.input.now in
-    let before = g.R.Read.remaining c.loop.input in
-    let after = g.R.Read.remaining c.read.new.self in
     let bytes = c.loop.invariant.0 in
-    let ended : IsAtEnd after = search rules in
-    let all = Consumes-end start before after bytes c.read.new.buf c.in-Ok-eq0.field-0
-    c.in-Ok-eq0.field-0-test c.loop.invariant.1 c.in-Ok-eq0.ensures.bytes.0 in
-    consumed-all start after bytes (λ rest. IsFirstBadLine rest number) all ended
+    let all = Consumes-end _ _ _ bytes _ _ c.in-Ok-eq0.field-0-test c.loop.invariant.1
+    c.in-Ok-eq0.ensures.bytes.0 in
+    consumed-all _ _ bytes (λ rest. IsFirstBadLine rest number) all (search rules)
     (c.finish.ensures.bad_line bytes number c.loop.invariant.2 is)

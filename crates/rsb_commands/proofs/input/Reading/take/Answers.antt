@@ -1,5 +1,4 @@
-use Rattle.std.proofs.Common.{◌≡◌, ◌+◌, ◌++◌, length, rules, take}
-use Rattle.rsb_commands.specs.Input.{IsClosed}
+use Rattle.std.proofs.Common.{◌≡◌, length, rules}
 use Rattle.rsb_commands.proofs.reading.Parts.{IsClosed-take-append}
 use Rattle.rsb_commands.proofs.input.Reading.take.Goals as goal
 
