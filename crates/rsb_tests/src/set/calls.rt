@@ -193,7 +193,7 @@ pub(crate) fn carry_out<A: Allocator + Copy>(
 }
 
 /// A call that makes a set, of two others where it says nothing else.
-#[derive(Clone, Copy, Debug)]
+#[derive(Clone, Copy)]
 pub(crate) enum Making {
     Clone,
     Bitor,

@@ -32,7 +32,7 @@ static OF_TWO: [(Making, Table<'static>); 4] = [
 fn two_sets_are_met_told_apart_and_turned(rt: HostRuntime) {
     for (making, wanted) in &OF_TWO {
         let answer = makes_of_two(rt.alloc(), *making, &[(1, 2), (5, 100)], &[(2, 6)], wanted);
-        assert!(rt; answer == Ok(true), "{making:?}");
+        assert!(rt; answer == Ok(true), "{wanted:?}");
     }
 }
 
@@ -77,7 +77,7 @@ fn results_of_two_runs_and_two_have_up_to_four(rt: HostRuntime) {
     for (operation, making, wanted) in &MOST_RUNS {
         let given = operation_comes_to(rt.alloc(), *operation, wanted);
         let made = makes_of_two(rt.alloc(), *making, LEFT, RIGHT, wanted);
-        assert!(rt; given == Ok(true) && made == Ok(true), "{making:?}");
+        assert!(rt; given == Ok(true) && made == Ok(true), "{operation:?}");
     }
 }
 
@@ -124,7 +124,7 @@ static MADE: [(Making, Table<'static>, Table<'static>, Table<'static>); 20] = [
 fn sets_streams_and_items_make_sets(rt: HostRuntime) {
     for (making, left, right, wanted) in &MADE {
         let answer = makes_of_two(rt.alloc(), *making, left, right, wanted);
-        assert!(rt; answer == Ok(true), "{making:?} of {left:?} and {right:?}");
+        assert!(rt; answer == Ok(true), "{wanted:?} of {left:?} and {right:?}");
     }
 }
 
