@@ -6,43 +6,22 @@ use crate::streams::listed::stream_of;
 use crate::tables::gives;
 use rsb_integer::Integer;
 use rsb_many::{
-    DynSortedDisjoint, MultiwayIntersection, MultiwaySymmetricDifference, MultiwayUnion,
-    intersection_dyn, symmetric_difference_dyn, union_dyn,
+    DynSortedDisjoint, MultiwaySymmetricDifference, MultiwayUnion, intersection_dyn,
+    symmetric_difference_dyn, union_dyn,
 };
 use rsb_streams::{Draw, DrawDisjoint, RangeOnce};
 use std::alloc::{AllocError, Allocator};
 use std::test::Fail;
 
-/// What lies in some of three streams, whatever their types.
-pub(crate) fn some_of_three<
-    T: Integer,
-    I: DrawDisjoint<T>,
-    J: DrawDisjoint<T>,
-    K: DrawDisjoint<T>,
-    A: Allocator + Copy,
->(alloc: A, streams: (I, J, K)) -> Result<MultiwayUnion<T, DynSortedDisjoint<T, A>, A>, AllocError>
-    requires { (I.can_draw streams.0) × (J.can_draw streams.1) × (K.can_draw streams.2) }
+/// What lies in some of two streams, whatever their types.
+pub(crate) fn some_of_two<T: Integer, I: DrawDisjoint<T>, J: DrawDisjoint<T>, A: Allocator + Copy>(
+    alloc: A,
+    streams: (I, J),
+) -> Result<MultiwayUnion<T, DynSortedDisjoint<T, A>, A>, AllocError>
+    requires { (I.can_draw streams.0) × (J.can_draw streams.1) }
     ensures { IfOk result ⟦<MultiwayUnion<T, DynSortedDisjoint<T, A>, A> as Draw<T>>⟧.can_draw }
 {
-    union_dyn!(alloc, streams.0, streams.1, streams.2)
-}
-
-/// What lies in all of three streams, whatever their types.
-pub(crate) fn all_of_three<
-    T: Integer,
-    I: DrawDisjoint<T>,
-    J: DrawDisjoint<T>,
-    K: DrawDisjoint<T>,
-    A: Allocator + Copy,
->(
-    alloc: A,
-    streams: (I, J, K),
-) -> Result<MultiwayIntersection<T, DynSortedDisjoint<T, A>, A>, AllocError>
-    requires { (I.can_draw streams.0) × (J.can_draw streams.1) × (K.can_draw streams.2) }
-    ensures { IfOk result
-        ⟦<MultiwayIntersection<T, DynSortedDisjoint<T, A>, A> as Draw<T>>⟧.can_draw }
-{
-    intersection_dyn!(alloc, streams.0, streams.1, streams.2)
+    union_dyn!(alloc, streams.0, streams.1)
 }
 
 /// What lies in an odd number of three streams, whatever their types.
@@ -65,10 +44,11 @@ pub(crate) fn odd_of_three<
 
 #[test]
 fn what_three_streams_of_unlike_types_have_together(rt: HostRuntime) -> Result<(), Fail> {
+    let alloc = rt.alloc();
     let one = stream_of(&[(1, 6), (8, 9), (11, 15)]);
     let other = stream_of(&[(5, 13), (18, 29)]);
     let third = RangeOnce::new(38..=42).complement();
-    let all = all_of_three(rt.alloc(), (one, other, third))?;
+    let all = intersection_dyn!(alloc, one, other, third)?;
     assert!(rt; gives(all, &[(5, 6), (8, 9), (11, 13)]));
     Ok(())
 }

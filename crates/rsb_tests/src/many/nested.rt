@@ -9,8 +9,8 @@ use crate::many::forms::{Ranges, streams_of};
 use crate::streams::listed::stream_of;
 use crate::tables::gives;
 use rsb_integer::Integer;
-use rsb_many::{MultiwayIntersection, MultiwaySortedDisjoint, MultiwayUnion};
-use rsb_streams::{Difference, Draw, DrawDisjoint, NotIter};
+use rsb_many::{MultiwaySortedDisjoint, MultiwayUnion};
+use rsb_streams::{Draw, DrawDisjoint, NotIter};
 use std::alloc::{AllocError, Allocator};
 use std::test::Fail;
 
@@ -29,22 +29,6 @@ fn none_of<T: Integer, I: DrawDisjoint<T>, A: Allocator + Copy>(
     Ok(union.complement())
 }
 
-/// What lies in some and not in all of the streams of two lists.
-fn some_not_all<T: Integer, I: DrawDisjoint<T>, A: Allocator + Copy>(
-    alloc: A,
-    some: Vec<I, A>,
-    all: Vec<I, A>,
-) -> Result<Difference<T, MultiwayUnion<T, I, A>, MultiwayIntersection<T, I, A>>, AllocError>
-    requires some { All I.can_draw some.items }
-    requires all { All I.can_draw all.items }
-    ensures { IfOk result
-        ⟦<Difference<T, MultiwayUnion<T, I, A>, MultiwayIntersection<T, I, A>> as Draw<T>>⟧.can_draw }
-{
-    let union = some.union(alloc)?;
-    let intersection = all.intersection(alloc)?;
-    Ok(union - intersection)
-}
-
 /// Three streams that lie apart.
 static APART: [Ranges; 3] = [&[(1, 2)], &[(5, 6)], &[(2, 3), (200, 255)]];
 
@@ -60,9 +44,11 @@ fn many_streams_in_an_operation_on_one(rt: HostRuntime) -> Result<(), Fail> {
 
 #[test]
 fn many_streams_in_operations_on_two(rt: HostRuntime) -> Result<(), Fail> {
-    let some = streams_of(rt.alloc(), &MEETING)?;
-    let each = streams_of(rt.alloc(), &MEETING)?;
-    let mixed = some_not_all(rt.alloc(), some, each)? ^ stream_of(&[(10, 12)]);
+    let some = streams_of(rt.alloc(), &MEETING)?.union(rt.alloc())?;
+    let all = streams_of(rt.alloc(), &MEETING)?.intersection(rt.alloc())?;
+    let mixed = some
+        .difference(all)
+        .symmetric_difference(stream_of(&[(10, 12)]));
     assert!(rt; gives(mixed, &[(0, 6), (9, 9), (13, 24), (31, 255)]));
     Ok(())
 }

@@ -17,11 +17,12 @@ static OTHER: Ranges = &[(8, 25)];
 /// Whether an operator of what lies in some of the streams, which is 1..=20, is right.
 fn of_a_union(alloc: Global, operation: Operation) -> Result<bool, AllocError> {
     let stream = streams_of(alloc, &THREE)?.union(alloc)?;
+    let other = stream_of(OTHER);
     Ok(match operation {
-        Operation::Union => gives(stream | stream_of(OTHER), &[(1, 25)]),
-        Operation::Intersection => gives(stream & stream_of(OTHER), &[(8, 20)]),
-        Operation::Difference => gives(stream - stream_of(OTHER), &[(1, 7)]),
-        Operation::SymmetricDifference => gives(stream ^ stream_of(OTHER), &[(1, 7), (21, 25)]),
+        Operation::Union => gives(stream | other, &[(1, 25)]),
+        Operation::Intersection => gives(stream & other, &[(8, 20)]),
+        Operation::Difference => gives(stream - other, &[(1, 7)]),
+        Operation::SymmetricDifference => gives(stream ^ other, &[(1, 7), (21, 25)]),
         Operation::Complement => gives(!stream, &[(0, 0), (21, 255)]),
     })
 }
@@ -29,11 +30,12 @@ fn of_a_union(alloc: Global, operation: Operation) -> Result<bool, AllocError> {
 /// Whether an operator of what lies in all of the streams, which is 5..=9, is right.
 fn of_an_intersection(alloc: Global, operation: Operation) -> Result<bool, AllocError> {
     let stream = streams_of(alloc, &THREE)?.intersection(alloc)?;
+    let other = stream_of(OTHER);
     Ok(match operation {
-        Operation::Union => gives(stream | stream_of(OTHER), &[(5, 25)]),
-        Operation::Intersection => gives(stream & stream_of(OTHER), &[(8, 9)]),
-        Operation::Difference => gives(stream - stream_of(OTHER), &[(5, 7)]),
-        Operation::SymmetricDifference => gives(stream ^ stream_of(OTHER), &[(5, 7), (10, 25)]),
+        Operation::Union => gives(stream | other, &[(5, 25)]),
+        Operation::Intersection => gives(stream & other, &[(8, 9)]),
+        Operation::Difference => gives(stream - other, &[(5, 7)]),
+        Operation::SymmetricDifference => gives(stream ^ other, &[(5, 7), (10, 25)]),
         Operation::Complement => gives(!stream, &[(0, 4), (10, 255)]),
     })
 }
@@ -42,15 +44,13 @@ fn of_an_intersection(alloc: Global, operation: Operation) -> Result<bool, Alloc
 /// 13..=20, is right.
 fn of_a_symmetric_difference(alloc: Global, operation: Operation) -> Result<bool, AllocError> {
     let stream = streams_of(alloc, &THREE)?.symmetric_difference(alloc)?;
+    let other = stream_of(OTHER);
     Ok(match operation {
-        Operation::Union => gives(stream | stream_of(OTHER), &[(1, 2), (5, 25)]),
-        Operation::Intersection => gives(stream & stream_of(OTHER), &[(8, 9), (13, 20)]),
-        Operation::Difference => gives(stream - stream_of(OTHER), &[(1, 2), (5, 7)]),
+        Operation::Union => gives(stream | other, &[(1, 2), (5, 25)]),
+        Operation::Intersection => gives(stream & other, &[(8, 9), (13, 20)]),
+        Operation::Difference => gives(stream - other, &[(1, 2), (5, 7)]),
         Operation::SymmetricDifference => {
-            gives(
-                stream ^ stream_of(OTHER),
-                &[(1, 2), (5, 7), (10, 12), (21, 25)],
-            )
+            gives(stream ^ other, &[(1, 2), (5, 7), (10, 12), (21, 25)])
         }
         Operation::Complement => gives(!stream, &[(0, 0), (3, 4), (10, 12), (21, 255)]),
     })
@@ -59,11 +59,12 @@ fn of_a_symmetric_difference(alloc: Global, operation: Operation) -> Result<bool
 /// Whether an operator of what lies in at least two of the streams, which is 3..=12, is right.
 fn of_what_is_two_deep(alloc: Global, operation: Operation) -> Result<bool, AllocError> {
     let stream = streams_of(alloc, &THREE)?.at_least(alloc, 2)?;
+    let other = stream_of(OTHER);
     Ok(match operation {
-        Operation::Union => gives(stream | stream_of(OTHER), &[(3, 25)]),
-        Operation::Intersection => gives(stream & stream_of(OTHER), &[(8, 12)]),
-        Operation::Difference => gives(stream - stream_of(OTHER), &[(3, 7)]),
-        Operation::SymmetricDifference => gives(stream ^ stream_of(OTHER), &[(3, 7), (13, 25)]),
+        Operation::Union => gives(stream | other, &[(3, 25)]),
+        Operation::Intersection => gives(stream & other, &[(8, 12)]),
+        Operation::Difference => gives(stream - other, &[(3, 7)]),
+        Operation::SymmetricDifference => gives(stream ^ other, &[(3, 7), (13, 25)]),
         Operation::Complement => gives(!stream, &[(0, 2), (13, 255)]),
     })
 }

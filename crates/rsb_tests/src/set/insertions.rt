@@ -95,7 +95,7 @@ fn an_insertion_tells_what_was_new(rt: HostRuntime) {
     for (call, before, answer, after) in &TOLD {
         assert!(rt;
             changes(rt.alloc(), *call, (before, &[]), *answer, (after, &[])) == Ok(true),
-            "{call:?} into {before:?}"
+            "{after:?} of {before:?}"
         );
     }
 }

@@ -15,12 +15,13 @@ fn make(
     right: &RangeSetBlaze<i32>,
     wanted: Table<'_>,
 ) -> bool {
+    let (left, right) = (left.ranges(), right.ranges());
     match operation {
-        Union => gives(left.ranges() | right.ranges(), wanted),
-        Intersection => gives(left.ranges() & right.ranges(), wanted),
-        Difference => gives(left.ranges() - right.ranges(), wanted),
-        SymmetricDifference => gives(left.ranges() ^ right.ranges(), wanted),
-        Complement => gives(!left.ranges(), wanted),
+        Union => gives(left | right, wanted),
+        Intersection => gives(left & right, wanted),
+        Difference => gives(left - right, wanted),
+        SymmetricDifference => gives(left ^ right, wanted),
+        Complement => gives(!left, wanted),
     }
 }
 
@@ -31,12 +32,13 @@ fn owned_make(
     right: RangeSetBlaze<i32>,
     wanted: Table<'_>,
 ) -> bool {
+    let (left, right) = (left.into_ranges(), right.into_ranges());
     match operation {
-        Union => gives(left.into_ranges() | right.into_ranges(), wanted),
-        Intersection => gives(left.into_ranges() & right.into_ranges(), wanted),
-        Difference => gives(left.into_ranges() - right.into_ranges(), wanted),
-        SymmetricDifference => gives(left.into_ranges() ^ right.into_ranges(), wanted),
-        Complement => gives(!left.into_ranges(), wanted),
+        Union => gives(left | right, wanted),
+        Intersection => gives(left & right, wanted),
+        Difference => gives(left - right, wanted),
+        SymmetricDifference => gives(left ^ right, wanted),
+        Complement => gives(!left, wanted),
     }
 }
 

@@ -6,20 +6,28 @@ use range_set_blaze::{Integer, RangeSetBlaze};
 use rsb_commands::outside::{Side, Slot};
 use std::alloc::{AllocError, Global};
 use std::cmp::Ordering;
-use std::mem;
 use std::test::*;
+
+/// Whether the upper side fills a set of the lower one, which leaves nothing then.
+fn is_filled(low: &RangeSetBlaze<Side>) -> Result<bool, AllocError> {
+    let mut sides = low.clone()?;
+    let is_new = sides.insert(Side::Hi)? && sides.ranges_len() == 1 && sides.is_universal();
+    Ok(is_new && low.cmp(&sides) == Ordering::Less && sides.not()?.is_empty())
+}
+
+/// Whether the upper side alone is added of two ranges, and leaves the lower one.
+fn is_added(alloc: Global) -> Result<bool, AllocError> {
+    let mut high = RangeSetBlaze::<Side>::new(alloc);
+    high.extend([Side::Hi..=Side::Lo, Side::Hi..=Side::Hi])?;
+    let is_high = gives(high.ranges(), &[(Side::Hi, Side::Hi)]);
+    Ok(is_high && gives(high.not()?.ranges(), &[(Side::Lo, Side::Lo)]))
+}
 
 #[test]
 fn two_sides_are_filled_left_out_ordered_and_added(rt: HostRuntime) -> Result<(), Fail> {
-    let mut sides = RangeSetBlaze::<Side>::new(rt.alloc());
-    assert!(rt; sides.insert(Side::Lo)? && !sides.is_universal());
-    let low = sides.clone()?;
-    assert!(rt; sides.insert(Side::Hi)? && sides.ranges_len() == 1 && sides.is_universal());
-    assert!(rt; sides.not()?.is_empty() && low.cmp(&sides) == Ordering::Less);
-    let mut high = RangeSetBlaze::<Side>::new(rt.alloc());
-    high.extend([Side::Hi..=Side::Lo, Side::Hi..=Side::Hi])?;
-    assert!(rt; gives(high.ranges(), &[(Side::Hi, Side::Hi)]));
-    assert!(rt; gives(high.not()?.ranges(), &[(Side::Lo, Side::Lo)]));
+    let mut low = RangeSetBlaze::<Side>::new(rt.alloc());
+    assert!(rt; low.insert(Side::Lo)? && !low.is_universal());
+    assert!(rt; is_filled(&low)? && is_added(rt.alloc())?);
     Ok(())
 }
 
@@ -69,149 +77,45 @@ fn free_slots_lie_between_those_that_are_booked(rt: HostRuntime) -> Result<(), F
     Ok(())
 }
 
-/// A value, and whether it is a member.
-type Flag<T> = (T, bool);
-
-/// The first hundred values of a type, or all where there are fewer, and none of them a member.
-fn flags<T: Integer>(alloc: Global) -> Result<Vec<Flag<T>>, AllocError> {
-    let mut flags = Vec::new(alloc);
-    let mut value = T::min_value();
-    for _ in 0..100u8 {
-        flags.push((value, false))?;
-        let Some(next) = value.checked_add_one() else {
-            break;
-        };
-        value = next;
-    }
-    Ok(flags)
-}
-
-/// Whether a set has the members that flags tell, by each call that looks for one.
-fn agrees<T: Integer>(set: &RangeSetBlaze<T>, flags: &[Flag<T>]) -> bool {
-    let mut elements = set.iter();
-    for (value, is_member) in flags {
-        let run = set.range_at(*value);
-        if set.contains(*value) != *is_member || run.is_some() != *is_member {
-            return false;
-        }
-        if *is_member && elements.next() != Some(*value) {
-            return false;
+/// Whether values that a set lacks are everything, once each was put in.
+fn fill<T: Integer>(set: &mut RangeSetBlaze<T>, values: &[T]) -> Result<bool, AllocError> {
+    for value in values {
+        if set.contains(*value) || !set.insert(*value)? || !set.contains(*value) {
+            return Ok(false);
         }
     }
-    elements.next().is_none()
+    Ok(set.ranges_len() == 1 && set.is_universal())
 }
 
-/// Makes a set what it left out, and says that it is another one then.
-fn turn_over<T: Integer>(set: &mut RangeSetBlaze<T>) -> Result<bool, AllocError> {
-    let mut turned = set.not()?;
-    mem::swap(set, &mut turned);
-    Ok(true)
-}
-
-/// Changes a set by one of six calls at these two values, and says whether it is another one then.
-fn change<T: Integer>(
-    set: &mut RangeSetBlaze<T>,
-    call: u8,
-    start: T,
-    end: T,
-) -> Result<bool, AllocError> {
-    match call {
-        0 => set.insert(start),
-        1 => set.ranges_insert(start..=end),
-        2 => set.remove(start),
-        3 => Ok(set.pop_first()?.is_some()),
-        4 => Ok(set.pop_last().is_some()),
-        _ => turn_over(set),
-    }
-}
-
-/// The first member that flags tell, and the last.
-fn ends<T: Integer>(flags: &[Flag<T>]) -> (Option<T>, Option<T>) {
-    let (mut first, mut last) = (None, None);
-    for (value, is_member) in flags {
-        if *is_member {
-            if first.is_none() {
-                first = Some(*value);
-            }
-            last = Some(*value);
+/// Whether a set has nothing, once each of these values was taken out, which were members.
+fn empty<T: Integer>(set: &mut RangeSetBlaze<T>, values: &[T]) -> Result<bool, AllocError> {
+    for value in values {
+        if !set.remove(*value)? || set.range_at(*value).is_some() {
+            return Ok(false);
         }
     }
-    (first, last)
+    Ok(set.is_empty())
 }
 
-/// Whether one of the calls is about a value, where the first member and the last are these.
-fn is_meant<T: Integer>(
-    value: T,
-    call: u8,
-    start: T,
-    end: T,
-    ends: (Option<T>, Option<T>),
-) -> bool {
-    match call {
-        0 | 2 => value == start,
-        1 => start <= value && value <= end,
-        3 => Some(value) == ends.0,
-        4 => Some(value) == ends.1,
-        _ => true,
+/// Whether all values of a type, in some order, come into a set one by one, and go.
+fn come_and_go<T: Integer>(alloc: Global, values: &[T]) -> Result<bool, AllocError> {
+    let mut set = RangeSetBlaze::new(alloc);
+    Ok(fill(&mut set, values)? && empty(&mut set, values)?)
+}
+
+/// The slots of a day, in an order that jumps.
+fn all_slots(alloc: Global) -> Result<Vec<Slot>, AllocError> {
+    let mut slots = Vec::new(alloc);
+    for turn in 0..96u16 {
+        let number = turn.saturating_mul(5) % 96;
+        slots.push(slot(number as u8))?;
     }
-}
-
-/// Changes flags by one of the calls, and says whether they are others then.
-fn reckon<T: Integer>(flags: &mut Vec<Flag<T>>, call: u8, start: T, end: T) -> bool {
-    let ends = ends(flags);
-    let mut is_changed = false;
-    for flag in flags.iter_mut() {
-        let (value, was) = *flag;
-        let is_meant = is_meant(value, call, start, end, ends);
-        flag.1 = match call {
-            0 | 1 => was || is_meant,
-            2 | 3 | 4 => was && !is_meant,
-            _ => !was,
-        };
-        is_changed = is_changed || flag.1 != was;
-    }
-    is_changed
-}
-
-/// The value at a place, counted on from the first after the last.
-fn value_at<T: Integer>(flags: &[Flag<T>], place: u8) -> T {
-    let place = usize::from(place).checked_rem(flags.len());
-    place
-        .and_then(|place| flags.get(place))
-        .map_or(T::min_value(), |flag| flag.0)
-}
-
-/// Changes a set and flags beside it as a number draws, and says whether the answer and the set are
-/// what the flags tell.
-fn turns<T: Integer>(
-    set: &mut RangeSetBlaze<T>,
-    flags: &mut Vec<Flag<T>>,
-    drawn: u32,
-) -> Result<bool, AllocError> {
-    let [_, start, end, call] = drawn.to_le_bytes();
-    let (start, end) = (value_at(flags, start), value_at(flags, end));
-    let is_changed = change(set, call % 6, start, end)?;
-    Ok(is_changed == reckon(flags, call % 6, start, end) && agrees(set, flags))
-}
-
-/// The first turn of some hundred after which a set is not what flags beside it tell, or at which an
-/// answer is not.
-fn first_wrong<T: Integer>(alloc: Global) -> Result<Option<u16>, AllocError> {
-    let mut flags = flags::<T>(alloc)?;
-    let mut set = RangeSetBlaze::<T>::new(alloc);
-    let mut drawn = 20240229u32;
-    for turn in 0..600u16 {
-        drawn = drawn.wrapping_mul(1664525).wrapping_add(1013904223);
-        if !turns(&mut set, &mut flags, drawn)? {
-            return Ok(Some(turn));
-        }
-    }
-    Ok(None)
+    Ok(slots)
 }
 
 #[test]
-fn hundreds_of_changes_at_own_types_leave_what_flags_tell(rt: HostRuntime) -> Result<(), Fail> {
-    assert!(rt; first_wrong::<Side>(rt.alloc())?.is_none());
-    assert!(rt; first_wrong::<Slot>(rt.alloc())?.is_none());
+fn all_values_of_own_types_come_and_go(rt: HostRuntime) -> Result<(), Fail> {
+    assert!(rt; come_and_go(rt.alloc(), &[Side::Hi, Side::Lo])?);
+    assert!(rt; come_and_go(rt.alloc(), &all_slots(rt.alloc())?)?);
     Ok(())
 }

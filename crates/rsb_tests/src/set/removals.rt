@@ -115,7 +115,7 @@ fn removals_and_pops_tell_what_was_a_member(rt: HostRuntime) {
     for (call, before, answer, after) in &REMOVED {
         assert!(rt;
             changes(rt.alloc(), *call, (before, &[]), *answer, (after, &[])) == Ok(true),
-            "{call:?} of {before:?}"
+            "{after:?} of {before:?}"
         );
     }
 }

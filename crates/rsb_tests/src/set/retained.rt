@@ -62,7 +62,7 @@ fn values_and_runs_are_kept_by_a_test(rt: HostRuntime) {
             Answer::Asked(*asked),
             (after, &[]),
         );
-        assert!(rt; answer == Ok(true), "{call:?} of {before:?}");
+        assert!(rt; answer == Ok(true), "{after:?} of {before:?}");
     }
 }
 

@@ -48,8 +48,8 @@ fn comes_to(
     wanted: (Answer, Pair<'_>),
 ) -> Result<bool, AllocError> {
     let (answer, after) = wanted;
-    let is_told = carry_out(alloc, call, set, other)? == answer;
-    Ok(is_told && has(set, after.0) && has(other, after.1))
+    let told = carry_out(alloc, call, set, other)?;
+    Ok(told.is(answer) && has(set, after.0) && has(other, after.1))
 }
 
 /// Whether a change of the first of two sets gives this answer, and leaves these two.

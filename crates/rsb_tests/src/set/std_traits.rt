@@ -2,14 +2,14 @@
 
 ghost use Rattle.std.specs.Prelude.{◌≡◌, IfOk, OnOk};
 ghost use Rattle.rsb_integer.specs.Runs.{members};
-ghost use Rattle.rsb_integer.specs.Selection.{difference, intersection, symmetric_difference, union, complement_in};
+ghost use Rattle.rsb_integer.specs.Selection.{difference, intersection, symmetric_difference, union};
 ghost use Rattle.range_set_blaze.specs.Algebra.{ranks_of, AddsItems, AddsValues, IsSetOfItems};
 ghost use Rattle.range_set_blaze.specs.Set.{IsSetOf};
 
 use crate::tables::gives;
 use range_set_blaze::{Integer, RangeSetBlaze};
 use std::alloc::{AllocError, Allocator, Global};
-use std::ops::{Not, RangeInclusive};
+use std::ops::RangeInclusive;
 use std::test::*;
 
 /// What lies in either of two sets, by a copy of one.
@@ -54,27 +54,6 @@ fn alone<T: Integer, A: Allocator + Copy>(
         IsSetOf set (symmetric_difference (members left.now) (members right.now))) }
 {
     left ^ right
-}
-
-/// A set and what is said of it: a user's own type, with an operator of its own.
-#[derive(Drop)]
-struct Named<T: Integer> {
-    set: RangeSetBlaze<T>,
-    name: char,
-}
-
-impl<'a, T: Integer> Not for &'a Named<T> {
-    type Output = Result<Named<T>, AllocError>;
-
-    ghost not_gives = { λ named made. IfOk made (λ lacking.
-        IsSetOf lacking.set (complement_in T.value_count (members named.now.set))) };
-
-    fn not(self) -> Self::Output {
-        Ok(Named {
-            set: (!&self.set)?,
-            name: self.name,
-        })
-    }
 }
 
 /// The set of the values of a list.
@@ -176,6 +155,7 @@ fn make_of<T: Integer + 'static>(
         && is_made(both(left, right), row.both)
         && is_made(rest(left, right), row.rest)
         && is_made(alone(left, right), row.alone)
+        && is_made(!left, row.lacking)
 }
 
 /// Whether the operators make of the sets of a row what it says.
@@ -185,23 +165,9 @@ fn operators_make<T: Integer + 'static>(alloc: Global, row: &Row<T>) -> Result<b
     Ok(make_of(&left, &right, row))
 }
 
-/// Whether a user's operator makes of the first set of a row what that lacks.
-fn own_operator_makes<T: Integer + 'static>(
-    alloc: Global,
-    row: &Row<T>,
-) -> Result<bool, AllocError> {
-    let named = Named {
-        set: of_ends(alloc, row.left)?,
-        name: 'l',
-    };
-    let lacking = (!&named)?;
-    Ok(lacking.name == 'l' && gives(lacking.set.ranges(), row.lacking))
-}
-
 #[test]
 fn operators_make_sets(rt: HostRuntime) -> Result<(), Fail> {
-    assert!(rt; operators_make(rt.alloc(), &BYTES)? && own_operator_makes(rt.alloc(), &BYTES)?);
-    assert!(rt; operators_make(rt.alloc(), &LETTERS)? && own_operator_makes(rt.alloc(), &LETTERS)?);
+    assert!(rt; operators_make(rt.alloc(), &BYTES)? && operators_make(rt.alloc(), &LETTERS)?);
     Ok(())
 }
 
@@ -260,16 +226,11 @@ fn an_array_is_added(alloc: Global) -> Result<bool, AllocError> {
     Ok(gives(set.ranges(), &[(-1, 2), (4, 4), (8, 9)]))
 }
 
-/// Whether letters come from the back.
-fn letters_come(set: &RangeSetBlaze<char>) -> bool {
-    set.iter().rev().eq(['d', 'c', 'a'])
-}
-
 /// Whether the ranges of two lists are collected and added.
 fn lists_of_ranges_are_collected(alloc: Global) -> Result<bool, AllocError> {
     let mut letters = of_ranges(alloc, Vec::from_array(alloc, ['c'..='d', 'b'..='a'])?)?;
     add_ranges(&mut letters, Vec::from_array(alloc, ['a'..='a'])?)?;
-    Ok(letters_come(&letters))
+    Ok(gives(letters.ranges(), &[('a', 'a'), ('c', 'd')]))
 }
 
 #[test]

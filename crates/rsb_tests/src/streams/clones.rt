@@ -5,7 +5,7 @@ ghost use Rattle.std.specs.Prelude.{◌≡◌};
 use crate::streams::listed::{Listed, stream_of, three_tens};
 use crate::streams::nested::{known, sorted};
 use crate::tables::both_give;
-use rsb_streams::{Draw, DrawDisjoint, Merge, UnionIter};
+use rsb_streams::{Draw, DrawDisjoint};
 use std::alloc::AllocError;
 use std::test::Fail;
 
@@ -36,26 +36,24 @@ fn goes_on<I: Draw<u8> + Clone>(
     Ok(range == Some(first.0..=first.1) && both_give(stream, others)?)
 }
 
+// A union has a merge and what joins it, and an intersection has complements.
 #[test]
-fn clones_of_unions_and_of_complements_go_on(rt: HostRuntime) -> Result<(), Fail> {
+fn clones_of_unions_and_of_intersections_go_on(rt: HostRuntime) -> Result<(), Fail> {
     assert!(rt; goes_on(three_tens().union(fives()), (0, 0), &FIVE)?);
-    assert!(rt; goes_on(three_tens().complement(), (1, 9), &[(11, 19), (21, 255)])?);
+    assert!(rt; goes_on(three_tens().intersection(three_tens()), (0, 0), &TWO)?);
     Ok(())
 }
 
 #[test]
-fn clones_of_intersections_and_of_differences_go_on(rt: HostRuntime) -> Result<(), Fail> {
-    assert!(rt; goes_on(three_tens().intersection(three_tens()), (0, 0), &TWO)?);
+fn a_clone_of_a_difference_goes_on(rt: HostRuntime) -> Result<(), Fail> {
     assert!(rt; goes_on(three_tens().difference(fives()), (0, 0), &TWO)?);
     Ok(())
 }
 
 #[test]
-fn clones_of_other_streams_go_on(rt: HostRuntime) -> Result<(), Fail> {
+fn clones_of_what_is_known_of_a_stream_go_on(rt: HostRuntime) -> Result<(), Fail> {
     assert!(rt; goes_on(known(three_tens()), (0, 0), &TWO)?);
     assert!(rt; goes_on(sorted(three_tens()), (0, 0), &TWO)?);
-    assert!(rt; goes_on(UnionIter::new(three_tens()), (0, 0), &TWO)?);
-    assert!(rt; goes_on(Merge::new(three_tens(), fives()), (0, 0), &FIVE)?);
     Ok(())
 }
 

@@ -26,12 +26,12 @@ fn wanted(operation: Operation) -> &'static [(u8, u8)] {
 /// Whether an operator of a range gives what is wanted.
 fn of_a_range(operation: Operation) -> bool {
     let stream = range(20, 29);
-    let runs = wanted(operation);
+    let (other, runs) = (range(25, 40), wanted(operation));
     match operation {
-        Operation::Union => gives(stream | range(25, 40), runs),
-        Operation::Intersection => gives(stream & range(25, 40), runs),
-        Operation::Difference => gives(stream - range(25, 40), runs),
-        Operation::SymmetricDifference => gives(stream ^ range(25, 40), runs),
+        Operation::Union => gives(stream | other, runs),
+        Operation::Intersection => gives(stream & other, runs),
+        Operation::Difference => gives(stream - other, runs),
+        Operation::SymmetricDifference => gives(stream ^ other, runs),
         Operation::Complement => gives(!stream, runs),
     }
 }
@@ -39,12 +39,12 @@ fn of_a_range(operation: Operation) -> bool {
 /// Whether an operator of a stream that is joined gives what is wanted.
 fn of_a_joined_stream(operation: Operation) -> bool {
     let stream = UnionIter::new(range(20, 29));
-    let runs = wanted(operation);
+    let (other, runs) = (range(25, 40), wanted(operation));
     match operation {
-        Operation::Union => gives(stream | range(25, 40), runs),
-        Operation::Intersection => gives(stream & range(25, 40), runs),
-        Operation::Difference => gives(stream - range(25, 40), runs),
-        Operation::SymmetricDifference => gives(stream ^ range(25, 40), runs),
+        Operation::Union => gives(stream | other, runs),
+        Operation::Intersection => gives(stream & other, runs),
+        Operation::Difference => gives(stream - other, runs),
+        Operation::SymmetricDifference => gives(stream ^ other, runs),
         Operation::Complement => gives(!stream, runs),
     }
 }
@@ -52,12 +52,12 @@ fn of_a_joined_stream(operation: Operation) -> bool {
 /// Whether an operator of a stream that is known to be canonical gives what is wanted.
 fn of_a_known_stream(operation: Operation) -> bool {
     let stream = known(range(20, 29));
-    let runs = wanted(operation);
+    let (other, runs) = (range(25, 40), wanted(operation));
     match operation {
-        Operation::Union => gives(stream | range(25, 40), runs),
-        Operation::Intersection => gives(stream & range(25, 40), runs),
-        Operation::Difference => gives(stream - range(25, 40), runs),
-        Operation::SymmetricDifference => gives(stream ^ range(25, 40), runs),
+        Operation::Union => gives(stream | other, runs),
+        Operation::Intersection => gives(stream & other, runs),
+        Operation::Difference => gives(stream - other, runs),
+        Operation::SymmetricDifference => gives(stream ^ other, runs),
         Operation::Complement => gives(!stream, runs),
     }
 }
@@ -65,12 +65,12 @@ fn of_a_known_stream(operation: Operation) -> bool {
 /// Whether an operator of a complement gives what is wanted.
 fn of_a_complement(operation: Operation) -> bool {
     let stream = !!range(20, 29);
-    let runs = wanted(operation);
+    let (other, runs) = (range(25, 40), wanted(operation));
     match operation {
-        Operation::Union => gives(stream | range(25, 40), runs),
-        Operation::Intersection => gives(stream & range(25, 40), runs),
-        Operation::Difference => gives(stream - range(25, 40), runs),
-        Operation::SymmetricDifference => gives(stream ^ range(25, 40), runs),
+        Operation::Union => gives(stream | other, runs),
+        Operation::Intersection => gives(stream & other, runs),
+        Operation::Difference => gives(stream - other, runs),
+        Operation::SymmetricDifference => gives(stream ^ other, runs),
         Operation::Complement => gives(!stream, runs),
     }
 }
@@ -78,12 +78,12 @@ fn of_a_complement(operation: Operation) -> bool {
 /// Whether an operator of a union gives what is wanted.
 fn of_a_union(operation: Operation) -> bool {
     let stream = range(20, 24) | range(23, 29);
-    let runs = wanted(operation);
+    let (other, runs) = (range(25, 40), wanted(operation));
     match operation {
-        Operation::Union => gives(stream | range(25, 40), runs),
-        Operation::Intersection => gives(stream & range(25, 40), runs),
-        Operation::Difference => gives(stream - range(25, 40), runs),
-        Operation::SymmetricDifference => gives(stream ^ range(25, 40), runs),
+        Operation::Union => gives(stream | other, runs),
+        Operation::Intersection => gives(stream & other, runs),
+        Operation::Difference => gives(stream - other, runs),
+        Operation::SymmetricDifference => gives(stream ^ other, runs),
         Operation::Complement => gives(!stream, runs),
     }
 }
@@ -91,12 +91,12 @@ fn of_a_union(operation: Operation) -> bool {
 /// Whether an operator of an intersection gives what is wanted.
 fn of_an_intersection(operation: Operation) -> bool {
     let stream = range(20, 99) & range(0, 29);
-    let runs = wanted(operation);
+    let (other, runs) = (range(25, 40), wanted(operation));
     match operation {
-        Operation::Union => gives(stream | range(25, 40), runs),
-        Operation::Intersection => gives(stream & range(25, 40), runs),
-        Operation::Difference => gives(stream - range(25, 40), runs),
-        Operation::SymmetricDifference => gives(stream ^ range(25, 40), runs),
+        Operation::Union => gives(stream | other, runs),
+        Operation::Intersection => gives(stream & other, runs),
+        Operation::Difference => gives(stream - other, runs),
+        Operation::SymmetricDifference => gives(stream ^ other, runs),
         Operation::Complement => gives(!stream, runs),
     }
 }
@@ -104,12 +104,12 @@ fn of_an_intersection(operation: Operation) -> bool {
 /// Whether an operator of a difference gives what is wanted.
 fn of_a_difference(operation: Operation) -> bool {
     let stream = range(20, 99) - range(30, 255);
-    let runs = wanted(operation);
+    let (other, runs) = (range(25, 40), wanted(operation));
     match operation {
-        Operation::Union => gives(stream | range(25, 40), runs),
-        Operation::Intersection => gives(stream & range(25, 40), runs),
-        Operation::Difference => gives(stream - range(25, 40), runs),
-        Operation::SymmetricDifference => gives(stream ^ range(25, 40), runs),
+        Operation::Union => gives(stream | other, runs),
+        Operation::Intersection => gives(stream & other, runs),
+        Operation::Difference => gives(stream - other, runs),
+        Operation::SymmetricDifference => gives(stream ^ other, runs),
         Operation::Complement => gives(!stream, runs),
     }
 }
@@ -117,12 +117,12 @@ fn of_a_difference(operation: Operation) -> bool {
 /// Whether an operator of a symmetric difference gives what is wanted.
 fn of_a_symmetric_difference(operation: Operation) -> bool {
     let stream = range(20, 50) ^ range(30, 50);
-    let runs = wanted(operation);
+    let (other, runs) = (range(25, 40), wanted(operation));
     match operation {
-        Operation::Union => gives(stream | range(25, 40), runs),
-        Operation::Intersection => gives(stream & range(25, 40), runs),
-        Operation::Difference => gives(stream - range(25, 40), runs),
-        Operation::SymmetricDifference => gives(stream ^ range(25, 40), runs),
+        Operation::Union => gives(stream | other, runs),
+        Operation::Intersection => gives(stream & other, runs),
+        Operation::Difference => gives(stream - other, runs),
+        Operation::SymmetricDifference => gives(stream ^ other, runs),
         Operation::Complement => gives(!stream, runs),
     }
 }

@@ -3,9 +3,7 @@
 use crate::streams::listed::{Listed, stream_of};
 use crate::tables::gives;
 use rsb_integer::Integer;
-use rsb_streams::{
-    CheckSortedDisjoint, Draw, DrawDisjoint, NotIter, RangeOnce, SortedDisjoint, SortedStarts,
-};
+use rsb_streams::{CheckSortedDisjoint, Draw, DrawDisjoint, NotIter, RangeOnce, SortedDisjoint};
 use std::iter::{Filter, Fuse, Skip, SkipWhile, TakeWhile};
 use std::ops::RangeInclusive;
 
@@ -19,52 +17,53 @@ fn two_ranges() -> Listed<'static>
 /// The ends of ranges.
 type Ranges = &'static [(u8, u8)];
 
-/// How many ranges come first, the gaps of these, and those of the others.
+/// Both of them.
+const BOTH: Ranges = &[(3, 5), (7, 9)];
+
+/// How many ranges come first, these, and the others.
 static BY_NUMBER: [(usize, Ranges, Ranges); 4] = [
-    (0, &[(0, 255)], &[(0, 2), (6, 6), (10, 255)]),
-    (1, &[(0, 2), (6, 255)], &[(0, 6), (10, 255)]),
-    (2, &[(0, 2), (6, 6), (10, 255)], &[(0, 255)]),
-    (3, &[(0, 2), (6, 6), (10, 255)], &[(0, 255)]),
+    (0, &[], BOTH),
+    (1, &[(3, 5)], &[(7, 9)]),
+    (2, BOTH, &[]),
+    (3, BOTH, &[]),
 ];
 
 #[test]
-fn gaps_of_the_first_ranges_and_of_those_after_them(rt: HostRuntime) {
+fn first_ranges_come_and_those_after_them(rt: HostRuntime) {
     for (count, first, others) in &BY_NUMBER {
-        assert!(rt;
-            gives(two_ranges().take(*count).complement(), first),
-            "take({count})"
-        );
-        assert!(rt;
-            gives(two_ranges().skip(*count).complement(), others),
-            "skip({count})"
-        );
+        assert!(rt; gives(two_ranges().take(*count), first), "take({count})");
+        assert!(rt; gives(two_ranges().skip(*count), others), "skip({count})");
     }
 }
 
-/// Whether the gaps of the ranges before the first that does not end below a limit are these.
-fn gaps_before(limit: u8, gaps: Ranges) -> bool {
-    let some = two_ranges().take_while(move |range| *range.end() < limit);
-    gives(some.complement(), gaps)
-}
-
-/// Whether the gaps of the ranges from that one on are these.
-fn gaps_from(limit: u8, gaps: Ranges) -> bool {
-    let others = two_ranges().skip_while(move |range| *range.end() < limit);
-    gives(others.complement(), gaps)
-}
-
-/// A limit, the gaps of the ranges before the first that does not end below it, and those of the others.
+/// A limit, the ranges before the first that does not end below it, and the others.
 static BY_LIMIT: [(u8, Ranges, Ranges); 3] = [
-    (5, &[(0, 255)], &[(0, 2), (6, 6), (10, 255)]),
-    (6, &[(0, 2), (6, 255)], &[(0, 6), (10, 255)]),
-    (10, &[(0, 2), (6, 6), (10, 255)], &[(0, 255)]),
+    (5, &[], BOTH),
+    (6, &[(3, 5)], &[(7, 9)]),
+    (10, BOTH, &[]),
 ];
 
+/// Whether the ranges before the first that does not end below a limit are these.
+fn come_before(limit: u8, wanted: Ranges) -> bool {
+    gives(
+        two_ranges().take_while(move |range| *range.end() < limit),
+        wanted,
+    )
+}
+
+/// Whether the ranges from that one on are these.
+fn come_from(limit: u8, wanted: Ranges) -> bool {
+    gives(
+        two_ranges().skip_while(move |range| *range.end() < limit),
+        wanted,
+    )
+}
+
 #[test]
-fn gaps_of_ranges_up_to_one_that_fails_and_from_it_on(rt: HostRuntime) {
+fn ranges_come_up_to_one_that_fails_and_from_it_on(rt: HostRuntime) {
     for (limit, before, from) in &BY_LIMIT {
-        assert!(rt; gaps_before(*limit, before), "take_while below {limit}");
-        assert!(rt; gaps_from(*limit, from), "skip_while below {limit}");
+        assert!(rt; come_before(*limit, before), "take_while below {limit}");
+        assert!(rt; come_from(*limit, from), "skip_while below {limit}");
     }
 }
 
@@ -82,9 +81,8 @@ fn outside_of_kept<T: Integer, I: SortedDisjoint<T>, P: FnMut(&RangeInclusive<T>
 
 #[test]
 fn gaps_of_the_ranges_that_pass_a_test(rt: HostRuntime) {
-    let stream = CheckSortedDisjoint::new([1u8..=2, 4..=5, 7..=8]);
-    let gaps = outside_of_kept(stream, |range| *range.start() > 1);
-    assert!(rt; gives(gaps, &[(0, 3), (6, 6), (9, 255)]));
+    let gaps = outside_of_kept(two_ranges(), |range| *range.start() > 3);
+    assert!(rt; gives(gaps, &[(0, 6), (10, 255)]));
 }
 
 /// The ranges from the first on that fails a test.

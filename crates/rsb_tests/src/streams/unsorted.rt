@@ -54,15 +54,6 @@ fn ranges_are_joined_as_they_come(rt: HostRuntime) -> Result<(), Fail> {
 }
 
 #[test]
-fn empty_ranges_are_skipped(rt: HostRuntime) -> Result<(), Fail> {
-    let mut emptied = 4u8..=4;
-    emptied.next();
-    let ranges = vec![in rt.alloc(); 5u8..=4, emptied, 9..=9, 4..=3, 10..=12]?;
-    assert!(rt; joins(rt.alloc(), ranges, &[(9, 12)])?);
-    Ok(())
-}
-
-#[test]
 fn joined_ranges_promise_no_item(rt: HostRuntime) {
     let mut joined = UnsortedDisjoint::new([5u8..=4].into_iter());
     assert!(rt; joined.size_hint().0 == 0);
@@ -84,13 +75,6 @@ fn unions_of_ranges_in_any_order(rt: HostRuntime) -> Result<(), Fail> {
         let union = UnionIter::from_iter(rt.alloc(), list_of(rt.alloc(), ranges)?)?;
         assert!(rt; gives(union, wanted), "{ranges:?}");
     }
-    Ok(())
-}
-
-#[test]
-fn union_sorts_ranges_and_skips_empty_ones(rt: HostRuntime) -> Result<(), Fail> {
-    let union = UnionIter::from_iter(rt.alloc(), [1..=2, 2..=2, -10..=-5, 1..=0])?;
-    assert!(rt; gives(union, &[(-10, -5), (1, 2)]));
     Ok(())
 }
 

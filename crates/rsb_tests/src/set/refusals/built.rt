@@ -2,7 +2,7 @@
 
 ghost use Rattle.std.specs.Prelude.{All, IfOk};
 
-use crate::many::any_types::{all_of_three, odd_of_three, some_of_three};
+use crate::many::any_types::{odd_of_three, some_of_two};
 use crate::many::forms::{Form, form_gives};
 use crate::many::sets::{of_lent, of_sets};
 use crate::set::calls::Making;
@@ -14,6 +14,7 @@ use range_set_blaze::{
     CheckSortedTouching, Draw, DynSortedDisjoint, KMerge, MultiwaySweep,
     MultiwaySymmetricDifference, RangeOnce, RangeSetBlaze, SortedTouching, UnionIter,
 };
+use rsb_many::intersection_dyn;
 use std::alloc::{AllocError, Allocator, Global};
 use std::ops::RangeInclusive;
 use std::vec::IntoIter;
@@ -257,36 +258,41 @@ fn taken_give(
     Ok(gives(UnionIter::from_iter(heap, set.ranges())?, wanted))
 }
 
-/// No range.
-fn nothing() -> RangeOnce<i32>
-    ensures { ⟦<RangeOnce<i32> as Draw<i32>>⟧.can_draw result }
-{
-    RangeOnce::new(1..=0)
-}
-
-/// Every value.
-fn everything() -> RangeOnce<i32>
-    ensures { ⟦<RangeOnce<i32> as Draw<i32>>⟧.can_draw result }
-{
-    RangeOnce::new(i32::MIN..=i32::MAX)
-}
-
-/// Whether an operation on the ranges of two sets, which are taken first, gives these runs.
-fn taken_operate(
+/// Whether the union of all ranges of two sets, which are taken first, gives these runs.
+fn dyn_union_gives(
     heap: &LocalHeap,
-    building: Building,
     one: &Set,
     other: &Set,
     wanted: Table<'_>,
 ) -> Result<bool, AllocError> {
-    let (one, other) = (one.ranges(), other.ranges());
-    match building {
-        Building::DynUnion => Ok(gives(some_of_three(heap, (one, other, nothing()))?, wanted)),
-        Building::DynIntersection => {
-            Ok(gives(all_of_three(heap, (one, other, everything()))?, wanted))
-        }
-        _ => Ok(gives(odd_of_three(heap, (one, other, nothing()))?, wanted)),
-    }
+    Ok(gives(some_of_two(heap, (one.ranges(), other.ranges()))?, wanted))
+}
+
+/// Whether their intersection does.
+fn dyn_intersection_gives(
+    heap: &LocalHeap,
+    one: &Set,
+    other: &Set,
+    wanted: Table<'_>,
+) -> Result<bool, AllocError> {
+    Ok(gives(
+        intersection_dyn!(heap, one.ranges(), other.ranges())?,
+        wanted,
+    ))
+}
+
+/// Whether their symmetric difference does.
+fn dyn_difference_gives(
+    heap: &LocalHeap,
+    one: &Set,
+    other: &Set,
+    wanted: Table<'_>,
+) -> Result<bool, AllocError> {
+    let nothing = RangeOnce::new(1..=0);
+    Ok(gives(
+        odd_of_three(heap, (one.ranges(), other.ranges(), nothing))?,
+        wanted,
+    ))
 }
 
 /// The set that a form makes of two sets given up.
@@ -334,9 +340,9 @@ pub(crate) fn built_gives(
         Building::TouchingSweep | Building::TouchingDifference => {
             touching_gives(alloc, heap, building, one, other, wanted)
         }
-        Building::DynUnion | Building::DynIntersection | Building::DynSymmetricDifference => {
-            taken_operate(heap, building, one, other, wanted)
-        }
+        Building::DynUnion => dyn_union_gives(heap, one, other, wanted),
+        Building::DynIntersection => dyn_intersection_gives(heap, one, other, wanted),
+        Building::DynSymmetricDifference => dyn_difference_gives(heap, one, other, wanted),
         Building::SetsUnion
         | Building::SetsIntersection
         | Building::SetsSymmetricDifference

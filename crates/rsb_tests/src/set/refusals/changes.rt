@@ -132,7 +132,7 @@ fn is_passed<'a>(
     other: &HeapSet<'a>,
     cells: &mut Vec<Cell>,
 ) -> Result<bool, AllocError> {
-    Ok(answer == reckon(alloc, change, cells)? && agree(alloc, set, other, cells)?)
+    Ok(answer.is(reckon(alloc, change, cells)?) && agree(alloc, set, other, cells)?)
 }
 
 /// How many tries of a change are refused before one passes. `None` where a refused one leaves what
@@ -225,19 +225,19 @@ fn is_right(alloc: Global, change: Change, count: i32, others: i32) -> Result<bo
     Ok(refused == Some(wants(change, count, others)) && heap.free() == free)
 }
 
-/// The change that is not refused as it is to be, if any is: of those that add where there is
-/// something to add, and of all else.
-fn first_wrong(alloc: Global, count: i32, others: i32) -> Option<Change> {
+/// The place of the first change that is not refused as it is to be, if any is: of those that add
+/// where there is something to add, and of all else.
+fn first_wrong(alloc: Global, count: i32, others: i32) -> Option<u8> {
     let mut next = Some(FIRST);
-    for _ in 0..u8::MAX {
+    for place in 0..u8::MAX {
         let change = next?;
         let is_tried = others == 0 || change.adds();
         if is_tried && is_right(alloc, change, count, others) != Ok(true) {
-            return Some(change);
+            return Some(place);
         }
         next = after(change);
     }
-    next
+    Some(u8::MAX)
 }
 
 #[test]
@@ -245,7 +245,10 @@ fn each_growth_of_a_change_is_refused_in_turn(rt: HostRuntime) {
     for count in [0, 1, 3, 15, 100] {
         for others in [0, 1, 3, 100] {
             let wrong = first_wrong(rt.alloc(), count, others);
-            assert!(rt; wrong.is_none(), "{wrong:?}, {count} runs, {others}");
+            assert!(rt;
+                wrong.is_none(),
+                "the change at {wrong:?}, {count} runs, {others}"
+            );
         }
     }
 }
