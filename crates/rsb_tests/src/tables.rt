@@ -14,11 +14,10 @@ pub(crate) fn set_of(
     alloc: Global,
     ranges: &[(i32, i32)],
 ) -> Result<RangeSetBlaze<i32>, AllocError> {
-    let mut set = RangeSetBlaze::new(alloc);
-    for (start, end) in ranges {
-        set.ranges_insert(*start..=*end)?;
-    }
-    Ok(set)
+    ranges
+        .iter()
+        .map(|(start, end)| *start..=*end)
+        .collect(alloc)
 }
 
 /// The runs of a set as a table.

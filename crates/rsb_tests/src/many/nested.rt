@@ -1,4 +1,4 @@
-//! Operations on many streams in and over those on one and on two, at every element type.
+//! The complement of what many streams make, at every element type.
 
 ghost use Rattle.std.specs.Prelude.{length, All, IfOk};
 ghost use Rattle.rsb_integer.specs.Selection.{any_of, complement};
@@ -6,7 +6,6 @@ ghost use Rattle.rsb_many.specs.Many.{may_give_at, runs_by_all};
 ghost use Rattle.rsb_streams.specs.Stream.{◌⊆◌, runs_by};
 
 use crate::many::forms::{Ranges, streams_of};
-use crate::streams::listed::stream_of;
 use crate::tables::gives;
 use rsb_integer::Integer;
 use rsb_many::{MultiwaySortedDisjoint, MultiwayUnion};
@@ -32,23 +31,9 @@ fn none_of<T: Integer, I: DrawDisjoint<T>, A: Allocator + Copy>(
 /// Three streams that lie apart.
 static APART: [Ranges; 3] = [&[(1, 2)], &[(5, 6)], &[(2, 3), (200, 255)]];
 
-/// Three streams that lie over one another.
-static MEETING: [Ranges; 3] = [&[(0, 9), (20, 255)], &[(5, 30)], &[(7, 8), (25, 255)]];
-
 #[test]
 fn many_streams_in_an_operation_on_one(rt: HostRuntime) -> Result<(), Fail> {
     let none = none_of(rt.alloc(), streams_of(rt.alloc(), &APART)?)?;
     assert!(rt; gives(none, &[(0, 0), (4, 4), (7, 199)]));
-    Ok(())
-}
-
-#[test]
-fn many_streams_in_operations_on_two(rt: HostRuntime) -> Result<(), Fail> {
-    let some = streams_of(rt.alloc(), &MEETING)?.union(rt.alloc())?;
-    let all = streams_of(rt.alloc(), &MEETING)?.intersection(rt.alloc())?;
-    let mixed = some
-        .difference(all)
-        .symmetric_difference(stream_of(&[(10, 12)]));
-    assert!(rt; gives(mixed, &[(0, 6), (9, 9), (13, 24), (31, 255)]));
     Ok(())
 }

@@ -75,7 +75,7 @@ pub(crate) enum Answer {
 }
 
 impl Answer {
-    /// Whether it is the other one. (A derived equality takes ten times as long to prove.)
+    /// Whether it is the other one. (A derived equality takes longer to prove.)
     pub(crate) fn is(self, other: Answer) -> bool {
         match (self, other) {
             (Answer::Nothing, Answer::Nothing) => true,
