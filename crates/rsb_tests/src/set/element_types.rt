@@ -85,8 +85,9 @@ fn all_characters_have_each_pair_of_neighbors(rt: HostRuntime) -> Result<(), Fai
     ];
     for (before, c) in rows {
         let pair = RangeSetBlaze::from(rt.alloc(), before..=c)?;
-        assert!(rt; universe.contains(before) && universe.contains(c), "{c:?}");
-        assert!(rt; pair.len() == 2 && universe.is_superset(&pair), "{c:?}");
+        let are_members = universe.contains(before) && universe.contains(c);
+        let is_pair = pair.len() == 2 && universe.is_superset(&pair);
+        assert!(rt; are_members && is_pair, "{c:?}");
     }
     Ok(())
 }

@@ -70,10 +70,12 @@ static ENDS: [(Table<'static>, Option<i32>, Option<i32>, bool); 5] = [
 fn ends_and_number_of_runs_are_told(rt: HostRuntime) -> Result<(), Fail> {
     for (ranges, first, last, is_universal) in &ENDS {
         let set = set_of(rt.alloc(), ranges)?;
-        assert!(rt; has(&set, ranges), "{ranges:?}");
-        assert!(rt; set.first() == *first && set.last() == *last, "{ranges:?}");
-        assert!(rt; set.is_empty() == first.is_none(), "{ranges:?}");
-        assert!(rt; set.is_universal() == *is_universal, "{ranges:?}");
+        let is_told = has(&set, ranges)
+            && set.first() == *first
+            && set.last() == *last
+            && set.is_empty() == first.is_none()
+            && set.is_universal() == *is_universal;
+        assert!(rt; is_told, "{ranges:?}");
     }
     Ok(())
 }

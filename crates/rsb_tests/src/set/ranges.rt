@@ -88,8 +88,7 @@ static FROM_BOTH_ENDS: [(Table<'static>, Steps<'static>); 5] = [
 fn ranges_come_from_both_ends(rt: HostRuntime) -> Result<(), Fail> {
     for (ranges, steps) in &FROM_BOTH_ENDS {
         let set = set_of(rt.alloc(), ranges)?;
-        assert!(rt; come(&set, steps), "{steps:?} of {ranges:?}");
-        assert!(rt; owned_come(set, steps), "owned {steps:?} of {ranges:?}");
+        assert!(rt; come(&set, steps) && owned_come(set, steps), "{ranges:?}");
     }
     Ok(())
 }

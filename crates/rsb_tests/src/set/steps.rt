@@ -1,7 +1,7 @@
 //! What is taken from the two ends of an iterator, step by step.
 
 /// An end of an iterator.
-#[derive(Clone, Copy, Debug)]
+#[derive(Clone, Copy)]
 pub(crate) enum End {
     Front,
     Back,

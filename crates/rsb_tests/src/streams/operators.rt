@@ -130,25 +130,14 @@ fn of_a_symmetric_difference(operation: Operation) -> bool {
 #[test]
 fn operators_of_each_stream_type(rt: HostRuntime) {
     for operation in OPERATIONS {
-        assert!(rt; of_a_range(operation), "{operation:?} of a range");
-        assert!(rt;
-            of_a_joined_stream(operation),
-            "{operation:?} of a stream that is joined"
-        );
-        assert!(rt;
-            of_a_known_stream(operation),
-            "{operation:?} of a stream that is known to be canonical"
-        );
-        assert!(rt; of_a_complement(operation), "{operation:?} of a complement");
-        assert!(rt; of_a_union(operation), "{operation:?} of a union");
-        assert!(rt;
-            of_an_intersection(operation),
-            "{operation:?} of an intersection"
-        );
-        assert!(rt; of_a_difference(operation), "{operation:?} of a difference");
-        assert!(rt;
-            of_a_symmetric_difference(operation),
-            "{operation:?} of a symmetric difference"
-        );
+        let is_right = of_a_range(operation)
+            && of_a_joined_stream(operation)
+            && of_a_known_stream(operation)
+            && of_a_complement(operation)
+            && of_a_union(operation)
+            && of_an_intersection(operation)
+            && of_a_difference(operation)
+            && of_a_symmetric_difference(operation);
+        assert!(rt; is_right, "{operation:?}");
     }
 }

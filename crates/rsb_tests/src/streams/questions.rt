@@ -23,18 +23,10 @@ static ALONE: [(Ranges, u16, bool, bool); 7] = [
 #[test]
 fn questions_of_one_stream(rt: HostRuntime) {
     for (ranges, members, is_empty, is_universal) in &ALONE {
-        assert!(rt;
-            stream_of(ranges).members_len() == *members,
-            "members_len of {ranges:?}"
-        );
-        assert!(rt;
-            stream_of(ranges).is_empty() == *is_empty,
-            "is_empty of {ranges:?}"
-        );
-        assert!(rt;
-            stream_of(ranges).is_universal() == *is_universal,
-            "is_universal of {ranges:?}"
-        );
+        let is_told = stream_of(ranges).members_len() == *members
+            && stream_of(ranges).is_empty() == *is_empty
+            && stream_of(ranges).is_universal() == *is_universal;
+        assert!(rt; is_told, "{ranges:?}");
     }
 }
 
