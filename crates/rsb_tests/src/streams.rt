@@ -26,7 +26,7 @@ mod six_operations;
 mod std_markers;
 mod symmetric_algebra;
 mod symmetric_difference;
-mod texts;
+pub(crate) mod texts;
 mod touching;
 mod unsorted;
 mod weekends;

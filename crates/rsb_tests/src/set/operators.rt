@@ -6,6 +6,7 @@ use crate::streams::operations::Operation::{
 };
 use crate::tables::{gives, set_of};
 use range_set_blaze::RangeSetBlaze;
+use std::alloc::{AllocError, Global};
 use std::test::*;
 
 /// Whether an operator on the runs of two sets gives these.
@@ -94,13 +95,23 @@ static OPERATED: [(Table<'static>, Table<'static>, Operation, Table<'static>); 2
     (ALL, &[], Complement, &[]),
 ];
 
+/// Whether an operator on the runs of the sets of two tables gives these, whoever owns them.
+fn both_make(
+    alloc: Global,
+    operation: Operation,
+    left: Table<'_>,
+    right: Table<'_>,
+    wanted: Table<'_>,
+) -> Result<bool, AllocError> {
+    let one = set_of(alloc, left)?;
+    let other = set_of(alloc, right)?;
+    Ok(make(operation, &one, &other, wanted) && owned_make(operation, one, other, wanted))
+}
+
 #[test]
-fn runs_make_others_whoever_owns_them(rt: HostRuntime) -> Result<(), Fail> {
+fn runs_make_others_whoever_owns_them(rt: HostRuntime) {
     for (left, right, operation, wanted) in &OPERATED {
-        let (one, other) = (set_of(rt.alloc(), left)?, set_of(rt.alloc(), right)?);
-        let is_right = make(*operation, &one, &other, wanted)
-            && owned_make(*operation, one, other, wanted);
-        assert!(rt; is_right, "{operation:?} of {left:?}");
+        let is_right = both_make(rt.alloc(), *operation, left, right, wanted);
+        assert!(rt; is_right == Ok(true), "{operation:?} of {left:?}");
     }
-    Ok(())
 }

@@ -1,23 +1,34 @@
 //! The texts of sets, and of their iterators.
 
+use crate::streams::texts::is_shown;
 use crate::tables::set_of;
 use linked_list_allocator::LocalHeap;
 use range_set_blaze::RangeSetBlaze;
+use std::alloc::{AllocError, Global};
 use std::test::*;
+
+/// Whether a text is this one.
+fn is(text: String, wanted: &str) -> bool {
+    text.as_str() == wanted
+}
+
+/// Whether a set is written so, also for those who debug, and whatever the width and the sign.
+fn is_written(alloc: Global, set: &RangeSetBlaze<i32>, wanted: &str) -> Result<bool, AllocError> {
+    Ok(
+        is(format!(in alloc; "{set}")?, wanted)
+            && is(format!(in alloc; "{set:?}")?, wanted)
+            && is(format!(in alloc; "{set:40}")?, wanted)
+            && is(format!(in alloc; "{set:+}")?, wanted),
+    )
+}
 
 #[test]
 fn runs_are_written_with_a_comma_between_two_and_nothing_of_none(
     rt: HostRuntime,
 ) -> Result<(), Fail> {
-    let set = RangeSetBlaze::from_iter(rt.alloc(), [1..=2, 2..=2, -10..=-5, 1..=0])?;
-    let text = format!(in rt.alloc(); "{set}")?;
-    assert!(rt; text.as_str() == "-10..=-5, 1..=2");
-    let debug = format!(in rt.alloc(); "{set:?}")?;
-    assert!(rt; debug.as_str() == "-10..=-5, 1..=2");
-    let padded = format!(in rt.alloc(); "{set:40}{set:+}")?;
-    assert!(rt; padded.as_str() == "-10..=-5, 1..=2-10..=-5, 1..=2");
-    let nothing = RangeSetBlaze::<i32>::new(rt.alloc());
-    assert!(rt; format!(in rt.alloc(); "{nothing}{nothing:?}")?.is_empty());
+    let set = set_of(rt.alloc(), &[(1, 2), (2, 2), (-10, -5), (1, 0)])?;
+    assert!(rt; is_written(rt.alloc(), &set, "-10..=-5, 1..=2")?);
+    assert!(rt; is_written(rt.alloc(), &RangeSetBlaze::new(rt.alloc()), "")?);
     Ok(())
 }
 
@@ -59,9 +70,8 @@ fn characters_are_written_in_quotes(rt: HostRuntime) -> Result<(), Fail> {
 #[test]
 fn iterators_have_a_text(rt: HostRuntime) -> Result<(), Fail> {
     let set = set_of(rt.alloc(), &[(1, 2)])?;
-    assert!(rt; !format!(in rt.alloc(); "{:?}", set.ranges())?.is_empty());
-    assert!(rt; !format!(in rt.alloc(); "{:?}", set.iter())?.is_empty());
-    assert!(rt; !format!(in rt.alloc(); "{:?}", set.clone()?.into_ranges())?.is_empty());
-    assert!(rt; !format!(in rt.alloc(); "{:?}", set.into_iter())?.is_empty());
+    assert!(rt; is_shown(rt.alloc(), set.ranges()) && is_shown(rt.alloc(), set.iter()));
+    assert!(rt; is_shown(rt.alloc(), set.clone()?.into_ranges()));
+    assert!(rt; is_shown(rt.alloc(), set.into_iter()));
     Ok(())
 }

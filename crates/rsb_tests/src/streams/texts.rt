@@ -6,8 +6,8 @@ use rsb_streams::{DrawDisjoint, Merge};
 use std::alloc::Global;
 use std::fmt::Debug;
 
-/// Whether a stream has a text.
-fn is_shown<I: Debug + Drop>(alloc: Global, stream: I) -> bool {
+/// Whether a stream or an iterator has a text.
+pub(crate) fn is_shown<I: Debug + Drop>(alloc: Global, stream: I) -> bool {
     match format!(in alloc; "{stream:?}") {
         Ok(text) => !text.is_empty(),
         Err(_) => false,

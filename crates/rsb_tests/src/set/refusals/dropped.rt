@@ -15,14 +15,16 @@ const THREE: Table<'static> = &[(1, 2), (5, 5), (7, 9)];
 /// Two runs, each of which shares some values with those.
 const TWO: Table<'static> = &[(2, 3), (9, 11)];
 
-/// Whether the elements and the runs of a set come from both ends, before they are dropped.
-fn begins(set: &HeapSet<'_>) -> bool {
+/// Whether the elements of a set come from both ends, before they are dropped.
+fn lent_elements_begin(set: &HeapSet<'_>) -> bool {
     let mut elements = set.iter();
+    elements.next() == Some(1) && elements.next_back() == Some(9)
+}
+
+/// Whether the runs of a set come from both ends, before they are dropped.
+fn lent_runs_begin(set: &HeapSet<'_>) -> bool {
     let mut runs = set.ranges();
-    elements.next() == Some(1)
-        && elements.next_back() == Some(9)
-        && runs.next() == Some(1..=2)
-        && runs.next_back() == Some(7..=9)
+    runs.next() == Some(1..=2) && runs.next_back() == Some(7..=9)
 }
 
 /// Whether the elements between two bounds come from both ends, before they are dropped.
@@ -53,7 +55,8 @@ fn runs_begin(set: HeapSet<'_>) -> bool {
 /// Whether all of these begin as they are to.
 fn all_begin(heap: &LocalHeap, set: &HeapSet<'_>) -> Result<bool, AllocError> {
     Ok(
-        begins(set)
+        lent_elements_begin(set)
+            && lent_runs_begin(set)
             && begins_between(set)?
             && sweep_begins(heap, set)?
             && elements_begin(set.clone()?)
