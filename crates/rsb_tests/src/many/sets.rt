@@ -132,9 +132,31 @@ fn runs_are_united(alloc: Global, a: &Set, b: &Set, wanted: Table<'_>) -> Result
     Ok(gives(runs, wanted))
 }
 
+/// Whether the union of two sets, as an array of references, is this.
+fn lent_are_united(alloc: Global, a: &Set, b: &Set, wanted: Table<'_>) -> Result<bool, AllocError> {
+    let made = MultiwayRangeSetBlazeRef::union([a, b], alloc)?;
+    Ok(gives(made.ranges(), wanted))
+}
+
+/// Whether the union of two sets, as an array that gives them up, is this.
+fn given_up_are_united(
+    alloc: Global,
+    a: Set,
+    b: Set,
+    wanted: Table<'_>,
+) -> Result<bool, AllocError> {
+    let made = MultiwayRangeSetBlaze::union([a, b], alloc)?;
+    Ok(gives(made.ranges(), wanted))
+}
+
 #[test]
-fn an_array_of_the_runs_of_sets_is_united(rt: HostRuntime) -> Result<(), Fail> {
+fn arrays_of_sets_and_of_their_runs_are_united(rt: HostRuntime) -> Result<(), Fail> {
     let (a, b) = (set_of(rt.alloc(), THREE[0])?, set_of(rt.alloc(), THREE[1])?);
-    assert!(rt; runs_are_united(rt.alloc(), &a, &b, &[(1, 15), (18, 29)])?);
+    let wanted = [(1, 15), (18, 29)];
+    assert!(rt;
+        runs_are_united(rt.alloc(), &a, &b, &wanted)?
+            && lent_are_united(rt.alloc(), &a, &b, &wanted)?
+    );
+    assert!(rt; given_up_are_united(rt.alloc(), a, b, &wanted)?);
     Ok(())
 }

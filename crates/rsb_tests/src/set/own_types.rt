@@ -77,8 +77,8 @@ fn free_slots_lie_between_those_that_are_booked(rt: HostRuntime) -> Result<(), F
     Ok(())
 }
 
-/// Whether values that a set lacks are everything, once each was put in.
-fn fill<T: Integer>(set: &mut RangeSetBlaze<T>, values: &[T]) -> Result<bool, AllocError> {
+/// Whether values that a set lacks come into it one by one, and are everything then.
+fn come<T: Integer>(set: &mut RangeSetBlaze<T>, values: &[T]) -> Result<bool, AllocError> {
     for value in values {
         if set.contains(*value) || !set.insert(*value)? || !set.contains(*value) {
             return Ok(false);
@@ -87,8 +87,8 @@ fn fill<T: Integer>(set: &mut RangeSetBlaze<T>, values: &[T]) -> Result<bool, Al
     Ok(set.ranges_len() == 1 && set.is_universal())
 }
 
-/// Whether a set has nothing, once each of these values was taken out, which were members.
-fn empty<T: Integer>(set: &mut RangeSetBlaze<T>, values: &[T]) -> Result<bool, AllocError> {
+/// Whether members of a set go out of it one by one, and leave nothing.
+fn go<T: Integer>(set: &mut RangeSetBlaze<T>, values: &[T]) -> Result<bool, AllocError> {
     for value in values {
         if !set.remove(*value)? || set.range_at(*value).is_some() {
             return Ok(false);
@@ -100,7 +100,7 @@ fn empty<T: Integer>(set: &mut RangeSetBlaze<T>, values: &[T]) -> Result<bool, A
 /// Whether all values of a type, in some order, come into a set one by one, and go.
 fn come_and_go<T: Integer>(alloc: Global, values: &[T]) -> Result<bool, AllocError> {
     let mut set = RangeSetBlaze::new(alloc);
-    Ok(fill(&mut set, values)? && empty(&mut set, values)?)
+    Ok(come(&mut set, values)? && go(&mut set, values)?)
 }
 
 /// The slots of a day, in an order that jumps.
