@@ -1,18 +1,72 @@
 //! Sets as a Rust user writes them: operators, copies, `collect` and `Extend`.
 
+ghost use Rattle.std.specs.Prelude.{IfOk, OnOk};
+ghost use Rattle.rsb_integer.specs.Runs.{members};
+ghost use Rattle.rsb_integer.specs.Selection.{difference, intersection, symmetric_difference, union};
+ghost use Rattle.range_set_blaze.specs.Algebra.{ranks_of, AddsItems, AddsValues, IsSetOfItems};
+ghost use Rattle.range_set_blaze.specs.Set.{IsSetOf};
+
 use crate::tables::gives;
 use range_set_blaze::{Integer, RangeSetBlaze};
-use std::alloc::{AllocError, Global};
+use std::alloc::{AllocError, Allocator, Global};
 use std::ops::RangeInclusive;
 use std::test::*;
 
+/// What lies in either of two sets, by a copy of one.
+fn either<T: Integer, A: Allocator + Copy>(
+    left: &RangeSetBlaze<T, A>,
+    right: &RangeSetBlaze<T, A>,
+) -> Result<RangeSetBlaze<T, A>, AllocError>
+    ensures { IfOk result (λ set. IsSetOf set (union (members left.now) (members right.now))) }
+{
+    let copy = left.clone()?;
+    &copy | right
+}
+
+/// What both of two sets have.
+fn both<T: Integer, A: Allocator + Copy>(
+    left: &RangeSetBlaze<T, A>,
+    right: &RangeSetBlaze<T, A>,
+) -> Result<RangeSetBlaze<T, A>, AllocError>
+    ensures { IfOk result (λ set.
+        IsSetOf set (intersection (members left.now) (members right.now))) }
+{
+    left & right
+}
+
+/// What the first of two sets has and the second lacks.
+fn rest<T: Integer, A: Allocator + Copy>(
+    left: &RangeSetBlaze<T, A>,
+    right: &RangeSetBlaze<T, A>,
+) -> Result<RangeSetBlaze<T, A>, AllocError>
+    ensures { IfOk result (λ set.
+        IsSetOf set (difference (members left.now) (members right.now))) }
+{
+    left - right
+}
+
+/// What lies in one of two sets alone.
+fn alone<T: Integer, A: Allocator + Copy>(
+    left: &RangeSetBlaze<T, A>,
+    right: &RangeSetBlaze<T, A>,
+) -> Result<RangeSetBlaze<T, A>, AllocError>
+    ensures { IfOk result (λ set.
+        IsSetOf set (symmetric_difference (members left.now) (members right.now))) }
+{
+    left ^ right
+}
+
 /// The set of the values of a list.
-fn of_list<T: Integer>(alloc: Global, values: Vec<T>) -> Result<RangeSetBlaze<T>, AllocError> {
+fn of_list<T: Integer>(alloc: Global, values: Vec<T>) -> Result<RangeSetBlaze<T>, AllocError>
+    ensures { IfOk result (λ set. IsSetOf set (ranks_of T.rank values.items)) }
+{
     values.into_iter().collect(alloc)
 }
 
 /// The set of the values of a slice.
-fn of_slice<T: Integer>(alloc: Global, values: &[T]) -> Result<RangeSetBlaze<T>, AllocError> {
+fn of_slice<T: Integer>(alloc: Global, values: &[T]) -> Result<RangeSetBlaze<T>, AllocError>
+    ensures { IfOk result (λ set. IsSetOf set (ranks_of T.rank values.now)) }
+{
     values.iter().copied().collect(alloc)
 }
 
@@ -20,7 +74,9 @@ fn of_slice<T: Integer>(alloc: Global, values: &[T]) -> Result<RangeSetBlaze<T>,
 fn of_ranges<T: Integer>(
     alloc: Global,
     ranges: Vec<RangeInclusive<T>>,
-) -> Result<RangeSetBlaze<T>, AllocError> {
+) -> Result<RangeSetBlaze<T>, AllocError>
+    ensures { IfOk result (IsSetOfItems T.rank ranges.items) }
+{
     ranges.into_iter().collect(alloc)
 }
 
@@ -28,7 +84,9 @@ fn of_ranges<T: Integer>(
 fn add_ranges<T: Integer>(
     set: &mut RangeSetBlaze<T>,
     ranges: Vec<RangeInclusive<T>>,
-) -> Result<(), AllocError> {
+) -> Result<(), AllocError>
+    ensures { OnOk result (AddsItems T.rank set.old ranges.items set.new) }
+{
     Extend::extend(set, ranges)
 }
 
@@ -38,7 +96,9 @@ fn of_ends<T: Integer>(alloc: Global, ends: &[(T, T)]) -> Result<RangeSetBlaze<T
 }
 
 /// Adds the values of a slice.
-fn add_slice<T: Integer>(set: &mut RangeSetBlaze<T>, values: &[T]) -> Result<(), AllocError> {
+fn add_slice<T: Integer>(set: &mut RangeSetBlaze<T>, values: &[T]) -> Result<(), AllocError>
+    ensures { OnOk result (AddsValues T.rank set.old values.now set.new) }
+{
     Extend::extend(set, values.iter().copied())
 }
 
@@ -91,10 +151,10 @@ fn make_of<T: Integer + 'static>(
     right: &RangeSetBlaze<T>,
     row: &Row<T>,
 ) -> bool {
-    is_made(left | right, row.either)
-        && is_made(left & right, row.both)
-        && is_made(left - right, row.rest)
-        && is_made(left ^ right, row.alone)
+    is_made(either(left, right), row.either)
+        && is_made(both(left, right), row.both)
+        && is_made(rest(left, right), row.rest)
+        && is_made(alone(left, right), row.alone)
         && is_made(!left, row.lacking)
 }
 
