@@ -1,4 +1,3 @@
-pub mod reading
 pub mod replying
 pub mod streaming
 pub mod writing

@@ -3,3 +3,4 @@ pub mod KeptSets
 pub mod OneReply
 pub mod OneRun
 pub mod SomeReply
+pub mod SpelledValues

@@ -4,9 +4,9 @@ use Rattle.std.specs.Int.{w32}
 use Rattle.std.specs.Io.KnownBytes.{Appends, Keeps}
 use Rattle.std.specs.Option.{IsSomeAnd}
 use Rattle.rsb_integer.specs.Rank.{signed_rank}
-use Rattle.rsb_commands.specs.declared.command.Command.{Command}
+use Rattle.rsb_parser.specs.declared.command.Command.{Command}
+use Rattle.rsb_parser.specs.Spelling.{AreCommands}
 use Rattle.rsb_commands.specs.Interpreter.{AreReplies, Content, MayTakeMemory}
-use Rattle.rsb_commands.specs.Spelling.{AreCommands}
 use Rattle.rsb_commands.specs.Text.{text}
 use Rattle.rsb_commands.specs.Transfer.{CutsShort}
 
@@ -57,7 +57,3 @@ WrotePartOfReplies known old new =
 abbrev pub KeepsWithoutCommands : Option (List ℕ) → Option (List ℕ) → Option (List ℕ) → Type 0
 KeepsWithoutCommands known old new = IfSome known (λ input.
     ((commands : List (Command ℤ)) → ¬ AreCommands input commands) → Keeps old new)
-
--- the known input has a byte
-abbrev pub HasBytes : Option (List ℕ) → Type 0
-HasBytes known = IfSome known (λ input. 0 < length input)

@@ -1,11 +1,12 @@
 -- What the program leaves, by its outcome: the exit status, the line of a fault, and the replies.
 use Rattle.std.specs.Prelude.{◌≡◌, ℕ, List, ◌++◌, IfSome, MatchResult, Option, Result, Ok, Err, codes}
 use Rattle.std.specs.Io.KnownBytes.{IsAtEnd, Keeps}
-use Rattle.rsb_commands.specs.declared.fault.Fault.{Fault}
-use Rattle.rsb_commands.specs.declared.fault.Fault.TheVariants.{BadLine, NoMemory, Io}
-use Rattle.rsb_commands.specs.Answer.{Answers, HasBytes, KeepsWithoutCommands, WroteFirstReplies, WrotePartOfReplies}
-use Rattle.rsb_commands.specs.Fault.{fault_line, status_of}
-use Rattle.rsb_commands.specs.Spelling.{IsFirstBadLine}
+use Rattle.rsb_parser.specs.declared.fault.Fault.{Fault}
+use Rattle.rsb_parser.specs.declared.fault.Fault.TheVariants.{BadLine, NoMemory, Io}
+use Rattle.rsb_parser.specs.Fault.{fault_line, status_of}
+use Rattle.rsb_parser.specs.Input.{HasBytes}
+use Rattle.rsb_parser.specs.Spelling.{IsFirstBadLine}
+use Rattle.rsb_commands.specs.Answer.{Answers, KeepsWithoutCommands, WroteFirstReplies, WrotePartOfReplies}
 use Rattle.rsb_commands.specs.Transfer.{AppendsPrefixOf}
 
 -- what the input still has, and what was written to the output and to the errors, where it is known

@@ -1,10 +1,7 @@
 pub mod Answer
 pub mod Ending
-pub mod Fault
-pub mod Input
 pub mod Interpreter
 pub mod Page
-pub mod Spelling
 pub mod Text
 pub mod Transfer
 pub mod Weekends

@@ -1,8 +1,8 @@
 -- What laying text on a page does to what waits there, and to the bytes of its writer.
 use Rattle.std.specs.Prelude.{◌≡◌, ℕ, List, ◌++◌, MatchResult, Option, Result}
 use Rattle.std.specs.Io.KnownBytes.{Appends}
-use Rattle.rsb_commands.specs.declared.fault.Fault.{Fault}
-use Rattle.rsb_commands.specs.declared.fault.Fault.TheVariants.{Io}
+use Rattle.rsb_parser.specs.declared.fault.Fault.{Fault}
+use Rattle.rsb_parser.specs.declared.fault.Fault.TheVariants.{Io}
 use Rattle.rsb_commands.specs.declared.page.Page.{Page}
 use Rattle.rsb_commands.specs.Transfer.{AppendsShortOf}
 

@@ -2,8 +2,8 @@
 use Rattle.std.specs.Prelude.{◌≡◌, ℕ, ◌<◌, ◌⊎◌, List, [], length, MatchResult, Option, Result}
 use Rattle.std.specs.Io.KnownBytes.{Appends, Keeps}
 use Rattle.rsb_integer.specs.Prefix.{IsPrefix}
-use Rattle.rsb_commands.specs.declared.fault.Fault.{Fault}
-use Rattle.rsb_commands.specs.declared.fault.Fault.TheVariants.{Io}
+use Rattle.rsb_parser.specs.declared.fault.Fault.{Fault}
+use Rattle.rsb_parser.specs.declared.fault.Fault.TheVariants.{Io}
 
 -- known bytes grow by a front of the text, which is shorter than the whole
 pub record AppendsShortOf (old new : Option (List ℕ)) (text : List ℕ) : Type 0 where

@@ -1,10 +1,10 @@
 //! Laws of replies. The clause of each function is the law; the function does nothing.
 
 ghost use Rattle.std.specs.Prelude.{◌≡◌, ℕ, ℤ, All, List, take};
-ghost use Rattle.rsb_commands.specs.declared.command.Command.{Command};
+ghost use Rattle.rsb_parser.specs.declared.command.Command.{Command};
+ghost use Rattle.rsb_parser.specs.Spelling.{AreCommands};
 ghost use Rattle.rsb_commands.specs.Answer.{AreNumberReplies};
 ghost use Rattle.rsb_commands.specs.Interpreter.{AreReplies, Content, NamesValues};
-ghost use Rattle.rsb_commands.specs.Spelling.{AreCommands};
 
 use rsb_integer::Integer;
 

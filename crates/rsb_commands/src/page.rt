@@ -3,9 +3,9 @@
 ghost use Rattle.std.specs.Prelude.{◌≡◌, ◌+◌, ◌≤◌, [], length, OnOk};
 ghost use Rattle.rsb_commands.specs.Page.{Lays, Waits, waiting};
 
-use crate::fault::Fault;
 use crate::transfer::write_all;
 use arrayvec::ArrayVec;
+use rsb_parser::Fault;
 use std::io::Write;
 
 /// How many bytes a page holds.

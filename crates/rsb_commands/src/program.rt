@@ -3,20 +3,19 @@
 ghost use Rattle.std.specs.Prelude.{◌≡◌, ◌≢◌, ◌<◌, [], ℕ, ℤ, Err, IfSome, List, OnOk, length};
 ghost use Rattle.std.specs.Io.KnownBytes.{IsAtEnd, Keeps};
 ghost use Rattle.std.specs.Process.{exit_status};
-ghost use Rattle.rsb_commands.specs.Answer.{Answers, AreNumberReplies, HasBytes, KeepsWithoutCommands, Replies, StopsForMemory, WroteFirstReplies, WrotePartOfReplies};
+ghost use Rattle.rsb_parser.specs.Input.{HasBytes};
+ghost use Rattle.rsb_parser.specs.Spelling.{IsFirstBadLine};
+ghost use Rattle.rsb_commands.specs.Answer.{Answers, AreNumberReplies, KeepsWithoutCommands, Replies, StopsForMemory, WroteFirstReplies, WrotePartOfReplies};
 ghost use Rattle.rsb_commands.specs.Interpreter.{Content};
 ghost use Rattle.rsb_commands.specs.Ending.{Ends, TellsFault, channels, status_after};
 ghost use Rattle.rsb_commands.specs.Page.{sent, waiting};
-ghost use Rattle.rsb_commands.specs.Spelling.{IsFirstBadLine};
 ghost use Rattle.rsb_commands.specs.Text.{text};
 ghost use Rattle.rsb_commands.specs.Transfer.{AppendsShortOf};
 
-use crate::command::Command;
-use crate::fault::Fault;
-use crate::input::read_commands;
 use crate::interpreter::{empty_sets, run_command};
 use crate::page::Page;
 use crate::text::{write_fault, write_line};
+use rsb_parser::{Command, Fault, read_commands};
 use std::alloc::Allocator;
 use std::io::{Read, Write};
 use std::process::ExitCode;

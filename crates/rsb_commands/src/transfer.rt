@@ -2,7 +2,7 @@
 
 ghost use Rattle.rsb_commands.specs.Transfer.{Writes};
 
-use crate::fault::Fault;
+use rsb_parser::Fault;
 use std::io::{ErrorKind, Write};
 
 /// Writes all of the text, in as many calls as it takes, and tells the patience that is left. A

@@ -1,5 +1,5 @@
 use Rattle.std.proofs.Common.{◌<◌, length, subst}
-use Rattle.rsb_commands.proofs.reading.Consumed.{some_spelled}
+use Rattle.rsb_parser.proofs.reading.Consumed.{some_spelled}
 use Rattle.rsb_commands.proofs.writing.Replies.{cut_before_all}
 use Rattle.rsb_commands.proofs.program.run.Goals as goal
 

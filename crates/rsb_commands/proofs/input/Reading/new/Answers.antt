@@ -1,6 +1,0 @@
-use Rattle.rsb_commands.proofs.reading.Parts.{HasLines-nil}
-use Rattle.rsb_commands.proofs.input.Reading.new.Goals as goal
-
--- nothing was read
-pub returns : goal.returns
-returns g c = rw (c.new.ensures.items, c.new-2.ensures.items) HasLines-nil

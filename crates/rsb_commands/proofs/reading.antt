@@ -1,7 +1,0 @@
-pub mod Consumed
-pub mod Cuts
-pub mod Lines
-pub mod Numbers
-pub mod OneCommand
-pub mod Parts
-pub mod Values

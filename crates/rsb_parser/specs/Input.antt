@@ -1,0 +1,33 @@
+-- What was read of an input that comes in parts.
+use Rattle.std.specs.Prelude.{◌≡◌, ℕ, ℤ, ◌<◌, ◌++◌, IfSome, List, MatchOption, Option, length}
+use Rattle.std.specs.Str.Lines.{lines}
+use Rattle.rsb_parser.specs.declared.command.Command.{Command}
+use Rattle.rsb_parser.specs.declared.input.Reading.{Reading}
+use Rattle.rsb_parser.specs.Spelling.{AreCommands, IsFirstBadLine}
+
+-- whatever comes after the bytes, the lines are those of the bytes, and then of what comes
+unfoldable pub IsClosed : List ℕ → Type 0
+IsClosed bytes = (more : List ℕ) → lines (bytes ++ more) ≡ lines bytes ++ lines more
+
+-- the bytes are whole lines and then the rest; the lines are so many, and spell these commands
+pub record HasLines (bytes : List ℕ) (commands : List (Command ℤ)) (count : ℕ) (rest : List ℕ)
+    : Type 0 where
+  pub whole : List ℕ
+  pub parts : bytes ≡ whole ++ rest
+  pub closed : IsClosed whole
+  pub spelled : AreCommands whole commands
+  pub counted : count ≡ length (lines whole)
+
+-- whatever comes after the bytes, the first bad line has this number
+abbrev pub HasBadLine : List ℕ → ℕ → Type 0
+HasBadLine bytes number = (more : List ℕ) → IsFirstBadLine (bytes ++ more) number
+
+-- the bytes were read: their first bad line is known, or what all of their whole lines spell
+abbrev pub HasTaken : {A : Type 0} → List ℕ → Reading A → Type 0
+HasTaken bytes reading = MatchOption reading.bad_line
+    (HasLines bytes reading.commands.items reading.count reading.rest.items)
+    (HasBadLine bytes)
+
+-- the known input has a byte
+abbrev pub HasBytes : Option (List ℕ) → Type 0
+HasBytes known = IfSome known (λ input. 0 < length input)

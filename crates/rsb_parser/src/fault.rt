@@ -1,0 +1,63 @@
+//! Why the program ends with another status than 0.
+
+ghost use Rattle.std.specs.Prelude.{◌≡◌, Some};
+ghost use Rattle.rsb_parser.specs.declared.fault.Fault.TheVariants.{NoMemory};
+ghost use Rattle.rsb_parser.specs.Fault.{fault_line, status_of};
+
+use std::alloc::{AllocError, AllocFailed};
+use std::error::Error;
+use std::fmt;
+
+/// The first fault that was met.
+#[derive(Clone, Copy, Debug, PartialEq, Eq)]
+pub enum Fault {
+    /// The number of the first line that is no command, counted from 1.
+    BadLine(u64),
+    /// A growth was refused.
+    NoMemory,
+    /// A read or a write failed.
+    Io,
+}
+
+impl Fault {
+    /// The exit status.
+    pub fn status(&self) -> u8
+        ensures { result ≡ status_of self.now }
+    {
+        match self {
+            Fault::BadLine(_) => 2,
+            Fault::NoMemory => 3,
+            Fault::Io => 4,
+        }
+    }
+}
+
+impl fmt::Display for Fault {
+    ghost output = { λ fault. Some (fault_line fault) };
+
+    fn fmt<W: fmt::Write>(&self, f: &mut fmt::Formatter<W>) -> fmt::Result {
+        match self {
+            Fault::BadLine(number) => write!(f, "bad line {number}"),
+            Fault::NoMemory => write!(f, "no memory"),
+            Fault::Io => write!(f, "read or write failed"),
+        }
+    }
+}
+
+impl Error for Fault {}
+
+impl From<AllocError> for Fault {
+    ghost from_gives = { λ _ fault. fault ≡ NoMemory };
+
+    fn from(_error: AllocError) -> Fault {
+        Fault::NoMemory
+    }
+}
+
+impl<T: Drop> From<AllocFailed<T>> for Fault {
+    ghost from_gives = { λ _ fault. fault ≡ NoMemory };
+
+    fn from(_error: AllocFailed<T>) -> Fault {
+        Fault::NoMemory
+    }
+}
