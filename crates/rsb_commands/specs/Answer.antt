@@ -1,5 +1,5 @@
 -- What the program writes for the input that it reads.
-use Rattle.std.specs.Prelude.{◌≡◌, ℕ, ℤ, ◌<◌, ◌^◌, ◌⊎◌, IfSome, List, Option, length, slice_get, take}
+use Rattle.std.specs.Prelude.{◌≡◌, ℕ, ℤ, ◌^◌, ◌⊎◌, IfSome, List, Option, slice_get, take}
 use Rattle.std.specs.Int.{w32}
 use Rattle.std.specs.Io.KnownBytes.{Appends, Keeps}
 use Rattle.std.specs.Option.{IsSomeAnd}
