@@ -1,0 +1,5 @@
+//! Tests of the set, over the public names of the libraries.
+#![tactic(auto)]
+
+#[cfg(test)]
+mod set;

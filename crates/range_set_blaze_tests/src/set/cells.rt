@@ -1,0 +1,244 @@
+//! What changes and makings come to, reckoned beside the sets on flags.
+
+use crate::set::calls::{Answer, Change, Making, is_kept};
+use crate::set::rows::{counted, has};
+use range_set_blaze::RangeSetBlaze;
+use rsb_tables::Table;
+use std::alloc::{AllocError, Allocator, Global};
+
+/// Values that are in a set all or none: whether in one, and whether in another beside it.
+#[derive(Clone, Copy)]
+pub(crate) struct Cell {
+    pub(crate) start: i32,
+    pub(crate) end: i32,
+    pub(crate) is_member: bool,
+    pub(crate) is_other: bool,
+}
+
+/// One of the two sets that cells tell of.
+#[derive(Clone, Copy, PartialEq)]
+pub(crate) enum Side {
+    One,
+    Other,
+}
+
+/// So many values from one on, each a cell of its own, and what is below and above as a cell each.
+/// No value is a member of either set.
+pub(crate) fn cells(alloc: Global, first: i32, count: i32) -> Result<Vec<Cell>, AllocError> {
+    let mut cells = Vec::new(alloc);
+    let last = first.saturating_add(count).saturating_sub(1);
+    if let Some(below) = first.checked_sub(1) {
+        cells.push(empty_cell(i32::MIN, below))?;
+    }
+    for value in first..=last {
+        cells.push(empty_cell(value, value))?;
+    }
+    if let Some(above) = last.checked_add(1) {
+        cells.push(empty_cell(above, i32::MAX))?;
+    }
+    Ok(cells)
+}
+
+/// A cell that is in no set.
+fn empty_cell(start: i32, end: i32) -> Cell {
+    Cell {
+        start,
+        end,
+        is_member: false,
+        is_other: false,
+    }
+}
+
+/// The runs of the cells of a set.
+pub(crate) fn runs(
+    alloc: Global,
+    cells: &[Cell],
+    side: Side,
+) -> Result<Vec<(i32, i32)>, AllocError> {
+    let mut runs = Vec::new(alloc);
+    let mut run: Option<(i32, i32)> = None;
+    for cell in cells {
+        if side == Side::One && cell.is_member || side == Side::Other && cell.is_other {
+            let start = run.map_or(cell.start, |ends| ends.0);
+            run = Some((start, cell.end));
+        } else if let Some(ends) = run {
+            runs.push(ends)?;
+            run = None;
+        }
+    }
+    if let Some(ends) = run {
+        runs.push(ends)?;
+    }
+    Ok(runs)
+}
+
+/// Whether a cell is one of each fourth value from the one to the other.
+fn is_fourth(cell: &Cell, start: i32, end: i32) -> bool {
+    start <= cell.start && cell.end <= end && cell.start.abs_diff(start) % 4 == 0
+}
+
+/// Whether a change adds the values of a cell.
+fn is_added(change: Change, cell: &Cell) -> bool {
+    match change {
+        Change::ExtendValues(start, end) => is_fourth(cell, start, end),
+        Change::StdExtendValues(start, end) => is_fourth(cell, start, end),
+        _ => cell.is_other,
+    }
+}
+
+/// Whether a change is about the values of a cell in a set, of whose members the first and the last
+/// are these, and whose run at the cell begins at a value.
+fn is_meant(change: Change, cell: &Cell, first: i32, last: i32, begin: i32) -> bool {
+    match change {
+        Change::Insert(value) => cell.start == value,
+        Change::Replace(value) => cell.start == value,
+        Change::RangesInsert(start, end) => start <= cell.start && cell.end <= end,
+        Change::Remove(value) => cell.start == value,
+        Change::Take(value) => cell.start == value,
+        Change::PopFirst => cell.start == first,
+        Change::PopLast => cell.end == last,
+        Change::SplitOff(key) => key <= cell.start,
+        Change::Retain(divisor, rest) => !is_kept(cell.start, divisor, rest),
+        Change::RangesRetain(divisor, rest) => !is_kept(begin, divisor, rest),
+        Change::Clear => true,
+        Change::Extend
+        | Change::ExtendValues(_, _)
+        | Change::Append
+        | Change::BitorAssign
+        | Change::BitorAssignOwned
+        | Change::StdExtend
+        | Change::StdExtendValues(_, _) => is_added(change, cell),
+    }
+}
+
+/// Whether a change puts in what it is about, and does not take it out.
+fn puts(change: Change) -> bool {
+    let is_put = matches!(
+        change,
+        Change::Insert(_) | Change::Replace(_) | Change::RangesInsert(_, _)
+    );
+    is_put || change.adds()
+}
+
+/// Whether a change leaves the values of a cell in a set, of whose members the first and the last
+/// are these, and whose run at the cell begins at a value.
+fn is_member_after(change: Change, cell: Cell, first: i32, last: i32, begin: i32) -> bool {
+    let is_meant = is_meant(change, &cell, first, last, begin);
+    if puts(change) {
+        cell.is_member || is_meant
+    } else {
+        cell.is_member && !is_meant
+    }
+}
+
+/// Whether a change leaves the values of a cell in the other set.
+fn is_other_after(change: Change, cell: Cell) -> bool {
+    match change {
+        Change::SplitOff(key) => cell.is_member && key <= cell.start,
+        Change::Append | Change::BitorAssignOwned => false,
+        _ => cell.is_other,
+    }
+}
+
+/// What a change answers on a set of these runs that leaves those.
+fn answer(change: Change, before: Table<'_>, after: Table<'_>) -> Answer {
+    let members = counted(before);
+    let is_same = counted(after) == members;
+    match change {
+        Change::Insert(_) | Change::RangesInsert(_, _) | Change::Remove(_) => Answer::Truth(
+            !is_same,
+        ),
+        Change::Replace(value) => Answer::Value(is_same.then_some(value)),
+        Change::Take(value) => Answer::Value((!is_same).then_some(value)),
+        Change::PopFirst => Answer::Value(before.first().map(|ends| ends.0)),
+        Change::PopLast => Answer::Value(before.last().map(|ends| ends.1)),
+        Change::Retain(_, _) => Answer::Asked(members),
+        Change::RangesRetain(_, _) => Answer::Asked(before.len() as u64),
+        _ => Answer::Nothing,
+    }
+}
+
+/// Changes the cells of a set by one of the calls, and tells its answer.
+pub(crate) fn reckon(
+    alloc: Global,
+    change: Change,
+    cells: &mut Vec<Cell>,
+) -> Result<Answer, AllocError> {
+    let before = runs(alloc, cells, Side::One)?;
+    let first = before.first().map_or(0, |ends| ends.0);
+    let last = before.last().map_or(0, |ends| ends.1);
+    let mut begin = None;
+    for cell in cells.iter_mut() {
+        begin = match begin {
+            _ if !cell.is_member => None,
+            None => Some(cell.start),
+            found => found,
+        };
+        let is_other = is_other_after(change, *cell);
+        cell.is_member = is_member_after(change, *cell, first, last, begin.unwrap_or(0));
+        cell.is_other = is_other;
+    }
+    let after = runs(alloc, cells, Side::One)?;
+    Ok(answer(change, &before, &after))
+}
+
+/// Whether a making has the values of a cell in the set that it makes.
+fn selects(making: Making, cell: &Cell) -> bool {
+    let (one, other) = (cell.is_member, cell.is_other);
+    match making {
+        Making::Bitor | Making::FromIter | Making::StdBitor | Making::Collect => one || other,
+        Making::Bitand | Making::StdBitand => one && other,
+        Making::Sub | Making::StdSub => one && !other,
+        Making::Bitxor | Making::StdBitxor => one != other,
+        Making::Not | Making::StdNot => !one,
+        Making::FromIterValues(start, end) => is_fourth(cell, start, end),
+        Making::CollectValues(start, end) => is_fourth(cell, start, end),
+        Making::FromArray => matches!(cell.start, 1 | 4 | 7 | 9),
+        Making::From(start, end) => start <= cell.start && cell.end <= end,
+        Making::Universe => true,
+        Making::Clone | Making::FromSortedDisjoint | Making::IntoRangeSetBlaze | Making::StdClone =>
+            one,
+    }
+}
+
+/// The runs of the set that a making makes of those that cells tell of.
+pub(crate) fn runs_made(
+    alloc: Global,
+    making: Making,
+    cells: &[Cell],
+) -> Result<Vec<(i32, i32)>, AllocError> {
+    let mut made = Vec::new(alloc);
+    for cell in cells {
+        let mut cell = *cell;
+        cell.is_member = selects(making, &cell);
+        made.push(cell)?;
+    }
+    runs(alloc, &made, Side::One)
+}
+
+/// Whether two sets are those that cells tell of.
+pub(crate) fn agree<A: Allocator>(
+    alloc: Global,
+    set: &RangeSetBlaze<i32, A>,
+    other: &RangeSetBlaze<i32, A>,
+    cells: &[Cell],
+) -> Result<bool, AllocError> {
+    let one = runs(alloc, cells, Side::One)?;
+    let others = runs(alloc, cells, Side::Other)?;
+    Ok(has(set, &one) && has(other, &others))
+}
+
+/// Adds to the cells of a set those that a change adds and the set has, up to the first that it
+/// lacks.
+pub(crate) fn mark_front<A: Allocator>(
+    change: Change,
+    set: &RangeSetBlaze<i32, A>,
+    cells: &mut Vec<Cell>,
+) {
+    let mut is_front = true;
+    for cell in cells.iter_mut() {
+        let is_added = is_added(change, cell);
+        is_front = is_front && (!is_added || set.contains(cell.start));
+        cell.is_member = cell.is_member || is_added && is_front;
+    }
+}

@@ -1,0 +1,109 @@
+//! Iterators that are dropped after one item from each end that they have.
+
+use crate::set::refusals::built::{Building, built_gives};
+use crate::set::refusals::changes::HeapSet;
+use crate::set::rows::{has, set_in};
+use linked_list_allocator::LocalHeap;
+use range_set_blaze::{MultiwaySweep, RangeSetBlaze, SweepEvent};
+use rsb_tables::{Table, set_of};
+use std::alloc::{AllocError, Global};
+use std::test::*;
+
+/// Three runs.
+const THREE: Table<'static> = &[(1, 2), (5, 5), (7, 9)];
+
+/// Two runs, each of which shares some values with those.
+const TWO: Table<'static> = &[(2, 3), (9, 11)];
+
+/// Whether the elements of a set come from both ends, before they are dropped.
+fn lent_elements_begin(set: &HeapSet<'_>) -> bool {
+    let mut elements = set.iter();
+    elements.next() == Some(1) && elements.next_back() == Some(9)
+}
+
+/// Whether the runs of a set come from both ends, before they are dropped.
+fn lent_runs_begin(set: &HeapSet<'_>) -> bool {
+    let mut runs = set.ranges();
+    runs.next() == Some(1..=2) && runs.next_back() == Some(7..=9)
+}
+
+/// Whether the elements between two bounds come from both ends, before they are dropped.
+fn begins_between(set: &HeapSet<'_>) -> Result<bool, AllocError> {
+    let mut elements = set.range(2..=8)?;
+    Ok(elements.next() == Some(2) && elements.next_back() == Some(8))
+}
+
+/// Whether a sweep over the runs of a set tells the first of them, before it is dropped.
+fn sweep_begins(heap: &LocalHeap, set: &HeapSet<'_>) -> Result<bool, AllocError> {
+    let mut sweep = MultiwaySweep::new(heap, [set.ranges(), set.ranges()])?;
+    let (range, input) = (1..=2, 0);
+    Ok(sweep.next() == Some(SweepEvent::Start { range, input }))
+}
+
+/// Whether the elements of a set that is given up come from both ends, before they are dropped.
+fn elements_begin(set: HeapSet<'_>) -> bool {
+    let mut elements = set.into_iter();
+    elements.next() == Some(1) && elements.next_back() == Some(9)
+}
+
+/// Whether the runs of a set that is given up come from both ends, before they are dropped.
+fn runs_begin(set: HeapSet<'_>) -> bool {
+    let mut runs = set.into_ranges();
+    runs.next() == Some(1..=2) && runs.next_back() == Some(7..=9)
+}
+
+/// Whether all of these begin as they are to.
+fn all_begin(heap: &LocalHeap, set: &HeapSet<'_>) -> Result<bool, AllocError> {
+    Ok(
+        lent_elements_begin(set)
+            && lent_runs_begin(set)
+            && begins_between(set)?
+            && sweep_begins(heap, set)?
+            && elements_begin(set.clone()?)
+            && runs_begin(set.clone()?),
+    )
+}
+
+/// Whether a set in a heap is as it was after all of these, and none of them keeps any room.
+fn are_dropped(heap: &LocalHeap) -> Result<bool, AllocError> {
+    let set = set_in(heap, THREE)?;
+    let free = heap.free();
+    Ok(all_begin(heap, &set)? && has(&set, THREE) && heap.free() == free)
+}
+
+/// Builds all that is built of two sets, and drops it at its first item, where no more are wanted.
+fn begin_others(
+    alloc: Global,
+    heap: &LocalHeap,
+    one: &RangeSetBlaze<i32>,
+    other: &RangeSetBlaze<i32>,
+) -> Result<(), AllocError> {
+    let mut next = Some(Building::FIRST);
+    for _ in 0..u8::MAX {
+        let Some(building) = next else {
+            break;
+        };
+        built_gives(alloc, heap, building, one, other, &[])?;
+        next = building.after();
+    }
+    Ok(())
+}
+
+/// Whether sets that are lent to all that is built of two are as they were.
+fn others_leave(alloc: Global, heap: &LocalHeap) -> Result<bool, AllocError> {
+    let one = set_of(alloc, THREE)?;
+    let other = set_of(alloc, TWO)?;
+    begin_others(alloc, heap, &one, &other)?;
+    Ok(has(&one, THREE) && has(&other, TWO))
+}
+
+/// Whether the sets are as they were, and a heap has all room again.
+fn all_is_left(alloc: Global) -> Result<bool, AllocError> {
+    let heap = LocalHeap::new(alloc, 8192)?;
+    Ok(are_dropped(&heap)? && others_leave(alloc, &heap)? && heap.used() == 0)
+}
+
+#[test]
+fn iterators_dropped_after_one_item_leave_the_set_and_all_room(rt: HostRuntime) {
+    assert!(rt; all_is_left(rt.alloc()) == Ok(true));
+}

@@ -1,0 +1,83 @@
+//! What rows worked by hand share: a set against a table of its runs.
+
+use crate::set::calls::{Answer, Change, Making, carry_out, make};
+use range_set_blaze::RangeSetBlaze;
+use rsb_tables::{Table, gives, set_of};
+use std::alloc::{AllocError, Allocator, Global};
+
+/// How many values the ranges of a table have.
+pub(crate) fn counted(table: Table<'_>) -> u64 {
+    let mut members = 0u64;
+    for (start, end) in table {
+        members = members
+            .saturating_add(u64::from(end.abs_diff(*start)))
+            .saturating_add(1);
+    }
+    members
+}
+
+/// Whether a set has the runs with these ends, and counts them and their members.
+pub(crate) fn has<A: Allocator>(set: &RangeSetBlaze<i32, A>, wanted: Table<'_>) -> bool {
+    set.ranges_len() == wanted.len() && set.len() == counted(wanted) && gives(set.ranges(), wanted)
+}
+
+/// The set of the ranges of a table, in any allocator.
+pub(crate) fn set_in<A: Allocator + Copy>(
+    alloc: A,
+    ranges: Table<'_>,
+) -> Result<RangeSetBlaze<i32, A>, AllocError> {
+    let mut set = RangeSetBlaze::new(alloc);
+    for (start, end) in ranges {
+        set.ranges_insert(*start..=*end)?;
+    }
+    Ok(set)
+}
+
+/// A set and another beside it: what a change is carried out on, and what it leaves.
+pub(crate) type Pair<'a> = (Table<'a>, Table<'a>);
+
+/// Whether a change of two sets gives this answer, and leaves those of two tables.
+fn comes_to(
+    alloc: Global,
+    call: Change,
+    set: &mut RangeSetBlaze<i32>,
+    other: &mut RangeSetBlaze<i32>,
+    wanted: (Answer, Pair<'_>),
+) -> Result<bool, AllocError> {
+    let (answer, after) = wanted;
+    let told = carry_out(alloc, call, set, other)?;
+    Ok(told.is(answer) && has(set, after.0) && has(other, after.1))
+}
+
+/// Whether a change of the first of two sets gives this answer, and leaves these two.
+pub(crate) fn changes(
+    alloc: Global,
+    call: Change,
+    before: Pair<'_>,
+    answer: Answer,
+    after: Pair<'_>,
+) -> Result<bool, AllocError> {
+    let mut set = set_of(alloc, before.0)?;
+    let mut other = set_of(alloc, before.1)?;
+    comes_to(alloc, call, &mut set, &mut other, (answer, after))
+}
+
+/// Whether a making gives the set of a table, of those of two others.
+pub(crate) fn makes_of_two(
+    alloc: Global,
+    making: Making,
+    left: Table<'_>,
+    right: Table<'_>,
+    wanted: Table<'_>,
+) -> Result<bool, AllocError> {
+    let left = set_of(alloc, left)?;
+    let right = set_of(alloc, right)?;
+    let set = make(alloc, making, &left, &right)?;
+    Ok(has(&set, wanted))
+}
+
+/// Whether a set of bytes is the run of these ends.
+pub(crate) fn is_byte_run(set: &RangeSetBlaze<u8>, start: u8, end: u8) -> bool {
+    let length = u16::from(end.abs_diff(start)) + 1;
+    set.range_at(start) == Some(start..=end) && set.len() == length && set.ranges_len() == 1
+}

@@ -1,0 +1,15 @@
+//! Sets and threads.
+
+use range_set_blaze::RangeSetBlaze;
+use rsb_tables::set_of;
+use std::test::*;
+
+// Asks that a value may be sent to other threads, and shared with them.
+fn may_cross<X: Send + Sync>(_value: &X) {}
+
+#[test]
+fn sets_may_cross_threads(rt: HostRuntime) -> Result<(), Fail> {
+    may_cross(&set_of(rt.alloc(), &[(1, 2)])?);
+    may_cross(&RangeSetBlaze::<u128>::new(rt.alloc()));
+    Ok(())
+}

@@ -1,0 +1,5 @@
+//! Tests of operations on many streams and on many sets, over the public names of the libraries.
+#![tactic(auto)]
+
+#[cfg(test)]
+mod many;

@@ -1,0 +1,5 @@
+//! Lengths.
+
+mod safe_length;
+mod uint;
+mod uint_plus_one;

@@ -1,0 +1,71 @@
+//! `UIntPlusOne<u8>` ordered as the numbers from 0 to 256 are, and the ends, copies and texts of two
+//! lengths.
+
+ghost use Rattle.std.specs.Prelude.{◌≡◌, ◌≤◌};
+ghost use Rattle.rsb_length.specs.UIntPlusOne.{number_of};
+
+use num_traits::{One, Zero};
+use rsb_length::UIntPlusOne;
+use rsb_tables::fed_by;
+use std::test::Fail;
+
+/// The length of this number.
+fn from_number(number: u32) -> UIntPlusOne<u8>
+    requires { number ≤ 256 }
+    ensures { number_of (λ a. a) 255 result ≡ number }
+{
+    match u8::try_from(number) {
+        Ok(value) => UIntPlusOne::UInt(value),
+        Err(_) => UIntPlusOne::MaxPlusOne,
+    }
+}
+
+#[test]
+fn lengths_are_told_apart_and_ordered_as_the_numbers_are(rt: HostRuntime) -> Result<(), Fail> {
+    for a in 0..=256u32 {
+        for b in 0..=256u32 {
+            let (x, y) = (from_number(a), from_number(b).clone()?);
+            assert!(rt; (x == y) == (a == b), "{a} == {b}");
+            assert!(rt; x.partial_cmp(&y) == a.partial_cmp(&b), "{a} and {b}");
+            assert!(rt;
+                (fed_by(&x) == fed_by(&y)) == (a == b),
+                "bytes of {a} and {b}"
+            );
+        }
+    }
+    Ok(())
+}
+
+#[test]
+fn one_past_the_greatest_is_reached_and_left(rt: HostRuntime) -> Result<(), Fail> {
+    let half = UIntPlusOne::UInt(128u8);
+    let sixteen = UIntPlusOne::UInt(16u8);
+    let mut length = half + half;
+    assert!(rt; length == UIntPlusOne::MaxPlusOne && sixteen * sixteen == length);
+    let text = format!(in rt.alloc(); "{length} {}", UIntPlusOne::<u8>::zero())?;
+    length -= UIntPlusOne::UInt(1);
+    assert!(rt; text.as_str() == "256 0" && length == UIntPlusOne::UInt(255));
+    Ok(())
+}
+
+#[test]
+fn one_past_the_widest_is_reached_and_left(rt: HostRuntime) -> Result<(), Fail> {
+    let half = UIntPlusOne::UInt(1u128 << 127);
+    let mut length = half + half;
+    let past = format!(in rt.alloc(); "{length}")?;
+    assert!(rt; length.clone()? == UIntPlusOne::MaxPlusOne && past.as_str() == "(u128::MAX + 1)");
+    assert!(rt; length != UIntPlusOne::UInt(u128::MAX) && !length.is_zero());
+    length -= UIntPlusOne::UInt(1);
+    assert!(rt; length == UIntPlusOne::UInt(u128::MAX) && length != UIntPlusOne::MaxPlusOne);
+    let text = format!(in rt.alloc(); "{length}")?;
+    assert!(rt; text.as_str() == "340282366920938463463374607431768211455");
+    Ok(())
+}
+
+#[test]
+fn zero_and_one_of_the_widest_are_told_apart(rt: HostRuntime) {
+    let mut two = UIntPlusOne::<u128>::one();
+    assert!(rt; UIntPlusOne::<u128>::zero().is_zero() && !two.is_zero());
+    two += UIntPlusOne::UInt(1);
+    assert!(rt; two == UIntPlusOne::UInt(2));
+}

@@ -1,0 +1,30 @@
+//! Streams.
+
+mod anything_goes;
+mod arrays;
+mod clones;
+mod deep_five_operations;
+mod deep_nests;
+pub(crate) mod fill_gaps;
+mod known_streams;
+mod lists;
+mod lookahead;
+mod merge;
+mod nested;
+mod operation_rows;
+pub(crate) mod operations;
+mod operators;
+mod questions;
+mod range_once;
+mod ranges_of_sets;
+mod refused_lists;
+mod run_count;
+mod set_algebra;
+mod six_operations;
+mod std_markers;
+mod symmetric_algebra;
+mod symmetric_difference;
+pub(crate) mod texts;
+mod touching;
+mod unsorted;
+mod weekends;

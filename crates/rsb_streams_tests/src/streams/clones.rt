@@ -1,0 +1,73 @@
+//! Clones of streams from which something was drawn: each equals the stream, and goes on as it does.
+
+ghost use Rattle.std.specs.Prelude.{◌≡◌};
+
+use crate::streams::nested::{known, sorted};
+use rsb_streams::{Draw, DrawDisjoint};
+use rsb_tables::{Listed, both_give, stream_of, three_tens};
+use std::alloc::AllocError;
+use std::test::Fail;
+
+/// The values from 5 to 25, five apart.
+const FIVE: [(u8, u8); 5] = [(5, 5), (10, 10), (15, 15), (20, 20), (25, 25)];
+
+/// The last two of three tens.
+const TWO: [(u8, u8); 2] = [(10, 10), (20, 20)];
+
+/// The values 5, 15 and 25.
+fn fives() -> Listed<'static>
+    ensures { ⟦<Listed<'static> as Draw<u8>>⟧.can_draw result }
+{
+    stream_of(&[(5, 5), (15, 15), (25, 25)])
+}
+
+/// Whether a stream gives a range with these ends, and both it and a copy of it then give others.
+fn goes_on<I: Draw<u8> + Clone>(
+    stream: I,
+    first: (u8, u8),
+    others: &[(u8, u8)],
+) -> Result<bool, AllocError>
+    requires ready { I.can_draw stream }
+    requires copies { (stream copy : I) → I.is_clone stream copy → copy ≡ stream }
+{
+    let mut stream = stream;
+    let range = stream.draw();
+    Ok(range == Some(first.0..=first.1) && both_give(stream, others)?)
+}
+
+// A union has a merge and what joins it, and an intersection has complements.
+#[test]
+fn clones_of_unions_and_of_intersections_go_on(rt: HostRuntime) -> Result<(), Fail> {
+    assert!(rt; goes_on(three_tens().union(fives()), (0, 0), &FIVE)?);
+    assert!(rt; goes_on(three_tens().intersection(three_tens()), (0, 0), &TWO)?);
+    Ok(())
+}
+
+#[test]
+fn a_clone_of_a_difference_goes_on(rt: HostRuntime) -> Result<(), Fail> {
+    assert!(rt; goes_on(three_tens().difference(fives()), (0, 0), &TWO)?);
+    Ok(())
+}
+
+#[test]
+fn clones_of_what_is_known_of_a_stream_go_on(rt: HostRuntime) -> Result<(), Fail> {
+    assert!(rt; goes_on(known(three_tens()), (0, 0), &TWO)?);
+    assert!(rt; goes_on(sorted(three_tens()), (0, 0), &TWO)?);
+    Ok(())
+}
+
+#[test]
+fn a_clone_of_a_symmetric_difference_keeps_what_is_pending(rt: HostRuntime) -> Result<(), Fail> {
+    assert!(rt; goes_on(three_tens().symmetric_difference(fives()), (0, 0), &FIVE)?);
+    Ok(())
+}
+
+#[test]
+fn a_clone_of_filled_gaps_keeps_the_range_that_is_held(rt: HostRuntime) -> Result<(), Fail> {
+    let mut filled = fives().fill_gaps();
+    assert!(rt; filled.next() == Some((0..=4, false)));
+    let mut copy = filled.clone()?;
+    assert!(rt; filled.next() == Some((5..=5, true)));
+    assert!(rt; copy.next() == Some((5..=5, true)));
+    Ok(())
+}

@@ -1,0 +1,75 @@
+//! Results of results, from public contracts alone.
+
+ghost use Rattle.rsb_integer.specs.Selection.{complement, union};
+ghost use Rattle.rsb_streams.specs.Stream.{◌⊆◌, joined, runs_by, runs_by_two};
+
+use rsb_integer::Integer;
+use rsb_streams::{
+    AssumeSortedStarts, CheckSortedDisjoint, Draw, DrawDisjoint, NotIter, RangeOnce,
+    SortedDisjoint, SortedStarts, Union, UnionIter,
+};
+use rsb_tables::gives;
+
+/// The complement of the complement has the members of the stream.
+pub(crate) fn complement_twice<T: Integer, I: SortedDisjoint<T>>(
+    stream: I,
+) -> NotIter<T, NotIter<T, I>>
+    requires { I.can_draw stream }
+    ensures ready { ⟦<NotIter<T, NotIter<T, I>> as Draw<T>>⟧.can_draw result }
+    ensures gives { ⟦<NotIter<T, NotIter<T, I>> as Draw<T>>⟧.may_give result
+        ⊆ joined T.value_count (I.may_give stream) }
+{
+    !stream.complement()
+}
+
+/// What lies in the first stream, or outside the second.
+pub(crate) fn union_with_complement<T: Integer, L: SortedDisjoint<T>, R: SortedDisjoint<T>>(
+    left: L,
+    right: R,
+) -> Union<T, L, NotIter<T, R>>
+    requires left { L.can_draw left }
+    requires right { R.can_draw right }
+    ensures ready { ⟦<Union<T, L, NotIter<T, R>> as Draw<T>>⟧.can_draw result }
+    ensures gives { ⟦<Union<T, L, NotIter<T, R>> as Draw<T>>⟧.may_give result
+        ⊆ runs_by_two T.value_count union (L.may_give left)
+        (runs_by T.value_count complement (R.may_give right)) }
+{
+    left.union(right.complement())
+}
+
+/// The ranges of a stream once more, since their starts are known not to fall, and joined.
+pub(crate) fn joined_again<T: Integer, I: SortedStarts<T>>(
+    stream: I,
+) -> UnionIter<T, AssumeSortedStarts<T, I>>
+    requires { I.can_draw stream }
+    ensures { ⟦<UnionIter<T, AssumeSortedStarts<T, I>> as Draw<T>>⟧.can_draw result }
+{
+    UnionIter::new(sorted(stream))
+}
+
+/// The ranges of a stream once more, since their starts are known not to fall.
+pub(crate) fn sorted<T: Integer, I: SortedStarts<T>>(stream: I) -> AssumeSortedStarts<T, I>
+    requires { I.can_draw stream }
+    ensures { ⟦<AssumeSortedStarts<T, I> as Draw<T>>⟧.can_draw result }
+{
+    AssumeSortedStarts::new(stream)
+}
+
+/// The ranges of a stream once more, since they are known to be canonical.
+pub(crate) fn known<T: Integer, I: SortedDisjoint<T>>(stream: I) -> CheckSortedDisjoint<T, I>
+    requires { I.can_draw stream }
+    ensures { ⟦<CheckSortedDisjoint<T, I> as Draw<T>>⟧.can_draw result }
+{
+    CheckSortedDisjoint::new(stream)
+}
+
+#[test]
+fn complement_twice_is_the_stream(rt: HostRuntime) {
+    assert!(rt; gives(complement_twice(RangeOnce::new(3u8..=5)), &[(3, 5)]));
+}
+
+#[test]
+fn union_with_a_complement_reaches_the_ends(rt: HostRuntime) {
+    let either = union_with_complement(RangeOnce::new(3u8..=5), RangeOnce::new(5..=9));
+    assert!(rt; gives(either, &[(0, 5), (10, 255)]));
+}

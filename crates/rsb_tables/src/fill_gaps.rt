@@ -1,0 +1,20 @@
+//! The runs and the gaps of a stream against a table.
+
+use rsb_integer::Integer;
+use rsb_streams::DrawDisjoint;
+
+/// Whether the runs and gaps of a stream have these ends, told as runs or not, and then end.
+pub fn fills<T: Integer, I: DrawDisjoint<T>>(stream: I, wanted: &[(T, T, bool)]) -> bool
+    requires { I.can_draw stream }
+{
+    let mut pairs = stream.fill_gaps();
+    for (start, end, is_run) in wanted {
+        let Some((range, told)) = pairs.next() else {
+            return false;
+        };
+        if range != (*start..=*end) || told != *is_run {
+            return false;
+        }
+    }
+    pairs.next().is_none()
+}

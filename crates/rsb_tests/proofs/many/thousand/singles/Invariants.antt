@@ -1,9 +1,0 @@
-use Rattle.std.proofs.Common.{All}
-use Rattle.rsb_integer.specs.Rank.{intervals_of}
-use Rattle.rsb_integer.specs.Runs.{IsCanonicalIn}
-use Rattle.rsb_tests.proofs.many.thousand.singles.Given as goal
-
--- the streams that were made may be drawn from
-abbrev pub invariant-loop-value : goal.invariant-loop-value
-invariant-loop-value g l = All (λ ranges.
-    IsCanonicalIn g.T.Integer.value_count (intervals_of g.T.Integer.rank ranges)) l.streams.items
