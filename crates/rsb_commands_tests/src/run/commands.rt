@@ -4,7 +4,7 @@ use crate::run::sessions::{ALL_COMMANDS, ALL_TOLD, MOST, MOST_TOLD, SESSION, TOL
 use rsb_commands::laws::{
     first_commands_first_replies, replies_are_unique, replies_exist, spelled_commands_have_replies,
 };
-use rsb_commands::{Command, Fault, Reply, SetNo, parse_commands, run_commands};
+use rsb_commands::{Command, Fault, Reply, SetNo, parse_commands, read_commands, run_commands};
 use std::alloc::Global;
 use std::process::Abort;
 use std::test::*;
@@ -78,9 +78,10 @@ fn say(replies: &[Reply<i32>], told: &[Told]) -> bool {
     is_right
 }
 
-// Whether the replies to the commands that some lines spell say this.
+// Whether the replies to the commands that are read of some lines say this.
 fn are_answered(alloc: Global, lines: &[u8], told: &[Told]) -> Result<bool, Fault> {
-    let commands = parse_commands(alloc, lines)?;
+    let mut input = lines;
+    let commands = read_commands(alloc, &mut input)?;
     match run_commands(alloc, &commands) {
         Ok(replies) => Ok(say(&replies, told)),
         Err(_) => Err(Fault::NoMemory),
