@@ -1,15 +1,8 @@
 //! Streams of unlike types, by the macros.
 
-ghost use Rattle.std.specs.Prelude.{IfOk};
-
-use rsb_integer::Integer;
-use rsb_many::{
-    DynSortedDisjoint, MultiwaySymmetricDifference, MultiwayUnion, intersection_dyn,
-    symmetric_difference_dyn, union_dyn,
-};
-use rsb_streams::{Draw, DrawDisjoint, RangeOnce};
+use rsb_many::{DynSortedDisjoint, MultiwayUnion, intersection_dyn, union_dyn};
+use rsb_streams::{DrawDisjoint, RangeOnce};
 use rsb_tables::{gives, odd_of_three, stream_of};
-use std::alloc::{AllocError, Allocator};
 use std::test::Fail;
 
 #[test]

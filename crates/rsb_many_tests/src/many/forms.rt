@@ -1,12 +1,7 @@
 //! What lies in some, in all and in an odd number of streams, in rows worked by hand.
 
-ghost use Rattle.std.specs.Prelude.{All, IfOk};
-
-use rsb_integer::Integer;
-use rsb_many::MultiwaySortedDisjoint;
-use rsb_streams::{Draw, DrawDisjoint};
-use rsb_tables::{Form, Listed, Ranges, form_gives, gives, stream_of, streams_of};
-use std::alloc::{AllocError, Allocator, Global};
+use rsb_tables::{Form, Ranges, form_gives, streams_of};
+use std::alloc::{AllocError, Global};
 use std::test::Fail;
 
 /// Whether a form of the streams of tables gives the ranges with these ends.

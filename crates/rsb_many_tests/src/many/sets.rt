@@ -4,7 +4,7 @@ use range_set_blaze::{
     MultiwayRangeSetBlaze, MultiwayRangeSetBlazeRef, MultiwaySortedDisjoint, RangeSetBlaze,
 };
 use rsb_tables::{Form, Table, gives, of_lent, of_sets, set_of};
-use std::alloc::{AllocError, Allocator, Global};
+use std::alloc::{AllocError, Global};
 use std::test::Fail;
 
 /// A set in ample memory.

@@ -1,6 +1,5 @@
 //! Runs and gaps in one.
 
-use rsb_integer::Integer;
 use rsb_streams::{DrawDisjoint, RangeOnce};
 use rsb_tables::{fills, stream_of};
 

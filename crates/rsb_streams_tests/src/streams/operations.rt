@@ -1,7 +1,6 @@
 //! The five operations, by their methods.
 
 use crate::streams::operation_rows::{ENDS, GAPS, RANGES, Row};
-use rsb_integer::Integer;
 use rsb_streams::{Difference, DrawDisjoint, Intersection, RangeOnce, Union};
 use rsb_tables::{OPERATIONS, Operation, gives, operation_gives, stream_of};
 

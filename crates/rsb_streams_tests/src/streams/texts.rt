@@ -3,8 +3,6 @@
 use crate::streams::nested::{joined_again, known};
 use rsb_streams::{DrawDisjoint, Merge};
 use rsb_tables::{is_shown, three_tens};
-use std::alloc::Global;
-use std::fmt::Debug;
 
 #[test]
 fn results_of_operations_have_a_text(rt: HostRuntime) {
