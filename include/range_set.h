@@ -26,6 +26,9 @@
 #include <stddef.h>
 #include <stdint.h>
 
+/* The version of this header and of the library that it belongs to. */
+#define RANGE_SET_VERSION "0.1.0"
+
 #ifdef __cplusplus
 extern "C" {
 #endif
