@@ -1,3 +1,4 @@
+-- Written by tools/c/narrow from proofs/U64Box.antt.
 -- A handle and its parts own what a box at the same types owns.
 use mir.Syntax.{impl, tnil, dnil}
 use mathlib.Core.List.{[]}

@@ -1,3 +1,4 @@
+-- Written by tools/c/narrow from specs/U64Handle.antt.
 -- What a handle to a set of `u32` owns.
 use base.Fml.{Fml, feq}
 use base.Stored.{Coded}

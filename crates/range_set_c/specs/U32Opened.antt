@@ -1,3 +1,4 @@
+-- Written by tools/c/narrow from specs/U64Opened.antt.
 -- What a handle to a set of `u32` is once the borrow of its set is over.
 use mathlib.Core.Option.{none}
 use Rattle.std.specs.Borrow.{Fml, LendsIf, MutBor, follows_so}

@@ -1,3 +1,4 @@
+// Written by tools/c/narrow from src/u64_sets.rt.
 //! Sets of `u32`.
 
 mod changes;

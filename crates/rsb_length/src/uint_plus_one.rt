@@ -34,16 +34,16 @@ impl<T: UInt> PartialOrd for UIntPlusOne<T> {
         (λ a b. refl) (λ a. refl) (λ b. refl) refl) };
 
     fn partial_cmp(&self, other: &Self) -> Option<Ordering> {
-        match (self, other) {
-            (Self::MaxPlusOne, Self::MaxPlusOne) => Some(Ordering::Equal),
+        match (*self, *other) {
+            (Self::UInt(value), Self::UInt(limit)) => value.partial_cmp(&limit),
             // `T` says that no value is above its greatest. One past it is above that one too.
-            (Self::MaxPlusOne, Self::UInt(b)) => {
-                Some(T::greatest().partial_cmp(b)?.then(Ordering::Greater))
+            (Self::UInt(value), Self::MaxPlusOne) => {
+                Some(value.partial_cmp(&T::greatest())?.then(Ordering::Less))
             }
-            (Self::UInt(a), Self::MaxPlusOne) => {
-                Some(a.partial_cmp(&T::greatest())?.then(Ordering::Less))
+            (Self::MaxPlusOne, Self::UInt(limit)) => {
+                Some(T::greatest().partial_cmp(&limit)?.then(Ordering::Greater))
             }
-            (Self::UInt(a), Self::UInt(b)) => a.partial_cmp(b),
+            (Self::MaxPlusOne, Self::MaxPlusOne) => Some(Ordering::Equal),
         }
     }
 }
@@ -119,14 +119,16 @@ impl<T: UInt> SubAssign for UIntPlusOne<T> {
 
     fn sub_assign(&mut self, rhs: Self) {
         *self = match (*self, rhs) {
-            (Self::UInt(a), Self::UInt(b)) => Self::UInt(a.checked_difference(b).unwrap()),
-            (Self::MaxPlusOne, Self::UInt(b)) => {
-                Self::UInt(T::greatest().checked_difference(b).unwrap()) + Self::one()
-            }
             (Self::MaxPlusOne, Self::MaxPlusOne) => Self::zero(),
-            (Self::UInt(a), Self::MaxPlusOne) => {
-                // That `a` is at most the greatest is known from here on.
-                a.checked_difference(a);
+            (Self::MaxPlusOne, Self::UInt(less)) => {
+                Self::UInt(T::greatest().checked_difference(less).unwrap()) + Self::one()
+            }
+            (Self::UInt(value), Self::UInt(less)) => {
+                Self::UInt(value.checked_difference(less).unwrap())
+            }
+            (Self::UInt(value), Self::MaxPlusOne) => {
+                // That `value` is at most the greatest is known from here on.
+                value.checked_difference(value);
                 unreachable!()
             }
         };
@@ -164,11 +166,14 @@ impl<T: UInt> Zero for UIntPlusOne<T> {
     ghost zero = { UInt T.zero };
 
     fn zero() -> Self {
-        Self::UInt(T::zero())
+        Self::UInt(Zero::zero())
     }
 
     fn is_zero(&self) -> bool {
-        matches!(self, Self::UInt(v) if v.is_zero())
+        match self {
+            Self::UInt(value) => value.is_zero(),
+            Self::MaxPlusOne => false,
+        }
     }
 
     ghost zero_law = { λ _.
@@ -187,7 +192,7 @@ impl<T: UInt> One for UIntPlusOne<T> {
     ghost one = { UInt T.one };
 
     fn one() -> Self {
-        Self::UInt(T::one())
+        Self::UInt(One::one())
     }
 
     ghost one_law = { λ _.
@@ -247,8 +252,8 @@ impl<T: UInt> Display for UIntPlusOne<T> {
 
     fn fmt<W: fmt::Write>(&self, f: &mut Formatter<W>) -> fmt::Result {
         match self {
-            Self::UInt(v) => write!(f, "{v}"),
             Self::MaxPlusOne => f.write_str(T::one_past_text()),
+            Self::UInt(value) => write!(f, "{value}"),
         }
     }
 }

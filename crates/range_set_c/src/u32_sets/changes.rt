@@ -1,3 +1,4 @@
+// Written by tools/c/narrow from src/u64_sets/changes.rt.
 //! Changes of one set.
 
 ghost use Rattle.std.specs.Prelude.{◌≡◌, ◌<◌, ◌≤◌, ◌^◌, [], IsFalse, IsTrue};

@@ -1,3 +1,4 @@
+// Written by tools/c/narrow from src/u64_sets/combinations.rt.
 //! Sets made of one set or two.
 
 ghost use Rattle.std.specs.Prelude.{◌≡◌, ◌⊎◌, ◌^◌};

@@ -1,3 +1,4 @@
+// Written by tools/c/narrow from src/u64_sets/comparisons.rt.
 //! Questions about two sets. Both are as they were, and no memory is taken.
 
 ghost use Rattle.std.specs.Prelude.{◌≡◌, ◌↔◌, ◌^◌, IsTrue};

@@ -1,3 +1,4 @@
+// Written by tools/c/narrow from src/u64_sets/handle.rt.
 //! The handle that C holds.
 
 ghost use Rattle.std.specs.Prelude.{◌≡◌, ◌⊎◌, ◌<◌, [], IfOk, IsOk, MatchOption, OnErr};

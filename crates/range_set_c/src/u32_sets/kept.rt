@@ -1,3 +1,4 @@
+// Written by tools/c/narrow from src/u64_sets/kept.rt.
 //! What a handle leads to. It names no type of this crate, so that a clause of the handle can name
 //! the memory that it takes.
 

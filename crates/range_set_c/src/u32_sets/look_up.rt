@@ -1,3 +1,4 @@
+// Written by tools/c/narrow from src/u64_sets/look_up.rt.
 //! Questions about one set. It is as it was, and no memory is taken.
 
 ghost use Rattle.std.specs.Prelude.{◌≡◌, ℕ, ◌^◌, ◌<◌, ◌≤◌, [], length, IfSome, IsFalse, IsNone, IsTrue};

@@ -1,3 +1,4 @@
+// Written by tools/c/narrow from src/u64_sets/open.rt.
 //! The set behind a handle, where it lies.
 
 ghost use Rattle.std.specs.Prelude.{◌≡◌, [], MatchOption};

@@ -1,3 +1,4 @@
+// Written by tools/c/narrow from src/u64_sets/run.rt.
 //! Runs, as C sees them.
 
 /// A run or a gap, both ends included.

@@ -1,3 +1,4 @@
+-- Written by tools/c/narrow from proofs/u64_sets/handle/Handle/empty/Proof.antt.
 -- `empty` makes a null handle, which owns nothing.
 use mathlib.Core.Path.{refl, sym, subst}
 use mathlib.Core.List.{List, [], ◌∷◌, ◌++◌}

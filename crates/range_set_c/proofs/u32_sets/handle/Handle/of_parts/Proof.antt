@@ -1,3 +1,4 @@
+-- Written by tools/c/narrow from proofs/u64_sets/handle/Handle/of_parts/Proof.antt.
 -- `of_parts` moves two fields, and what they own goes with them.
 use mathlib.Core.Path.{refl, sym, subst}
 use mathlib.Core.List.{List, [], ◌∷◌, ◌++◌}

@@ -1,3 +1,4 @@
+-- Written by tools/c/narrow from proofs/u64_sets/handle/Handle/open/Proof.antt.
 -- `open` asks whether the handle is null. Where it is not, the boxed set is lent, and the handle
 -- ends with the last value behind the borrow.
 use mathlib.Core.Path.{◌≡◌, refl, sym, ap, ◌∙◌}
