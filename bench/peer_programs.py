@@ -1,0 +1,35 @@
+"""Builds the programs under bench/peers/ with cargo, over the published crate or over sources of it in a folder."""
+
+import os
+import subprocess
+import sys
+
+HERE = os.path.dirname(os.path.abspath(__file__))
+ORIGINAL_HELP = """folder of the original crate, with its Cargo.toml, in place of the one that cargo fetches; a
+.cargo/config.toml in it or above it says where cargo finds what that crate depends on"""
+
+
+def original_flags(folder):
+    """The flags with which cargo takes the original crate from a folder, under the folder's own configuration."""
+    folder = os.path.abspath(folder)
+    flags = ["--config", f'patch.crates-io.range-set-blaze.path="{folder}"']
+    while True:
+        config = os.path.join(folder, ".cargo", "config.toml")
+        if os.path.exists(config):
+            return [*flags, "--config", config]
+        if os.path.dirname(folder) == folder:
+            return flags
+        folder = os.path.dirname(folder)
+
+
+def built(peer, original=None):
+    """The path of a peer's program, or None if it can't be built, which standard error then says."""
+    folder = os.path.join(HERE, "peers", peer)
+    words = ["cargo", "build", "--release", "--quiet"]
+    if original and peer != "tree":
+        words += original_flags(original)
+    made = subprocess.run(words, cwd=folder, stderr=subprocess.PIPE, text=True)
+    if made.returncode != 0:
+        print(f"{peer}: not built, and left out: {' '.join(made.stderr.split()[-30:])}", file=sys.stderr)
+        return None
+    return os.path.join(folder, "target", "release", peer)
