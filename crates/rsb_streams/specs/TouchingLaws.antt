@@ -4,7 +4,7 @@ use Rattle.std.proofs.lemmas.List.Elements.{All-head, All-tail}
 use Rattle.std.specs.Iterator.{Count}
 use Rattle.rsb_integer.specs.Runs.{Interval, AllEndBelow, IsCanonicalFrom, IsCanonicalIn}
 use Rattle.rsb_streams.specs.Stream.{HasSortedStarts, HasSortedStartsFrom, Keeps, Outcomes}
-use Rattle.rsb_streams.specs.StreamLaws.{sorted-lower}
+use Rattle.rsb_streams.specs.StreamLaws.{settled_below, settled_le, sorted-lower}
 use Rattle.rsb_streams.specs.Touching.{IsTouchingFrom, IsTouchingIn}
 
 -- a list whose intervals may touch may be asked to start earlier
@@ -28,6 +28,24 @@ touching-canonical low (run ∷ runs) canonical = (
 -- so a canonical list is one whose intervals may touch
 pub touching-canonical_in : (n : ℕ) (runs : List Interval) → IsCanonicalIn n runs → IsTouchingIn n runs
 touching-canonical_in n runs canonical = (touching-canonical 0 runs canonical.0, canonical.1)
+
+-- the intervals of a list may touch where that does not fail
+settled_touching : (low : ℕ) (runs : List Interval) → ¬ (¬ (IsTouchingFrom low runs))
+    → IsTouchingFrom low runs
+settled_touching low [] holds = tt
+settled_touching low (run ∷ runs) holds = (
+  settled_le low run.first (λ fails. holds (λ all. fails all.0)),
+  settled_le run.first run.last (λ fails. holds (λ all. fails all.1)),
+  settled_touching (run.last + 1) runs (λ fails. holds (λ all. fails all.2)),
+)
+
+-- also in a type of n values
+pub settled_touching_in : (n : ℕ) (runs : List Interval) → ¬ (¬ (IsTouchingIn n runs))
+    → IsTouchingIn n runs
+settled_touching_in n runs holds = (
+  settled_touching 0 runs (λ fails. holds (λ all. fails all.0)),
+  settled_below n runs (λ fails. holds (λ all. fails all.1)),
+)
 
 -- a list whose intervals may touch has sorted starts
 pub touching-sorted : (n low : ℕ) (runs : List Interval) → IsTouchingFrom low runs

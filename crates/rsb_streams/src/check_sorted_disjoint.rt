@@ -1,8 +1,8 @@
 //! Streams of ranges that are known to be canonical.
 
-ghost use Rattle.std.specs.Prelude.{◌≡◌, ◌↔◌, [], IfErr, IfOk, IsOk};
+ghost use Rattle.std.specs.Prelude.{◌≡◌, ◌↔◌, ◌+◌, [], take, IfErr, IfOk, IsOk};
 ghost use Rattle.rsb_integer.specs.Rank.{intervals_of};
-ghost use Rattle.rsb_integer.specs.Runs.{IsCanonicalIn};
+ghost use Rattle.rsb_integer.specs.Runs.{AllEndBelow, IsCanonicalIn};
 ghost use Rattle.rsb_streams.specs.Calls.{gives_as, GivesOnly};
 ghost use Rattle.rsb_streams.specs.CallsLaws.{known-answered, known-disjoint};
 ghost use Rattle.rsb_streams.specs.CheckSortedDisjoint.{check_sorted_disjoint};
@@ -60,6 +60,10 @@ impl<T: Integer, A: Allocator> CheckSortedDisjoint<T, IntoIter<RangeInclusive<T>
         ensures ranges { IfErr result (λ refused. refused.ranges ≡ ranges) }
         ensures position { IfErr result (λ refused. IsFirstBad (IsCanonicalIn T.value_count)
             (intervals_of T.rank ranges.items) refused.position) }
+
+        // So what breaks the law there is no end past the type.
+        ensures value { IfErr result (λ refused. AllEndBelow T.value_count
+            (take (refused.position + 1) (intervals_of T.rank ranges.items))) }
     {
         if let Some(position) = first_bad(false, &ranges) {
             return Err(NotSortedDisjoint { position, ranges });

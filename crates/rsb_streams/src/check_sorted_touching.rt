@@ -1,7 +1,8 @@
 //! Streams of ranges that are known to ascend, and may touch.
 
-ghost use Rattle.std.specs.Prelude.{◌≡◌, ◌↔◌, IfErr, IfOk, IsOk};
+ghost use Rattle.std.specs.Prelude.{◌≡◌, ◌↔◌, ◌+◌, take, IfErr, IfOk, IsOk};
 ghost use Rattle.rsb_integer.specs.Rank.{intervals_of};
+ghost use Rattle.rsb_integer.specs.Runs.{AllEndBelow};
 ghost use Rattle.rsb_streams.specs.Calls.{gives_as, GivesOnly};
 ghost use Rattle.rsb_streams.specs.CallsLaws.{known-answered, known-touching};
 ghost use Rattle.rsb_streams.specs.CheckSortedTouching.{check_sorted_touching};
@@ -62,6 +63,10 @@ impl<T: Integer, A: Allocator> CheckSortedTouching<T, IntoIter<RangeInclusive<T>
         ensures ranges { IfErr result (λ refused. refused.ranges ≡ ranges) }
         ensures position { IfErr result (λ refused. IsFirstBad (IsTouchingIn T.value_count)
             (intervals_of T.rank ranges.items) refused.position) }
+
+        // So what breaks the law there is no end past the type.
+        ensures value { IfErr result (λ refused. AllEndBelow T.value_count
+            (take (refused.position + 1) (intervals_of T.rank ranges.items))) }
     {
         if let Some(position) = first_bad(true, &ranges) {
             return Err(NotSortedTouching { position, ranges });

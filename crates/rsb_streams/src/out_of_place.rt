@@ -1,9 +1,9 @@
 //! The first place where a list of ranges does not ascend, with a gap between or without.
 
-ghost use Rattle.std.specs.Prelude.{◌≡◌, ◌↔◌, ◌<◌, ◌≤◌, [], ◌∷◌, IfSome, IsNone, IsTrue};
+ghost use Rattle.std.specs.Prelude.{◌≡◌, ◌↔◌, ◌+◌, ◌<◌, ◌≤◌, [], ◌∷◌, take, IfSome, IsNone, IsTrue};
 ghost use Rattle.std.specs.Range.{range_inclusive_start};
 ghost use Rattle.rsb_integer.specs.Rank.{interval_of, intervals_of};
-ghost use Rattle.rsb_integer.specs.Runs.{HasRanks};
+ghost use Rattle.rsb_integer.specs.Runs.{AllEndBelow, HasRanks};
 ghost use Rattle.rsb_streams.specs.OutOfPlace.{start_after, IsFirstBad, IsPlacedFrom, IsPlacedIn};
 
 use rsb_integer::Integer;
@@ -57,6 +57,8 @@ pub(crate) fn first_bad<T: Integer>(may_touch: bool, ranges: &[RangeInclusive<T>
         ↔ IsPlacedIn may_touch T.value_count (intervals_of T.rank ranges.now) }
     ensures bad { IfSome result (λ position. IsFirstBad (IsPlacedIn may_touch T.value_count)
         (intervals_of T.rank ranges.now) position) }
+    ensures value { IfSome result (λ position. AllEndBelow T.value_count
+        (take (position + 1) (intervals_of T.rank ranges.now))) }
 {
     let mut previous = None;
     let mut position = 0;

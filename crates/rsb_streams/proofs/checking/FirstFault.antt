@@ -8,7 +8,7 @@ use Rattle.std.specs.Range.{range_inclusive_end}
 use Rattle.std.specs.Prelude.{Option, Some, None}
 use Rattle.std.specs.declared.ops.RangeInclusive.{RangeInclusive}
 use Rattle.rsb_integer.specs.Rank.{interval_of, intervals_of}
-use Rattle.rsb_integer.specs.Runs.{Interval}
+use Rattle.rsb_integer.specs.Runs.{Interval, AllEndBelow}
 use Rattle.rsb_streams.proofs.sources.Known.{range-end}
 use Rattle.rsb_streams.specs.OutOfPlace.{past_end, start_after, IsFirstBad, IsPlacedFrom, IsPlacedIn}
 use Rattle.rsb_streams.proofs.checking.Placed.{placed-append, placed-front, placed-parts, placed_next, placed_next-push}
@@ -76,6 +76,12 @@ module _ {T : Type 0} (rank : T → ℕ) (may_touch : Bool) (n : ℕ)
       before = checked.before;
       broken = λ placed. broken (follows-after placed);
     }
+
+    -- it lies in the type, as those before do
+    pub below-here : run.last < n → AllEndBelow n (take (position + 1) runs)
+    below-here below =
+        rw one-more (All-push (λ (each : Interval). each.last < n) (take position runs) run
+        checked.before.1 below)
 
     -- it does
     pub checked-one : IsPlacedFrom may_touch (start_after rank may_touch previous) (run ∷ [])

@@ -13,6 +13,9 @@ use Rattle.rsb_streams.specs.Adapters.{NextIsDraw}
 use Rattle.rsb_streams.specs.Calls.{Call, IsSource}
 use Rattle.rsb_streams.specs.CallsLaws.{calls-steps}
 use Rattle.rsb_streams.specs.StreamLaws.{settled_canonical_in, settled_sorted}
+use Rattle.rsb_streams.specs.Touching.{IsTouchingIn}
+use Rattle.rsb_streams.specs.TouchingLaws.{settled_touching_in, touching-canonical_in}
+use Rattle.rsb_streams.proofs.checking.Placed.{touching-front}
 use Rattle.rsb_streams.specs.Stream.{◌⊆◌, HasSortedStarts, HasSortedStartsFrom}
 use Rattle.rsb_streams.proofs.sources.Known.{IsLawful}
 
@@ -78,3 +81,15 @@ module _ {S T N : Type 0} (integer : Elements T N) (source : Stream S T N)
       → IsSource rank next (IsCanonicalIn n) s
   canonical-source =
       lawful-source (IsCanonicalIn n) (canonical-front n) (settled_canonical_in n)
+
+  -- so is every stream whose ranges may touch, of one whose ranges may touch
+  pub touching-source : (s : S) → next.can_next s → source.may_give s ⊆ IsTouchingIn n
+      → IsSource rank next (IsTouchingIn n) s
+  touching-source =
+      lawful-source (IsTouchingIn n) (touching-front n) (settled_touching_in n)
+
+  -- and every canonical stream, since no two of its ranges overlap
+  pub canonical-touching_source : (s : S) → next.can_next s → source.may_give s ⊆ IsCanonicalIn n
+      → IsSource rank next (IsTouchingIn n) s
+  canonical-touching_source s can canonical =
+      touching-source s can (λ runs may. touching-canonical_in n runs (canonical runs may))

@@ -1,5 +1,5 @@
 use Rattle.std.proofs.Common.{◌+◌, length}
-use Rattle.rsb_streams.proofs.checking.FirstFault.{bad-here, checked-all, checked-none, checked-one, follows-after, place-past, place-within, placed-take}
+use Rattle.rsb_streams.proofs.checking.FirstFault.{bad-here, below-here, checked-all, checked-none, checked-one, follows-after, place-past, place-within, placed-take}
 use Rattle.rsb_streams.proofs.out_of_place.first_bad.Goals as goal
 
 pub loop-range-init : goal.loop-range-init
@@ -26,6 +26,13 @@ returns-then-not-follows-clause-bad g c =
     c.loop-range.previous c.loop-range.invariant c.in-Some.range.now within
     c.in-Some.ensures.lookup.1
     (λ placed. let follows = c.if-not-follows.ensures.found.1 placed in cc)
+
+pub returns-then-not-follows-clause-value : goal.returns-then-not-follows-clause-value
+returns-then-not-follows-clause-value g c =
+    let within = place-within c.loop-range.position (length c.args.ranges.now) c.in-Some.ensures.lookup.0 in
+    below-here g.T.Integer.rank c.args.may_touch g.T.Integer.value_count c.args.ranges.now c.loop-range.position
+    c.loop-range.previous c.loop-range.invariant c.in-Some.range.now within
+    c.in-Some.ensures.lookup.1 c.if-not-follows.ensures.value
 
 pub loop-range-preserved : goal.loop-range-preserved
 loop-range-preserved g c =

@@ -1,5 +1,6 @@
-use Rattle.std.proofs.Common.{true, refl, sym, ap, ◌∙◌, subst}
+use Rattle.std.proofs.Common.{◌+◌, true, take, refl, sym, ap, ◌∙◌, subst}
 use Rattle.rsb_integer.specs.Rank.{intervals_of}
+use Rattle.rsb_integer.specs.Runs.{AllEndBelow}
 use Rattle.rsb_streams.specs.OutOfPlace.{IsFirstBad, IsPlacedIn}
 use Rattle.rsb_streams.proofs.checking.Placed.{placed-touching}
 use Rattle.rsb_streams.proofs.sources.Vectors.{vec-calls, vec-touching}
@@ -26,6 +27,12 @@ returns-in-Some-clause-position g c =
     (placed-touching n)
     (subst (λ items. IsFirstBad (IsPlacedIn true n) (intervals_of rank items) c.in-Some.position)
     c.deref.ensures.value c.in-Some.ensures.bad)
+
+pub returns-in-Some-clause-value : goal.returns-in-Some-clause-value
+returns-in-Some-clause-value g c =
+    subst (λ items. AllEndBelow g.T.Integer.value_count
+    (take (c.in-Some.position + 1) (intervals_of g.T.Integer.rank items)))
+    c.deref.ensures.value c.in-Some.ensures.value
 
 -- the list is one that may touch, since no position is bad
 pub new-requires : goal.new-requires
