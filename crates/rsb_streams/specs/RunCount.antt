@@ -37,7 +37,7 @@ bounded_by_two n Bound operation P Q runs = SomeOutcomes P Q (λ left right.
     AreRuns n (operation (members left) (members right)) runs × Bound left right runs)
 
 -- ---- what operations make. No search looks into these words: what they tell of a result is in
--- `proofs/CallerLemmas.antt`.
+-- `proofs/calling/RunCounts.antt`.
 
 -- the runs of what a stream leaves out, at most one more than it gives
 unfoldable pub GivesOneRunMoreAtMost : {T N I O : Type 0} → Elements T N → Stream I T N

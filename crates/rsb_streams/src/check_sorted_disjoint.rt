@@ -61,7 +61,7 @@ impl<T: Integer, A: Allocator> CheckSortedDisjoint<T, IntoIter<RangeInclusive<T>
         ensures position { IfErr result (λ refused. IsFirstBad (IsCanonicalIn T.value_count)
             (intervals_of T.rank ranges.items) refused.position) }
 
-        // So what breaks the law there is no end past the type.
+        // Every range up to there ends in the type, so it is the order that breaks.
         ensures value { IfErr result (λ refused. AllEndBelow T.value_count
             (take (refused.position + 1) (intervals_of T.rank ranges.items))) }
     {

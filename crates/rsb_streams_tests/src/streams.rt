@@ -1,5 +1,6 @@
 //! Streams.
 
+mod a_million;
 mod anything_goes;
 mod arrays;
 mod clones;

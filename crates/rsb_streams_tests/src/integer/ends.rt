@@ -114,3 +114,13 @@ fn lengths_and_steps_cross_zero(rt: HostRuntime) {
     assert!(rt; are_neighbors(-1_i128, 0) && are_neighbors(0_u128, 1));
     assert!(rt; comes_from_the_back(0_i128));
 }
+
+#[test]
+fn lengths_lead_from_each_small_value_to_both_ends(rt: HostRuntime) {
+    for a in i8::MIN..=i8::MAX {
+        let above = i8::safe_len(&(a..=127));
+        assert!(rt; a.inclusive_end_from_start(above) == 127, "from {a}");
+        let below = i8::safe_len(&(-128..=a));
+        assert!(rt; a.start_from_inclusive_end(below) == -128, "to {a}");
+    }
+}

@@ -1,5 +1,5 @@
-//! `UIntPlusOne<u8>` ordered as the numbers from 0 to 256 are, and the ends, copies and texts of two
-//! lengths.
+//! `UIntPlusOne<u8>` added, multiplied, subtracted and ordered as the numbers from 0 to 256 are, and
+//! the ends, copies and texts of two lengths.
 
 ghost use Rattle.std.specs.Prelude.{◌≡◌, ◌≤◌};
 ghost use Rattle.rsb_length.specs.UIntPlusOne.{number_of};
@@ -17,6 +17,58 @@ fn from_number(number: u32) -> UIntPlusOne<u8>
     match u8::try_from(number) {
         Ok(value) => UIntPlusOne::UInt(value),
         Err(_) => UIntPlusOne::MaxPlusOne,
+    }
+}
+
+/// The number of this length.
+fn to_number(length: UIntPlusOne<u8>) -> u32 {
+    match length {
+        UIntPlusOne::UInt(value) => u32::from(value),
+        UIntPlusOne::MaxPlusOne => 256,
+    }
+}
+
+#[test]
+fn sums_are_those_of_the_numbers(rt: HostRuntime) {
+    for a in 0..=256u32 {
+        for b in 0..=256 - a {
+            let sum = from_number(a) + from_number(b);
+            assert!(rt; to_number(sum) == a + b, "{a} + {b}");
+        }
+    }
+}
+
+#[test]
+fn sums_in_place_are_those_of_the_numbers(rt: HostRuntime) {
+    for a in 0..=256u32 {
+        for b in 0..=256 - a {
+            let mut sum = from_number(a);
+            sum += from_number(b);
+            assert!(rt; to_number(sum) == a + b, "{a} += {b}");
+        }
+    }
+}
+
+#[test]
+fn differences_are_those_of_the_numbers(rt: HostRuntime) {
+    for a in 0..=256u32 {
+        for b in 0..=a {
+            let mut rest = from_number(a);
+            rest -= from_number(b);
+            assert!(rt; to_number(rest) == a - b, "{a} -= {b}");
+        }
+    }
+}
+
+#[test]
+fn products_are_those_of_the_numbers(rt: HostRuntime) {
+    for a in 0..=256u32 {
+        for b in 0..=256u32 {
+            if a * b <= 256 {
+                let product = from_number(a) * from_number(b);
+                assert!(rt; to_number(product) == a * b, "{a} * {b}");
+            }
+        }
     }
 }
 

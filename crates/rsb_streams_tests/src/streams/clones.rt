@@ -2,8 +2,8 @@
 
 ghost use Rattle.std.specs.Prelude.{◌≡◌};
 
-use crate::streams::nested::{known, sorted};
-use rsb_streams::{Draw, DrawDisjoint};
+use crate::streams::nested::{known, sorted, touching};
+use rsb_streams::{Draw, DrawDisjoint, Merge, UnionIter};
 use rsb_tables::{Listed, both_give, stream_of, three_tens};
 use std::alloc::AllocError;
 use std::test::Fail;
@@ -35,6 +35,17 @@ fn goes_on<I: Draw<u8> + Clone>(
     Ok(range == Some(first.0..=first.1) && both_give(stream, others)?)
 }
 
+#[test]
+fn clones_of_merges_of_joined_streams_and_of_complements_go_on(
+    rt: HostRuntime,
+) -> Result<(), Fail> {
+    assert!(rt; goes_on(Merge::new(three_tens(), fives()), (0, 0), &FIVE)?);
+    assert!(rt; goes_on(UnionIter::new(three_tens()), (0, 0), &TWO)?);
+    let gaps = [(11, 19), (21, 255)];
+    assert!(rt; goes_on(three_tens().complement(), (1, 9), &gaps)?);
+    Ok(())
+}
+
 // A union has a merge and what joins it, and an intersection has complements.
 #[test]
 fn clones_of_unions_and_of_intersections_go_on(rt: HostRuntime) -> Result<(), Fail> {
@@ -53,6 +64,7 @@ fn a_clone_of_a_difference_goes_on(rt: HostRuntime) -> Result<(), Fail> {
 fn clones_of_what_is_known_of_a_stream_go_on(rt: HostRuntime) -> Result<(), Fail> {
     assert!(rt; goes_on(known(three_tens()), (0, 0), &TWO)?);
     assert!(rt; goes_on(sorted(three_tens()), (0, 0), &TWO)?);
+    assert!(rt; goes_on(touching(three_tens()), (0, 0), &TWO)?);
     Ok(())
 }
 

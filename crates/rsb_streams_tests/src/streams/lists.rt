@@ -1,9 +1,15 @@
 //! Lists of ranges as streams, accepted where they are canonical.
 
+ghost use Rattle.std.specs.Prelude.{IfSome};
+ghost use Rattle.rsb_integer.specs.Rank.{intervals_of};
+ghost use Rattle.rsb_integer.specs.Runs.{IsCanonical};
+ghost use Rattle.rsb_streams.specs.OutOfPlace.{IsFirstBad};
+
 use rsb_integer::Integer;
-use rsb_streams::{CheckSortedDisjoint, DrawDisjoint};
-use rsb_tables::{gives, list_of, stream_of};
+use rsb_streams::CheckSortedDisjoint;
+use rsb_tables::{gives, list_of};
 use std::alloc::Global;
+use std::ops::RangeInclusive;
 use std::test::Fail;
 
 /// Whether a list is refused at a position, and then given back, or accepted, and then gives its
@@ -19,6 +25,23 @@ fn is_refused_at<T: Integer>(
             Ok(wanted == Some(refused.position) && refused.ranges == list_of(alloc, ranges)?)
         }
     }
+}
+
+/// The first position where a list is out of order, whatever values its type has.
+fn first_out_of_order<T: Integer>(ranges: Vec<RangeInclusive<T>>) -> Option<usize>
+    ensures { IfSome result (IsFirstBad IsCanonical (intervals_of T.rank ranges.items)) }
+{
+    match CheckSortedDisjoint::try_new(ranges) {
+        Ok(_) => None,
+        Err(refused) => Some(refused.position),
+    }
+}
+
+#[test]
+fn a_refused_list_is_out_of_order(rt: HostRuntime) -> Result<(), Fail> {
+    let ends = [(1, 2), (4, 255), (0, 0)];
+    assert!(rt; first_out_of_order(list_of(rt.alloc(), &ends)?) == Some(2));
+    Ok(())
 }
 
 #[test]
@@ -66,12 +89,4 @@ fn lists_of_wide_types_are_taken_to_their_ends(rt: HostRuntime) -> Result<(), Fa
     assert!(rt; is_refused_at(rt.alloc(), &[(0, 0), (2, u128::MAX)], None)?);
     assert!(rt; is_refused_at(rt.alloc(), &[(i128::MIN, i128::MAX)], None)?);
     Ok(())
-}
-
-#[test]
-fn union_first_answers_what_both_begin_with(rt: HostRuntime) {
-    let left = stream_of(&[(1, 2), (10, 11), (20, 21)]);
-    let mut union = left.union(stream_of(&[(1, 3), (30, 31)]));
-    assert!(rt; union.next() == Some(1..=3));
-    assert!(rt; gives(union, &[(10, 11), (20, 21), (30, 31)]));
 }

@@ -72,6 +72,20 @@ fn union_draws_what_lies_in_its_answer_and_one_range_more(rt: HostRuntime) {
 }
 
 #[test]
+fn union_answers_what_both_begin_with_by_two_ranges_of_each(rt: HostRuntime) {
+    let (lefts, rights) = (Cell::new(0), Cell::new(0));
+    let left = Counted::new(stream_of(&[(1, 2), (10, 11), (20, 21)]), &lefts);
+    let right = Counted::new(stream_of(&[(1, 3), (30, 31)]), &rights);
+    let calls = [
+        ((1, 3), (2, 2)),
+        ((10, 11), (3, 2)),
+        ((20, 21), (3, 2)),
+        ((30, 31), (3, 2)),
+    ];
+    assert!(rt; draws(left.union(right), &lefts, &rights, &calls));
+}
+
+#[test]
 fn merge_and_complement_draw_a_range_where_they_want_one(rt: HostRuntime) {
     let (lefts, rights) = (Cell::new(0), Cell::new(0));
     let left = Counted::new(stream_of(LEFT), &lefts);

@@ -5,10 +5,10 @@ ghost use Rattle.rsb_streams.specs.Stream.{◌⊆◌, joined, runs_by, runs_by_t
 
 use rsb_integer::Integer;
 use rsb_streams::{
-    AssumeSortedStarts, CheckSortedDisjoint, Draw, DrawDisjoint, NotIter, RangeOnce,
-    SortedDisjoint, SortedStarts, Union, UnionIter,
+    AssumeSortedStarts, CheckSortedDisjoint, CheckSortedTouching, Draw, DrawDisjoint, NotIter,
+    RangeOnce, SortedDisjoint, SortedStarts, SortedTouching, Union, UnionIter,
 };
-use rsb_tables::gives;
+use rsb_tables::{gives, neighbors_of, three_tens};
 
 /// The complement of the complement has the members of the stream.
 pub(crate) fn complement_twice<T: Integer, I: SortedDisjoint<T>>(
@@ -61,6 +61,35 @@ pub(crate) fn known<T: Integer, I: SortedDisjoint<T>>(stream: I) -> CheckSortedD
     ensures { ⟦<CheckSortedDisjoint<T, I> as Draw<T>>⟧.can_draw result }
 {
     CheckSortedDisjoint::new(stream)
+}
+
+/// The ranges of a stream once more, since no two of them overlap.
+pub(crate) fn touching<T: Integer, I: SortedDisjoint<T>>(stream: I) -> CheckSortedTouching<T, I>
+    requires { I.can_draw stream }
+    ensures { ⟦<CheckSortedTouching<T, I> as Draw<T>>⟧.can_draw result }
+{
+    CheckSortedTouching::new(stream)
+}
+
+/// The ranges of a stream whose ranges may touch, once more.
+pub(crate) fn touching_again<T: Integer, I: SortedTouching<T>>(
+    stream: I,
+) -> CheckSortedTouching<T, I>
+    requires { I.can_draw stream }
+    ensures { ⟦<CheckSortedTouching<T, I> as Draw<T>>⟧.can_draw result }
+{
+    CheckSortedTouching::new(stream)
+}
+
+#[test]
+fn streams_are_ones_whose_ranges_may_touch(rt: HostRuntime) {
+    let ends = [(0, 0), (10, 10), (20, 20)];
+    assert!(rt; gives(touching(three_tens()), &ends));
+    assert!(rt; gives(touching(three_tens()).joined(), &ends));
+    let neighbors = [(0, 1), (2, 9), (11, 11)];
+    assert!(rt; gives(touching_again(neighbors_of(&neighbors)), &neighbors));
+    let joined = touching_again(neighbors_of(&neighbors)).joined();
+    assert!(rt; gives(joined, &[(0, 9), (11, 11)]));
 }
 
 #[test]

@@ -1,7 +1,7 @@
 //! Texts for those who debug. What they are is left open.
 
-use crate::streams::nested::{joined_again, known};
-use rsb_streams::{DrawDisjoint, Merge};
+use crate::streams::nested::{joined_again, known, sorted, touching};
+use rsb_streams::{DrawDisjoint, Merge, UnionIter};
 use rsb_tables::{is_shown, three_tens};
 
 #[test]
@@ -19,6 +19,9 @@ fn other_streams_have_a_text(rt: HostRuntime) {
     let alloc = rt.alloc();
     assert!(rt; is_shown(alloc, Merge::new(three_tens(), three_tens())));
     assert!(rt; is_shown(alloc, known(three_tens())));
+    assert!(rt; is_shown(alloc, touching(three_tens())));
+    assert!(rt; is_shown(alloc, sorted(three_tens())));
+    assert!(rt; is_shown(alloc, UnionIter::new(three_tens())));
     assert!(rt; is_shown(alloc, joined_again(three_tens())));
     assert!(rt; is_shown(alloc, three_tens().fill_gaps()));
 }
