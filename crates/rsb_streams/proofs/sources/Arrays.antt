@@ -14,6 +14,8 @@ use Rattle.rsb_integer.proofs.CanonicalLemmas.{canonical-front}
 use Rattle.rsb_streams.specs.Calls.{IsSource}
 use Rattle.rsb_streams.specs.CallsLaws.{calls-steps}
 use Rattle.rsb_streams.specs.Stream.{HasSortedStarts, HasSortedStartsFrom}
+use Rattle.rsb_streams.specs.Touching.{IsTouchingFrom, IsTouchingIn}
+use Rattle.rsb_streams.proofs.checking.Placed.{touching-front}
 use Rattle.rsb_streams.proofs.sources.Lawful.{sorted-front}
 use Rattle.rsb_streams.proofs.sources.Listed.{listed-yields}
 
@@ -31,6 +33,13 @@ module _ {T : Type 0} (rank : T → ℕ) (n : ℕ) where
   AreApartFrom low (range ∷ ranges) =
       (low ≤ rank (range_inclusive_start range)) × IsWhole range
       × AreApartFrom (rank (range_inclusive_end range) + 2) ranges
+
+  -- the first range starts at `low` or past it, and none overlaps another: they may touch
+  abbrev pub MayTouchFrom : ℕ → List (RangeInclusive T) → Type 0
+  MayTouchFrom low [] = Unit {0}
+  MayTouchFrom low (range ∷ ranges) =
+      (low ≤ rank (range_inclusive_start range)) × IsWhole range
+      × MayTouchFrom (rank (range_inclusive_end range) + 1) ranges
 
   -- the first range starts at `low` or past it, and no start falls
   abbrev pub AreByStartsFrom : ℕ → List (RangeInclusive T) → Type 0
@@ -63,6 +72,19 @@ module _ {T : Type 0} (rank : T → ℕ) (n : ℕ) where
       (sym (whole-interval range apart.1)) (
         (apart.0, apart.1.in_order, rest.0),
         All-cons (λ (run : Interval). run.last < n) _ runs apart.1.in_type rest.1,
+      )
+
+  -- ranges that may touch are a list of such
+  touching-list : (low : ℕ) (ranges : List (RangeInclusive T)) → MayTouchFrom low ranges
+      → IsTouchingFrom low (intervals_of rank ranges) × AllEndBelow n (intervals_of rank ranges)
+  touching-list low [] touching = (tt, All-nil (λ (run : Interval). run.last < n))
+  touching-list low (range ∷ ranges) touching =
+      let runs = intervals_of rank ranges in
+      let rest = touching-list (rank (range_inclusive_end range) + 1) ranges touching.2 in
+      subst (λ (run : Interval). IsTouchingFrom low (run ∷ runs) × AllEndBelow n (run ∷ runs))
+      (sym (whole-interval range touching.1)) (
+        (touching.0, touching.1.in_order, rest.0),
+        All-cons (λ (run : Interval). run.last < n) _ runs touching.1.in_type rest.1,
       )
 
   -- ranges by their starts are a list by starts
@@ -129,6 +151,15 @@ module _ {T : Type 0} (size : ℕ) (rank : T → ℕ) where
       array-canonical n s
       (subst (λ left. IsCanonicalIn n (intervals_of rank left)) (sym is)
       (apart-canonical rank n 0 ranges apart))
+
+  -- an array of ranges that may touch, of a list of such
+  pub array-touching : (n : ℕ) (ranges : List (RangeInclusive T)) → MayTouchFrom rank n 0 ranges
+      → (s : Items) → array_into_iter_items s ≡ ranges
+      → IsSource rank items (IsTouchingIn n) s
+  array-touching n ranges touching s is =
+      array-source (IsTouchingIn n) (touching-front n) s
+      (subst (λ left. IsTouchingIn n (intervals_of rank left)) (sym is)
+      (touching-list rank n 0 ranges touching))
 
   -- and an array of ranges by their starts, of a list by starts
   pub array-by_starts : (n : ℕ) (ranges : List (RangeInclusive T))

@@ -1,12 +1,18 @@
-//! Arrays of ranges that are known to be sorted or canonical.
+//! Arrays of ranges that are known to be sorted, to touch at most, or to be canonical.
 
-use rsb_streams::{AssumeSortedStarts, CheckSortedDisjoint, UnionIter};
+use rsb_streams::{AssumeSortedStarts, CheckSortedDisjoint, CheckSortedTouching, UnionIter};
 use rsb_tables::gives;
 
 #[test]
 fn an_array_of_ranges_apart_is_a_stream(rt: HostRuntime) {
     let stream = CheckSortedDisjoint::new([1u8..=2, 4..=9]);
     assert!(rt; gives(stream, &[(1, 2), (4, 9)]));
+}
+
+#[test]
+fn an_array_of_ranges_that_touch_is_a_stream(rt: HostRuntime) {
+    let stream = CheckSortedTouching::new([1u8..=2, 3..=9, 11..=11]);
+    assert!(rt; gives(stream, &[(1, 2), (3, 9), (11, 11)]));
 }
 
 #[test]
