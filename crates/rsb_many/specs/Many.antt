@@ -1,5 +1,5 @@
 -- Any number of streams, at places from 0 on, and what is made of what they give.
-use Rattle.std.specs.Prelude.{ℕ, zero, suc, List, [], ◌∷◌, ◌++◌, ◌≡◌, ◌≤◌, length, map, slice_get, MatchOption}
+use Rattle.std.specs.Prelude.{◌⊎◌, ℕ, zero, suc, List, [], ◌∷◌, ◌++◌, ◌≡◌, ◌≤◌, length, map, slice_get, MatchOption}
 use Rattle.rsb_integer.specs.Runs.{Interval, members, AreRuns}
 use Rattle.rsb_integer.specs.Selection.{Selection}
 use Rattle.rsb_streams.specs.Lookahead.{Input, Uses}
@@ -52,8 +52,21 @@ pub record IsBegun (may_give : Outcomes) (input : Input) : Type 0 where
 abbrev pub HoldOneAtMost : (ℕ → Input) → Type 0
 HoldOneAtMost inputs = (place : ℕ) → length (inputs place).held ≤ 1
 
--- some ranges of an input were used, and one at most is held of it then
-pub record UsesSome (before now : Input) : Type 0 where
+-- the interval lies within one of these
+abbrev pub IsWithinSome : List Interval → Interval → Type 0
+IsWithinSome [] run = ⊥
+IsWithinSome (answer ∷ answers) run =
+    ((answer.first ≤ run.first) × (run.last ≤ answer.last)) ⊎ IsWithinSome answers run
+
+-- each of the intervals lies within one of the answers
+abbrev pub AreWithinSome : List Interval → List Interval → Type 0
+AreWithinSome answers [] = Unit {0}
+AreWithinSome answers (run ∷ runs) = IsWithinSome answers run × AreWithinSome answers runs
+
+-- the ranges of an input that were used lie within these answers, each within one, and one range at
+-- most is held of it then
+pub record UsesWithin (answers : List Interval) (before now : Input) : Type 0 where
   pub used : List Interval
   pub uses : Uses before used now
+  pub within : AreWithinSome answers used
   pub one : length now.held ≤ 1

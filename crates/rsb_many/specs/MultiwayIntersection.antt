@@ -1,13 +1,14 @@
 -- What lies in all of any number of streams.
 use Rattle.std.specs.Prelude.{ℕ, Option}
 use Rattle.std.specs.declared.ops.RangeInclusive.{RangeInclusive}
+use Rattle.rsb_integer.specs.Rank.{intervals_of}
 use Rattle.rsb_integer.specs.declared.integer.Integer.{Ghosts as Elements}
 use Rattle.rsb_streams.specs.Lookahead.{Input}
-use Rattle.rsb_streams.specs.NotIter.{not_iter}
+use Rattle.rsb_streams.specs.NotIter.{not_iter, PassesOver}
 use Rattle.rsb_streams.specs.Rows.{asking}
 use Rattle.rsb_streams.specs.declared.draw.Draw.{Ghosts as Stream}
 use Rattle.rsb_streams.specs.declared.not_iter.NotIter.{NotIter}
-use Rattle.rsb_many.specs.Many.{HoldOneAtMost, UsesSome}
+use Rattle.rsb_many.specs.Many.{HoldOneAtMost, UsesWithin}
 use Rattle.rsb_many.specs.MultiwayUnion.{multiway_union, multiway_union_inputs}
 use Rattle.rsb_many.specs.declared.operation_results.multiway_intersection.MultiwayIntersection.{MultiwayIntersection}
 use Rattle.rsb_many.specs.declared.operation_results.multiway_union.MultiwayUnion.{MultiwayUnion}
@@ -27,13 +28,14 @@ module _ {T N I A : Type 0} (integer : Elements T N) (stream : Stream I T N) whe
   multiway_intersection_inputs from s =
       multiway_union_inputs integer (not_iter integer stream) from s.iter.iter
 
-  -- a draw uses some ranges of each input, and where one was held of each at most, one is held of
-  -- each at most
-  abbrev pub AsksOfAll : MultiwayIntersection T I A N → Option (RangeInclusive T)
-      → MultiwayIntersection T I A N → Type 0
-  AsksOfAll s item t = (from : ℕ) → HoldOneAtMost (multiway_intersection_inputs from s)
-      → (now_from : ℕ) × ((place : ℕ) → UsesSome (multiway_intersection_inputs from s place)
-      (multiway_intersection_inputs now_from t place))
+  -- a draw passes over some answers of the union. If one range at most was held of each input, each
+  -- range that it uses of one lies within one of these answers, and one at most is held of each
+  pub record AsksOfAll (s : MultiwayIntersection T I A N) (item : Option (RangeInclusive T))
+      (t : MultiwayIntersection T I A N) : Type 0 where
+    pub passes : PassesOver integer left_out s.iter item t.iter
+    pub uses : (from : ℕ) → HoldOneAtMost (multiway_intersection_inputs from s)
+        → (now_from : ℕ) × ((place : ℕ) → UsesWithin (intervals_of integer.rank passes.used)
+        (multiway_intersection_inputs from s place) (multiway_intersection_inputs now_from t place))
 
   -- the gaps of what some of them leave out
   abbrev pub multiway_intersection : Stream (MultiwayIntersection T I A N) T N

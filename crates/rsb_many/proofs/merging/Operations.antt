@@ -3,11 +3,11 @@ use Rattle.std.proofs.Common.{◌≡◌, ◌⊎◌, inl, inr, ℕ, zero, suc, �
 use Rattle.std.specs.Iterator.{Yields, YieldsThen}
 use Rattle.std.specs.Prelude.{Option, None}
 use Rattle.std.specs.declared.ops.RangeInclusive.{RangeInclusive}
-use Rattle.rsb_integer.specs.Rank.{interval_of}
+use Rattle.rsb_integer.specs.Rank.{interval_of, intervals_of}
 use Rattle.rsb_integer.specs.Runs.{Interval}
 use Rattle.rsb_integer.specs.Selection.{all_of, any_of, complement}
 use Rattle.rsb_integer.specs.declared.integer.Integer.{Ghosts as Elements}
-use Rattle.rsb_streams.specs.Lookahead.{holding, if_same, Input, Sameness}
+use Rattle.rsb_streams.specs.Lookahead.{holding, if_same, AreWithin, Input, Sameness}
 use Rattle.rsb_streams.specs.NotIter.{not_iter, PassesOver}
 use Rattle.rsb_streams.specs.PutBack.{held_list, IsFresh}
 use Rattle.rsb_streams.specs.Results.{MakesComplement}
@@ -21,7 +21,7 @@ use Rattle.rsb_streams.proofs.lookahead.EachCall.{from-one, uses-ended, uses-not
 use Rattle.rsb_many.specs.Drawn.{inputs_of}
 use Rattle.rsb_many.specs.Inputs.{input_at}
 use Rattle.rsb_many.specs.KMerge.{kmerge, MakesKMerge}
-use Rattle.rsb_many.specs.Many.{gives_of, may_give_at, runs_by_all, HoldOneAtMost, IsBegun, UsesSome}
+use Rattle.rsb_many.specs.Many.{gives_of, may_give_at, runs_by_all, AreWithinSome, HoldOneAtMost, IsBegun, UsesWithin}
 use Rattle.rsb_many.specs.MultiwayResults.{AreComplements}
 use Rattle.rsb_many.specs.MultiwayUnion.{multiway_union, multiway_union_inputs}
 use Rattle.rsb_many.specs.declared.kmerge.KMerge.{KMerge}
@@ -127,32 +127,57 @@ module _ {T N I : Type 0} (integer : Elements T N) (stream : Stream I T N) where
 
 -- ---- draws of a complement of a union
 
+-- what lies within one answer lies within one of it and others
+one-within : (answer : Interval) (answers used : List Interval) → AreWithin answer used
+    → AreWithinSome (answer ∷ answers) used
+one-within answer answers [] within = tt
+one-within answer answers (run ∷ used) within =
+    (inl (within.0, within.1), one-within answer answers used within.2)
+
+-- what lies within some answers lies within them and one more
+more-within : (answer : Interval) (answers used : List Interval) → AreWithinSome answers used
+    → AreWithinSome (answer ∷ answers) used
+more-within answer answers [] within = tt
+more-within answer answers (run ∷ used) within =
+    (inr within.0, more-within answer answers used within.1)
+
+-- two lists of which each lies within some answers
+both-within : (answers used others : List Interval) → AreWithinSome answers used
+    → AreWithinSome answers others → AreWithinSome answers (used ++ others)
+both-within answers [] others first second = second
+both-within answers (run ∷ used) others first second =
+    (first.0, both-within answers used others first.1 second)
+
 module _ {T N I A : Type 0} (integer : Elements T N) (stream : Stream I T N) where
+  open integer use {rank}
+
   -- the inputs of the union, where the range that it holds came of one place
   abbrev inputs : ℕ → MultiwayUnion T I A N → ℕ → Input
   inputs = multiway_union_inputs integer stream
 
-  -- some ranges of each input were used, and one at most is held of each
-  abbrev UseSome : ℕ → (s t : MultiwayUnion T I A N) → Type 0
-  UseSome from s t =
-      (now_from : ℕ) × ((place : ℕ) → UsesSome (inputs from s place) (inputs now_from t place))
+  -- the ranges of each input that were used lie within these answers, and one at most is held of each
+  abbrev UseWithin : List (RangeInclusive T) → ℕ → (s t : MultiwayUnion T I A N) → Type 0
+  UseWithin answers from s t = (now_from : ℕ) × ((place : ℕ)
+      → UsesWithin (intervals_of rank answers) (inputs from s place) (inputs now_from t place))
 
-  -- draws of the union use some ranges of each input
+  -- draws of the union use ranges of each input that lie within its answers
   draws-use : (ranges : List (RangeInclusive T)) (s t : MultiwayUnion T I A N)
       → Yields (multiway_union integer stream).draw_gives s ranges t → (from : ℕ)
-      → HoldOneAtMost (inputs from s) → UseSome from s t
+      → HoldOneAtMost (inputs from s) → UseWithin ranges from s t
   draws-use [] s t all from one = (
     from,
-    λ place. subst (λ each. UsesSome (inputs from s place) (inputs from each place)) all (record {
-      used = [];
-      uses = uses-nothing (inputs from s place);
-      one = one place;
-    }),
+    λ place. subst (λ each. UsesWithin [] (inputs from s place) (inputs from each place)) all
+        (record {
+          used = [];
+          uses = uses-nothing (inputs from s place);
+          within = tt;
+          one = one place;
+        }),
   )
   draws-use (range ∷ ranges) s t all from one =
       let u = all.0 in
       let looks = all.1.asks from in
-      let answer = interval_of integer.rank range in
+      let answer = interval_of rank range in
       let rest = draws-use ranges u t all.2 looks.0 (λ place.
       from-one (answer.last + 2) (inputs looks.0 u place).held (looks.1 place).ahead) in (
         rest.0,
@@ -161,6 +186,12 @@ module _ {T N I A : Type 0} (integer : Elements T N) (stream : Stream I T N) whe
           uses = uses-then (inputs from s place) (inputs looks.0 u place)
               (inputs rest.0 t place) (looks.1 place).used (rest.1 place).used
               (looks.1 place).uses (rest.1 place).uses;
+          within = both-within (intervals_of rank (range ∷ ranges)) (looks.1 place).used
+              (rest.1 place).used
+              (one-within answer (intervals_of rank ranges) (looks.1 place).used
+              (looks.1 place).within)
+              (more-within answer (intervals_of rank ranges) (rest.1 place).used
+              (rest.1 place).within);
           one = (rest.1 place).one;
         },
       )
@@ -168,7 +199,7 @@ module _ {T N I A : Type 0} (integer : Elements T N) (stream : Stream I T N) whe
   -- and one more draw that gives nothing uses nothing more
   draws-end : (ranges : List (RangeInclusive T)) (s t : MultiwayUnion T I A N)
       → YieldsThen (multiway_union integer stream).draw_gives s ranges None t → (from : ℕ)
-      → HoldOneAtMost (inputs from s) → UseSome from s t
+      → HoldOneAtMost (inputs from s) → UseWithin ranges from s t
   draws-end ranges s t all from one =
       let u = all.0 in
       let first = draws-use ranges s u all.1 from one in
@@ -179,14 +210,16 @@ module _ {T N I A : Type 0} (integer : Elements T N) (stream : Stream I T N) whe
           uses = uses-then (inputs from s place) (inputs first.0 u place) (inputs first.0 t place)
               (first.1 place).used [] (first.1 place).uses
               (uses-ended (inputs first.0 u place) (inputs first.0 t place) (ends place));
+          within = both-within (intervals_of rank ranges) (first.1 place).used []
+              (first.1 place).within tt;
           one = rw (ends place).over.held (omega arith);
         },
       )
 
   -- so do those that one draw of its complement makes
   pub passes-use : (s t : NotIter T (MultiwayUnion T I A N)) (item : Option (RangeInclusive T))
-      → PassesOver integer (multiway_union integer stream) s item t → (from : ℕ)
-      → HoldOneAtMost (inputs from s.iter) → UseSome from s.iter t.iter
+      (passes : PassesOver integer (multiway_union integer stream) s item t) (from : ℕ)
+      → HoldOneAtMost (inputs from s.iter) → UseWithin passes.used from s.iter t.iter
   passes-use s t item passes from one = elim passes.draws [
     | inl draws ↦ draws-use passes.used s.iter t.iter draws from one
     | inr draws ↦ draws-end passes.used s.iter t.iter draws.0 from one
