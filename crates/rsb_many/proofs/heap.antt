@@ -1,3 +1,4 @@
+pub mod BoundExamples
 pub mod DigitExamples
 pub mod Digits
 pub mod Heads
