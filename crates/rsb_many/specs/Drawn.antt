@@ -1,12 +1,12 @@
 -- What a merge and a sweep of many streams hold.
-use Rattle.std.specs.Prelude.{◌≡◌, ℕ, ◌+◌, ◌*◌, ◌<◌, ◌≤◌, true, false, nat_eq, nat_le, nat_lt, ◌&&◌, Bool, List, [], ◌∷◌, ◌++◌, length, All, IsPermutation, Option, Some, None, IfSome}
+use Rattle.std.specs.Prelude.{◌≡◌, ℕ, ◌+◌, ◌*◌, ◌<◌, ◌≤◌, false, nat_eq, nat_le, nat_lt, ◌&&◌, Bool, List, [], ◌∷◌, ◌++◌, length, All, IsPermutation, Option, Some, None, IfSome}
 use Rattle.std.specs.Iterator.{size, IsFinite}
 use Rattle.std.specs.Option.{option_len}
 use Rattle.rsb_integer.specs.declared.integer.Integer.{Ghosts as Elements}
 use Rattle.rsb_streams.specs.Lookahead.{Uses}
 use Rattle.rsb_streams.specs.Stream.{◌⊆◌}
 use Rattle.rsb_streams.specs.declared.draw.Draw.{Ghosts as Stream}
-use Rattle.rsb_many.specs.Heads.{binary_digits, closing, TakesLeastHead}
+use Rattle.rsb_many.specs.Heads.{binary_digits, closing, started, TakesLeastHead}
 use Rattle.rsb_many.specs.Inputs.{input_at, inputs_left, AreReady, Inputs}
 use Rattle.rsb_many.specs.Many.{gives_of, may_give_at, IsBegun}
 use Rattle.rsb_many.specs.declared.drawn.Drawn.{Drawn}
@@ -35,16 +35,6 @@ pub record AddsUnstarted {T : Type 0} (old new : List (Head T)) : Type 0 where
   pub unstarted : All IsUnstarted came
   pub all : IsPermutation (came ++ old) new
 
--- the head of a range whose start was given
-abbrev pub started : {T : Type 0} → Head T → Head T
-started head = record {
-  at = head.end;
-  start = head.start;
-  end = head.end;
-  started = true;
-  input = head.input;
-}
-
 -- there is room for a head of each input, and one of them may have been used last
 pub record HasRoomForAll {T I A N : Type 0} (s : Drawn T I A N) : Type 0 where
   pub used : IfSome s.used (λ place. place < length s.streams.items)
@@ -58,7 +48,7 @@ module _ {T N I A : Type 0} (integer : Elements T N) (stream : Stream I T N) whe
     pub room : HasRoomForAll s
 
   -- the range that is due is drawn, if one is: no input uses anything. Few comparisons are made, of
-  -- which those that are left close the place of the head that came out last
+  -- which those that are left close the place of the head that came out last. Their count never falls
   pub record Refills (s t : Drawn T I A N) : Type 0 where
     pub ready : DrawnReady t
     pub none : t.used ≡ None
@@ -73,6 +63,7 @@ module _ {T N I A : Type 0} (integer : Elements T N) (stream : Stream I T N) whe
         ≤ size (inputs_left integer stream (inputs_of s)))
     pub compared : t.heads.comparisons + closing t.heads
         ≤ s.heads.comparisons + 2 * binary_digits (length s.streams.items)
+    pub counted : s.heads.comparisons ≤ t.heads.comparisons
 
   -- the least head leaves, and a range of its input is due
   pub record TakesHead (s : Drawn T I A N) (head : Head T) (t : Drawn T I A N) : Type 0 where

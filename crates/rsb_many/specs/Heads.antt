@@ -1,5 +1,8 @@
 -- The heads of inputs, of which the least comes out first.
-use Rattle.std.specs.Prelude.{ℕ, zero, suc, Bool, cond, nat_lt, ◌*◌, ◌/◌, ◌<◌, ◌≡◌, List, ◌∷◌, drop, length, All, IsFalse, IsPermutation}
+use Rattle.std.specs.Prelude.{ℕ, zero, suc, Bool, true, false, cond, nat_lt, ◌*◌, ◌/◌, ◌<◌, ◌≡◌, List, ◌∷◌, drop, length, All, IsFalse, IsPermutation}
+use Rattle.std.specs.Range.{range_inclusive_start, range_inclusive_end}
+use Rattle.std.specs.declared.ops.RangeInclusive.{RangeInclusive}
+use Rattle.rsb_integer.specs.Runs.{Interval}
 use Rattle.rsb_many.specs.Keys.{comes_before, Key}
 use Rattle.rsb_many.specs.declared.heads.Head.{Head}
 
@@ -15,6 +18,30 @@ pub record Kept (T : Type 0) : Type 0 where
 -- the heads of a list, but for the first where its place is open
 abbrev pub standing : {T : Type 0} → Bool → List (Head T) → List (Head T)
 standing is_open heads = drop (cond is_open 1 0) heads
+
+-- the ranks of the range of a head
+abbrev pub run_of_head : {T : Type 0} → (T → ℕ) → Head T → Interval
+run_of_head rank head = record { first = rank head.start; last = rank head.end }
+
+-- the head of a range that was drawn of an input: it stands at its start
+abbrev pub head_of : {T : Type 0} → ℕ → RangeInclusive T → Head T
+head_of input range = record {
+  at = range_inclusive_start range;
+  start = range_inclusive_start range;
+  end = range_inclusive_end range;
+  started = false;
+  input = input;
+}
+
+-- the head of a range whose start was given: it stands at its end
+abbrev pub started : {T : Type 0} → Head T → Head T
+started head = record {
+  at = head.end;
+  start = head.start;
+  end = head.end;
+  started = true;
+  input = head.input;
+}
 
 -- a head stands at the start of its range, or, once that was given, at its end
 abbrev pub key_of : {T : Type 0} → (T → ℕ) → Head T → Key

@@ -2,13 +2,13 @@
 use Rattle.std.proofs.Common.{◌≡◌, ℕ, set, IsPermutation, ◌+◌, ◌<◌, ◌≤◌, Bool, false, not, cond, nat_eq, List, [], ◌∷◌, length, slice_get}
 use Rattle.std.specs.Iterator.{Count, at_most, count_add, count_map, count_unless, MakesProgress}
 use Rattle.std.specs.Prelude.{zero, suc, All, IfSome, MatchOption, Option, Some}
-use Rattle.std.specs.Range.{range_inclusive_start, range_inclusive_end}
 use Rattle.std.specs.declared.ops.RangeInclusive.{RangeInclusive}
 use Rattle.rsb_integer.specs.Runs.{Interval}
 use Rattle.rsb_integer.specs.declared.integer.Integer.{Ghosts as Elements}
 use Rattle.rsb_streams.specs.Lookahead.{Input}
 use Rattle.rsb_streams.specs.Stream.{◌⊆◌, unless, HasSortedStarts, Outcomes}
 use Rattle.rsb_streams.specs.declared.draw.Draw.{Ghosts as Stream}
+use Rattle.rsb_many.specs.Heads.{head_of, run_of_head}
 use Rattle.rsb_many.specs.Many.{gives_of, may_give_at, merges_all}
 use Rattle.rsb_many.specs.declared.heads.Head.{Head}
 
@@ -18,10 +18,6 @@ pub record Inputs (T S : Type 0) : Type 0 where
   pub streams : List S
   pub heads : List (Head T)
   pub due : ℕ → Bool
-
--- the ranks of the range of a head
-abbrev pub run_of_head : {T : Type 0} → (T → ℕ) → Head T → Interval
-run_of_head rank head = record { first = rank head.start; last = rank head.end }
 
 -- the ranges of the heads of the input at a place
 abbrev pub held_at : {T : Type 0} → (T → ℕ) → List (Head T) → ℕ → List Interval
@@ -63,16 +59,6 @@ module _ {T N S : Type 0} (integer : Elements T N) (stream : Stream S T N) where
     pub sorted : (place : ℕ) → gives_of (input_at s place) ⊆ HasSortedStarts value_count
     pub one : (place : ℕ) → length (held_at rank s.heads place) + cond (s.due place) 1 0 ≤ 1
     pub within : All (λ (head : Head T). head.input < length s.streams) s.heads
-
-  -- the head of a range that was drawn of the input at a place
-  abbrev pub head_of : ℕ → RangeInclusive T → Head T
-  head_of place range = record {
-    at = range_inclusive_start range;
-    start = range_inclusive_start range;
-    end = range_inclusive_end range;
-    started = false;
-    input = place;
-  }
 
   -- the stream at a place was drawn from: the head of its range went among the others, or it ended
   pub record DrawsAt (place : ℕ) (streams : List S) (heads : List (Head T)) (now_streams : List S)

@@ -27,13 +27,14 @@ module _ {T N I A : Type 0} (integer : Elements T N) (stream : Stream I T N) whe
   abbrev pub kmerge_inputs : KMerge T I A N → ℕ → Input
   kmerge_inputs s place = input_at integer stream (inputs_of s.inputs) place
 
-  -- a draw takes one range of one of the streams, with few comparisons
+  -- a draw takes one range of one of the streams, with few comparisons, whose count never falls
   pub record AsksInOrder (s : KMerge T I A N) (item : Option (RangeInclusive T))
       (t : KMerge T I A N) : Type 0 where
     pub takes : AsksOne integer.rank kmerge_inputs s item t
     pub count : length t.inputs.streams.items ≡ length s.inputs.streams.items
     pub compared : t.inputs.heads.comparisons
         ≤ s.inputs.heads.comparisons + comparison_bound (length s.inputs.streams.items)
+    pub counted : s.inputs.heads.comparisons ≤ t.inputs.heads.comparisons
 
   -- the merge: what is held and still to come of all, by starts
   abbrev pub kmerge : Stream (KMerge T I A N) T N

@@ -91,7 +91,7 @@ module _ {T N I A : Type 0} (integer : Elements T N) (stream : Stream I T N) whe
     pub ends : IsFinite (events_left s)
 
   -- the event, and then what may come after it, might come before it. After `None` the sweep may be
-  -- called again, and no events come. Few comparisons are made
+  -- called again, and no events come. Few comparisons are made, and their count never falls
   pub record Sweeps (s : MultiwaySweep T I A N) (item : Option (SweepEvent T))
       (t : MultiwaySweep T I A N) : Type 0 where
     pub answers : MatchOption item (sweep_may_give s [])
@@ -107,6 +107,7 @@ module _ {T N I A : Type 0} (integer : Elements T N) (stream : Stream I T N) whe
     pub count : stream_count t ≡ stream_count s
     pub compared : t.inputs.heads.comparisons
         ≤ s.inputs.heads.comparisons + comparison_bound (stream_count s)
+    pub counted : s.inputs.heads.comparisons ≤ t.inputs.heads.comparisons
 
   -- a sweep just made of streams, of which no range overlaps another: it may be called, all that may
   -- come are the events of lists that they may give, and the first range of each is drawn

@@ -61,16 +61,10 @@ impl<T: Integer, I: Draw<T>, A: Allocator> Drawn<T, I, A> {
         ensures room { self.old.heads.room ≤ self.new.heads.room }
         ensures compared { self.new.heads.comparisons + closing self.new.heads
             ≤ self.old.heads.comparisons + 2 * binary_digits (length self.new.heads.heads) }
+        ensures counted { self.old.heads.comparisons ≤ self.new.heads.comparisons }
     {
         if let Some(range) = self.streams[place].draw() {
-            let (start, end) = range.into_inner();
-            self.heads.push(Head {
-                at: start,
-                start,
-                end,
-                started: false,
-                input: place,
-            });
+            self.heads.push_range(range, place);
         }
     }
 
@@ -92,9 +86,10 @@ impl<T: Integer, I: Draw<T>, A: Allocator> Drawn<T, I, A> {
         ensures values { IfSome result (HasValues T.rank T.value_count) }
         ensures compared { self.new.heads.comparisons
             ≤ self.old.heads.comparisons + closing self.old.heads }
+        ensures counted { self.old.heads.comparisons ≤ self.new.heads.comparisons }
     {
         let head = self.heads.pop()?;
-        self.used = Some(head.input);
+        self.used = Some(head.input());
         Some(head)
     }
 
@@ -105,12 +100,9 @@ impl<T: Integer, I: Draw<T>, A: Allocator> Drawn<T, I, A> {
         ensures back { PutsBack self.old head self.new }
         ensures compared { self.new.heads.comparisons
             ≤ self.old.heads.comparisons + 2 * binary_digits (length self.new.heads.heads) }
+        ensures counted { self.old.heads.comparisons ≤ self.new.heads.comparisons }
     {
-        self.heads.push(Head {
-            at: head.end,
-            started: true,
-            ..head
-        });
+        self.heads.put_back(head);
         self.used = None;
     }
 

@@ -14,9 +14,9 @@ use std::alloc::{AllocError, Allocator, Global};
 use std::iter::FusedIterator;
 use std::ops::RangeInclusive;
 
-/// The ranges of any number of streams, by their starts, of those that start alike by their inputs.
-/// It draws a range of a stream only where the one that it held was given, and one more is asked
-/// for. Room is taken when it is built alone. (`KMerge` of the Rust crate.)
+/// The ranges of any number of streams, by their starts. The order of ranges that start alike is left
+/// open. It draws a range of a stream only if the one that it held was returned and one more is asked
+/// for. Allocates only when it is built. (`KMerge` of the Rust crate.)
 #[derive(Debug, Drop)]
 pub struct KMerge<T: Integer, I, A: Allocator = Global> {
     inputs: Drawn<T, I, A>,
@@ -64,7 +64,7 @@ impl<T: Integer, I: Draw<T>, A: Allocator> Iterator for KMerge<T, I, A> {
     fn next(&mut self) -> Option<RangeInclusive<T>> {
         self.inputs.refill();
         let head = self.inputs.take()?;
-        Some(head.start..=head.end)
+        Some(head.range())
     }
 }
 

@@ -101,16 +101,16 @@ impl<T: Integer, I: Draw<T>, A: Allocator> Iterator for MultiwaySweep<T, I, A> {
     fn next(&mut self) -> Option<SweepEvent<T>> {
         self.inputs.refill();
         let head = self.inputs.take()?;
-        if head.started {
+        if head.is_started() {
             return Some(SweepEvent::End {
-                at: head.end,
-                input: head.input,
+                at: head.end(),
+                input: head.input(),
             });
         }
         self.inputs.put_back(head);
         Some(SweepEvent::Start {
-            range: head.start..=head.end,
-            input: head.input,
+            range: head.range(),
+            input: head.input(),
         })
     }
 }

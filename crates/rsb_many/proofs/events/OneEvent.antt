@@ -16,9 +16,9 @@ use Rattle.rsb_streams.specs.TouchingLaws.{touching-canonical_in, touching-lower
 use Rattle.rsb_streams.specs.declared.draw.Draw.{Ghosts as Stream}
 use Rattle.rsb_streams.proofs.lookahead.EachCall.{uses-then}
 use Rattle.rsb_streams.proofs.sources.Known.{IsLawful}
-use Rattle.rsb_many.specs.Drawn.{inputs_of, is_at, started, DrawnReady, HasNoHead, IsBegunOf, PutsBack, Refills, TakesHead}
-use Rattle.rsb_many.specs.Heads.{binary_digits, closing, key_of}
-use Rattle.rsb_many.specs.Inputs.{has_ended, held_at, input_at, run_of_head}
+use Rattle.rsb_many.specs.Drawn.{inputs_of, is_at, DrawnReady, HasNoHead, IsBegunOf, PutsBack, Refills, TakesHead}
+use Rattle.rsb_many.specs.Heads.{binary_digits, closing, key_of, run_of_head, started}
+use Rattle.rsb_many.specs.Inputs.{has_ended, held_at, input_at}
 use Rattle.rsb_many.specs.KMerge.{comparison_bound}
 use Rattle.rsb_many.specs.KMergeLaws.{inputs-finite, some-by}
 use Rattle.rsb_many.specs.Keys.{comes_before}
@@ -302,8 +302,9 @@ module _ {T N I A : Type 0} (integer : Elements T N) (stream : Stream I T N)
 
       -- all that is known of such an answer
       pub end-known : t.inputs.heads.comparisons ≤ m.heads.comparisons + closing m.heads
+          → m.heads.comparisons ≤ t.inputs.heads.comparisons
           → Sweeps integer stream s (Some (events.End head.end head.input)) t
-      end-known compared = record {
+      end-known compared counted = record {
         answers = end-told;
         rests = tt;
         asks = record {
@@ -318,6 +319,7 @@ module _ {T N I A : Type 0} (integer : Elements T N) (stream : Stream I T N)
         holds = λ place. omega (arith, end-ready.drawn.inputs.one place);
         count = end-count;
         compared = few-made t.inputs.heads.comparisons (omega (arith, compared));
+        counted = omega (arith, filled.counted, counted);
       }
 
       -- and it goes on
@@ -440,8 +442,10 @@ module _ {T N I A : Type 0} (integer : Elements T N) (stream : Stream I T N)
           → u.heads.comparisons ≤ m.heads.comparisons + closing m.heads
           → t.inputs.heads.comparisons
           ≤ u.heads.comparisons + 2 * binary_digits (length t.inputs.heads.heads)
+          → m.heads.comparisons ≤ u.heads.comparisons
+          → u.heads.comparisons ≤ t.inputs.heads.comparisons
           → Sweeps integer stream s (Some (events.Start range head.input)) t
-      start-known range is first second = record {
+      start-known range is first second taken put_back = record {
         answers = λ told may. subst (λ each. sweep_may_give integer stream s
             (Start each head.input ∷ told)) (sym is) (start-told told may);
         rests = tt;
@@ -452,6 +456,7 @@ module _ {T N I A : Type 0} (integer : Elements T N) (stream : Stream I T N)
             let many = ap (λ count. binary_digits count)
             (back-many integer stream m filled.ready filled.none u head takes t.inputs back) in
             few-made t.inputs.heads.comparisons (omega (arith, first, second, many));
+        counted = omega (arith, filled.counted, taken, put_back);
       }
 
       -- and it goes on
@@ -475,8 +480,9 @@ module _ {T N I A : Type 0} (integer : Elements T N) (stream : Stream I T N)
 
       -- all that is known of such an answer
       pub none-known : t.inputs.heads.comparisons ≤ m.heads.comparisons + closing m.heads
+          → m.heads.comparisons ≤ t.inputs.heads.comparisons
           → Sweeps integer stream s None t
-      none-known compared = record {
+      none-known compared counted = record {
         answers = events-may_end (stream_count s)
             (λ place. gives_of (sweep_inputs integer stream s place))
             (has_begun s.inputs.heads.heads)
@@ -495,4 +501,5 @@ module _ {T N I A : Type 0} (integer : Elements T N) (stream : Stream I T N)
         holds = λ place. omega (arith, none-again.drawn.inputs.one place);
         count = none-long integer stream m filled.ready filled.none t.inputs empty ∙ filled.count;
         compared = few-made t.inputs.heads.comparisons (omega (arith, compared));
+        counted = omega (arith, filled.counted, counted);
       }

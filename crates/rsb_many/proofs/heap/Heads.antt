@@ -45,18 +45,16 @@ module _ {T : Type 0} (rank : T → ℕ) where
       subst Fact (sym is)
       (All-get_or Fact heads place head within (All-permutation Fact old heads kept all))
 
-  -- what was answered of heads at two places holds of the keys there
-  pub answer-at : (heads : List (Head T)) (place next : ℕ) (one two : Head T) (answer test : Bool)
-      → place < length heads → next < length heads → one ≡ slice_index_or heads place one
-      → two ≡ slice_index_or heads next two
-      → answer ≡ comes_before (key_of rank one) (key_of rank two) → answer ≡ test
-      → (other : Head T)
+  -- what was answered of a place and a head holds of the keys there and where that head lies
+  pub answer-at : (heads : List (Head T)) (place next : ℕ) (two : Head T) (answer test : Bool)
+      → next < length heads → two ≡ slice_index_or heads next two
+      → ((none : Head T) → answer ≡ comes_before (key_at rank heads none place) (key_of rank two))
+      → answer ≡ test → (other : Head T)
       → comes_before (key_at rank heads other place) (key_at rank heads other next) ≡ test
-  answer-at heads place next one two answer test within next_within one_is two_is answered is
-      other =
-      comes_before-as (key_at-is heads place one other within one_is)
-      (key_at-is heads next two other next_within two_is)
-      ∙ (sym answered ∙ is)
+  answer-at heads place next two answer test within two_is answered is other =
+      ap (comes_before (key_at rank heads other place))
+      (key_at-is heads next two other within two_is)
+      ∙ (sym (answered other) ∙ is)
 
   -- a head that sinks is held beside the list, in which another lies where it stands: it and the
   -- next one under it change places
@@ -163,33 +161,32 @@ module _ {T : Type 0} (rank : T → ℕ) where
       (first-least keys (length heads) (heap head) place place (omega arith) within)) in
       All-tail Fact head rest (All-permutation Fact heads (head ∷ rest) kept all)
 
-  -- the two heads under a place
-  module _ (heads : List (Head T)) (place : ℕ) (left right : Head T)
+  -- the two heads under a place, of which the left one is this
+  module _ (heads : List (Head T)) (place : ℕ) (left : Head T)
       (within : 2 * place + 1 + 1 < length heads)
-      (left_is : left ≡ slice_index_or heads (2 * place + 1) left)
-      (right_is : right ≡ slice_index_or heads (2 * place + 1 + 1) right) where
-    -- their keys
+      (left_is : left ≡ slice_index_or heads (2 * place + 1) left) where
+    -- its key
     left_key : (other : Head T) → key_at rank heads other (2 * place + 1) ≡ key_of rank left
     left_key other = key_at-is heads (2 * place + 1) left other (omega (arith, within)) left_is
 
-    right_key : (other : Head T) → key_at rank heads other (2 * place + 1 + 1) ≡ key_of rank right
-    right_key other = key_at-is heads (2 * place + 1 + 1) right other within right_is
-
     -- where the right one comes first, it is the lesser
-    pub right-lesser : IsTrue (comes_before (key_of rank right) (key_of rank left))
+    pub right-lesser : ((other : Head T)
+        → IsTrue (comes_before (key_at rank heads other (2 * place + 1 + 1)) (key_of rank left)))
         → IsLesserChild rank heads place (2 * place + 1 + 1)
     right-lesser first = record {
       under = (omega arith, within, omega arith);
       lesser = λ other next some short same. cases_place next (2 * place + 1 + 1)
           (λ is. rw is (comes_before-itself (key_at rank heads other (2 * place + 1 + 1))))
           (λ not.
+          let right = key_at rank heads other (2 * place + 1 + 1) in
           let is : next ≡ 2 * place + 1 = omega (arith, some, same, not) in
-          comes_before-as (ap (key_at rank heads other) is ∙ left_key other) (right_key other)
-          ∙ comes_before-one_way (key_of rank right) (key_of rank left) first);
+          ap (λ key. comes_before key right) (ap (key_at rank heads other) is ∙ left_key other)
+          ∙ comes_before-one_way right (key_of rank left) (first other));
     }
 
     -- else the left one is
-    pub left-lesser : IsFalse (comes_before (key_of rank right) (key_of rank left))
+    pub left-lesser : ((other : Head T)
+        → IsFalse (comes_before (key_at rank heads other (2 * place + 1 + 1)) (key_of rank left)))
         → IsLesserChild rank heads place (2 * place + 1)
     left-lesser most = record {
       under = (omega arith, omega (arith, within), omega arith);
@@ -197,8 +194,7 @@ module _ {T : Type 0} (rank : T → ℕ) where
           (λ is. rw is (comes_before-itself (key_at rank heads other (2 * place + 1))))
           (λ not.
           let is : next ≡ 2 * place + 1 + 1 = omega (arith, some, same, not) in
-          comes_before-as (ap (key_at rank heads other) is ∙ right_key other) (left_key other)
-          ∙ most);
+          comes_before-as (ap (key_at rank heads other) is) (left_key other) ∙ most other);
     }
 
   -- a list with one head more at its end, moved about, has that head and those before

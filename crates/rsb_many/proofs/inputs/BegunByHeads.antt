@@ -9,8 +9,8 @@ use Rattle.std.proofs.lemmas.List.{length-append}
 use Rattle.rsb_integer.proofs.ListLemmas.{true_or_false}
 use Rattle.rsb_integer.specs.Runs.{Interval}
 use Rattle.rsb_many.specs.Drawn.{AddsUnstarted, IsUnstarted}
-use Rattle.rsb_many.specs.Heads.{key_of}
-use Rattle.rsb_many.specs.Inputs.{held_at, run_of_head}
+use Rattle.rsb_many.specs.Heads.{key_of, run_of_head}
+use Rattle.rsb_many.specs.Inputs.{held_at}
 use Rattle.rsb_many.specs.Keys.{comes_before}
 use Rattle.rsb_many.specs.MultiwaySweep.{events_of_head, has_begun}
 use Rattle.rsb_many.specs.Sweep.{events_of_rest, key_of_event, rest_by, End, Event, Start}

@@ -15,8 +15,8 @@ use Rattle.rsb_streams.proofs.lookahead.EachCall.{uses-nothing}
 use Rattle.rsb_streams.proofs.sources.Known.{IsLawful}
 use Rattle.rsb_streams.proofs.joining.Gathered.{head-sorted}
 use Rattle.rsb_many.specs.Drawn.{inputs_of, is_at, AddsUnstarted, DrawnReady, IsUnstarted, Refills}
-use Rattle.rsb_many.specs.Heads.{binary_digits, closing, HasValues, Kept}
-use Rattle.rsb_many.specs.Inputs.{has_ended, head_of, input_at, inputs_left, DrawsAt}
+use Rattle.rsb_many.specs.Heads.{binary_digits, closing, head_of, HasValues, Kept}
+use Rattle.rsb_many.specs.Inputs.{has_ended, input_at, inputs_left, DrawsAt}
 use Rattle.rsb_many.specs.declared.drawn.Drawn.{Drawn}
 use Rattle.rsb_many.specs.declared.heads.Head.{Head}
 use Rattle.rsb_many.proofs.heap.Digits.{binary_digits-more}
@@ -49,7 +49,7 @@ module _ {T N I : Type 0} (integer : Elements T N) (stream : Stream I T N)
   pub values-drawn : (before after : I) (range : RangeInclusive T) (place : ℕ)
       → stream.can_draw before → stream.draw_gives before (Some range) after
       → MakesProgress stream.can_draw stream.draws_left before (Some range) after
-      → HasValues rank n (head_of integer stream place range)
+      → HasValues rank n (head_of place range)
   values-drawn before after range place can call goes =
       let sorted = head-sorted n 0 (interval_of rank range) (stream.may_give after)
       (laws.sorted after goes.keeps).some
@@ -82,6 +82,7 @@ module _ {T N I : Type 0} (integer : Elements T N) (stream : Stream I T N)
         left = λ finite. (finite, omega arith);
         compared = few-closing s.heads (length s.streams.items)
             (omega (arith, ready.room.few));
+        counted = omega arith;
       })
 
   -- the range that was due was drawn
@@ -92,6 +93,7 @@ module _ {T N I : Type 0} (integer : Elements T N) (stream : Stream I T N)
       t.heads.heads)
       (compared : t.heads.comparisons + closing t.heads
       ≤ s.heads.comparisons + 2 * binary_digits (length t.heads.heads))
+      (counted : s.heads.comparisons ≤ t.heads.comparisons)
     where
       -- it was due
       due : is_at s.used place ≡ true
@@ -151,17 +153,18 @@ module _ {T N I : Type 0} (integer : Elements T N) (stream : Stream I T N)
         compared =
             let more = binary_digits-more (length t.heads.heads) (length s.streams.items) few in
             omega (arith, compared, more);
+        counted = counted;
       }
         where
           -- the head that came is new, by what was drawn
           came-by : (item : Option (RangeInclusive T))
               → MatchOption item (t.heads.heads ≡ s.heads.heads)
-              (λ range. IsPermutation (head_of integer stream place range ∷ s.heads.heads)
+              (λ range. IsPermutation (head_of place range ∷ s.heads.heads)
               t.heads.heads)
               → AddsUnstarted s.heads.heads t.heads.heads
           came-by None kept = nothing-came s.heads.heads t.heads.heads kept
           came-by (Some range) kept =
-              let head = head_of integer stream place range in
+              let head = head_of place range in
               record {
                 came = head ∷ [];
                 unstarted = All-cons IsUnstarted head [] refl (All-nil IsUnstarted);

@@ -11,9 +11,9 @@ use Rattle.rsb_integer.proofs.ListLemmas.{true_or_false}
 use Rattle.rsb_streams.specs.Lookahead.{Ends, GivesFrom, HasEnded, Input, Uses}
 use Rattle.rsb_streams.specs.Stream.{◌⊆◌, just}
 use Rattle.rsb_streams.specs.declared.draw.Draw.{Ghosts as Stream}
-use Rattle.rsb_many.specs.Drawn.{inputs_of, is_at, started, DrawnReady, HasNoHead, PutsBack, TakesHead}
-use Rattle.rsb_many.specs.Heads.{binary_digits}
-use Rattle.rsb_many.specs.Inputs.{has_ended, held_at, input_at, left_of, run_of_head, AreReady, Inputs}
+use Rattle.rsb_many.specs.Drawn.{inputs_of, is_at, DrawnReady, HasNoHead, PutsBack, TakesHead}
+use Rattle.rsb_many.specs.Heads.{binary_digits, run_of_head, started}
+use Rattle.rsb_many.specs.Inputs.{has_ended, held_at, input_at, left_of, AreReady, Inputs}
 use Rattle.rsb_many.specs.KMerge.{comparison_bound}
 use Rattle.rsb_many.specs.Many.{gives_of}
 use Rattle.rsb_many.specs.declared.drawn.Drawn.{Drawn}

@@ -5,7 +5,8 @@ use Rattle.std.proofs.lemmas.List.Sorted.{All-permutation, sum_by-IsPermutation}
 use Rattle.std.proofs.lemmas.List.Sums.{sum_by-cons}
 use Rattle.rsb_integer.proofs.ListLemmas.{true_or_false, Contains-cases, Contains-head, Contains-tail}
 use Rattle.rsb_integer.specs.Runs.{Interval}
-use Rattle.rsb_many.specs.Inputs.{held_at, run_of_head}
+use Rattle.rsb_many.specs.Heads.{run_of_head}
+use Rattle.rsb_many.specs.Inputs.{held_at}
 use Rattle.rsb_many.specs.declared.heads.Head.{Head}
 
 -- ---- heads

@@ -18,7 +18,8 @@ use Rattle.rsb_streams.specs.Stream.{◌⊆◌, unless, HasSortedStarts, HasSort
 use Rattle.rsb_streams.specs.declared.draw.Draw.{Ghosts as Stream}
 use Rattle.rsb_streams.proofs.sources.Known.{IsLawful}
 use Rattle.rsb_streams.proofs.joining.Gathered.{head-sorted}
-use Rattle.rsb_many.specs.Inputs.{head_of, held_at, input_at, is_over, has_ended, run_of_head, AreReady, DrawsAt, Inputs}
+use Rattle.rsb_many.specs.Heads.{head_of, run_of_head}
+use Rattle.rsb_many.specs.Inputs.{held_at, input_at, is_over, has_ended, AreReady, DrawsAt, Inputs}
 use Rattle.rsb_many.specs.Many.{gives_of}
 use Rattle.rsb_many.specs.declared.heads.Head.{Head}
 use Rattle.rsb_many.specs.Drawn.{IsUnstarted}
@@ -138,11 +139,11 @@ module _ {T N S : Type 0} (integer : Elements T N) (stream : Stream S T N) where
     -- what is held of the others stays, by what was drawn
     held-by : (item : Option (RangeInclusive T)) (other : ℕ) → ¬ (other ≡ place)
         → MatchOption item (t.heads ≡ s.heads)
-        (λ range. IsPermutation (head_of integer stream place range ∷ s.heads) t.heads)
+        (λ range. IsPermutation (head_of place range ∷ s.heads) t.heads)
         → held_at rank t.heads other ≡ held_at rank s.heads other
     held-by None other differs kept = ap (λ heads. held_at rank heads other) kept
     held-by (Some range) other differs kept =
-        held_at-others s.heads t.heads (head_of integer stream place range) other kept differs
+        held_at-others s.heads t.heads (head_of place range) other kept differs
         (omega (arith, ready.one other))
 
     -- what is held of the others stays
@@ -178,22 +179,22 @@ module _ {T N S : Type 0} (integer : Elements T N) (stream : Stream S T N) where
 
     -- its head has its ranks
     run_of-drawn : (range : RangeInclusive T) → draws.item ≡ Some range
-        → interval_of rank range ≡ run_of_head rank (head_of integer stream place range)
+        → interval_of rank range ≡ run_of_head rank (head_of place range)
     run_of-drawn range is = interval_of-some rank range (drawn-sorted range is).1
 
     -- what is held of the input then, by what was drawn
     abbrev now-held : (item : Option (RangeInclusive T)) → List Interval
     now-held None = []
-    now-held (Some range) = run_of_head rank (head_of integer stream place range) ∷ []
+    now-held (Some range) = run_of_head rank (head_of place range) ∷ []
 
     -- so it is
     held-here : (item : Option (RangeInclusive T))
         → MatchOption item (t.heads ≡ s.heads)
-        (λ range. IsPermutation (head_of integer stream place range ∷ s.heads) t.heads)
+        (λ range. IsPermutation (head_of place range ∷ s.heads) t.heads)
         → held_at rank t.heads place ≡ now-held item
     held-here None kept = ap (λ heads. held_at rank heads place) kept ∙ none-held
     held-here (Some range) kept =
-        let head = head_of integer stream place range in
+        let head = head_of place range in
         let whole : held_at rank (head ∷ s.heads) place ≡ run_of_head rank head ∷ [] =
         rw (nat_eq-itself place) (ap (λ runs. run_of_head rank head ∷ runs) none-held) in
         let short : length (held_at rank (head ∷ s.heads) place) ≤ 1 =
@@ -218,7 +219,7 @@ module _ {T N S : Type 0} (integer : Elements T N) (stream : Stream S T N) where
           in_order = append-nil (held_at rank s.heads place) ∙ none-held ∙ sym held;
         }
     uses-by (Some range) is held =
-        let head = head_of integer stream place range in
+        let head = head_of place range in
         let run = run_of_head rank head in
         let call = subst (λ each. stream.draw_gives draws.before each draws.after) is draws.call in
         record {
@@ -274,12 +275,12 @@ module _ {T N S : Type 0} (integer : Elements T N) (stream : Stream S T N) where
     -- each head is of an input, by what was drawn
     within-by : (item : Option (RangeInclusive T))
         → MatchOption item (t.heads ≡ s.heads)
-        (λ range. IsPermutation (head_of integer stream place range ∷ s.heads) t.heads)
+        (λ range. IsPermutation (head_of place range ∷ s.heads) t.heads)
         → All (λ (head : Head T). head.input < length s.streams) t.heads
     within-by None kept =
         subst (All (λ (head : Head T). head.input < length s.streams)) (sym kept) ready.within
     within-by (Some range) kept =
-        let head = head_of integer stream place range in
+        let head = head_of place range in
         All-permutation (λ (each : Head T). each.input < length s.streams) (head ∷ s.heads) t.heads
         kept (All-cons (λ (each : Head T). each.input < length s.streams) head s.heads less
         ready.within)
@@ -326,11 +327,11 @@ module _ {T N S : Type 0} (integer : Elements T N) (stream : Stream S T N) where
     -- so many more heads are held, by what was drawn
     more-by : (item : Option (RangeInclusive T))
         → MatchOption item (t.heads ≡ s.heads)
-        (λ range. IsPermutation (head_of integer stream place range ∷ s.heads) t.heads)
+        (λ range. IsPermutation (head_of place range ∷ s.heads) t.heads)
         → length t.heads ≡ length s.heads + drawn_count item
     more-by None kept = let same = ap (λ (heads : List (Head T)). length heads) kept in omega (arith, same)
     more-by (Some range) kept =
-        let long = length_permutation (head_of integer stream place range ∷ s.heads) t.heads kept in
+        let long = length_permutation (head_of place range ∷ s.heads) t.heads kept in
         omega (arith, long)
 
     -- so many more heads are held
@@ -370,11 +371,11 @@ module _ {T N S : Type 0} (integer : Elements T N) (stream : Stream S T N) where
     -- heads of which no start was given stay so, by what was drawn
     unstarted-by : (item : Option (RangeInclusive T))
         → MatchOption item (t.heads ≡ s.heads)
-        (λ range. IsPermutation (head_of integer stream place range ∷ s.heads) t.heads)
+        (λ range. IsPermutation (head_of place range ∷ s.heads) t.heads)
         → All IsUnstarted s.heads → All IsUnstarted t.heads
     unstarted-by None kept all = subst (All IsUnstarted) (sym kept) all
     unstarted-by (Some range) kept all =
-        let head = head_of integer stream place range in
+        let head = head_of place range in
         All-permutation IsUnstarted (head ∷ s.heads) t.heads kept
         (All-cons IsUnstarted head s.heads refl all)
 

@@ -14,8 +14,8 @@ use Rattle.rsb_streams.specs.declared.draw.Draw.{Ghosts as Stream}
 use Rattle.rsb_streams.proofs.lookahead.EachCall.{uses-then}
 use Rattle.rsb_streams.proofs.sources.Known.{IsLawful}
 use Rattle.rsb_many.specs.Drawn.{inputs_of, is_at, HasNoHead, IsBegunOf, IsUnstarted, Refills, TakesHead}
-use Rattle.rsb_many.specs.Heads.{closing, key_of}
-use Rattle.rsb_many.specs.Inputs.{input_at, inputs_left, inputs_merge, run_of_head, Inputs}
+use Rattle.rsb_many.specs.Heads.{closing, key_of, run_of_head}
+use Rattle.rsb_many.specs.Inputs.{input_at, inputs_left, inputs_merge, Inputs}
 use Rattle.rsb_many.specs.KMerge.{comparison_bound, kmerge, kmerge_inputs, KMergeReady, MakesKMerge}
 use Rattle.rsb_many.specs.Keys.{comes_before}
 use Rattle.rsb_many.specs.Many.{gives_of, may_give_at, merges_all}
@@ -178,8 +178,9 @@ module _ {T N I A : Type 0} (integer : Elements T N) (stream : Stream I T N)
     -- all that is known of such an answer
     pub head-known : (range : RangeInclusive T) → interval_of rank range ≡ run
         → t.inputs.heads.comparisons ≤ m.heads.comparisons + closing m.heads
+        → m.heads.comparisons ≤ t.inputs.heads.comparisons
         → (kmerge {A = A} integer stream).draw_gives s (Some range) t
-    head-known range is compared = record {
+    head-known range is compared counted = record {
       answers = λ rest may. subst (λ each. inputs_merge integer stream before (each ∷ rest)) (sym is)
           (head-answers rest may);
       rests = tt;
@@ -188,6 +189,7 @@ module _ {T N I A : Type 0} (integer : Elements T N) (stream : Stream I T N)
             (kmerge_inputs integer stream t)) (sym is) takes-one;
         count = long;
         compared = few-made t.inputs.heads.comparisons compared;
+        counted = omega (arith, filled.counted, counted);
       };
     }
 
@@ -212,8 +214,9 @@ module _ {T N I A : Type 0} (integer : Elements T N) (stream : Stream I T N)
 
     -- all that is known of such an answer
     pub none-known : t.inputs.heads.comparisons ≤ m.heads.comparisons + closing m.heads
+        → m.heads.comparisons ≤ t.inputs.heads.comparisons
         → (kmerge {A = A} integer stream).draw_gives s None t
-    none-known compared = record {
+    none-known compared counted = record {
       answers = merges_all-empty n (length before.streams)
           (λ place. gives_of (input_at integer stream before place))
           (λ place less. none-might integer stream m filled.ready filled.none t.inputs none
@@ -230,6 +233,7 @@ module _ {T N I A : Type 0} (integer : Elements T N) (stream : Stream I T N)
             (kmerge_inputs integer stream s) filled.uses;
         count = none-long integer stream m filled.ready filled.none t.inputs none ∙ filled.count;
         compared = few-made t.inputs.heads.comparisons compared;
+        counted = omega (arith, filled.counted, counted);
       };
     }
 

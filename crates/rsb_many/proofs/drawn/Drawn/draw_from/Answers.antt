@@ -1,4 +1,4 @@
-use Rattle.std.proofs.Common.{◌<◌, ap, arith, refl, subst, sym, ◌∙◌, Some, None}
+use Rattle.std.proofs.Common.{ap, refl, subst, sym, ◌∙◌, Some, None}
 use Rattle.std.specs.Prelude.{IfSome}
 use Rattle.rsb_many.proofs.inputs.Drawn.{values-drawn}
 use Rattle.rsb_many.proofs.inputs.Held.{slice_get-get_or}
@@ -12,22 +12,14 @@ laws g = record {
   sorted = g.met.I.Draw.sorted;
 }
 
-pub push-requires-clause-values : goal.push-requires-clause-values
-push-requires-clause-values g c =
+pub push_range-requires-clause-values : goal.push_range-requires-clause-values
+push_range-requires-clause-values g c =
     let found : g.I.Draw.can_draw c.index_mut.result.now =
     subst (λ each. IfSome each g.I.Draw.can_draw)
     (slice_get-get_or c.args.self.now.streams.items c.args.place c.index_mut.result.now
     c.requires.place ∙ ap Some (sym c.index_mut.ensures.value)) c.requires.ready in
-    let values = values-drawn g.T.Integer g.I.Draw (laws g) c.index_mut.result.now c.draw.new.self
-    c.in-Some.range c.args.place found c.in-Some.ensures.steps c.in-Some.ensures.goes in
-    let start : g.T.Integer.rank c.into_inner-start.result.0 < g.T.Integer.value_count =
-    omega (arith, values.start, ap g.T.Integer.rank c.into_inner-start.ensures.start) in
-    record {
-      at = start;
-      stands = refl;
-      start = start;
-      end = omega (arith, values.end, ap g.T.Integer.rank c.into_inner-start.ensures.end);
-    }
+    values-drawn g.T.Integer g.I.Draw (laws g) c.index_mut.result.now c.draw.new.self
+    c.in-Some.range c.args.place found c.in-Some.ensures.steps c.in-Some.ensures.goes
 
 pub returns-in-Some-clause-draws : goal.returns-in-Some-clause-draws
 returns-in-Some-clause-draws g c = record {
@@ -39,8 +31,7 @@ returns-in-Some-clause-draws g c = record {
   call = c.in-Some.ensures.steps;
   goes = c.in-Some.ensures.goes;
   stands = refl;
-  kept = rw (c.into_inner-start.ensures.start, c.into_inner-start.ensures.end)
-      at c.push.ensures.kept;
+  kept = c.push_range.ensures.kept;
 }
 
 pub returns-in_default-clause-draws : goal.returns-in_default-clause-draws

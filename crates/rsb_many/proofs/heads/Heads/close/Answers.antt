@@ -10,7 +10,7 @@ use Rattle.rsb_many.proofs.heads.Heads.close.Goals as goal
 pub sift_down-requires-clause-values : goal.sift_down-requires-clause-values
 sift_down-requires-clause-values g c =
     let Fact = HasValues g.T.Integer.rank g.T.Integer.value_count in
-    let old = c.self.inside.heads.items in
+    let old = c.self.inside.list.heads.items in
     let less = c.swap_remove.new.self.items in
     All-permutation Fact (drop 1 old) less
     (closed-kept g.T.Integer.rank old less less c.swap_remove.result c.swap_remove.ensures.items
@@ -19,29 +19,29 @@ sift_down-requires-clause-values g c =
 -- the last head stands first, and the others where they did
 pub sift_down-requires-clause-order : goal.sift_down-requires-clause-order
 sift_down-requires-clause-order g c =
-    let old = c.self.inside.heads.items in
+    let old = c.self.inside.list.heads.items in
     let less = c.swap_remove.new.self.items in
     let same = c.swap_remove.ensures.len in
     let short : length less + 1 ≡ length old =
-    omega (arith, same, c.self.inside.heads.ok.0, c.swap_remove.new.self.ok.0) in
+    omega (arith, same, c.self.inside.list.heads.ok.0, c.swap_remove.new.self.ok.0) in
     agreed-heap g.T.Integer.rank old less c.self.invariant.order (omega (arith, short))
     (λ place other some within. c.swap_remove.ensures.by_index.1 place other some
-    (omega (arith, within, short, c.self.inside.heads.ok.0)))
+    (omega (arith, within, short, c.self.inside.list.heads.ok.0)))
 
 -- the heads behind the first are moved about
 moved : (g : Over) (c : goal.After-sift_down g)
-    → IsPermutation (drop 1 c.self.inside.heads.items) c.sift_down.new.heads.items
-moved g c = closed-kept g.T.Integer.rank c.self.inside.heads.items c.swap_remove.new.self.items
-    c.sift_down.new.heads.items c.swap_remove.result c.swap_remove.ensures.items
+    → IsPermutation (drop 1 c.self.inside.list.heads.items) c.sift_down.new.self.heads.items
+moved g c = closed-kept g.T.Integer.rank c.self.inside.list.heads.items c.swap_remove.new.self.items
+    c.sift_down.new.self.heads.items c.swap_remove.result c.swap_remove.ensures.items
     c.sift_down.ensures.kept
 
 -- they have values, and the sift puts them in order
 pub invariant_of-self : goal.invariant_of-self
 invariant_of-self g c =
     let Fact = HasValues g.T.Integer.rank g.T.Integer.value_count in
-    let old = c.self.inside.heads.items in
+    let old = c.self.inside.list.heads.items in
     record {
-      values = All-permutation Fact (drop 1 old) c.sift_down.new.heads.items (moved g c)
+      values = All-permutation Fact (drop 1 old) c.sift_down.new.self.heads.items (moved g c)
           (All-drop Fact 1 old c.self.invariant.values);
       order = c.sift_down.ensures.order;
       some = λ yes. absurd (cc);
@@ -50,15 +50,15 @@ invariant_of-self g c =
 -- they are those that stood there
 pub returns-then-self-clause-kept : goal.returns-then-self-clause-kept
 returns-then-self-clause-kept g c =
-    subst (λ before. IsPermutation before.heads c.sift_down.new.heads.items) c.self.view_is
-    (subst (λ is_open. IsPermutation (standing is_open c.self.inside.heads.items)
-    c.sift_down.new.heads.items) (sym c.if-self.true) (moved g c))
+    subst (λ before. IsPermutation before.heads c.sift_down.new.self.heads.items) c.self.view_is
+    (subst (λ is_open. IsPermutation (standing is_open c.self.inside.list.heads.items)
+    c.sift_down.new.self.heads.items) (sym c.if-self.true) (moved g c))
 
 -- as many are compared
 pub returns-then-self-clause-compared : goal.returns-then-self-clause-compared
 returns-then-self-clause-compared g c =
-    let old = c.self.inside.heads.items in
-    let new = c.sift_down.new.heads.items in
+    let old = c.self.inside.list.heads.items in
+    let new = c.sift_down.new.self.heads.items in
     let same = ap binary_digits (length_permutation (drop 1 old) new (moved g c)) in
-    subst (λ before. c.sift_down.new.comparisons.made ≤ before.comparisons + closing before)
+    subst (λ before. c.sift_down.new.self.comparisons.made ≤ before.comparisons + closing before)
     c.self.view_is (rw c.if-self.true (omega (arith, c.sift_down.ensures.compared, same)))

@@ -12,10 +12,10 @@ use Rattle.rsb_many.proofs.heads.Heads.pop.Goals as goal
 -- no head was there
 pub returns-then-is_empty-clause-taken : goal.returns-then-is_empty-clause-taken
 returns-then-is_empty-clause-taken g c =
-    let items = c.self.inside.heads.items in
-    let none = eqb-true (vec_len c.self.inside.heads) 0
+    let items = c.self.inside.list.heads.items in
+    let none = eqb-true (vec_len c.self.inside.list.heads) 0
     (sym c.is_empty.ensures ∙ c.if-is_empty.true) in
-    let nothing : items ≡ [] = nil_from_length items (omega (arith, none, c.self.inside.heads.ok.0)) in
+    let nothing : items ≡ [] = nil_from_length items (omega (arith, none, c.self.inside.list.heads.ok.0)) in
     let closed : c.self.inside.is_open ≡ false =
     subst (λ kept. IsFalse kept.is_open) (sym c.self.view_is) c.close.ensures.closed in
     let now : c.close.new.self.heads ≡ [] = sym (ap (λ kept. kept.heads) c.self.view_is)
@@ -25,16 +25,16 @@ returns-then-is_empty-clause-taken g c =
     (nil_from_length c.args.self.now.heads (omega (arith, long, same)), now)
 
 -- a head is there
-some-there : (g : Over) (c : goal.After-result-1 g) → 0 < length c.self.inside.heads.items
+some-there : (g : Over) (c : goal.After-result-1 g) → 0 < length c.self.inside.list.heads.items
 some-there g c =
-    let none = eqb-false (vec_len c.self.inside.heads) 0
+    let none = eqb-false (vec_len c.self.inside.list.heads) 0
     (sym c.is_empty.ensures ∙ c.if-is_empty.false) in
-    omega (arith, none, c.self.inside.heads.ok.0)
+    omega (arith, none, c.self.inside.list.heads.ok.0)
 
 -- it stands before the others
 first-there : (g : Over) (c : goal.After-result-1 g)
-    → c.self.inside.heads.items ≡ c.index.result.now ∷ drop 1 c.self.inside.heads.items
-first-there g c = first-drop g.T.Integer.rank c.self.inside.heads.items c.index.result.now
+    → c.self.inside.list.heads.items ≡ c.index.result.now ∷ drop 1 c.self.inside.list.heads.items
+first-there g c = first-drop g.T.Integer.rank c.self.inside.list.heads.items c.index.result.now
     (some-there g c) c.index.ensures
 
 -- it stays where it is
@@ -49,7 +49,7 @@ invariant_of-self g c = record {
 pub returns-clause-taken : goal.returns-clause-taken
 returns-clause-taken g c =
     let rank = g.T.Integer.rank in
-    let items = c.self.inside.heads.items in
+    let items = c.self.inside.list.heads.items in
     let head = c.index.result.now in
     let closed : c.self.inside.is_open ≡ false =
     subst (λ kept. IsFalse kept.is_open) (sym c.self.view_is) c.close.ensures.closed in
@@ -66,7 +66,7 @@ returns-clause-taken g c =
 -- it has values
 pub returns-clause-values : goal.returns-clause-values
 returns-clause-values g c =
-    let items = c.self.inside.heads.items in
+    let items = c.self.inside.list.heads.items in
     fact-at g.T.Integer.rank (HasValues g.T.Integer.rank g.T.Integer.value_count) items items
     c.self.invariant.values (IsPermutation-refl items) 0 c.index.result.now (some-there g c)
     c.index.ensures

@@ -12,7 +12,7 @@ use Rattle.rsb_many.proofs.heads.Heads.push.Goals as goal
 pub sift_down-requires-clause-values : goal.sift_down-requires-clause-values
 sift_down-requires-clause-values g c =
     let Fact = HasValues g.T.Integer.rank g.T.Integer.value_count in
-    let old = c.self.inside.heads.items in
+    let old = c.self.inside.list.heads.items in
     let more = set old 0 c.args.head in
     let some = c.self.invariant.some c.if-self.true in
     All-permutation Fact (c.args.head ∷ drop 1 old) more
@@ -22,24 +22,24 @@ sift_down-requires-clause-values g c =
 
 pub sift_down-requires-clause-order : goal.sift_down-requires-clause-order
 sift_down-requires-clause-order g c =
-    let old = c.self.inside.heads.items in
+    let old = c.self.inside.list.heads.items in
     filled-heap g.T.Integer.rank old (set old 0 c.args.head) c.args.head refl
     c.self.invariant.order
 
 -- the new head and those behind it are moved about
 filled : (g : Over) (c : goal.After-sift_down g)
-    → IsPermutation (c.args.head ∷ drop 1 c.self.inside.heads.items) c.sift_down.new.heads.items
+    → IsPermutation (c.args.head ∷ drop 1 c.self.inside.list.heads.items) c.sift_down.new.self.heads.items
 filled g c =
-    let old = c.self.inside.heads.items in
-    filled-kept g.T.Integer.rank old (set old 0 c.args.head) c.sift_down.new.heads.items
+    let old = c.self.inside.list.heads.items in
+    filled-kept g.T.Integer.rank old (set old 0 c.args.head) c.sift_down.new.self.heads.items
     c.args.head (c.self.invariant.some c.if-self.true) refl c.sift_down.ensures.kept
 
 pub invariant_of-self : goal.invariant_of-self
 invariant_of-self g c =
     let Fact = HasValues g.T.Integer.rank g.T.Integer.value_count in
-    let old = c.self.inside.heads.items in
+    let old = c.self.inside.list.heads.items in
     record {
-      values = All-permutation Fact (c.args.head ∷ drop 1 old) c.sift_down.new.heads.items
+      values = All-permutation Fact (c.args.head ∷ drop 1 old) c.sift_down.new.self.heads.items
           (filled g c) (All-cons Fact c.args.head (drop 1 old) c.requires.values
           (All-drop Fact 1 old c.self.invariant.values));
       order = c.sift_down.ensures.order;
@@ -48,15 +48,15 @@ invariant_of-self g c =
 
 pub returns-then-self-clause-kept : goal.returns-then-self-clause-kept
 returns-then-self-clause-kept g c =
-    let new = c.sift_down.new.heads.items in
+    let new = c.sift_down.new.self.heads.items in
     subst (λ before. IsPermutation (c.args.head ∷ before.heads) new) c.self.view_is
     (subst (λ is_open. IsPermutation
-    (c.args.head ∷ standing is_open c.self.inside.heads.items) new) (sym c.if-self.true)
+    (c.args.head ∷ standing is_open c.self.inside.list.heads.items) new) (sym c.if-self.true)
     (filled g c))
 
 pub returns-then-self-clause-compared : goal.returns-then-self-clause-compared
 returns-then-self-clause-compared g c =
-    let new = c.sift_down.new in
+    let new = c.sift_down.new.self in
     subst (λ before. new.comparisons.made
     ≤ before.comparisons + 2 * binary_digits (length new.heads.items)) c.self.view_is
     c.sift_down.ensures.compared
@@ -65,14 +65,14 @@ returns-then-self-clause-compared g c =
 
 -- the head and all others are moved about
 added : (g : Over) (c : goal.After-sift_up g)
-    → IsPermutation (c.args.head ∷ c.self.inside.heads.items) c.sift_up.new.heads.items
-added g c = pushed-kept g.T.Integer.rank c.self.inside.heads.items c.push_reserved.new.self.items
-    c.sift_up.new.heads.items c.args.head c.push_reserved.ensures.items c.sift_up.ensures.kept
+    → IsPermutation (c.args.head ∷ c.self.inside.list.heads.items) c.sift_up.new.self.heads.items
+added g c = pushed-kept g.T.Integer.rank c.self.inside.list.heads.items c.push_reserved.new.self.items
+    c.sift_up.new.self.heads.items c.args.head c.push_reserved.ensures.items c.sift_up.ensures.kept
 
 pub sift_up-requires-clause-values : goal.sift_up-requires-clause-values
 sift_up-requires-clause-values g c =
     let Fact = HasValues g.T.Integer.rank g.T.Integer.value_count in
-    let old = c.self.inside.heads.items in
+    let old = c.self.inside.list.heads.items in
     let more = c.push_reserved.new.self.items in
     All-permutation Fact (c.args.head ∷ old) more
     (pushed-kept g.T.Integer.rank old more more c.args.head c.push_reserved.ensures.items
@@ -83,14 +83,14 @@ sift_up-requires-clause-values g c =
 pub sift_up-requires-clause-order : goal.sift_up-requires-clause-order
 sift_up-requires-clause-order g c =
     subst (IsHeapButLast g.T.Integer.rank) (sym c.push_reserved.ensures.items)
-    (pushed-heap g.T.Integer.rank c.self.inside.heads.items c.args.head c.self.invariant.order)
+    (pushed-heap g.T.Integer.rank c.self.inside.list.heads.items c.args.head c.self.invariant.order)
 
 pub invariant_of-self-else-self : goal.invariant_of-self-else-self
 invariant_of-self-else-self g c =
     let Fact = HasValues g.T.Integer.rank g.T.Integer.value_count in
-    let old = c.self.inside.heads.items in
+    let old = c.self.inside.list.heads.items in
     record {
-      values = All-permutation Fact (c.args.head ∷ old) c.sift_up.new.heads.items (added g c)
+      values = All-permutation Fact (c.args.head ∷ old) c.sift_up.new.self.heads.items (added g c)
           (All-cons Fact c.args.head old c.requires.values c.self.invariant.values);
       order = c.sift_up.ensures.order;
       some = λ yes. absurd (let no = c.if-self.false in cc);
@@ -98,14 +98,14 @@ invariant_of-self-else-self g c =
 
 pub returns-else-self-clause-kept : goal.returns-else-self-clause-kept
 returns-else-self-clause-kept g c =
-    let new = c.sift_up.new.heads.items in
+    let new = c.sift_up.new.self.heads.items in
     subst (λ before. IsPermutation (c.args.head ∷ before.heads)
     (standing c.self.inside.is_open new)) c.self.view_is
     (rw c.if-self.false (added g c))
 
 pub returns-else-self-clause-compared : goal.returns-else-self-clause-compared
 returns-else-self-clause-compared g c =
-    let new = c.sift_up.new in
+    let new = c.sift_up.new.self in
     subst (λ before. new.comparisons.made ≤ before.comparisons
     + 2 * binary_digits (length (standing c.self.inside.is_open new.heads.items))) c.self.view_is
     (rw c.if-self.false (omega (arith, c.sift_up.ensures.compared)))

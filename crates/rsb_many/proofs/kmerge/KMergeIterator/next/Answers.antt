@@ -1,6 +1,4 @@
-use Rattle.std.proofs.Common.{◌≡◌, refl, subst, sym}
-use Rattle.rsb_integer.specs.Rank.{interval_of}
-use Rattle.rsb_many.specs.Inputs.{run_of_head}
+use Rattle.std.proofs.Common.{subst, sym}
 use Rattle.rsb_many.specs.KMerge.{kmerge}
 use Rattle.rsb_many.proofs.merging.OneAnswer.{head-goes, head-known, none-known}
 use Rattle.rsb_streams.proofs.sources.Known.{IsLawful}
@@ -19,20 +17,15 @@ returns-in_err-head-clause-steps g c =
     (record { inputs = c.take.new.self })) (sym c.from_residual.ensures)
     (none-known g.T.Integer g.I.Draw (laws g) c.args.self.now
     (record { inputs = c.take.new.self }) c.refill.new.self c.requires c.refill.ensures
-    c.in_err-head.ensures.taken c.in_err-head.ensures.compared)
-
--- the range has the ranks of its head
-is-run : (g : Over) (c : goal.After-new g)
-    → interval_of g.T.Integer.rank c.new.result ≡ run_of_head g.T.Integer.rank c.in_ok-head.head
-is-run g c = rw (c.new.ensures.exhausted, c.new.ensures.start, c.new.ensures.end) refl
+    c.in_err-head.ensures.taken c.in_err-head.ensures.compared c.in_err-head.ensures.counted)
 
 pub returns-clause-steps : goal.returns-clause-steps
 returns-clause-steps g c = head-known g.T.Integer g.I.Draw (laws g) c.args.self.now
     (record { inputs = c.take.new.self }) c.refill.new.self c.requires c.refill.ensures
-    c.in_ok-head.head c.in_ok-head.ensures.taken c.new.result (is-run g c)
-    c.in_ok-head.ensures.compared
+    c.in_ok-head.head c.in_ok-head.ensures.taken c.range.result c.range.ensures
+    c.in_ok-head.ensures.compared c.in_ok-head.ensures.counted
 
 pub returns-clause-goes : goal.returns-clause-goes
 returns-clause-goes g c = head-goes g.T.Integer g.I.Draw (laws g) c.args.self.now
     (record { inputs = c.take.new.self }) c.refill.new.self c.requires c.refill.ensures
-    c.in_ok-head.head c.in_ok-head.ensures.taken c.new.result
+    c.in_ok-head.head c.in_ok-head.ensures.taken c.range.result

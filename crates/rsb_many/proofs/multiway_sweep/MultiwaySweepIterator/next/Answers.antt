@@ -1,6 +1,4 @@
-use Rattle.std.proofs.Common.{◌≡◌, arith, refl, subst, sym}
-use Rattle.rsb_integer.specs.Rank.{interval_of}
-use Rattle.rsb_many.specs.Inputs.{run_of_head}
+use Rattle.std.proofs.Common.{arith, subst, sym, ◌∙◌}
 use Rattle.rsb_many.specs.MultiwaySweep.{Sweeps}
 use Rattle.rsb_many.proofs.inputs.HeadLeaves.{taken-fewer}
 use Rattle.rsb_many.proofs.events.OneEvent.{end-goes, end-known, none-known, start-goes, start-known}
@@ -21,18 +19,23 @@ returns-in_err-head-clause-steps g c =
     (record { inputs = c.take.new.self })) (sym c.from_residual.ensures)
     (none-known g.T.Integer g.I.Draw (laws g) c.args.self.now
     (record { inputs = c.take.new.self }) c.refill.new.self c.requires c.refill.ensures
-    c.in_err-head.ensures.taken c.in_err-head.ensures.compared)
+    c.in_err-head.ensures.taken c.in_err-head.ensures.compared c.in_err-head.ensures.counted)
 
 -- its range ends
-pub returns-then-head-clause-steps : goal.returns-then-head-clause-steps
-returns-then-head-clause-steps g c = end-known g.T.Integer g.I.Draw (laws g) c.args.self.now
+pub returns-then-is_started-clause-steps : goal.returns-then-is_started-clause-steps
+returns-then-is_started-clause-steps g c =
+    rw (c.end.ensures, c.input.ensures)
+    (end-known g.T.Integer g.I.Draw (laws g) c.args.self.now
     (record { inputs = c.take.new.self }) c.refill.new.self c.requires c.refill.ensures
-    c.in_ok-head.head c.in_ok-head.ensures.taken c.if-head.true c.in_ok-head.ensures.compared
+    c.in_ok-head.head c.in_ok-head.ensures.taken (sym c.is_started.ensures ∙ c.if-is_started.true)
+    c.in_ok-head.ensures.compared c.in_ok-head.ensures.counted)
 
-pub returns-then-head-clause-goes : goal.returns-then-head-clause-goes
-returns-then-head-clause-goes g c = end-goes g.T.Integer g.I.Draw (laws g) c.args.self.now
+pub returns-then-is_started-clause-goes : goal.returns-then-is_started-clause-goes
+returns-then-is_started-clause-goes g c =
+    rw (c.end.ensures, c.input.ensures)
+    (end-goes g.T.Integer g.I.Draw (laws g) c.args.self.now
     (record { inputs = c.take.new.self }) c.refill.new.self c.requires c.refill.ensures
-    c.in_ok-head.head c.in_ok-head.ensures.taken c.if-head.true
+    c.in_ok-head.head c.in_ok-head.ensures.taken (sym c.is_started.ensures ∙ c.if-is_started.true))
 
 -- there is room for the head that left
 pub put_back-requires-clause-room : goal.put_back-requires-clause-room
@@ -42,21 +45,21 @@ put_back-requires-clause-room g c =
     c.take.new.self c.in_ok-head.head c.in_ok-head.ensures.taken in
     omega (arith, fewer, ready.room.few, ready.room.room, c.in_ok-head.ensures.taken.room)
 
--- the range has the ranks of its head
-is-run : (g : Over) (c : goal.After-new g)
-    → interval_of g.T.Integer.rank c.new.result ≡ run_of_head g.T.Integer.rank c.in_ok-head.head
-is-run g c = rw (c.new.ensures.exhausted, c.new.ensures.start, c.new.ensures.end) refl
-
 -- its range starts
 pub returns-clause-steps : goal.returns-clause-steps
-returns-clause-steps g c = start-known g.T.Integer g.I.Draw (laws g) c.args.self.now
+returns-clause-steps g c =
+    rw c.input-2.ensures
+    (start-known g.T.Integer g.I.Draw (laws g) c.args.self.now
     (record { inputs = c.put_back.new.self }) c.refill.new.self c.requires c.refill.ensures
     c.in_ok-head.head c.take.new.self c.in_ok-head.ensures.taken c.put_back.ensures.back
-    c.if-head.false c.new.result (is-run g c) c.in_ok-head.ensures.compared
-    c.put_back.ensures.compared
+    (sym c.is_started.ensures ∙ c.if-is_started.false) c.range.result c.range.ensures
+    c.in_ok-head.ensures.compared c.put_back.ensures.compared c.in_ok-head.ensures.counted
+    c.put_back.ensures.counted)
 
 pub returns-clause-goes : goal.returns-clause-goes
-returns-clause-goes g c = start-goes g.T.Integer g.I.Draw (laws g) c.args.self.now
+returns-clause-goes g c =
+    rw c.input-2.ensures
+    (start-goes g.T.Integer g.I.Draw (laws g) c.args.self.now
     (record { inputs = c.put_back.new.self }) c.refill.new.self c.requires c.refill.ensures
     c.in_ok-head.head c.take.new.self c.in_ok-head.ensures.taken c.put_back.ensures.back
-    c.if-head.false c.new.result
+    (sym c.is_started.ensures ∙ c.if-is_started.false) c.range.result)

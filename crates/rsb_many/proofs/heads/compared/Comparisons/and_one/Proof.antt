@@ -28,11 +28,11 @@ use denote.Triple.Entry.{on_entry, alive, Args}
 use denote.Triple.Spec.{Meets, triple_of}
 use denote.Triple.Table.{entered}
 use denote.Triple.Walked.{says, stay_none_ref, Stays, walk_of, Walks, ends_at, walked, Goes-none_ref, walk_Meets}
-use Rattle.rsb_many.specs.contracts.comparisons.Comparisons as comparisons
-use Rattle.rsb_many.specs.contracts.comparisons.Comparisons.and_one as call
-use Rattle.rsb_many.specs.contracts.comparisons.Comparisons.and_one.Key.{name as key}
-use Rattle.rsb_many.proofs.comparisons.Comparisons.and_one.Statement as stated
-use Rattle.rsb_many.proofs.comparisons.Comparisons.and_one.Code as code
+use Rattle.rsb_many.specs.contracts.heads.compared.Comparisons as comparisons
+use Rattle.rsb_many.specs.contracts.heads.compared.Comparisons.and_one as call
+use Rattle.rsb_many.specs.contracts.heads.compared.Comparisons.and_one.Key.{name as key}
+use Rattle.rsb_many.proofs.heads.compared.Comparisons.and_one.Statement as stated
+use Rattle.rsb_many.proofs.heads.compared.Comparisons.and_one.Code as code
 
 -- `self` is a reference, and nothing is written through it
 abbrev stayed : Stays (call.ended).signature.params (call.ended).kept

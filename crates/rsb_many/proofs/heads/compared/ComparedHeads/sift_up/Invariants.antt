@@ -2,21 +2,22 @@ use Rattle.std.proofs.Common.{◌≡◌, ◌+◌, ◌<◌, ◌≤◌, length, Is
 use Rattle.std.specs.Vec.{vec_capacity}
 use Rattle.rsb_many.specs.Heads.{binary_digits}
 use Rattle.rsb_many.specs.HeapOrder.{key_at, IsBridged, IsHeapBut}
-use Rattle.rsb_many.proofs.heads.sift_up.Given as goal
+use Rattle.rsb_many.proofs.heads.compared.ComparedHeads.sift_up.Given as goal
 
 -- the heads are a heap but for the one at `place`, and each place that it left cost a comparison
 abbrev pub invariant-loop-place : goal.invariant-loop-place
 invariant-loop-place g l =
-    let count = length l.heads.items in
-    let keys = key_at g.T.Integer.rank l.heads.items in
+    let count = length l.self.heads.items in
+    let keys = key_at g.T.Integer.rank l.self.heads.items in
     record {
       within : l.place < count;
-      kept : IsPermutation l.fn.heads.items l.heads.items;
-      room : vec_capacity l.heads ≡ vec_capacity l.fn.heads;
+      kept : IsPermutation l.fn.self.heads.items l.self.heads.items;
+      room : vec_capacity l.self.heads ≡ vec_capacity l.fn.self.heads;
       order : (other : _) → IsHeapBut (keys other) count l.place;
       bridged : (other : _) → IsBridged (keys other) count l.place;
-      compared : l.comparisons.made + binary_digits (l.place + 1)
-          ≤ l.fn.comparisons.made + binary_digits count;
+      compared : l.self.comparisons.made + binary_digits (l.place + 1)
+          ≤ l.fn.self.comparisons.made + binary_digits count;
+      counted : l.fn.self.comparisons.made ≤ l.self.comparisons.made;
     }
 
 abbrev pub decreases-loop-place : goal.decreases-loop-place

@@ -21,11 +21,11 @@ use denote.Triple.Entry.{on_entry, alive}
 use denote.Triple.Spec.{Meets, triple_of}
 use denote.Triple.Table.{entered}
 use denote.Triple.Walked.{says, Stays, walk_of, Walks, ends_at, walked, walk_Meets}
-use Rattle.rsb_many.specs.contracts.comparisons.Comparisons as comparisons
-use Rattle.rsb_many.specs.contracts.comparisons.Comparisons.none as call
-use Rattle.rsb_many.specs.contracts.comparisons.Comparisons.none.Key.{name as key}
-use Rattle.rsb_many.proofs.comparisons.Comparisons.none.Statement as stated
-use Rattle.rsb_many.proofs.comparisons.Comparisons.none.Code as code
+use Rattle.rsb_many.specs.contracts.heads.compared.Comparisons as comparisons
+use Rattle.rsb_many.specs.contracts.heads.compared.Comparisons.none as call
+use Rattle.rsb_many.specs.contracts.heads.compared.Comparisons.none.Key.{name as key}
+use Rattle.rsb_many.proofs.heads.compared.Comparisons.none.Statement as stated
+use Rattle.rsb_many.proofs.heads.compared.Comparisons.none.Code as code
 
 -- there is no parameter
 abbrev stayed : Stays (call.ended).signature.params (call.ended).kept

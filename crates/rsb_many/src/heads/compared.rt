@@ -1,0 +1,89 @@
+//! A list of heads, with the count of the comparisons of their keys.
+
+ghost use Rattle.std.specs.Prelude.{◌≡◌, ◌+◌, ◌<◌, ◌≤◌, ℕ, [], length, All, IfOk};
+ghost use Rattle.std.specs.Vec.{vec_capacity};
+ghost use Rattle.rsb_many.specs.Heads.{key_of, HasValues};
+ghost use Rattle.rsb_many.specs.HeapOrder.{key_at};
+ghost use Rattle.rsb_many.specs.Keys.{comes_before};
+
+use crate::heads::Head;
+use rsb_integer::Integer;
+use std::alloc::{AllocError, Allocator, Global};
+use std::marker::Model;
+
+/// How many comparisons were made so far. It has no bytes, and its methods do nothing at run time.
+/// Only this module makes and raises a count.
+#[derive(Debug, Drop)]
+pub(super) struct Comparisons {
+    pub(super) ghost made: { ℕ },
+}
+
+impl Model for Comparisons {
+    ghost use Rattle.std.specs.Borrow.{ftrue};
+
+    ghost also_owns = { λ _. ftrue };
+}
+
+impl Comparisons {
+    /// No comparison was made yet.
+    fn none() -> Self
+        ensures { result.made ≡ 0 }
+    {
+        Comparisons {}
+    }
+
+    // The same number of comparisons, and one more.
+    fn and_one(&self) -> Self
+        ensures { result.made ≡ self.now.made + 1 }
+    {
+        Comparisons {}
+    }
+
+    /// Counts one more comparison.
+    fn count(&mut self)
+        ensures { self.new.made ≡ self.old.made + 1 }
+    {
+        *self = self.and_one();
+    }
+}
+
+/// Heads in a list, and how many comparisons of keys were made there. The list and its count are
+/// one value, so a comparison has no other count to go to.
+#[derive(Debug, Drop)]
+pub(super) struct ComparedHeads<T: Integer, A: Allocator = Global> {
+    pub(super) heads: Vec<Head<T>, A>,
+    comparisons: Comparisons,
+}
+
+impl<T: Integer, A: Allocator> ComparedHeads<T, A> {
+    /// No heads, with room for the given number. No comparison was made yet.
+    pub(super) fn with_room(alloc: A, room: usize) -> Result<Self, AllocError>
+        ensures none { IfOk result (λ list. list.heads.items ≡ []) }
+        ensures room { IfOk result (λ list. room ≤ vec_capacity list.heads) }
+        ensures compared { IfOk result (λ list. list.comparisons.made ≡ 0) }
+    {
+        Ok(ComparedHeads {
+            heads: Vec::with_capacity(alloc, room)?,
+            comparisons: Comparisons::none(),
+        })
+    }
+
+    /// Whether the head at a place comes before another: the one comparison of keys.
+    #[inline(always)]
+    pub(super) fn comes_first(&mut self, place: usize, other: &Head<T>) -> bool
+        requires place { place < length self.old.heads.items }
+        requires values { All (HasValues T.rank T.value_count) self.old.heads.items }
+        requires other { HasValues T.rank T.value_count other.now }
+        ensures first { (none : Head T) → result
+            ≡ comes_before (key_at T.rank self.old.heads.items none place) (key_of T.rank other.now) }
+        ensures heads { self.new.heads ≡ self.old.heads }
+        ensures compared { self.new.comparisons.made ≡ self.old.comparisons.made + 1 }
+    {
+        self.comparisons.count();
+        let one = &self.heads[place];
+        let order = one.at.cmp(&other.at);
+        let is_tied = one.started == other.started;
+        let wins_tie = (is_tied & (one.input < other.input)) | (!one.started & other.started);
+        order.is_lt() | (order.is_eq() & wins_tie)
+    }
+}
