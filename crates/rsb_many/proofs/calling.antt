@@ -1,2 +1,3 @@
 pub mod Examples
 pub mod Results
+pub mod Taken

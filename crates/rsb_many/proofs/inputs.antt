@@ -1,6 +1,7 @@
 pub mod Begun
 pub mod BegunByHeads
 pub mod Drawn
+pub mod GivenList
 pub mod HandedIn
 pub mod HeadLeaves
 pub mod Held

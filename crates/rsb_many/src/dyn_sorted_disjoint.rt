@@ -102,9 +102,9 @@ impl<T: Integer, A: Allocator> DrawDisjoint<T> for DynSortedDisjoint<T, A> {
 
 impl<T: Integer, A: Allocator> SortedDisjoint<T> for DynSortedDisjoint<T, A> {}
 
-/// The streams that were taken, and all ranges of one more, which may be drawn from. Without memory
-/// nothing is made, and all are dropped. (Own: for the macros.)
-pub fn one_more_taken<T: Integer, A: Allocator + Copy, I: DrawDisjoint<T>>(
+/// Returns the streams taken so far with one more behind them, whose ranges it takes. If allocation
+/// fails, it drops every stream.
+pub(crate) fn one_more_taken<T: Integer, A: Allocator + Copy, I: DrawDisjoint<T>>(
     alloc: A,
     taken: Vec<DynSortedDisjoint<T, A>, A>,
     stream: I,

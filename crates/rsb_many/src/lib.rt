@@ -16,6 +16,7 @@ pub mod operation_results;
 mod operators;
 pub mod sweep_event;
 pub(crate) mod sweep_pieces;
+pub mod taken;
 
 pub use dyn_sorted_disjoint::DynSortedDisjoint;
 pub use kmerge::KMerge;

@@ -1,7 +1,9 @@
-//! The operator `&` on results of operations on many streams: what two both have.
+//! The operator `&` on results of operations on many streams, and on streams of any type: what two both
+//! have.
 
 ghost use Rattle.rsb_streams.specs.Results.{CanDrawBoth, MakesIntersection};
 
+use crate::dyn_sorted_disjoint::DynSortedDisjoint;
 use crate::multiway_at_least::MultiwayAtLeast;
 use crate::multiway_sym_diff_set::MultiwaySymmetricDifference;
 use crate::operation_results::{MultiwayIntersection, MultiwayUnion};
@@ -60,6 +62,19 @@ impl<T: Integer, I: Draw<T>, A: Allocator, R: DrawDisjoint<T>> BitAnd<R>
 
     ghost bitand_gives = { MakesIntersection T.Integer.own ⟦<MultiwayAtLeast<T, I, A> as Draw<T>>⟧ R.Draw
         ⟦<Intersection<T, MultiwayAtLeast<T, I, A>, R> as Draw<T>>⟧ };
+
+    fn bitand(self, other: R) -> Self::Output {
+        Intersection::from((self, other))
+    }
+}
+
+impl<T: Integer, A: Allocator, R: DrawDisjoint<T>> BitAnd<R> for DynSortedDisjoint<T, A> {
+    type Output = Intersection<T, DynSortedDisjoint<T, A>, R>;
+
+    ghost can_bitand = { CanDrawBoth ⟦<DynSortedDisjoint<T, A> as Draw<T>>⟧ R.Draw };
+
+    ghost bitand_gives = { MakesIntersection T.Integer.own ⟦<DynSortedDisjoint<T, A> as Draw<T>>⟧ R.Draw
+        ⟦<Intersection<T, DynSortedDisjoint<T, A>, R> as Draw<T>>⟧ };
 
     fn bitand(self, other: R) -> Self::Output {
         Intersection::from((self, other))

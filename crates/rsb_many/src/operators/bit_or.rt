@@ -1,7 +1,9 @@
-//! The operator `|` on results of operations on many streams: what lies in either of two.
+//! The operator `|` on results of operations on many streams, and on streams of any type: what lies in
+//! either of two.
 
 ghost use Rattle.rsb_streams.specs.Results.{CanDrawBoth, MakesUnion};
 
+use crate::dyn_sorted_disjoint::DynSortedDisjoint;
 use crate::multiway_at_least::MultiwayAtLeast;
 use crate::multiway_sym_diff_set::MultiwaySymmetricDifference;
 use crate::operation_results::{MultiwayIntersection, MultiwayUnion};
@@ -59,6 +61,19 @@ impl<T: Integer, I: Draw<T>, A: Allocator, R: DrawDisjoint<T>> BitOr<R>
 
     ghost bitor_gives = { MakesUnion T.Integer.own ⟦<MultiwayAtLeast<T, I, A> as Draw<T>>⟧ R.Draw
         ⟦<Union<T, MultiwayAtLeast<T, I, A>, R> as Draw<T>>⟧ };
+
+    fn bitor(self, other: R) -> Self::Output {
+        Union::from((self, other))
+    }
+}
+
+impl<T: Integer, A: Allocator, R: DrawDisjoint<T>> BitOr<R> for DynSortedDisjoint<T, A> {
+    type Output = Union<T, DynSortedDisjoint<T, A>, R>;
+
+    ghost can_bitor = { CanDrawBoth ⟦<DynSortedDisjoint<T, A> as Draw<T>>⟧ R.Draw };
+
+    ghost bitor_gives = { MakesUnion T.Integer.own ⟦<DynSortedDisjoint<T, A> as Draw<T>>⟧ R.Draw
+        ⟦<Union<T, DynSortedDisjoint<T, A>, R> as Draw<T>>⟧ };
 
     fn bitor(self, other: R) -> Self::Output {
         Union::from((self, other))

@@ -1,7 +1,9 @@
-//! The operator `^` on results of operations on many streams: what one of two has alone.
+//! The operator `^` on results of operations on many streams, and on streams of any type: what exactly
+//! one of two has.
 
 ghost use Rattle.rsb_streams.specs.Results.{CanDrawBoth, MakesSymmetricDifference};
 
+use crate::dyn_sorted_disjoint::DynSortedDisjoint;
 use crate::multiway_at_least::MultiwayAtLeast;
 use crate::multiway_sym_diff_set::MultiwaySymmetricDifference;
 use crate::operation_results::{MultiwayIntersection, MultiwayUnion};
@@ -60,6 +62,19 @@ impl<T: Integer, I: Draw<T>, A: Allocator, R: DrawDisjoint<T>> BitXor<R>
 
     ghost bitxor_gives = { MakesSymmetricDifference T.Integer.own ⟦<MultiwayAtLeast<T, I, A> as Draw<T>>⟧ R.Draw
         ⟦<SymmetricDifference<T, MultiwayAtLeast<T, I, A>, R> as Draw<T>>⟧ };
+
+    fn bitxor(self, other: R) -> Self::Output {
+        SymmetricDifference::from((self, other))
+    }
+}
+
+impl<T: Integer, A: Allocator, R: DrawDisjoint<T>> BitXor<R> for DynSortedDisjoint<T, A> {
+    type Output = SymmetricDifference<T, DynSortedDisjoint<T, A>, R>;
+
+    ghost can_bitxor = { CanDrawBoth ⟦<DynSortedDisjoint<T, A> as Draw<T>>⟧ R.Draw };
+
+    ghost bitxor_gives = { MakesSymmetricDifference T.Integer.own ⟦<DynSortedDisjoint<T, A> as Draw<T>>⟧ R.Draw
+        ⟦<SymmetricDifference<T, DynSortedDisjoint<T, A>, R> as Draw<T>>⟧ };
 
     fn bitxor(self, other: R) -> Self::Output {
         SymmetricDifference::from((self, other))

@@ -1,7 +1,9 @@
-//! The operator `!` on results of operations on many streams: what a stream leaves out.
+//! The operator `!` on results of operations on many streams, and on streams of any type: what a stream
+//! leaves out.
 
 ghost use Rattle.rsb_streams.specs.Results.{MakesComplement};
 
+use crate::dyn_sorted_disjoint::DynSortedDisjoint;
 use crate::multiway_at_least::MultiwayAtLeast;
 use crate::multiway_sym_diff_set::MultiwaySymmetricDifference;
 use crate::operation_results::{MultiwayIntersection, MultiwayUnion};
@@ -56,6 +58,19 @@ impl<T: Integer, I: Draw<T>, A: Allocator> Not for MultiwayAtLeast<T, I, A> {
 
     ghost not_gives = { MakesComplement T.Integer.own ⟦<MultiwayAtLeast<T, I, A> as Draw<T>>⟧
         ⟦<NotIter<T, MultiwayAtLeast<T, I, A>> as Draw<T>>⟧ };
+
+    fn not(self) -> Self::Output {
+        NotIter::from(self)
+    }
+}
+
+impl<T: Integer, A: Allocator> Not for DynSortedDisjoint<T, A> {
+    type Output = NotIter<T, DynSortedDisjoint<T, A>>;
+
+    ghost can_not = { ⟦<DynSortedDisjoint<T, A> as Draw<T>>⟧.can_draw };
+
+    ghost not_gives = { MakesComplement T.Integer.own ⟦<DynSortedDisjoint<T, A> as Draw<T>>⟧
+        ⟦<NotIter<T, DynSortedDisjoint<T, A>> as Draw<T>>⟧ };
 
     fn not(self) -> Self::Output {
         NotIter::from(self)

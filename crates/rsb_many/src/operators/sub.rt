@@ -1,7 +1,9 @@
-//! The operator `-` on results of operations on many streams: what the left one has and the right one lacks.
+//! The operator `-` on results of operations on many streams, and on streams of any type: what the left
+//! one has and the right one lacks.
 
 ghost use Rattle.rsb_streams.specs.Results.{CanDrawBoth, MakesDifference};
 
+use crate::dyn_sorted_disjoint::DynSortedDisjoint;
 use crate::multiway_at_least::MultiwayAtLeast;
 use crate::multiway_sym_diff_set::MultiwaySymmetricDifference;
 use crate::operation_results::{MultiwayIntersection, MultiwayUnion};
@@ -58,6 +60,19 @@ impl<T: Integer, I: Draw<T>, A: Allocator, R: DrawDisjoint<T>> Sub<R> for Multiw
 
     ghost sub_gives = { MakesDifference T.Integer.own ⟦<MultiwayAtLeast<T, I, A> as Draw<T>>⟧ R.Draw
         ⟦<Difference<T, MultiwayAtLeast<T, I, A>, R> as Draw<T>>⟧ };
+
+    fn sub(self, other: R) -> Self::Output {
+        Difference::from((self, other))
+    }
+}
+
+impl<T: Integer, A: Allocator, R: DrawDisjoint<T>> Sub<R> for DynSortedDisjoint<T, A> {
+    type Output = Difference<T, DynSortedDisjoint<T, A>, R>;
+
+    ghost can_sub = { CanDrawBoth ⟦<DynSortedDisjoint<T, A> as Draw<T>>⟧ R.Draw };
+
+    ghost sub_gives = { MakesDifference T.Integer.own ⟦<DynSortedDisjoint<T, A> as Draw<T>>⟧ R.Draw
+        ⟦<Difference<T, DynSortedDisjoint<T, A>, R> as Draw<T>>⟧ };
 
     fn sub(self, other: R) -> Self::Output {
         Difference::from((self, other))

@@ -1,0 +1,40 @@
+-- A list that was passed as an iterator gave all of its items.
+use Rattle.std.proofs.Common.{◌≡◌, List, ◌∙◌, ap, subst}
+use Rattle.std.specs.Iterator.{YieldsFirst, item_count}
+use Rattle.std.specs.Iterator.Runs.{EveryRun, ItemsAre, Run, WholeRun}
+use Rattle.std.specs.Prelude.{Option}
+use Rattle.std.specs.Vec.Iter.{into_iter_items, into_iter_steps}
+use Rattle.std.specs.declared.ops.RangeInclusive.{RangeInclusive}
+use Rattle.std.specs.declared.vec.IntoIter.{IntoIter}
+use Rattle.rsb_integer.specs.Rank.{intervals_of}
+use Rattle.rsb_integer.specs.Runs.{IsCanonicalIn}
+use Rattle.rsb_integer.specs.declared.integer.Integer.{Ghosts as Elements}
+use Rattle.rsb_streams.specs.Listed.{listed_may_give}
+use Rattle.rsb_streams.specs.declared.draw.Draw.{Ghosts as Stream}
+
+-- ranges that were taken, as a stream
+abbrev pub taken_stream : {T N : Type 0} → Elements T N → Stream (List (RangeInclusive T)) T N
+taken_stream integer = record {
+  can_draw = λ s. IsCanonicalIn integer.value_count (intervals_of integer.rank s);
+  draw_gives = YieldsFirst (λ s. s);
+  draws_left = item_count (λ s. s);
+  may_give = listed_may_give integer.rank (λ s. s);
+}
+
+module _ {S X : Type 0} (steps : S → Option X → S → Type 0) (items_of : S → List X) where
+  -- a whole run of an iterator that shows its remaining items gave all of them
+  pub whole-items : (items : List X) (iter : S) (Fact : Run steps → Type 0) → items_of iter ≡ items
+      → EveryRun steps (λ run. ItemsAre run (items_of run.from))
+      → (whole : WholeRun steps iter Fact) → whole.0.items ≡ items
+  whole-items items iter Fact is runs whole =
+      (runs whole.0 whole.0.seen).4 whole.2 ∙ ap items_of whole.1 ∙ is
+
+module _ {X Z : Type 0} where
+  -- what a list became gives the list
+  pub given-list : (items : List X) (iter : IntoIter X Z) (Fact : List X → Type 0)
+      → into_iter_items iter ≡ items
+      → EveryRun (into_iter_steps {X = X} {Z = Z}) (λ run. ItemsAre run (into_iter_items run.from))
+      → WholeRun (into_iter_steps {X = X} {Z = Z}) iter (λ run. Fact run.items) → Fact items
+  given-list items iter Fact is runs whole = subst Fact
+      (whole-items (into_iter_steps {X = X} {Z = Z}) (λ from. into_iter_items from) items iter
+      (λ run. Fact run.items) is runs whole) whole.3

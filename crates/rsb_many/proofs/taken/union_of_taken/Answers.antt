@@ -1,0 +1,15 @@
+use Rattle.std.proofs.lemmas.Result.{IfOk-weaker}
+use Rattle.rsb_many.specs.MultiwayResults.{MakesMultiwayUnion}
+use Rattle.rsb_many.specs.MultiwayUnion.{multiway_union}
+use Rattle.rsb_many.proofs.inputs.GivenList.{given-list, taken_stream}
+use Rattle.rsb_many.proofs.taken.union_of_taken.Goals as goal
+
+-- the union is of the streams of the list
+pub returns-clause-made : goal.returns-clause-made
+returns-clause-made g c =
+    let streams = c.in_ok-taken.field-0.items in
+    let of = taken_stream g.T.Integer in
+    let made = multiway_union g.T.Integer of in
+    rw c.in_ok-taken.was (IfOk-weaker c.union.result _ _ (λ given gave.
+    given-list streams gave.0 (λ each. MakesMultiwayUnion g.T.Integer of made each given)
+    gave.1.0 gave.1.3 gave.2) c.union.ensures.made)
