@@ -1,12 +1,9 @@
 -- Sets made of any number of sets, by the streams of their ranges.
-use Rattle.std.proofs.Common.{◌≡◌, ℕ, ◌+◌, ◌<◌, ◌≤◌, cond, List, [], ◌∷◌, ◌∙◌, map, refl, ap, subst, arith}
+use Rattle.std.proofs.Common.{◌≡◌, ℕ, ◌+◌, ◌<◌, ◌≤◌, cond, List, [], ◌∷◌, map, refl, subst, arith}
 use Rattle.std.proofs.lemmas.Bool.Decides.{nat_tests}
 use Rattle.std.proofs.lemmas.List.Elements.{All-head, All-tail}
 use Rattle.std.proofs.lemmas.Result.{IfOk-weaker}
-use Rattle.std.specs.Iterator.Runs.{EveryRun, ItemsAre, Run, WholeRun}
 use Rattle.std.specs.Prelude.{All, IfOk, Option, Result}
-use Rattle.std.specs.Vec.Iter.{into_iter_items, into_iter_steps}
-use Rattle.std.specs.declared.vec.IntoIter.{IntoIter}
 use Rattle.rsb_integer.specs.Runs.{Interval, AreRuns, IsCanonicalIn, members}
 use Rattle.rsb_integer.specs.Selection.{Selection, at_least, how_many}
 use Rattle.rsb_integer.proofs.MembersLemmas.{members-end}
@@ -15,6 +12,7 @@ use Rattle.rsb_streams.specs.Items.{GaveRun}
 use Rattle.rsb_streams.specs.Stream.{◌⊆◌, just, Outcomes}
 use Rattle.rsb_many.specs.MultiwayAtLeast.{GivesRunsOfAllAtMost}
 use Rattle.rsb_many.specs.MultiwayResults.{GivesByAll}
+pub use Rattle.rsb_many.proofs.inputs.GivenList.{given-list, whole-items}
 use Rattle.rsb_many.proofs.inputs.HandedIn.{gave-each}
 use Rattle.rsb_many.proofs.pieces.AtLeast.{few-one, few-these}
 use Rattle.rsb_many.proofs.calling.Results.{runs_by_all-these, GiveThese}
@@ -88,21 +86,3 @@ module _ {S : Type 0} (n : ℕ) (may_give : S → Outcomes) (given : S → List 
           few-these n least may_give streams (map given streams) set (give-these streams)
           (few-one n least may_give streams gives (few positive) set may)),
     )
-
-module _ {S X : Type 0} (steps : S → Option X → S → Type 0) (items_of : S → List X) where
-  -- a whole run of what shows the items that are left gave all of them
-  pub whole-items : (items : List X) (iter : S) (Fact : Run steps → Type 0) → items_of iter ≡ items
-      → EveryRun steps (λ run. ItemsAre run (items_of run.from))
-      → (whole : WholeRun steps iter Fact) → whole.0.items ≡ items
-  whole-items items iter Fact is runs whole =
-      (runs whole.0 whole.0.seen).4 whole.2 ∙ ap items_of whole.1 ∙ is
-
-module _ {X Z : Type 0} where
-  -- what a list became gives the list
-  pub given-list : (items : List X) (iter : IntoIter X Z) (Fact : List X → Type 0)
-      → into_iter_items iter ≡ items
-      → EveryRun (into_iter_steps {X = X} {Z = Z}) (λ run. ItemsAre run (into_iter_items run.from))
-      → WholeRun (into_iter_steps {X = X} {Z = Z}) iter (λ run. Fact run.items) → Fact items
-  given-list items iter Fact is runs whole = subst Fact
-      (whole-items (into_iter_steps {X = X} {Z = Z}) (λ from. into_iter_items from) items iter
-      (λ run. Fact run.items) is runs whole) whole.3

@@ -4,7 +4,7 @@ use Rattle.rsb_streams.proofs.calling.Results.{runs_by-within}
 use Rattle.rsb_many.specs.Many.{may_give_at, runs_by_all}
 use Rattle.rsb_many.specs.MultiwayResults.{MakesMultiwayUnion}
 use Rattle.rsb_many.specs.MultiwayUnion.{multiway_union}
-use Rattle.range_set_blaze.proofs.gathering.ManySets.{given-list}
+use Rattle.rsb_many.proofs.inputs.GivenList.{given-list}
 use Rattle.rsb_many_tests.proofs.many.nested.none_of.Goals as goal
 
 -- the complement of what the union may give
