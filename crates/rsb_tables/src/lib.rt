@@ -3,6 +3,7 @@
 #![tactic(auto)]
 
 pub mod any_types;
+pub mod counting;
 pub mod fill_gaps;
 pub mod forms;
 pub mod hashers;
@@ -13,6 +14,7 @@ pub mod tables;
 pub mod texts;
 
 pub use crate::any_types::{odd_of_three, some_of_two};
+pub use crate::counting::Counting;
 pub use crate::fill_gaps::fills;
 pub use crate::forms::{Form, Ranges, form_gives, of_lent, of_sets, streams_of};
 pub use crate::hashers::{fed_by, fed_by_bytes};

@@ -1,0 +1,94 @@
+//! An allocator that counts its calls, and that can fail from a given call on.
+
+use std::alloc::{AllocError, Allocator};
+use std::cell::Cell;
+
+/// What an allocator was asked for, and how many allocations it still grants.
+#[derive(Drop)]
+struct Counts {
+    allocations: Cell<usize>,
+    frees: Cell<usize>,
+    bytes: Cell<usize>,
+    left: Cell<usize>,
+}
+
+/// Counts an allocation, and returns whether it fails.
+fn is_refused(counts: &Counts, size: usize) -> bool {
+    counts
+        .allocations
+        .set(counts.allocations.get().saturating_add(1));
+    let left = counts.left.get();
+    counts.left.set(left.saturating_sub(1));
+    if left > 0 {
+        counts.bytes.set(counts.bytes.get().wrapping_add(size));
+    }
+    left == 0
+}
+
+/// Counts a block that is given back.
+fn note_free(counts: &Counts, size: usize) {
+    counts.frees.set(counts.frees.get().saturating_add(1));
+    counts.bytes.set(counts.bytes.get().wrapping_sub(size));
+}
+
+/// An allocator over another one. The inner allocator should never fail: `bytes` counts what it
+/// refuses.
+#[derive(Drop)]
+pub struct Counting<B: Allocator> {
+    inner: B,
+    counts: Counts,
+}
+
+impl<B: Allocator> Counting<B> {
+    /// Starts at zero, and grants every allocation.
+    pub fn new(inner: B) -> Counting<B> {
+        let counts = Counts {
+            allocations: Cell::new(0),
+            frees: Cell::new(0),
+            bytes: Cell::new(0),
+            left: Cell::new(usize::MAX),
+        };
+        Counting { inner, counts }
+    }
+
+    /// The number of allocations asked for, those that failed included.
+    pub fn allocations(&self) -> usize {
+        self.counts.allocations.get()
+    }
+
+    /// The number of calls: allocations and frees.
+    pub fn calls(&self) -> usize {
+        self.allocations().saturating_add(self.counts.frees.get())
+    }
+
+    /// The number of bytes that are allocated now.
+    pub fn bytes(&self) -> usize {
+        self.counts.bytes.get()
+    }
+
+    /// Grants the given number of further allocations, and fails each one after them.
+    pub fn fail_after(&self, allocations: usize) {
+        self.counts.left.set(allocations);
+    }
+
+    /// Grants every allocation from now on.
+    pub fn fail_never(&self) {
+        self.fail_after(usize::MAX);
+    }
+}
+
+unsafe impl<B: Allocator> Allocator for Counting<B> {
+    ghost dealloc_token = { λ heap ty ptr. B.dealloc_token heap.inner ty ptr };
+
+    fn allocate(&self, size: usize, align: usize) -> Result<*mut u8, AllocError> {
+        if is_refused(&self.counts, size) {
+            return Err(AllocError);
+        }
+        self.inner.allocate(size, align)
+    }
+
+    unsafe fn deallocate(&self, ptr: *mut u8, size: usize, align: usize) {
+        note_free(&self.counts, size);
+        self.inner.deallocate(ptr, size, align);
+    }
+}
