@@ -134,11 +134,12 @@ impl<T: Integer, A: Allocator> Heads<T, A> {
             ≤ self.old.comparisons + 2 * binary_digits (length self.new.heads) }
         ensures counted { self.old.comparisons ≤ self.new.comparisons }
     {
-        self.push(Head {
+        let back = Head {
             at: head.end,
             started: true,
             ..head
-        });
+        };
+        self.push(back);
     }
 
     // Adds a head, for which there is room: at the top, if the place there is open.
@@ -185,7 +186,8 @@ impl<T: Integer, A: Allocator> Heads<T, A> {
         ensures kept { IsPermutation self.old.heads self.new.heads }
         ensures closed { IsFalse self.new.is_open }
         ensures room { self.old.room ≤ self.new.room }
-        ensures compared { self.new.comparisons ≤ self.old.comparisons + closing self.old }
+        ensures compared { self.new.comparisons
+            ≤ self.old.comparisons + closing self.old }
         ensures counted { self.old.comparisons ≤ self.new.comparisons }
     {
         if self.is_open {
