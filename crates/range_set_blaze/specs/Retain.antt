@@ -1,13 +1,13 @@
 -- What `retain` asks about, and what it keeps.
-use Rattle.std.specs.Prelude.{◌≡◌, ℕ, zero, suc, Bool, false, ◌||◌, ◌+◌, ◌<◌, ◌≤◌, List, [], ◌∷◌, ◌++◌, map, Option, None, Some}
-use Rattle.std.specs.Fn.{AlwaysReturns, CalledAt, Mut}
+use Rattle.std.specs.Prelude.{◌≡◌, ℕ, zero, suc, Bool, false, ◌||◌, ◌+◌, ◌<◌, ◌≤◌, List, [], ◌∷◌, ◌++◌, map, IsTrue, Option, None, Some}
+use Rattle.std.specs.Fn.{always_mut, AlwaysReturns, CalledAt, Mut, Takes}
 use Rattle.std.specs.List.{FoldsTo}
 use Rattle.std.specs.Range.{range_inclusive_start, range_inclusive_end, range_inclusive_exhausted}
 use Rattle.std.specs.declared.ops.RangeInclusive.{RangeInclusive}
 use denote.Ref.{Bor}
 use Rattle.rsb_integer.specs.Prefix.{IsPrefix}
 use Rattle.rsb_integer.specs.Rank.{interval_of, intervals_of}
-use Rattle.rsb_integer.specs.Runs.{Interval, covers, length_of, members}
+use Rattle.rsb_integer.specs.Runs.{Interval, covers, from_to, length_of, members, IsMaximalRun}
 use Rattle.rsb_integer.specs.Selection.{Selection}
 use Rattle.range_set_blaze.specs.Kept.{run_of, runs_of}
 use Rattle.range_set_blaze.specs.declared.set.run.Run.{Run}
@@ -39,6 +39,43 @@ AnswersByRun rank n g keeps = AlwaysReturns g (λ a r.
 abbrev pub IsAsked : {F X : Type 0} → Mut F (Bor X × Unit {0}) Bool → F → List X → F → Type 0
 IsAsked g f items last =
     FoldsTo (λ before item after. (answer : Bool) × CalledAt g before item answer after) f items last
+
+-- ---- what a test may be asked
+
+module _ {F T : Type 0} (rank : T → ℕ) (n : ℕ) where
+  module _ (g : Mut F (Bor T × Unit {0}) Bool) (f : F) (set : List Interval) where
+    -- from f on, the members before the value were asked about in ascending order, and left the test
+    -- as it is now. So the value is a member, and the test can still be called if it always could.
+    pub record IsNextMember (now : F) (value : T) : Type 0 where
+      pub asked : List T
+      pub calls : IsAsked g f asked now
+      pub next : IsPrefix (map rank (asked ++ value ∷ [])) (ascending_ranks set)
+      pub member : IsTrue (members set (rank value))
+      pub in_type : rank value < n
+      pub callable : always_mut g f → always_mut g now
+
+    -- the test may be called on each member in ascending order
+    pub record CallableOnMembers : Type 0 where
+      pub at : (now : F) (shown : Bor T) → IsNextMember now shown.now → Takes g now (shown, tt)
+
+  module _ (g : Mut F (Bor (RangeInclusive T) × Unit {0}) Bool) (f : F) (set : List Interval) where
+    -- from f on, the runs before the range were asked about in ascending order, and left the test as
+    -- it is now. So the range is a run, and the test can still be called if it always could.
+    pub record IsNextRun (now : F) (range : RangeInclusive T) : Type 0 where
+      pub asked : List (RangeInclusive T)
+      pub calls : IsAsked g f asked now
+      pub next : IsPrefix (intervals_of rank (asked ++ range ∷ [])) set
+      pub fresh : range_inclusive_exhausted range ≡ false
+      pub maximal : IsMaximalRun n (members set)
+          (from_to (rank (range_inclusive_start range)) (rank (range_inclusive_end range)))
+      pub callable : always_mut g f → always_mut g now
+
+    -- the test may be called on each run in ascending order
+    pub record CallableOnRuns : Type 0 where
+      pub at : (now : F) (shown : Bor (RangeInclusive T)) → IsNextRun now shown.now
+          → Takes g now (shown, tt)
+
+-- ---- what it was asked
 
 -- from f on, each run of the set was asked about once, in ascending order
 abbrev pub AsksRuns : {F T : Type 0} (rank : T → ℕ)

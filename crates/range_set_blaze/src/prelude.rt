@@ -1,5 +1,5 @@
-//! All public names of this crate and of those below it, but `UnsortedDisjoint`, the laws of events of
-//! `rsb_many`, and what its macros call.
+//! Every public name of this crate and of the crates below it, except `UnsortedDisjoint` and what the
+//! macros call. `use range_set_blaze::prelude::*;` imports them all.
 
 pub use crate::into_iter::IntoIter;
 pub use crate::into_range_set_blaze::IntoRangeSetBlaze;
@@ -7,9 +7,9 @@ pub use crate::into_ranges_iter::IntoRangesIter;
 pub use crate::iter::Iter;
 pub use crate::laws::{
     at_least_all, at_least_falls, at_least_one, canonical_lists_are_runs, cmp_counted,
-    complement_twice, de_morgan, difference_by_complement, equal_members_equal_lists,
-    offsets_undo_length, one_filled_list, order_by_least_difference, run_bounds_are_ends,
-    symmetric_by_union,
+    complement_twice, de_morgan, difference_by_complement, elements_stand_for_sets,
+    equal_members_equal_lists, offsets_undo_length, one_filled_list, one_list_of_events,
+    order_by_least_difference, run_bounds_are_ends, some_list_of_events, symmetric_by_union,
 };
 pub use crate::multiway::{MultiwayRangeSetBlaze, MultiwayRangeSetBlazeRef};
 pub use crate::ranges_iter::RangesIter;
@@ -18,7 +18,8 @@ pub use rsb_integer::Integer;
 pub use rsb_length::{SafeLength, UInt, UIntPlusOne};
 pub use rsb_many::{
     DynSortedDisjoint, KMerge, MultiwayAtLeast, MultiwayIntersection, MultiwaySortedDisjoint,
-    MultiwaySweep, MultiwaySymmetricDifference, MultiwayUnion, SweepEvent,
+    MultiwaySweep, MultiwaySymmetricDifference, MultiwayUnion, SweepEvent, intersection_dyn,
+    symmetric_difference_dyn, union_dyn,
 };
 pub use rsb_streams::{
     AnythingGoes, AssumeSortedStarts, CheckSortedDisjoint, CheckSortedTouching, Difference, Draw,

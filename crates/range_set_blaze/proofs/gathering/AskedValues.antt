@@ -14,7 +14,7 @@ use Rattle.rsb_integer.proofs.AnyOfLemmas.{any_of-one_more}
 use Rattle.rsb_integer.proofs.MembersLemmas.{members-cons}
 use Rattle.range_set_blaze.specs.Algebra.{ranks_of}
 use Rattle.range_set_blaze.specs.Kept.{entry_of, runs_of}
-use Rattle.range_set_blaze.specs.Retain.{left_runs, ranks_from, ascending_ranks, AnswersByRank, AsksAll, IsAsked, IsCanonicalBelow}
+use Rattle.range_set_blaze.specs.Retain.{left_runs, ranks_from, ascending_ranks, AnswersByRank, AsksAll, IsAsked, IsCanonicalBelow, IsNextMember}
 use Rattle.range_set_blaze.specs.Set.{only, IsSetOf}
 use Rattle.range_set_blaze.specs.declared.set.run.Run.{Run}
 
@@ -79,6 +79,24 @@ pub left_runs-next : {T : Type 0} (rank : T → ℕ) (next : Option (Run T)) (ol
 left_runs-next rank None old new is = sym (ap (runs_of rank) is)
 left_runs-next rank (Some run) old new is = sym (ap (runs_of rank) is)
 
+-- members that come after those that were asked about, the first of which is asked about next
+pub listed-next : {T : Type 0} (rank : T → ℕ) (asked : List T) (value : T) (all rest more : List ℕ)
+    → all ≡ map rank asked ++ rest → rest ≡ rank value ∷ more
+    → all ≡ map rank (asked ++ value ∷ []) ++ more
+listed-next rank asked value all rest more listed first = rw (
+  listed,
+  first,
+  map-append rank asked (value ∷ []),
+  append_assoc (map rank asked) (rank value ∷ []) more,
+)
+
+-- a rank of a list is among its ranks
+among : (before : List ℕ) (rank : ℕ) (after : List ℕ)
+    → any_of (map only (before ++ rank ∷ after)) rank ≡ true
+among [] rank after = grind (arith, nat_tests)
+among (first ∷ before) rank after =
+    let more = among before rank after in grind (arith, nat_tests, more)
+
 -- ---- what a test has answered
 
 module _ {F T : Type 0} (rank : T → ℕ) (n : ℕ) (g : Mut F (Bor T × Unit {0}) Bool) (f : F) where
@@ -90,6 +108,29 @@ module _ {F T : Type 0} (rank : T → ℕ) (n : ℕ) (g : Mut F (Bor T × Unit {
     pub exact : (keeps : Selection) → AnswersByRank rank n g keeps f
         → AnswersByRank rank n g keeps now
         × ((point : ℕ) → has point ≡ intersection (ranks_of rank asked) keeps point)
+
+  -- the first rank of what is left is the next one to be asked about
+  pub next-member : {asked : List T} {now : F} {has : Selection} (old : List Interval) (value : T)
+      (run : Interval) (rest : List Interval) → HasAnswered asked now has
+      → ascending_ranks old ≡ map rank asked ++ ascending_ranks (run ∷ rest)
+      → rank value ≡ run.first → run.first ≤ run.last → run.last < n
+      → IsNextMember rank n g f old now value
+  next-member {asked} {now} {has} old value run rest answered listed here order in_type =
+      let more = ranks_from (run.first + 1) (run.last + 1 - (run.first + 1)) ++ ascending_ranks rest in
+      let first : ascending_ranks (run ∷ rest) ≡ rank value ∷ more =
+      rw here (ap (λ ranks. ranks ++ ascending_ranks rest)
+      (ranks_from-first run.first run.last order)) in
+      record {
+        asked = asked;
+        calls = answered.calls;
+        next = record { rest = more; parts = listed-next rank asked value _ _ _ listed first };
+        member = sym (members-ascending old (rank value))
+            ∙ ap (λ ranks. any_of (map only ranks) (rank value))
+            (listed ∙ ap (λ ranks. map rank asked ++ ranks) first)
+            ∙ among (map rank asked) (rank value) more;
+        in_type = omega (arith, here, order, in_type);
+        callable = answered.callable;
+      }
 
   -- one more
   pub answered-next : {asked : List T} {now : F} {has : Selection} (next : F) (more : Selection)
@@ -142,14 +183,3 @@ module _ {F T : Type 0} (rank : T → ℕ) (n : ℕ) (g : Mut F (Bor T × Unit {
             ∙ ap (λ test. test && keeps point) (all point),
         (asked, now, answered.calls, sym listed),
       )
-
--- members that come after those that were asked about, the first of which is asked about next
-pub listed-next : {T : Type 0} (rank : T → ℕ) (asked : List T) (value : T) (all rest more : List ℕ)
-    → all ≡ map rank asked ++ rest → rest ≡ rank value ∷ more
-    → all ≡ map rank (asked ++ value ∷ []) ++ more
-listed-next rank asked value all rest more listed first = rw (
-  listed,
-  first,
-  map-append rank asked (value ∷ []),
-  append_assoc (map rank asked) (rank value ∷ []) more,
-)

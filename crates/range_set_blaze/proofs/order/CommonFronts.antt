@@ -168,7 +168,24 @@ passing-tells {n} {whole} {total} {left} {right} one two passing apart is told =
       };
     }
 
--- ---- a turn
+-- what some iterations tell, by how the last two runs compare by their ends: that no run told, or the
+-- order, of which the next iteration is the last
+abbrev pub TellsBy : {T : Type 0} → (T → ℕ) → ℕ → List Interval → List Interval → Ordering
+    → List (T × T) → List (T × T) → ℕ → Type 0
+TellsBy rank n whole total Less left right turns =
+    TellsOrder n whole total (cond (nat_lt 0 (length left)) Greater Less) (turns + 1)
+TellsBy rank n whole total Equal left right turns =
+    IsPassing n whole total (runs_of rank left) (runs_of rank right) turns
+TellsBy rank n whole total Greater left right turns = TellsOrder n whole total
+    (ordering_reverse (cond (nat_lt 0 (length right)) Greater Less)) (turns + 1)
+
+-- each iteration passed a run of the left list
+pub record HasCompared {T : Type 0} (rank : T → ℕ) (n : ℕ) (whole total : List Interval)
+    (ends : Ordering) (left right : List (T × T)) (turns : ℕ) : Type 0 where
+  pub counted : turns + length (runs_of rank left) ≡ length whole
+  pub tells : TellsBy rank n whole total ends left right turns
+
+-- ---- an iteration
 
 module _ {T : Type 0} {rank : T → ℕ} {n : ℕ} {cmp : T → T → Ordering}
     (in_order : (x y : T) → rank x < n → rank y < n → cmp x y ≡ nat_cmp (rank x) (rank y))
@@ -201,7 +218,7 @@ module _ {T : Type 0} {rank : T → ℕ} {n : ℕ} {cmp : T → T → Ordering}
     same_start = let by = starts_by ∙ heads-ranked.0 in grind (arith, nat_tests)
 
     -- a run of the left list that ends first tells
-    pub left-tells : Less ≡ cmp run.end other.end → TellsOrder n whole total
+    left-tells : Less ≡ cmp run.end other.end → TellsOrder n whole total
         (cond (nat_lt 0 (length left)) Greater Less) (turns + 1 + 1)
     unfolding elements_from
     left-tells is =
@@ -215,7 +232,7 @@ module _ {T : Type 0} {rank : T → ℕ} {n : ℕ} {cmp : T → T → Ordering}
         (grind (arith, nat_tests))
 
     -- or one of the right list
-    pub right-tells : Greater ≡ cmp run.end other.end → TellsOrder n whole total
+    right-tells : Greater ≡ cmp run.end other.end → TellsOrder n whole total
         (ordering_reverse (cond (nat_lt 0 (length right)) Greater Less)) (turns + 1 + 1)
     unfolding elements_from
     right-tells is =
@@ -231,7 +248,7 @@ module _ {T : Type 0} {rank : T → ℕ} {n : ℕ} {cmp : T → T → Ordering}
         (grind (arith, nat_tests))
 
     -- and where they end alike, they are passed
-    pub alike-passed : Equal ≡ cmp run.end other.end
+    alike-passed : Equal ≡ cmp run.end other.end
         → IsPassing n whole total (runs_of rank left) (runs_of rank right) (turns + 1)
     alike-passed is =
         let same : run_of rank run ≡ run_of rank other =
@@ -249,3 +266,17 @@ module _ {T : Type 0} {rank : T → ℕ} {n : ℕ} {cmp : T → T → Ordering}
           left_rest = canonical-tail n _ (runs_of rank left) passing.left_rest;
           right_rest = canonical-tail n _ (runs_of rank right) passing.right_rest;
         }
+
+    -- so their ends tell
+    ends-tell : (ends : Ordering) → ends ≡ cmp run.end other.end
+        → TellsBy rank n whole total ends left right (turns + 1)
+    ends-tell Less is = left-tells is
+    ends-tell Equal is = alike-passed is
+    ends-tell Greater is = right-tells is
+
+    -- and one more iteration is done
+    pub ends-compared : (ends : Ordering) → ends ≡ cmp run.end other.end
+        → HasCompared rank n whole total ends left right (turns + 1)
+    ends-compared ends is =
+        let counted = passing.counted in
+        record { counted = omega (arith, counted); tells = ends-tell ends is }

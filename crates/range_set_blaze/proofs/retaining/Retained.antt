@@ -17,7 +17,7 @@ use Rattle.rsb_integer.proofs.ListLemmas.{Contains-head}
 use Rattle.rsb_streams.specs.Sublists.{IsSublist}
 use Rattle.range_set_blaze.specs.Kept.{run_of}
 use Rattle.range_set_blaze.specs.Starts.{past, without_start, IsJoined, StartsWith}
-use Rattle.range_set_blaze.specs.Retain.{AnswersByRun, IsAsked}
+use Rattle.range_set_blaze.specs.Retain.{AnswersByRun, IsAsked, IsNextRun}
 use Rattle.range_set_blaze.specs.declared.set.run.Run.{Run}
 use Rattle.range_set_blaze.proofs.runs.Apart.{contained-maximal, without_start-joined}
 use Rattle.range_set_blaze.proofs.runs.Starts.{starting-all, starting-contains, starting-starting}
@@ -129,6 +129,36 @@ module _ {F T : Type 0} (rank : T → ℕ) (n : ℕ)
     -- it may be taken out
     pub next-joined : IsJoined n (without_start (rank run.start) new) (run_of rank run) new
     next-joined = without_start-joined n new before.canonical (run_of rank run) next-contained
+
+    -- it is the next one to be asked about
+    pub next-asked : (range : RangeInclusive T) → IsCanonicalIn n old
+        → range.start ≡ run.start → range.end ≡ run.end → range.exhausted ≡ false
+        → IsNextRun rank n g f old now range
+    next-asked range canonical start end fresh =
+        let rest = before.next_is.rest in
+        let parts : old ≡ before.done ++ run_of rank run ∷ rest =
+        before.old_parts ∙ (λ i. before.done ++ before.next_is.parts i) in
+        let ranks : interval_of rank range ≡ run_of rank run = rw (fresh, start, end) refl in
+        record {
+          asked = before.asked;
+          calls = before.calls;
+          next = record {
+            rest = rest;
+            parts =
+                rw (
+                  map-append (interval_of rank) before.asked (range ∷ []),
+                  ranks,
+                  before.listed,
+                  append_assoc before.done (run_of rank run ∷ []) rest,
+                )
+                parts;
+          };
+          fresh = fresh;
+          maximal = rw (start, end) (contained-maximal n old canonical (run_of rank run) (rw parts
+              (Contains-append_right before.done (run_of rank run ∷ rest) (run_of rank run)
+              (Contains-head (run_of rank run) rest))));
+          callable = before.callable;
+        }
 
     -- those that are there after it was asked about
     next-one : (test : Bool) (after : List Interval) (fewer : ℕ)

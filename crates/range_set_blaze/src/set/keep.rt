@@ -4,7 +4,7 @@ ghost use Rattle.std.specs.Prelude.{◌≡◌, ◌+◌, ◌<◌, ◌≤◌, ℕ,
 ghost use Rattle.rsb_integer.specs.Runs.{members, IsCanonicalIn};
 ghost use Rattle.rsb_integer.specs.Selection.{intersection, union, Selection};
 ghost use Rattle.range_set_blaze.specs.Kept.{run_of, runs_of};
-ghost use Rattle.range_set_blaze.specs.Retain.{left_runs, past_piece, with_piece, AnswersByRank, AsksAll, AsksFront, IsCanonicalBelow, IsPastFirst};
+ghost use Rattle.range_set_blaze.specs.Retain.{left_runs, past_piece, with_piece, AnswersByRank, AsksAll, AsksFront, CallableOnMembers, IsCanonicalBelow, IsPastFirst};
 ghost use Rattle.range_set_blaze.specs.Set.{only, IsSetOf};
 
 use crate::set::RangeSetBlaze;
@@ -23,7 +23,8 @@ pub(crate) fn kept_values<T: Integer, A: Allocator + Copy, F: FnMut(&T) -> bool>
     f: F,
 ) -> Result<RangeSetBlaze<T, A>, AllocError>
     requires canonical { IsCanonicalIn T.value_count (runs_of T.rank map.now.entries) }
-    requires callable { F.IsAlwaysCallable f }
+    requires callable {
+        CallableOnMembers T.rank T.value_count F.FnMut f (runs_of T.rank map.now.entries) }
     ensures within { IfOk result (λ kept. (rank : ℕ) → IsTrue (members kept rank)
         → IsTrue (members (runs_of T.rank map.now.entries) rank)) }
     ensures exact { (keeps : Selection) → AnswersByRank T.rank T.value_count F.FnMut keeps f

@@ -52,12 +52,12 @@ impl<T: Integer, A: Allocator> Ord for RangeSetBlaze<T, A> {
     ghost matches_eq = { sets_ties T.value_count };
 
     fn cmp(&self, other: &Self) -> Ordering {
-        compare_runs(&self.map, &other.map).0
+        cmp_counted(self, other).0
     }
 }
 
-/// The order of two sets, as `cmp` answers it, and how many turns it took. A turn looks at one run
-/// of each set, and steps to the next one of each at most once. (Own.)
+/// Returns the order of two sets, as `cmp` does, and the number of iterations of its loop. An
+/// iteration looks at one run of each set, and steps to the next one of each at most once. (Own.)
 pub fn cmp_counted<T: Integer, A: Allocator, B: Allocator>(
     a: &RangeSetBlaze<T, A>,
     b: &RangeSetBlaze<T, B>,
@@ -69,22 +69,23 @@ pub fn cmp_counted<T: Integer, A: Allocator, B: Allocator>(
     compare_runs(&a.map, &b.map)
 }
 
-/// What `==`, `cmp` and `partial_cmp` of sets answer, without lists of members. Two sets are equal
-/// exactly where no rank tells them apart. Else, of the least rank in which they differ, the one that
-/// has it is less where the other has a later member, and greater where not. (Own.)
-pub fn order_by_least_difference<T: Integer>()
+/// States what `==`, `cmp` and `partial_cmp` of sets return, at every allocator and without lists of
+/// members. Two sets are equal exactly if they agree at every rank. Otherwise one of them has the
+/// least rank in which they differ: it is less if the other has a later member, and greater if not.
+/// (Own.)
+pub fn order_by_least_difference<T: Integer, A: Allocator>()
     ensures equal { (left right : List Interval)
-        → IsTrue (⟦<RangeSetBlaze<T> as PartialEq>⟧.eq left right)
+        → IsTrue (⟦<RangeSetBlaze<T, A> as PartialEq>⟧.eq left right)
         ↔ Agree T.value_count (members left) (members right) }
     ensures order { (left right : List Interval)
         → HasOrder T.value_count (members left) (members right)
-        (⟦<RangeSetBlaze<T> as Ord>⟧.cmp left right) }
+        (⟦<RangeSetBlaze<T, A> as Ord>⟧.cmp left right) }
     ensures partial { (left right : List Interval)
-        → ⟦<RangeSetBlaze<T> as PartialOrd>⟧.partial_cmp left right
-        ≡ Some (⟦<RangeSetBlaze<T> as Ord>⟧.cmp left right) }
+        → ⟦<RangeSetBlaze<T, A> as PartialOrd>⟧.partial_cmp left right
+        ≡ Some (⟦<RangeSetBlaze<T, A> as Ord>⟧.cmp left right) }
 {}
 
-// The order of the sets of two lists of runs, and the turns that it took.
+// The order of the sets of two lists of runs, and the number of iterations.
 fn compare_runs<T: Integer, A: Allocator, B: Allocator>(
     left: &BTreeMap<T, T, A>,
     right: &BTreeMap<T, T, B>,
@@ -99,9 +100,15 @@ fn compare_runs<T: Integer, A: Allocator, B: Allocator>(
     let mut left = left.iter();
     let mut right = right.iter();
     let mut turns = 0;
-    // Runs that stand in both are passed.
+    // How the last two runs compare by their ends. All runs before them are in both sets.
+    let mut ends = Ordering::Equal;
     loop {
         turns += 1;
+        match ends {
+            Ordering::Less => return (order_by_rest(&mut left), turns),
+            Ordering::Equal => {}
+            Ordering::Greater => return (order_by_rest(&mut right).reverse(), turns),
+        }
         let Some(run) = next_run(&mut left) else {
             let Some(_) = next_run(&mut right) else {
                 return (Ordering::Equal, turns);
@@ -115,16 +122,12 @@ fn compare_runs<T: Integer, A: Allocator, B: Allocator>(
         if starts.is_ne() {
             return (starts, turns);
         }
-        match run.end.cmp(&other.end) {
-            Ordering::Less => return (order_by_rest(&mut left), turns + 1),
-            Ordering::Equal => {}
-            Ordering::Greater => return (order_by_rest(&mut right).reverse(), turns + 1),
-        }
+        ends = run.end.cmp(&other.end);
     }
 }
 
-// How a set whose last run was a front of a run of the other compares: what it still has is later
-// than the rest of that run.
+// How a set compares whose last run ended before the run of the other that starts alike: what it
+// still has is later than the rest of that run.
 fn order_by_rest<T>(rest: &mut Iter<'_, T, T>) -> Ordering
     ensures { result ≡ cond (nat_lt 0 (length rest.old)) Greater Less }
 {

@@ -6,7 +6,7 @@ ghost use Rattle.rsb_integer.specs.Runs.{Interval, members};
 ghost use Rattle.rsb_integer.specs.Selection.{intersection, IsSubset, Selection};
 ghost use Rattle.rsb_streams.specs.Sublists.{IsSublist};
 ghost use Rattle.range_set_blaze.specs.Kept.{runs_of, IsKept};
-ghost use Rattle.range_set_blaze.specs.Retain.{AnswersByRank, AnswersByRun, AsksAll, AsksFront, AsksRuns};
+ghost use Rattle.range_set_blaze.specs.Retain.{AnswersByRank, AnswersByRun, AsksAll, AsksFront, AsksRuns, CallableOnMembers, CallableOnRuns};
 ghost use Rattle.range_set_blaze.specs.Set.{IsSetOf};
 
 use crate::set::RangeSetBlaze;
@@ -19,10 +19,11 @@ use std::collections::BTreeMap;
 use std::ops::RangeInclusive;
 
 impl<T: Integer, A: Allocator + Copy> RangeSetBlaze<T, A> {
-    /// Asks about each member once, in ascending order, and keeps those with true. Without memory
-    /// the set is as it was, and some first members were asked about. (`RangeSetBlaze::retain`.)
+    /// Calls `f` on each member in ascending order, and keeps the members for which it returns true.
+    /// `f` must be callable on each member in turn. If allocation fails, the set is unchanged, and
+    /// `f` was called on a prefix of the members. (`RangeSetBlaze::retain`.)
     pub fn retain<F: FnMut(&T) -> bool>(&mut self, f: F) -> Result<(), AllocError>
-        requires { F.IsAlwaysCallable f }
+        requires { CallableOnMembers T.rank T.value_count F.FnMut f self.old }
         ensures within { OnOk result
             (IsSubset T.value_count (members self.new) (members self.old)) }
 
@@ -44,10 +45,10 @@ impl<T: Integer, A: Allocator + Copy> RangeSetBlaze<T, A> {
 }
 
 impl<T: Integer, A: Allocator> RangeSetBlaze<T, A> {
-    /// Asks about each run once, in ascending order, and keeps those with true. It takes no memory.
-    /// (`RangeSetBlaze::ranges_retain`.)
+    /// Calls `f` on each run in ascending order, and keeps the runs for which it returns true. `f`
+    /// must be callable on each run in turn. Does not allocate. (`RangeSetBlaze::ranges_retain`.)
     pub fn ranges_retain<F: FnMut(&RangeInclusive<T>) -> bool>(&mut self, f: F)
-        requires { F.IsAlwaysCallable f }
+        requires { CallableOnRuns T.rank T.value_count F.FnMut f self.old }
         ensures runs { IsSublist self.new self.old }
 
         // Where the answers depend on the range alone, the runs are those that they select.
@@ -69,7 +70,8 @@ fn retain_runs<T: Integer, A: Allocator, F: FnMut(&RangeInclusive<T>) -> bool>(
     total: T::SafeLen,
 ) -> T::SafeLen
     requires kept { IsKept T.rank T.value_count map.old.entries (T.SafeLen.number total) }
-    requires callable { F.IsAlwaysCallable f }
+    requires callable {
+        CallableOnRuns T.rank T.value_count F.FnMut f (runs_of T.rank map.old.entries) }
     ensures kept { IsKept T.rank T.value_count map.new.entries (T.SafeLen.number result) }
     ensures runs { IsSublist (runs_of T.rank map.new.entries) (runs_of T.rank map.old.entries) }
     ensures exact { (keeps : Interval → Bool)

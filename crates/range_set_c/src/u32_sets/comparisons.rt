@@ -23,7 +23,7 @@ pub extern "C" fn rsb_u32_equal(alloc: Global, left: &mut Handle, right: &mut Ha
 {
     let none = RangeSetBlaze::new(alloc);
     let nothing = RangeSetBlaze::new(alloc);
-    order_by_least_difference::<u32>();
+    order_by_least_difference::<u32, Global>();
     left.set_or(&none) == right.set_or(&nothing)
 }
 

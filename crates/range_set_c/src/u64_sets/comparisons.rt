@@ -22,7 +22,7 @@ pub extern "C" fn rsb_u64_equal(alloc: Global, left: &mut Handle, right: &mut Ha
 {
     let none = RangeSetBlaze::new(alloc);
     let nothing = RangeSetBlaze::new(alloc);
-    order_by_least_difference::<u64>();
+    order_by_least_difference::<u64, Global>();
     left.set_or(&none) == right.set_or(&nothing)
 }
 

@@ -1,7 +1,7 @@
 use Rattle.std.proofs.Common.{◌≡◌, ◌+◌, ◌<◌, ◌++◌, ◌∷◌, ◌∙◌, [], ap, append-nil, arith, refl}
 use Rattle.range_set_blaze.specs.Kept.{runs_of}
 use Rattle.range_set_blaze.specs.Retain.{left_runs, past_piece}
-use Rattle.range_set_blaze.proofs.gathering.AskedValues.{answered-all, answered-next, below-lower, canonical-below, left_runs-next, listed-next}
+use Rattle.range_set_blaze.proofs.gathering.AskedValues.{answered-all, answered-next, below-lower, canonical-below, left_runs-next, listed-next, next-member}
 use Rattle.range_set_blaze.proofs.set.keep.kept_values.Goals as goal
 use Rattle.range_set_blaze.proofs.set.keep.kept_values.Goals.{then-f+in_ok-grown, else-f}
 
@@ -29,7 +29,17 @@ loop-left-init g c =
       listed = refl;
     })
 
--- the first of what is left is asked about
+-- the test may be called on the first of what is left
+pub f-requires : goal.f-requires
+f-requires g c =
+    let rank = g.T.Integer.rank in
+    let before = c.loop-left.invariant in
+    let canonical = rw c.in-Some.is at before.canonical in
+    c.requires.callable.at _ _ (next-member rank g.T.Integer.value_count g.F.FnMut c.args.f
+    (runs_of rank c.args.map.now.entries) c.in-Some.run'.start _ _ before.answered
+    (rw c.in-Some.is at before.listed) refl canonical.1 canonical.2)
+
+-- it is asked about
 pub loop-left-preserved : goal.loop-left-preserved
 loop-left-preserved g c =
     let rank = g.T.Integer.rank in

@@ -1,14 +1,14 @@
--- Runs that stand in both lists were passed.
+-- Each iteration passed a run of each list, and the ends of the last two tell.
 use Rattle.std.proofs.Common.{length}
 use Rattle.range_set_blaze.specs.Kept.{runs_of}
-use Rattle.range_set_blaze.proofs.order.CommonFronts.{IsPassing}
+use Rattle.range_set_blaze.proofs.order.CommonFronts.{HasCompared}
 use Rattle.range_set_blaze.proofs.set.order.compare_runs.Given as goal
 
-abbrev pub invariant-loop-run : goal.invariant-loop-run
-invariant-loop-run g l =
+abbrev pub invariant-loop-ends : goal.invariant-loop-ends
+invariant-loop-ends g l =
     let rank = g.T.Integer.rank in
-    IsPassing g.T.Integer.value_count (runs_of rank l.fn.left.entries)
-    (runs_of rank l.fn.right.entries) (runs_of rank l.left) (runs_of rank l.right) l.turns
+    HasCompared rank g.T.Integer.value_count (runs_of rank l.fn.left.entries)
+    (runs_of rank l.fn.right.entries) l.ends l.left l.right l.turns
 
-abbrev pub decreases-loop-run : goal.decreases-loop-run
-decreases-loop-run g l = length l.left
+abbrev pub decreases-loop-ends : goal.decreases-loop-ends
+decreases-loop-ends g l = length l.left

@@ -2,7 +2,7 @@ use Rattle.std.proofs.Common.{[], arith, refl}
 use Rattle.rsb_integer.specs.Runs.{members}
 use Rattle.rsb_integer.proofs.CountLemmas.{count-within}
 use Rattle.range_set_blaze.specs.Kept.{runs_of}
-use Rattle.range_set_blaze.proofs.retaining.Retained.{fewer-to_come, next-joined, next-maximal, retaining-next}
+use Rattle.range_set_blaze.proofs.retaining.Retained.{fewer-to_come, next-asked, next-joined, next-maximal, retaining-next}
 use Rattle.range_set_blaze.proofs.runs.Starts.{canonical-rises}
 use Rattle.range_set_blaze.proofs.set.retain.retain_runs.Goals as goal
 use Rattle.range_set_blaze.proofs.set.retain.retain_runs.Goals.{then-not-f, else-not-f}
@@ -26,7 +26,14 @@ loop-next-init g c = record {
   exact = λ keeps answers. (answers, refl);
 }
 
--- the next one is a run of those that are there
+-- the test may be called on the next one
+pub f-requires : goal.f-requires
+f-requires g c =
+    let range = c.new.ensures in
+    c.requires.callable.at _ _ (next-asked _ _ _ _ _ c.in-Some.is c.loop-next.invariant _
+    c.requires.kept.canonical range.start range.end range.exhausted)
+
+-- it is a run of those that are there
 pub take_off_length-requires : goal.take_off_length-requires
 take_off_length-requires g c =
     let counted = c.loop-next.invariant.counted in
