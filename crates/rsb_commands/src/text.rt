@@ -10,10 +10,13 @@ ghost use Rattle.rsb_commands.specs.Transfer.{Writes};
 
 use crate::interpreter::Reply;
 use crate::page::{PAGE, Page};
+use crate::transfer::write_all;
+use arrayvec::ArrayString;
 use itoa::Buffer;
 use rsb_parser::Fault;
 use std::alloc::Allocator;
 use std::cmp::Ordering;
+use std::fmt::Write as _;
 use std::io::Write;
 use std::ops::RangeInclusive;
 
@@ -229,20 +232,19 @@ fn lay_number<W: Write>(page: &mut Page<'_, W>, number: &i32)
     page.lay(Buffer::new().format(*number).as_bytes());
 }
 
-/// Writes the line that tells a fault.
+/// How many bytes the longest line of a fault has, with its line feed: `bad line ` and 20 digits.
+const FAULT_LINE: usize = 30;
+
+/// Writes a fault by its `Display`, and a line feed. That `Display` does not fail is in no clause of
+/// `fmt`. If it does, nothing is written.
 pub(crate) fn write_fault<W: Write>(output: &mut W, fault: Fault) -> Result<(), Fault>
     ensures { Writes (W.contents output.old) (W.contents output.new) result
         (fault_line fault ++ codes "\n") }
 {
-    let mut page = Page::new(output);
-    match fault {
-        Fault::BadLine(number) => {
-            page.lay(b"bad line ");
-            page.lay(Buffer::new().format(number).as_bytes());
-        }
-        Fault::NoMemory => page.lay(b"no memory"),
-        Fault::Io => page.lay(b"read or write failed"),
+    let mut line = ArrayString::<FAULT_LINE>::new();
+    if writeln!(line, "{fault}").is_err() {
+        return Err(Fault::Io);
     }
-    page.lay(b"\n");
-    page.send()
+    write_all(output, line.as_bytes(), u64::MAX)?;
+    Ok(())
 }

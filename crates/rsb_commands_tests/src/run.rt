@@ -2,6 +2,7 @@
 
 mod commands;
 mod ends;
+mod millions;
 mod program;
 mod refusals;
 mod sessions;

@@ -25,10 +25,14 @@ struct Reading<A: Allocator> {
     alloc: A,
 }
 
-/// The commands that the lines of an input spell, or the number of its first bad line, after the
-/// input was read to its end. Of the bytes only those of the part that was read last are kept, and
-/// of the line that they end in. A reader that has not ended after 2^64 - 1 calls, interrupted ones
-/// included, has failed, and so has one that gives 2^64 lines or more.
+/// Reads an input to its end, and returns the commands that its lines spell. It keeps only the bytes
+/// of the last part that was read, and of the line in which that part ends.
+///
+/// `BadLine` has the number of the first bad line. The rest of the input is then read too, and not
+/// kept. `NoMemory` is returned if an allocation for these bytes or for the commands fails. `Io` is
+/// returned if a read fails, if the reader has not ended after 2^64 - 1 calls, interrupted ones
+/// included, or if it gives 2^64 lines or more. After `BadLine` the input is at its end. After
+/// `NoMemory` and `Io` it is past the bytes that were read, and these and their commands are lost.
 pub fn read_commands<A: Allocator + Copy, R: Read>(
     alloc: A,
     input: &mut R,

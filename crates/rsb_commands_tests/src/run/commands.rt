@@ -4,8 +4,11 @@ use crate::run::sessions::{ALL_COMMANDS, ALL_TOLD, MOST, MOST_TOLD, SESSION, TOL
 use rsb_commands::laws::{
     first_commands_first_replies, replies_are_unique, replies_exist, spelled_commands_have_replies,
 };
+use rsb_commands::outside::{Side, Slot};
 use rsb_commands::{Command, Fault, Reply, SetNo, parse_commands, read_commands, run_commands};
+use rsb_integer::Integer;
 use std::alloc::Global;
+use std::ops::RangeInclusive;
 use std::process::Abort;
 use std::test::*;
 
@@ -95,48 +98,73 @@ fn the_worked_sessions_run_as_commands(rt: HostRuntime) {
     assert!(rt; are_answered(rt.alloc(), MOST, &MOST_TOLD) == Ok(true));
 }
 
-// Whether replies say that the elements 250 to 255 were added to no others.
-fn say_of_bytes(replies: &[Reply<u8>]) -> bool {
+// Whether replies say that the values of a range, so many, were added to no others.
+fn say_of_range<T: Integer>(
+    replies: &[Reply<T>],
+    range: &RangeInclusive<T>,
+    count: T::SafeLen,
+) -> bool {
     let [
         Reply::Flag(true),
-        Reply::Flag(false),
-        Reply::Count(6),
+        Reply::Flag(true),
+        Reply::Count(found),
         Reply::Ranges(ranges),
     ] = replies
     else {
         return false;
     };
-    ranges.len() == 1 && ranges.first() == Some(&(250..=255))
+    *found == count && ranges.len() == 1 && ranges.first() == Some(range)
 }
 
-// Whether commands on a set of bytes, by its slot, are answered as they are to be.
-fn are_answered_of_bytes(alloc: Global, set: SetNo) -> bool {
+// Whether commands on a set of an element type, by its slot, are answered as they are to be, where a
+// range of values is added to it.
+fn are_answered_of_range<T: Integer>(
+    alloc: Global,
+    set: SetNo,
+    range: RangeInclusive<T>,
+    count: T::SafeLen,
+) -> bool {
     let commands = [
         Command::Add {
             slot: set,
-            first: 250u8,
-            last: 255,
+            first: *range.start(),
+            last: *range.end(),
         },
         Command::Has {
             slot: set,
-            value: 249,
+            value: *range.end(),
         },
         Command::Count { slot: set },
         Command::Show { slot: set },
     ];
     match run_commands(alloc, &commands) {
-        Ok(replies) => say_of_bytes(&replies),
+        Ok(replies) => say_of_range(&replies, &range, count),
         Err(_) => false,
     }
 }
 
+// Two values, and the quarter hours of a day, are types that a user of the library writes.
 #[test]
-fn commands_run_over_another_element_type(rt: HostRuntime) {
+fn commands_run_over_other_element_types(rt: HostRuntime) {
+    let set = slot(&rt, 4);
+    assert!(rt; are_answered_of_range(rt.alloc(), set, 250u8..=255, 6));
+    assert!(rt; are_answered_of_range(rt.alloc(), set, Side::Lo..=Side::Hi, 2));
+    let morning = Slot::new(32).expect(&rt, "a quarter hour")..=Slot::new(47).expect(&rt, "a quarter hour");
+    assert!(rt; are_answered_of_range(rt.alloc(), set, morning, 16));
+}
+
+#[test]
+fn laws_of_replies_hold_at_other_element_types() {
     replies_exist::<u8>();
-    spelled_commands_have_replies();
     replies_are_unique::<u8>();
     first_commands_first_replies::<u8>();
-    assert!(rt; are_answered_of_bytes(rt.alloc(), slot(&rt, 4)));
+    replies_exist::<Side>();
+    replies_are_unique::<Side>();
+    first_commands_first_replies::<Side>();
+    replies_exist::<Slot>();
+    replies_are_unique::<Slot>();
+    first_commands_first_replies::<Slot>();
+    spelled_commands_have_replies();
 }
 
 /// Faults, each with its status and its line.

@@ -1,5 +1,7 @@
 //! Readers and writers that misbehave.
 
+use linked_list_allocator::LocalHeap;
+use std::alloc::AllocError;
 use std::io;
 use std::io::{ErrorKind, Read, Write};
 
@@ -103,5 +105,76 @@ impl Write for Filling {
 
     fn flush(&mut self) -> io::Result<()> {
         Ok(())
+    }
+}
+
+/// Is interrupted the given number of times, and then reads the bytes.
+#[derive(Drop)]
+pub struct Delayed<'a> {
+    pub bytes: &'a [u8],
+    pub interruptions: u32,
+}
+
+impl Read for Delayed<'_> {
+    fn read(&mut self, buf: &mut [u8]) -> io::Result<usize> {
+        if self.interruptions > 0 {
+            self.interruptions -= 1;
+            return Err(io::Error::from(ErrorKind::Interrupted));
+        }
+        self.bytes.read(buf)
+    }
+}
+
+/// Is interrupted the given number of times, and then takes all bytes.
+#[derive(Drop)]
+pub struct Hesitant {
+    pub taken: Vec<u8>,
+    pub interruptions: u32,
+}
+
+impl Write for Hesitant {
+    fn write(&mut self, buf: &[u8]) -> io::Result<usize> {
+        if self.interruptions > 0 {
+            self.interruptions -= 1;
+            return Err(io::Error::from(ErrorKind::Interrupted));
+        }
+        self.taken.write(buf)
+    }
+
+    fn flush(&mut self) -> io::Result<()> {
+        Ok(())
+    }
+}
+
+/// Reads the bytes. At their end it takes all that is free in a heap, except one block of the given
+/// size, and keeps it until it is dropped.
+#[derive(Drop)]
+pub struct Holding<'a> {
+    pub bytes: &'a [u8],
+    pub heap: &'a LocalHeap,
+    pub spared: usize,
+    pub held: Vec<Vec<u8, &'a LocalHeap>>,
+}
+
+impl Holding<'_> {
+    fn hold(&mut self) -> Result<(), AllocError> {
+        let spared = Vec::<u8, &LocalHeap>::with_capacity(self.heap, self.spared)?;
+        for _ in 0..self.heap.size() {
+            let Ok(block) = Vec::with_capacity(self.heap, 1) else {
+                break;
+            };
+            self.held.push(block)?;
+        }
+        drop(spared);
+        Ok(())
+    }
+}
+
+impl Read for Holding<'_> {
+    fn read(&mut self, buf: &mut [u8]) -> io::Result<usize> {
+        if self.bytes.is_empty() {
+            self.hold()?;
+        }
+        self.bytes.read(buf)
     }
 }

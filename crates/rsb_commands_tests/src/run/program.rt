@@ -10,7 +10,7 @@ use std::process::ExitCode;
 use std::test::*;
 
 /// What is shown, lines, and the text that they are answered with.
-static ANSWERED: [(&str, &[u8], &[u8]); 21] = [
+static ANSWERED: [(&str, &[u8], &[u8]); 22] = [
     ("the worked session", SESSION, REPLIES),
     ("no bytes", b"", b""),
     ("no words", b"\n \t\r\n", b""),
@@ -77,6 +77,11 @@ static ANSWERED: [(&str, &[u8], &[u8]); 21] = [
         "two of three, and a set that is named twice",
         MOST,
         MOST_REPLIES,
+    ),
+    (
+        "one set thrice, without members and with some",
+        b"most 1 0 0 0\nshow 1\nadd 0 1 5\nmost 1 0 0 0\nshow 1\nmost 0 0 0 0\nshow 0\n",
+        b"0\n\ntrue\n1\n1..=5\n1\n1..=5\n",
     ),
     (
         "two of three that touch, in place of one of them",
@@ -173,6 +178,14 @@ fn bad_lines_are_told_by_their_number(rt: HostRuntime) {
     for (row, (lines, number)) in BAD_LINES.iter().enumerate() {
         assert!(rt; are_told_as_bad(rt.alloc(), lines, *number), "row {row}");
     }
+}
+
+// The last input lacks its line feed.
+#[test]
+fn nothing_is_written_after_a_bad_line_nor_for_no_bytes(rt: HostRuntime) {
+    assert!(rt; are_told_as_bad(rt.alloc(), b"len 0\nlen 10\n", 2));
+    assert!(rt; are_told_as_bad(rt.alloc(), b"add 0 0 2147483648", 1));
+    assert!(rt; are_answered(rt.alloc(), b"", b""));
 }
 
 /// The worked sessions, each with its replies.
@@ -344,6 +357,35 @@ fn many_replies(alloc: Global) -> Result<String, Fail> {
 fn a_hundred_thousand_lines_are_answered(rt: HostRuntime) -> Result<(), Fail> {
     let lines = many_values(rt.alloc())?;
     let replies = many_replies(rt.alloc())?;
+    assert!(rt; are_answered(rt.alloc(), lines.as_bytes(), replies.as_bytes()));
+    Ok(())
+}
+
+/// Lines that add two thousand single values, apart, and then a range whose bounds are reversed.
+fn reversed_after_many(alloc: Global) -> Result<String, Fail> {
+    let mut lines = String::new(alloc);
+    for half in 0..2_000u32 {
+        let value = half.saturating_mul(2);
+        write!(lines, "add 0 {value} {value}\n")?;
+    }
+    lines.push_str("add 0 5 3\nlen 0\n")?;
+    Ok(lines)
+}
+
+/// What is replied to those lines.
+fn replies_to_reversed(alloc: Global) -> Result<String, Fail> {
+    let mut replies = String::new(alloc);
+    for _ in 0..2_000u32 {
+        replies.push_str("true\n")?;
+    }
+    replies.push_str("false\n2000\n")?;
+    Ok(replies)
+}
+
+#[test]
+fn a_reversed_range_adds_nothing_to_many_runs(rt: HostRuntime) -> Result<(), Fail> {
+    let lines = reversed_after_many(rt.alloc())?;
+    let replies = replies_to_reversed(rt.alloc())?;
     assert!(rt; are_answered(rt.alloc(), lines.as_bytes(), replies.as_bytes()));
     Ok(())
 }

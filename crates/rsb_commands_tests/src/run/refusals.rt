@@ -1,53 +1,174 @@
 //! Memory that is refused.
 
-use crate::run::ends::Filling;
+use crate::run::ends::{Dripping, Filling, Holding};
 use linked_list_allocator::LocalHeap;
-use rsb_commands::{Command, Fault, Reply, SetNo, run, run_commands, start};
+use rsb_commands::{
+    Command, Fault, Reply, SetNo, parse_commands, read_commands, run, run_commands, start,
+};
 use std::alloc::{AllocError, Global};
 use std::io::ErrorKind;
 use std::process::ExitCode;
 use std::test::*;
 
-const COMMANDS: &[u8] = b"add 0 1 5\nnot 1 0\n";
+const COMMANDS: &[u8] = b"add 0 1 5\nshow 0\n";
 
 const FIRST: &[u8] = b"true\n";
 
-const ALL: &[u8] = b"true\n2\n";
+const ALL: &[u8] = b"true\n1..=5\n";
 
-/// Whether an outcome goes with what was written: all replies where the lines were done, and none or
-/// the first where memory was refused.
-fn goes_with(outcome: Result<(), Fault>, written: &[u8]) -> bool {
-    match outcome {
-        Ok(()) => written == ALL,
-        Err(fault) => fault == Fault::NoMemory && (written.is_empty() || written == FIRST),
-    }
-}
-
-/// How many bytes of the replies are written over a heap of this size. `None` where the outcome does
-/// not go with them.
-fn written_over(alloc: Global, size: usize) -> Result<Option<usize>, AllocError> {
-    let heap = LocalHeap::new(alloc, size)?;
-    let mut input = COMMANDS;
-    let mut output = Vec::new(alloc);
+/// What `run` returns for the lines if the commands find the given number of bytes free, and how many
+/// bytes are written, by a writer with the given room, which then fails. `None` if these are no first
+/// bytes of the replies.
+fn outcome_over(
+    alloc: Global,
+    spared: usize,
+    room: usize,
+) -> Result<Option<(Result<(), Fault>, usize)>, AllocError> {
+    let heap = LocalHeap::new(alloc, 4096)?;
+    let mut input = Holding {
+        bytes: COMMANDS,
+        heap: &heap,
+        spared,
+        held: Vec::new(alloc),
+    };
+    let mut output = Filling {
+        taken: Vec::new(alloc),
+        room,
+        failure: Some(ErrorKind::Other),
+        is_interrupted: true,
+    };
     let outcome = run(&heap, &mut input, &mut output);
-    Ok(goes_with(outcome, &output).then_some(output.len()))
+    let written = output.taken.len();
+    Ok(ALL
+        .starts_with(&output.taken)
+        .then_some((outcome, written)))
 }
 
-// Over heaps of growing size the growth that is refused comes later and later.
+/// The outcome if the growth of the second command is refused.
+const STOPPED: Option<(Result<(), Fault>, usize)> = Some((Err(Fault::NoMemory), 5));
+
+// With more and more bytes free, first a growth before the replies is refused, then that of `show`,
+// and then none.
 #[test]
-fn replies_before_a_refused_growth_are_written(rt: HostRuntime) -> Result<(), Fail> {
-    let mut last = Some(0);
+fn true_is_written_before_the_growth_of_show_is_refused(rt: HostRuntime) -> Result<(), Fail> {
     let mut is_stopped_early = false;
-    let mut is_stopped_at_last = false;
-    for step in 4..200usize {
-        let written = written_over(rt.alloc(), 16 * step)?;
-        assert!(rt; written >= last, "step {step}");
-        is_stopped_early = is_stopped_early || written == Some(0);
-        is_stopped_at_last = is_stopped_at_last || written == Some(FIRST.len());
-        last = written;
+    let mut is_stopped_at_show = false;
+    let mut last = None;
+    for step in 1..100usize {
+        let outcome = outcome_over(rt.alloc(), 16 * step, ALL.len())?;
+        is_stopped_early = is_stopped_early || outcome == Some((Err(Fault::NoMemory), 0));
+        is_stopped_at_show = is_stopped_at_show || outcome == STOPPED;
+        last = outcome;
     }
-    assert!(rt; is_stopped_early && is_stopped_at_last && last == Some(ALL.len()));
+    assert!(rt; is_stopped_early && is_stopped_at_show);
+    assert!(rt; last == Some((Ok(()), ALL.len())));
     Ok(())
+}
+
+// Where the growth of `show` is refused, and then the reply before it can't be written, the write is
+// told.
+#[test]
+fn a_failed_write_is_told_before_refused_memory(rt: HostRuntime) -> Result<(), Fail> {
+    let mut is_write_told = false;
+    for step in 1..100usize {
+        let spared = 16 * step;
+        if outcome_over(rt.alloc(), spared, FIRST.len())? == STOPPED {
+            for room in [0, 4] {
+                let outcome = outcome_over(rt.alloc(), spared, room)?;
+                assert!(rt; outcome == Some((Err(Fault::Io), room)), "{spared} bytes, room {room}");
+                is_write_told = true;
+            }
+        }
+    }
+    assert!(rt; is_write_told);
+    Ok(())
+}
+
+/// As many lines as are asked for, each of which spells a command.
+fn lines_of(alloc: Global, count: u8) -> Result<Vec<u8>, AllocError> {
+    let mut lines = Vec::new(alloc);
+    for _ in 0..count {
+        lines.extend_from_slice(b"add 3 1 5\n")?;
+    }
+    Ok(lines)
+}
+
+/// Whether commands are read from lines over a heap of this size, by a call that is given the heap.
+/// `None` if it returns other commands than these, another fault than `NoMemory`, or leaks.
+fn read_over(
+    heap: &LocalHeap,
+    read: Result<Vec<Command<i32>, &LocalHeap>, Fault>,
+    wanted: &[Command<i32>],
+) -> Option<bool> {
+    match read {
+        Ok(commands) => (commands.as_slice() == wanted).then_some(true),
+        Err(fault) => (fault == Fault::NoMemory && heap.used() == 0).then_some(false),
+    }
+}
+
+/// How the commands are read from lines.
+#[derive(Clone, Copy)]
+enum How {
+    /// By `parse_commands`.
+    Parsed,
+    /// By `read_commands`, all at once.
+    Read,
+    /// By `read_commands`, a byte a call.
+    Dripped,
+}
+
+/// Whether commands are read so over a heap of this size, as `read_over` tells.
+fn is_read_over(
+    alloc: Global,
+    size: usize,
+    how: How,
+    lines: &[u8],
+    wanted: &[Command<i32>],
+) -> Result<Option<bool>, AllocError> {
+    let heap = LocalHeap::new(alloc, size)?;
+    let read = match how {
+        How::Parsed => parse_commands(&heap, lines),
+        How::Read => {
+            let mut input = lines;
+            read_commands(&heap, &mut input)
+        }
+        How::Dripped => {
+            let mut input = Dripping {
+                bytes: lines,
+                failure: None,
+                is_interrupted: false,
+            };
+            read_commands(&heap, &mut input)
+        }
+    };
+    Ok(read_over(&heap, read, wanted))
+}
+
+/// How many heaps, each larger by 16 bytes, the grain of the heap, are too small before one suffices.
+/// `None` if a call goes wrong or no heap suffices.
+fn refusals(alloc: Global, how: How, count: u8) -> Result<Option<usize>, Fault> {
+    let lines = lines_of(alloc, count)?;
+    let wanted = parse_commands(alloc, &lines)?;
+    for step in 1..1000usize {
+        match is_read_over(alloc, 16 * step, how, &lines, &wanted)? {
+            None => return Ok(None),
+            Some(true) => return Ok((wanted.len() == count as usize).then_some(step - 1)),
+            Some(false) => {}
+        }
+    }
+    Ok(None)
+}
+
+// A list of four commands is the first growth.
+#[test]
+fn each_growth_of_the_commands_is_refused_in_turn(rt: HostRuntime) {
+    for how in [How::Parsed, How::Read, How::Dripped] {
+        assert!(rt; refusals(rt.alloc(), how, 0) == Ok(Some(0)));
+        for count in [1, 3, 100] {
+            let found = refusals(rt.alloc(), how, count);
+            assert!(rt; matches!(found, Ok(Some(1..))), "{count} lines");
+        }
+    }
 }
 
 /// Three commands on the set in a slot.
@@ -134,39 +255,5 @@ fn refused_memory_ends_with_status_3_and_no_commands_with_0(rt: HostRuntime) -> 
     assert!(rt;
         ends(rt.alloc(), &heap, COMMANDS, 3, b"no memory\n") && ends(rt.alloc(), &heap, b"", 0, b"")
     );
-    Ok(())
-}
-
-/// What is told of the lines over a heap of this size, and a writer with room for so many bytes,
-/// which then fails, and how many bytes it took.
-fn told_of(alloc: Global, size: usize, room: usize) -> Result<(Option<Fault>, usize), AllocError> {
-    let heap = LocalHeap::new(alloc, size)?;
-    let mut input = COMMANDS;
-    let mut output = Filling {
-        taken: Vec::new(alloc),
-        room,
-        failure: Some(ErrorKind::Other),
-        is_interrupted: true,
-    };
-    let told = run(&heap, &mut input, &mut output).err();
-    Ok((told, output.taken.len()))
-}
-
-// Where the last command finds no memory, and then the replies before it can't be written, it is
-// the write that is told.
-#[test]
-fn a_failed_write_is_told_before_refused_memory(rt: HostRuntime) -> Result<(), Fail> {
-    let mut is_write_told = false;
-    for step in 4..200usize {
-        let size = 16 * step;
-        if told_of(rt.alloc(), size, FIRST.len())? == (Some(Fault::NoMemory), FIRST.len()) {
-            for room in [0, 4] {
-                let told = told_of(rt.alloc(), size, room)?;
-                assert!(rt; told == (Some(Fault::Io), room), "size {size}, room {room}");
-                is_write_told = true;
-            }
-        }
-    }
-    assert!(rt; is_write_told);
     Ok(())
 }
