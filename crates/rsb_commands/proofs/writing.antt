@@ -1,3 +1,4 @@
 pub mod Appended
+pub mod FaultLine
 pub mod LaidText
 pub mod Replies

@@ -1,6 +1,6 @@
 //! Replies and faults as lines of text. Writing them takes no memory.
 
-ghost use Rattle.std.specs.Prelude.{◌≡◌, ◌+◌, ◌≤◌, ◌++◌, codes, decimal, flat_map, length};
+ghost use Rattle.std.specs.Prelude.{◌≡◌, ◌+◌, ◌≤◌, ◌++◌, IfSome, codes, decimal, flat_map, length};
 ghost use Rattle.std.specs.Fmt.{signed_decimal};
 ghost use Rattle.rsb_parser.specs.Fault.{fault_line};
 ghost use Rattle.rsb_commands.specs.Interpreter.{content_of, flag as flag_content, number as number_content, order as order_content, piece as piece_content, ranges as ranges_content, runs as runs_content};
@@ -235,16 +235,23 @@ fn lay_number<W: Write>(page: &mut Page<'_, W>, number: &i32)
 /// How many bytes the longest line of a fault has, with its line feed: `bad line ` and 20 digits.
 const FAULT_LINE: usize = 30;
 
-/// Writes a fault by its `Display`, and a line feed. That `Display` does not fail is in no clause of
-/// `fmt`. If it does, nothing is written.
+/// Writes the line of a fault.
 pub(crate) fn write_fault<W: Write>(output: &mut W, fault: Fault) -> Result<(), Fault>
     ensures { Writes (W.contents output.old) (W.contents output.new) result
         (fault_line fault ++ codes "\n") }
 {
-    let mut line = ArrayString::<FAULT_LINE>::new();
-    if writeln!(line, "{fault}").is_err() {
+    let Some(line) = fault_text(fault) else {
         return Err(Fault::Io);
-    }
+    };
     write_all(output, line.as_bytes(), u64::MAX)?;
     Ok(())
+}
+
+// A fault by its `Display`, and a line feed. `None` if that fails, which no clause of `fmt` excludes.
+fn fault_text(fault: Fault) -> Option<ArrayString<FAULT_LINE>>
+    ensures { IfSome result (λ text. text.bytes ≡ fault_line fault ++ codes "\n") }
+{
+    let mut text = ArrayString::new();
+    writeln!(text, "{fault}").ok()?;
+    Some(text)
 }
