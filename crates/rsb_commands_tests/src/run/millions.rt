@@ -70,12 +70,31 @@ fn a_writer_may_be_interrupted_a_million_times(rt: HostRuntime) {
     assert!(rt; output.taken.as_slice() == REPLIES);
 }
 
-/// The number of values that lie apart.
+/// One more than a million.
 const MANY: i32 = 1_000_001;
 
-/// Commands that add many single values to the set in a slot, apart, and then show it.
-fn many_commands(alloc: Global, slot: SetNo) -> Result<Vec<Command<i32>>, AllocError> {
+/// As many commands, each of which looks for a value.
+fn many_questions(alloc: Global, slot: SetNo) -> Result<Vec<Command<i32>>, AllocError> {
     let mut commands = Vec::new(alloc);
+    for value in 0..MANY {
+        commands.push(Command::Has { slot, value })?;
+    }
+    Ok(commands)
+}
+
+#[test]
+fn a_million_commands_run(rt: HostRuntime) -> Result<(), Fail> {
+    let commands = many_questions(rt.alloc(), SetNo::new(7).expect(&rt, "a slot"))?;
+    let Ok(replies) = run_commands(rt.alloc(), &commands) else {
+        return Err(Fail::from("stopped"));
+    };
+    assert!(rt; replies.len() == commands.len() && replies.last() == Some(&Reply::Flag(false)));
+    Ok(())
+}
+
+/// Commands that add as many single values, apart, to the set in a slot, and then show it.
+fn many_additions(alloc: Global, slot: SetNo) -> Result<Vec<Command<i32>>, AllocError> {
+    let mut commands = Vec::with_capacity(alloc, 1_000_002)?;
     for half in 0..MANY {
         let value = half.saturating_mul(2);
         commands.push(Command::Add {
@@ -88,31 +107,20 @@ fn many_commands(alloc: Global, slot: SetNo) -> Result<Vec<Command<i32>>, AllocE
     Ok(commands)
 }
 
-/// Whether a reply shows those values.
-fn shows_many(reply: Option<&Reply<i32>>) -> bool {
+/// Whether a reply shows as many ranges, the last of which is of this value.
+fn shows_many(reply: Option<&Reply<i32>>, value: i32) -> bool {
     let Some(Reply::Ranges(ranges)) = reply else {
         return false;
     };
-    ranges
-        .iter()
-        .map(|range| (*range.start(), *range.end()))
-        .eq((0..MANY).map(|half| (half.saturating_mul(2), half.saturating_mul(2))))
-}
-
-/// Whether all replies but the last say that a value was new.
-fn are_new(replies: &[Reply<i32>]) -> bool {
-    let Some((_, flags)) = replies.split_last() else {
-        return false;
-    };
-    flags.len() == MANY as usize && flags.iter().all(|reply| matches!(reply, Reply::Flag(true)))
+    ranges.len() == MANY as usize && ranges.last() == Some(&(value..=value))
 }
 
 #[test]
-fn a_million_commands_run_and_a_million_runs_are_shown(rt: HostRuntime) -> Result<(), Fail> {
-    let commands = many_commands(rt.alloc(), SetNo::new(7).expect(&rt, "a slot"))?;
+fn a_million_runs_are_shown(rt: HostRuntime) -> Result<(), Fail> {
+    let commands = many_additions(rt.alloc(), SetNo::new(7).expect(&rt, "a slot"))?;
     let Ok(replies) = run_commands(rt.alloc(), &commands) else {
         return Err(Fail::from("stopped"));
     };
-    assert!(rt; are_new(&replies) && shows_many(replies.last()));
+    assert!(rt; shows_many(replies.last(), 2_000_000));
     Ok(())
 }
