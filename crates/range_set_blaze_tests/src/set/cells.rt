@@ -49,6 +49,18 @@ fn empty_cell(start: i32, end: i32) -> Cell {
     }
 }
 
+/// The cells of so many runs of three values, eight apart from 0 on, and of so many of two others,
+/// each in the gap after one.
+pub(crate) fn spaced(alloc: Global, count: i32, others: i32) -> Result<Vec<Cell>, AllocError> {
+    let mut cells = cells(alloc, -8, 824)?;
+    for cell in cells.iter_mut() {
+        let (place, rest) = (cell.start / 8, cell.start % 8);
+        cell.is_member = cell.start >= 0 && place < count && rest < 3;
+        cell.is_other = cell.start >= 0 && place < others && (rest == 4 || rest == 5);
+    }
+    Ok(cells)
+}
+
 /// The runs of the cells of a set.
 pub(crate) fn runs(
     alloc: Global,

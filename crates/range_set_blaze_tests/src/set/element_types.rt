@@ -1,9 +1,10 @@
 //! Sets that reach both ends of their types.
 
 use crate::set::look_ups::lies;
-use crate::set::refusals::heaps::filled;
-use linked_list_allocator::LocalHeap;
+use crate::set::refusals::heaps::Heap;
 use range_set_blaze::{RangeSetBlaze, UIntPlusOne};
+use rsb_tables::Counting;
+use std::alloc::{AllocError, Global};
 use std::test::*;
 
 #[test]
@@ -33,13 +34,14 @@ fn the_widest_set_has_one_member_past_the_greatest_number(rt: HostRuntime) -> Re
 }
 
 #[test]
-fn the_widest_length_comes_and_goes_with_no_memory(rt: HostRuntime) -> Result<(), Fail> {
-    let heap = LocalHeap::new(rt.alloc(), 8192)?;
-    let mut wide = RangeSetBlaze::<u128, &LocalHeap>::from(&heap, 1..=u128::MAX)?;
+fn the_widest_length_comes_and_goes_if_nothing_can_be_allocated(
+    rt: HostRuntime,
+) -> Result<(), Fail> {
+    let heap = Counting::new(rt.alloc());
+    let mut wide = RangeSetBlaze::<u128, &Heap>::from(&heap, 1..=u128::MAX)?;
     assert!(rt; wide.insert(0)? && wide.len() == UIntPlusOne::MaxPlusOne);
-    let filler = filled(rt.alloc(), &heap)?;
+    heap.fail_after(0);
     let taken = wide.remove(u128::MAX);
-    drop(filler);
     let length = UIntPlusOne::UInt(340282366920938463463374607431768211455);
     assert!(rt; taken == Ok(true) && wide.len() == length);
     Ok(())
@@ -68,26 +70,41 @@ fn characters_beside_the_surrogates_are_two(rt: HostRuntime) -> Result<(), Fail>
     Ok(())
 }
 
+/// Whether a set has both of two characters, and the set of the two.
+fn has_pair(
+    alloc: Global,
+    letters: &RangeSetBlaze<char>,
+    before: char,
+    after: char,
+) -> Result<bool, AllocError> {
+    let pair = RangeSetBlaze::from(alloc, before..=after)?;
+    Ok(letters.contains(before) && letters.contains(after) && letters.is_superset(&pair))
+}
+
+/// The first character after which the next one is not the end of a pair that a set has, and the
+/// number of pairs that were asked about.
+fn first_lacked(
+    alloc: Global,
+    letters: &RangeSetBlaze<char>,
+) -> Result<(Option<char>, u32), AllocError> {
+    let mut before = '\0';
+    let mut pairs = 0u32;
+    for after in '\u{1}'..=char::MAX {
+        if !has_pair(alloc, letters, before, after)? {
+            return Ok((Some(before), pairs));
+        }
+        before = after;
+        pairs = pairs.saturating_add(1);
+    }
+    Ok((None, pairs))
+}
+
 // The step over the surrogates is one of the pairs.
 #[test]
-fn all_characters_have_each_pair_of_neighbors(rt: HostRuntime) -> Result<(), Fail> {
+fn the_universe_has_every_character_and_each_pair_of_neighbors(
+    rt: HostRuntime,
+) -> Result<(), Fail> {
     let universe = RangeSetBlaze::<char>::universe(rt.alloc())?;
-    let rows = [
-        ('\0', '\u{1}'),
-        ('@', 'A'),
-        ('\u{7F}', '\u{80}'),
-        ('\u{7FF}', '\u{800}'),
-        ('\u{D7FE}', '\u{D7FF}'),
-        ('\u{D7FF}', '\u{E000}'),
-        ('\u{E000}', '\u{E001}'),
-        ('\u{FFFF}', '\u{10000}'),
-        ('\u{10FFFE}', '\u{10FFFF}'),
-    ];
-    for (before, c) in rows {
-        let pair = RangeSetBlaze::from(rt.alloc(), before..=c)?;
-        let are_members = universe.contains(before) && universe.contains(c);
-        let is_pair = pair.len() == 2 && universe.is_superset(&pair);
-        assert!(rt; are_members && is_pair, "{c:?}");
-    }
+    assert!(rt; first_lacked(rt.alloc(), &universe)? == (None, 1_112_063));
     Ok(())
 }

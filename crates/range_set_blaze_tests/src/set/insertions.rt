@@ -120,9 +120,17 @@ fn a_reversed_range_adds_nothing(rt: HostRuntime) {
 
 #[test]
 fn a_range_that_touches_a_run_joins_it(rt: HostRuntime) -> Result<(), Fail> {
-    let mut set = RangeSetBlaze::<u8>::from(rt.alloc(), 1..=3)?;
+    let mut set = RangeSetBlaze::<u8>::new(rt.alloc());
+    assert!(rt; set.ranges_insert(1..=3)? && is_byte_run(&set, 1, 3));
     assert!(rt; set.ranges_insert(4..=5)? && is_byte_run(&set, 1, 5));
     assert!(rt; !set.ranges_insert(4..=5)? && is_byte_run(&set, 1, 5));
+    Ok(())
+}
+
+#[test]
+fn the_full_range_adds_every_value(rt: HostRuntime) -> Result<(), Fail> {
+    let mut set = RangeSetBlaze::<i32>::new(rt.alloc());
+    assert!(rt; set.ranges_insert(..)? && set.len() == 4294967296);
     Ok(())
 }
 

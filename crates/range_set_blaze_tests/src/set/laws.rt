@@ -1,25 +1,38 @@
 //! Laws that callers cite.
 
+use range_set_blaze::Integer;
 use range_set_blaze::laws::{
-    canonical_lists_are_runs, complement_twice, de_morgan, difference_by_complement,
-    elements_stand_for_sets, equal_members_equal_lists, offsets_undo_length,
-    order_by_least_difference, run_bounds_are_ends, symmetric_by_union,
+    at_least_all, at_least_falls, at_least_one, canonical_lists_are_runs, complement_twice,
+    de_morgan, difference_by_complement, elements_stand_for_sets, equal_members_equal_lists,
+    offsets_undo_length, one_filled_list, one_list_of_events, order_by_least_difference,
+    run_bounds_are_ends, some_list_of_events, symmetric_by_union,
 };
-use rsb_streams::laws::one_filled_list;
+use rsb_commands::outside::{Side, Slot};
 use std::alloc::Global;
 
-// The clause of each law is proved at any element type. Here they are only named at one.
+/// Cites each law at a type. The clause of each is proved at any type.
+fn cite<T: Integer>() {
+    canonical_lists_are_runs::<T>();
+    equal_members_equal_lists::<T>();
+    offsets_undo_length::<T>();
+    order_by_least_difference::<T, Global>();
+    run_bounds_are_ends::<T>();
+    elements_stand_for_sets::<T>();
+    one_filled_list::<T>();
+    one_list_of_events::<T>();
+    some_list_of_events::<T>();
+    complement_twice::<T>();
+    de_morgan::<T>();
+    difference_by_complement::<T>();
+    symmetric_by_union::<T>();
+    at_least_one::<T>();
+    at_least_all::<T>();
+    at_least_falls::<T>();
+}
+
 #[test]
-fn laws_can_be_cited_at_a_type() {
-    canonical_lists_are_runs::<u8>();
-    equal_members_equal_lists::<u8>();
-    offsets_undo_length::<u8>();
-    order_by_least_difference::<u8, Global>();
-    run_bounds_are_ends::<u8>();
-    elements_stand_for_sets::<u8>();
-    one_filled_list::<u8>();
-    complement_twice::<u8>();
-    de_morgan::<u8>();
-    difference_by_complement::<u8>();
-    symmetric_by_union::<u8>();
+fn laws_can_be_cited_at_a_type_and_at_own_types() {
+    cite::<u8>();
+    cite::<Side>();
+    cite::<Slot>();
 }

@@ -38,7 +38,7 @@ static CHANGED: [(Change, usize, u64); 22] = [
 ];
 
 /// Changes a set, beside a copy of another where the call adds one.
-fn change(
+pub(crate) fn change(
     alloc: Global,
     call: Change,
     set: &mut RangeSetBlaze<i32>,
@@ -53,7 +53,7 @@ fn change(
 }
 
 /// Whether a set has so many runs and members.
-fn counts(set: &RangeSetBlaze<i32>, count: usize, members: u64) -> bool {
+pub(crate) fn counts(set: &RangeSetBlaze<i32>, count: usize, members: u64) -> bool {
     set.ranges_len() == count && set.len() == members
 }
 
@@ -83,7 +83,7 @@ static MADE: [(Making, usize, u64); 10] = [
 ];
 
 /// Whether a making of two sets has so many runs and members.
-fn makes(
+pub(crate) fn makes(
     alloc: Global,
     making: Making,
     sets: (&RangeSetBlaze<i32>, &RangeSetBlaze<i32>),

@@ -1,8 +1,7 @@
 //! The texts of sets, and of their iterators.
 
-use linked_list_allocator::LocalHeap;
 use range_set_blaze::RangeSetBlaze;
-use rsb_tables::{is_shown, set_of};
+use rsb_tables::{Counting, is_shown, set_of};
 use std::alloc::{AllocError, Global};
 use std::test::*;
 
@@ -31,27 +30,25 @@ fn runs_are_written_with_a_comma_between_two_and_nothing_of_none(
     Ok(())
 }
 
-// A text that finds no memory midway is none, and not a shorter one.
+// A text for which an allocation fails midway is none, and not a shorter one.
 #[test]
-fn a_text_is_whole_or_refused(rt: HostRuntime) -> Result<(), Fail> {
+fn a_text_is_whole_or_fails(rt: HostRuntime) -> Result<(), Fail> {
     let set = set_of(
         rt.alloc(),
         &[(1, 2), (5, 6), (9, 9), (20, 30), (40, 50), (60, 70)],
     )?;
-    let mut is_refused = false;
-    let mut is_whole = false;
-    for size in 4..60usize {
-        let heap = LocalHeap::new(rt.alloc(), 16 * size)?;
+    let heap = Counting::new(rt.alloc());
+    let wanted = "1..=2, 5..=6, 9..=9, 20..=30, 40..=50, 60..=70";
+    let mut refused = 0u32;
+    for granted in 0..20usize {
+        heap.fail_after(granted);
         match format!(in &heap; "{set}") {
-            Ok(text) => {
-                let wanted = "1..=2, 5..=6, 9..=9, 20..=30, 40..=50, 60..=70";
-                assert!(rt; text.as_str() == wanted, "size {size}");
-                is_whole = true;
-            }
-            Err(_) => is_refused = true,
+            Ok(text) => assert!(rt; text.as_str() == wanted, "with {granted} allocations"),
+            Err(_) => refused = refused.saturating_add(1),
         }
+        assert!(rt; heap.bytes() == 0);
     }
-    assert!(rt; is_refused && is_whole);
+    assert!(rt; refused > 2 && refused < 20);
     Ok(())
 }
 

@@ -3,9 +3,8 @@
 ghost use Rattle.std.specs.Prelude.{All, IfOk};
 
 use crate::set::calls::Making;
-use crate::set::refusals::changes::HeapSet;
+use crate::set::refusals::heaps::{Heap, HeapSet};
 use crate::set::rows::has;
-use linked_list_allocator::LocalHeap;
 use range_set_blaze::{
     CheckSortedTouching, Draw, DynSortedDisjoint, KMerge, MultiwaySweep,
     MultiwaySymmetricDifference, RangeOnce, RangeSetBlaze, SortedTouching, UnionIter,
@@ -148,7 +147,7 @@ fn runs_of_both(one: &Set, other: &Set) -> usize {
 
 /// Whether a merge, joined, gives these runs, or a sweep tells as many events as it is to.
 fn merged_gives(
-    heap: &LocalHeap,
+    heap: &Heap,
     building: Building,
     one: &Set,
     other: &Set,
@@ -165,7 +164,7 @@ fn merged_gives(
 /// Whether a form of the runs of two sets gives these.
 fn streams_give(
     alloc: Global,
-    heap: &LocalHeap,
+    heap: &Heap,
     form: Form,
     one: &Set,
     other: &Set,
@@ -203,7 +202,7 @@ fn touching(alloc: Global, one: &Set, other: &Set) -> Result<Vec<Touching>, Allo
 
 /// Whether what lies in an odd number of streams whose ranges may touch is this.
 fn touching_difference_gives<I: SortedTouching<i32>>(
-    heap: &LocalHeap,
+    heap: &Heap,
     streams: Vec<I>,
     wanted: Table<'_>,
 ) -> Result<bool, AllocError>
@@ -215,7 +214,7 @@ fn touching_difference_gives<I: SortedTouching<i32>>(
 
 /// Whether a sweep over streams whose ranges may touch tells as many events as so many ranges have.
 fn touching_sweep_tells<I: SortedTouching<i32>>(
-    heap: &LocalHeap,
+    heap: &Heap,
     streams: Vec<I>,
     ranges: usize,
 ) -> Result<bool, AllocError>
@@ -229,7 +228,7 @@ fn touching_sweep_tells<I: SortedTouching<i32>>(
 /// them tells as many events as it is to.
 fn touching_gives(
     alloc: Global,
-    heap: &LocalHeap,
+    heap: &Heap,
     building: Building,
     one: &Set,
     other: &Set,
@@ -244,7 +243,7 @@ fn touching_gives(
 
 /// Whether all ranges of a set, taken first, give these runs.
 fn taken_give(
-    heap: &LocalHeap,
+    heap: &Heap,
     building: Building,
     set: &Set,
     wanted: Table<'_>,
@@ -257,7 +256,7 @@ fn taken_give(
 
 /// Whether the union of all ranges of two sets, which are taken first, gives these runs.
 fn dyn_union_gives(
-    heap: &LocalHeap,
+    heap: &Heap,
     one: &Set,
     other: &Set,
     wanted: Table<'_>,
@@ -267,7 +266,7 @@ fn dyn_union_gives(
 
 /// Whether their intersection does.
 fn dyn_intersection_gives(
-    heap: &LocalHeap,
+    heap: &Heap,
     one: &Set,
     other: &Set,
     wanted: Table<'_>,
@@ -280,7 +279,7 @@ fn dyn_intersection_gives(
 
 /// Whether their symmetric difference does.
 fn dyn_difference_gives(
-    heap: &LocalHeap,
+    heap: &Heap,
     one: &Set,
     other: &Set,
     wanted: Table<'_>,
@@ -295,7 +294,7 @@ fn dyn_difference_gives(
 /// The set that a form makes of two sets given up.
 fn made_of_sets<'a>(
     alloc: Global,
-    heap: &'a LocalHeap,
+    heap: &'a Heap,
     form: Form,
     one: &Set,
     other: &Set,
@@ -310,7 +309,7 @@ fn made_of_sets<'a>(
 /// The set that a form makes of two sets lent.
 fn made_of_lent<'a>(
     alloc: Global,
-    heap: &'a LocalHeap,
+    heap: &'a Heap,
     form: Form,
     one: &Set,
     other: &Set,
@@ -321,7 +320,7 @@ fn made_of_lent<'a>(
 /// Whether what is built of two sets in a heap gives these runs.
 pub(crate) fn built_gives(
     alloc: Global,
-    heap: &LocalHeap,
+    heap: &Heap,
     building: Building,
     one: &Set,
     other: &Set,

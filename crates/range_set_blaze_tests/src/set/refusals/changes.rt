@@ -1,16 +1,12 @@
 //! What changes a set.
 
 use crate::set::calls::{Answer, Change, carry_out};
-use crate::set::cells::{Cell, Side, agree, cells, mark_front, reckon, runs};
-use crate::set::refusals::heaps::filled_but;
+use crate::set::cells::{Cell, Side, agree, mark_front, reckon, runs, spaced};
+use crate::set::refusals::heaps::{Heap, HeapSet};
 use crate::set::rows::set_in;
-use linked_list_allocator::LocalHeap;
-use range_set_blaze::RangeSetBlaze;
+use rsb_tables::Counting;
 use std::alloc::{AllocError, Global};
 use std::test::*;
-
-/// A set in a heap.
-pub(crate) type HeapSet<'a> = RangeSetBlaze<i32, &'a LocalHeap>;
 
 /// The change that is tried first.
 const FIRST: Change = Change::Insert(6);
@@ -77,38 +73,25 @@ fn is_anew(count: i32, others: i32) -> bool {
     count == 3 && others == 3
 }
 
-/// The cells of so many runs of three values, eight apart from 0 on, and of so many of two others,
-/// each in the gap after one.
-pub(crate) fn spaced(alloc: Global, count: i32, others: i32) -> Result<Vec<Cell>, AllocError> {
-    let mut cells = cells(alloc, -8, 824)?;
-    for cell in cells.iter_mut() {
-        let (place, rest) = (cell.start / 8, cell.start % 8);
-        cell.is_member = cell.start >= 0 && place < count && rest < 3;
-        cell.is_other = cell.start >= 0 && place < others && (rest == 4 || rest == 5);
-    }
-    Ok(cells)
-}
-
-/// What a change answers where a full heap has so much room in one place, or that it is refused.
+/// What a change returns if the heap grants the given number of allocations, or that it fails.
 pub(crate) fn tried<'a>(
-    alloc: Global,
-    heap: &'a LocalHeap,
-    room: usize,
+    heap: &'a Heap,
+    granted: usize,
     change: Change,
     set: &mut HeapSet<'a>,
     other: &mut HeapSet<'a>,
-) -> Result<Option<Answer>, AllocError> {
-    let filler = filled_but(alloc, heap, room)?;
+) -> Option<Answer> {
+    heap.fail_after(granted);
     let told = carry_out(heap, change, set, other);
-    drop(filler);
-    Ok(told.ok())
+    heap.fail_never();
+    told.ok()
 }
 
 /// Whether two sets are what a refused change leaves: the first has a front of what was to be added,
 /// and the other is as it was. One that was given up is given anew.
 fn are_left<'a>(
     alloc: Global,
-    heap: &'a LocalHeap,
+    heap: &'a Heap,
     change: Change,
     set: &HeapSet<'a>,
     other: &mut HeapSet<'a>,
@@ -135,21 +118,31 @@ fn is_passed<'a>(
     Ok(answer.is(reckon(alloc, change, cells)?) && agree(alloc, set, other, cells)?)
 }
 
-/// How many tries of a change are refused before one passes. `None` where a refused one leaves what
-/// it must not, or where the one that passes goes wrong from there.
+/// Whether a change that fails leaves as many bytes allocated as before. One that adds may leave a
+/// prefix, and a split may leave the runs in two leaves that were in one.
+fn leaves_bytes(change: Change) -> bool {
+    !change.adds() && !matches!(change, Change::SplitOff(_))
+}
+
+/// How many tries of a change fail before one passes: each is granted one allocation more than the
+/// one before it. `None` if a failed one leaves what it must not, or keeps memory for nothing, or if
+/// the one that passes is wrong.
 fn refusals<'a>(
     alloc: Global,
-    heap: &'a LocalHeap,
+    heap: &'a Heap,
     change: Change,
     set: &mut HeapSet<'a>,
     other: &mut HeapSet<'a>,
     cells: &mut Vec<Cell>,
 ) -> Result<Option<u32>, AllocError> {
     for step in 0..150u32 {
-        let told = tried(alloc, heap, 96 * step as usize, change, set, other)?;
-        if let Some(answer) = told {
+        let bytes = heap.bytes();
+        if let Some(answer) = tried(heap, step as usize, change, set, other) {
             let is_right = is_passed(alloc, change, answer, set, other, cells)?;
             return Ok(is_right.then_some(step));
+        }
+        if leaves_bytes(change) && heap.bytes() != bytes {
+            return Ok(None);
         }
         if !are_left(alloc, heap, change, set, other, cells)? {
             return Ok(None);
@@ -173,7 +166,7 @@ fn places(change: Change, count: i32) -> i32 {
 /// last on. `None` where one leaves what it must not.
 fn is_refused_somewhere<'a>(
     alloc: Global,
-    heap: &'a LocalHeap,
+    heap: &'a Heap,
     change: Change,
     places: i32,
     set: &mut HeapSet<'a>,
@@ -194,7 +187,7 @@ fn is_refused_somewhere<'a>(
 /// The set of one side of these cells, in a heap.
 fn set_of_side<'a>(
     alloc: Global,
-    heap: &'a LocalHeap,
+    heap: &'a Heap,
     cells: &[Cell],
     side: Side,
 ) -> Result<HeapSet<'a>, AllocError> {
@@ -205,7 +198,7 @@ fn set_of_side<'a>(
 /// what it must not.
 fn is_refused(
     alloc: Global,
-    heap: &LocalHeap,
+    heap: &Heap,
     change: Change,
     places: i32,
     cells: &mut Vec<Cell>,
@@ -215,14 +208,13 @@ fn is_refused(
     is_refused_somewhere(alloc, heap, change, places, &mut set, &mut other, cells)
 }
 
-/// Whether a change is refused as it is to be, and no room is kept once the sets are dropped.
+/// Whether a change is refused as it is to be, and no memory is kept once the sets are dropped.
 fn is_right(alloc: Global, change: Change, count: i32, others: i32) -> Result<bool, AllocError> {
-    let heap = LocalHeap::new(alloc, 32768)?;
-    let free = heap.free();
+    let heap = Counting::new(alloc);
     let mut cells = spaced(alloc, count, others)?;
     let places = places(change, count);
     let refused = is_refused(alloc, &heap, change, places, &mut cells)?;
-    Ok(refused == Some(wants(change, count, others)) && heap.free() == free)
+    Ok(refused == Some(wants(change, count, others)) && heap.bytes() == 0)
 }
 
 /// The place of the first change that is not refused as it is to be, if any is: of those that add
@@ -241,7 +233,7 @@ fn first_wrong(alloc: Global, count: i32, others: i32) -> Option<u8> {
 }
 
 #[test]
-fn each_growth_of_a_change_is_refused_in_turn(rt: HostRuntime) {
+fn each_allocation_of_a_change_fails_in_turn(rt: HostRuntime) {
     for count in [0, 1, 3, 15, 100] {
         for others in [0, 1, 3, 100] {
             let wrong = first_wrong(rt.alloc(), count, others);

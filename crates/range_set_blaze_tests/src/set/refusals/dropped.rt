@@ -1,11 +1,10 @@
 //! Iterators that are dropped after one item from each end that they have.
 
 use crate::set::refusals::built::{Building, built_gives};
-use crate::set::refusals::changes::HeapSet;
+use crate::set::refusals::heaps::{Heap, HeapSet};
 use crate::set::rows::{has, set_in};
-use linked_list_allocator::LocalHeap;
 use range_set_blaze::{MultiwaySweep, RangeSetBlaze, SweepEvent};
-use rsb_tables::{Table, set_of};
+use rsb_tables::{Counting, Table, set_of};
 use std::alloc::{AllocError, Global};
 use std::test::*;
 
@@ -34,7 +33,7 @@ fn begins_between(set: &HeapSet<'_>) -> Result<bool, AllocError> {
 }
 
 /// Whether a sweep over the runs of a set tells the first of them, before it is dropped.
-fn sweep_begins(heap: &LocalHeap, set: &HeapSet<'_>) -> Result<bool, AllocError> {
+fn sweep_begins(heap: &Heap, set: &HeapSet<'_>) -> Result<bool, AllocError> {
     let mut sweep = MultiwaySweep::new(heap, [set.ranges(), set.ranges()])?;
     let (range, input) = (1..=2, 0);
     Ok(sweep.next() == Some(SweepEvent::Start { range, input }))
@@ -53,7 +52,7 @@ fn runs_begin(set: HeapSet<'_>) -> bool {
 }
 
 /// Whether all of these begin as they are to.
-fn all_begin(heap: &LocalHeap, set: &HeapSet<'_>) -> Result<bool, AllocError> {
+fn all_begin(heap: &Heap, set: &HeapSet<'_>) -> Result<bool, AllocError> {
     Ok(
         lent_elements_begin(set)
             && lent_runs_begin(set)
@@ -64,17 +63,17 @@ fn all_begin(heap: &LocalHeap, set: &HeapSet<'_>) -> Result<bool, AllocError> {
     )
 }
 
-/// Whether a set in a heap is as it was after all of these, and none of them keeps any room.
-fn are_dropped(heap: &LocalHeap) -> Result<bool, AllocError> {
+/// Whether a set in a heap is as it was after all of these, and none of them keeps any memory.
+fn are_dropped(heap: &Heap) -> Result<bool, AllocError> {
     let set = set_in(heap, THREE)?;
-    let free = heap.free();
-    Ok(all_begin(heap, &set)? && has(&set, THREE) && heap.free() == free)
+    let bytes = heap.bytes();
+    Ok(all_begin(heap, &set)? && has(&set, THREE) && heap.bytes() == bytes)
 }
 
 /// Builds all that is built of two sets, and drops it at its first item, where no more are wanted.
 fn begin_others(
     alloc: Global,
-    heap: &LocalHeap,
+    heap: &Heap,
     one: &RangeSetBlaze<i32>,
     other: &RangeSetBlaze<i32>,
 ) -> Result<(), AllocError> {
@@ -90,20 +89,20 @@ fn begin_others(
 }
 
 /// Whether sets that are lent to all that is built of two are as they were.
-fn others_leave(alloc: Global, heap: &LocalHeap) -> Result<bool, AllocError> {
+fn others_leave(alloc: Global, heap: &Heap) -> Result<bool, AllocError> {
     let one = set_of(alloc, THREE)?;
     let other = set_of(alloc, TWO)?;
     begin_others(alloc, heap, &one, &other)?;
     Ok(has(&one, THREE) && has(&other, TWO))
 }
 
-/// Whether the sets are as they were, and a heap has all room again.
+/// Whether the sets are as they were, and nothing is allocated any more.
 fn all_is_left(alloc: Global) -> Result<bool, AllocError> {
-    let heap = LocalHeap::new(alloc, 8192)?;
-    Ok(are_dropped(&heap)? && others_leave(alloc, &heap)? && heap.used() == 0)
+    let heap = Counting::new(alloc);
+    Ok(are_dropped(&heap)? && others_leave(alloc, &heap)? && heap.bytes() == 0)
 }
 
 #[test]
-fn iterators_dropped_after_one_item_leave_the_set_and_all_room(rt: HostRuntime) {
+fn iterators_dropped_after_one_item_leave_the_set_and_no_memory(rt: HostRuntime) {
     assert!(rt; all_is_left(rt.alloc()) == Ok(true));
 }

@@ -1,14 +1,12 @@
 //! What makes a set, a stream or elements.
 
 use crate::set::calls::{Making, make};
-use crate::set::cells::{Side, runs, runs_made};
+use crate::set::cells::{Side, runs, runs_made, spaced};
 use crate::set::refusals::built::{Building, built_gives};
-use crate::set::refusals::changes::{HeapSet, spaced};
-use crate::set::refusals::heaps::filled_but;
+use crate::set::refusals::heaps::{Heap, HeapSet};
 use crate::set::rows::{has, set_in};
-use linked_list_allocator::LocalHeap;
 use range_set_blaze::RangeSetBlaze;
-use rsb_tables::{Table, set_of};
+use rsb_tables::{Counting, Table, set_of};
 use std::alloc::{AllocError, Global};
 use std::test::*;
 
@@ -54,7 +52,7 @@ impl Made {
 
 /// Whether a making of a set in a heap and of one beside it makes these runs.
 fn is_made<'a>(
-    heap: &'a LocalHeap,
+    heap: &'a Heap,
     making: Making,
     set: &HeapSet<'a>,
     other: &RangeSetBlaze<i32>,
@@ -77,47 +75,47 @@ struct Given<'a> {
     wanted: Table<'a>,
 }
 
-/// Whether what is made is right where a full heap has so much room in one place, or that it is
-/// refused.
+/// Whether what is made is right if the heap grants the given number of allocations, or that it
+/// fails.
 fn tried<'a>(
     alloc: Global,
-    heap: &'a LocalHeap,
-    room: usize,
+    heap: &'a Heap,
+    granted: usize,
     made: Made,
     set: &HeapSet<'a>,
     given: Given<'_>,
-) -> Result<Option<bool>, AllocError> {
+) -> Option<bool> {
     let (one, other, wanted) = (given.one, given.other, given.wanted);
-    let filler = filled_but(alloc, heap, room)?;
+    heap.fail_after(granted);
     let answer = match made {
         Made::Elements => elements_are(alloc, set, wanted),
         Made::Set(making) => is_made(heap, making, set, other, wanted),
         Made::Built(building) => built_gives(alloc, heap, building, one, other, wanted),
     };
-    drop(filler);
-    Ok(answer.ok())
+    heap.fail_never();
+    answer.ok()
 }
 
-/// Whether what is made is refused before it passes where it wants memory, is right at last, and
-/// keeps no room until then.
+/// Whether what is made fails before it passes if it allocates, is right at last, and keeps no
+/// memory after each try. Each try is granted one allocation more than the one before it.
 fn is_refused_rightly<'a>(
     alloc: Global,
-    heap: &'a LocalHeap,
+    heap: &'a Heap,
     made: Made,
     set: &HeapSet<'a>,
     given: Given<'_>,
-) -> Result<bool, AllocError> {
-    let free = heap.free();
+) -> bool {
+    let bytes = heap.bytes();
     for step in 0..150u32 {
-        let passed = tried(alloc, heap, 96 * step as usize, made, set, given)?;
-        if heap.free() != free {
-            return Ok(false);
+        let passed = tried(alloc, heap, step as usize, made, set, given);
+        if heap.bytes() != bytes {
+            return false;
         }
         if let Some(is_right) = passed {
-            return Ok(is_right && (step > 0) == made.wants(given.wanted.is_empty()));
+            return is_right && (step > 0) == made.wants(given.wanted.is_empty());
         }
     }
-    Ok(false)
+    false
 }
 
 /// Whether what is made of a set of these runs in a heap is refused as it is to be.
@@ -127,9 +125,9 @@ fn is_right_in_heap(
     runs: Table<'_>,
     given: Given<'_>,
 ) -> Result<bool, AllocError> {
-    let heap = LocalHeap::new(alloc, 32768)?;
+    let heap = Counting::new(alloc);
     let set = set_in(&heap, runs)?;
-    is_refused_rightly(alloc, &heap, made, &set, given)
+    Ok(is_refused_rightly(alloc, &heap, made, &set, given))
 }
 
 /// Whether what is made of the sets of two tables is refused as it is to be.
@@ -178,7 +176,7 @@ fn all_are_right(alloc: Global, count: i32) -> bool {
 static COUNTS: [i32; 4] = [0, 1, 3, 100];
 
 #[test]
-fn each_growth_of_what_is_made_is_refused_in_turn(rt: HostRuntime) {
+fn each_allocation_of_what_is_made_fails_in_turn(rt: HostRuntime) {
     for count in &COUNTS {
         assert!(rt; all_are_right(rt.alloc(), *count), "{count} runs");
     }

@@ -1,11 +1,11 @@
-//! Rows worked by hand of what is refused in a full heap, and of what is not.
+//! Rows worked by hand of what fails if an allocation fails, and of what does not.
 
 use crate::set::calls::Change;
-use crate::set::refusals::changes::{HeapSet, tried};
-use crate::set::refusals::heaps::filled;
+use crate::set::refusals::changes::tried;
+use crate::set::refusals::heaps::{Heap, HeapSet};
 use crate::set::rows::{has, set_in};
-use linked_list_allocator::LocalHeap;
-use rsb_tables::Table;
+use range_set_blaze::RangeSetBlaze;
+use rsb_tables::{Counting, Table};
 use std::alloc::{AllocError, Global};
 use std::test::*;
 
@@ -28,33 +28,94 @@ const FIFTEEN: Table<'static> = &[
     (141, 145),
 ];
 
-/// Whether a removal in a full heap gives this answer, or is refused where none is given, and leaves
-/// the set of a table.
-fn removes_in_full_heap(
+/// Whether a removal in a heap that grants nothing gives this answer, or fails where none is given,
+/// and leaves the set of a table.
+fn removes_with_nothing_granted(
     alloc: Global,
     before: Table<'_>,
     value: i32,
     answer: Option<bool>,
     after: Table<'_>,
 ) -> Result<bool, AllocError> {
-    let heap = LocalHeap::new(alloc, 8192)?;
+    let heap = Counting::new(alloc);
     let mut set = set_in(&heap, before)?;
-    let filler = filled(alloc, &heap)?;
+    heap.fail_after(0);
     let told = set.remove(value);
-    drop(filler);
     Ok(told.ok() == answer && has(&set, after))
 }
 
-// One run has room beside it for a second, so no growth happens in a removal from {1..=5} alone: it
-// does where fifteen runs fill a leaf.
+// One run has room beside it for a second, so a removal from {1..=5} never allocates. It does where
+// fifteen runs fill a leaf, {1..=5} among them.
 #[test]
-fn a_refused_cut_leaves_the_runs_and_the_end_of_a_run_goes_with_no_memory(
+fn a_cut_that_fails_leaves_the_runs_and_the_end_of_a_run_never_allocates(
     rt: HostRuntime,
 ) -> Result<(), Fail> {
     let alloc = rt.alloc();
-    assert!(rt; removes_in_full_heap(alloc, FIFTEEN, 3, None, FIFTEEN)?);
-    assert!(rt; removes_in_full_heap(alloc, &[(1, 5)], 3, Some(true), &[(1, 2), (4, 5)])?);
-    assert!(rt; removes_in_full_heap(alloc, &[(1, 5)], 5, Some(true), &[(1, 4)])?);
+    assert!(rt; removes_with_nothing_granted(alloc, FIFTEEN, 3, None, FIFTEEN)?);
+    assert!(rt; removes_with_nothing_granted(alloc, &[(1, 5)], 3, Some(true), &[(1, 2), (4, 5)])?);
+    assert!(rt; removes_with_nothing_granted(alloc, &[(1, 5)], 5, Some(true), &[(1, 4)])?);
+    Ok(())
+}
+
+#[test]
+fn the_only_value_is_popped_if_nothing_can_be_allocated(rt: HostRuntime) -> Result<(), Fail> {
+    let heap = Counting::new(rt.alloc());
+    let mut set = set_in(&heap, &[(7, 7)])?;
+    heap.fail_after(0);
+    assert!(rt; set.pop_first() == Ok(Some(7)) && set.is_empty());
+    Ok(())
+}
+
+/// The even values from 0 to 198.
+fn even_values(heap: &Heap) -> Result<HeapSet<'_>, AllocError> {
+    RangeSetBlaze::from_iter_values(heap, (0..=198).step_by(2))
+}
+
+#[test]
+fn a_hundred_runs_are_joined_if_nothing_can_be_allocated(rt: HostRuntime) -> Result<(), Fail> {
+    let heap = Counting::new(rt.alloc());
+    let mut set = even_values(&heap)?;
+    assert!(rt; set.ranges_len() == 100);
+    heap.fail_after(0);
+    assert!(rt; set.ranges_insert(1..=197) == Ok(true) && has(&set, &[(0, 198)]));
+    assert!(rt; set.len() == 199 && set.ranges_len() == 1);
+    Ok(())
+}
+
+/// Removes 1, 3, 5 and so on up to the first that fails, which is returned.
+fn first_refused(set: &mut HeapSet<'_>) -> Option<i32> {
+    for place in 0..1000i32 {
+        let value = place.saturating_mul(2).saturating_add(1);
+        match set.remove(value) {
+            Ok(true) => {}
+            Ok(false) => return None,
+            Err(AllocError) => return Some(value),
+        }
+    }
+    None
+}
+
+/// Whether a set has the values from 0 to 1999 but the odd ones below this one.
+fn lacks_below(set: &HeapSet<'_>, odd: i32) -> bool {
+    let mut ranges = set.ranges();
+    for place in 0..odd / 2 {
+        let value = place.saturating_mul(2);
+        if ranges.next() != Some(value..=value) {
+            return false;
+        }
+    }
+    ranges.next() == Some(odd.saturating_sub(1)..=1999) && ranges.next().is_none()
+}
+
+#[test]
+fn every_second_value_is_removed_until_an_allocation_fails(rt: HostRuntime) -> Result<(), Fail> {
+    let heap = Counting::new(rt.alloc());
+    let mut set = set_in(&heap, &[(0, 1999)])?;
+    heap.fail_after(0);
+    let refused = first_refused(&mut set).unwrap_or(0);
+    assert!(rt; refused > 1 && lacks_below(&set, refused), "at {refused}");
+    heap.fail_never();
+    assert!(rt; set.remove(refused) == Ok(true) && lacks_below(&set, refused.saturating_add(2)));
     Ok(())
 }
 
@@ -74,40 +135,35 @@ fn has_front(set: &HeapSet<'_>, runs: Table<'_>) -> bool {
     !front.is_empty() && has(set, front)
 }
 
-/// Whether `append` of all runs but the first to the set of the first passes where a full heap has so
-/// much room in one place. `None` where it leaves what it must not: refused, it adds a front of those
-/// runs, and their set is equal to a clone that was taken before.
-fn is_appended(
-    alloc: Global,
-    heap: &LocalHeap,
-    room: usize,
-    runs: Table<'_>,
-) -> Result<Option<bool>, AllocError> {
+/// Whether `append` of all runs but the first to the set of the first passes if the heap grants the
+/// given number of allocations. `None` where it leaves what it must not: if it fails, it adds a
+/// prefix of those runs, and their set is equal to a clone that was taken before.
+fn is_appended(heap: &Heap, granted: usize, runs: Table<'_>) -> Result<Option<bool>, AllocError> {
     let Some((first, others)) = runs.split_first() else {
         return Ok(None);
     };
     let mut set = set_in(heap, &[*first])?;
     let mut other = set_in(heap, others)?;
     let before = other.clone()?;
-    let told = tried(alloc, heap, room, Change::Append, &mut set, &mut other)?;
-    let is_left = if told.is_some() {
+    let is_passed = tried(heap, granted, Change::Append, &mut set, &mut other).is_some();
+    let is_left = if is_passed {
         has(&set, runs) && other.is_empty()
     } else {
         has_front(&set, runs) && other == before
     };
-    Ok(is_left.then_some(told.is_some()))
+    Ok(is_left.then_some(is_passed))
 }
 
 #[test]
-fn a_refused_append_adds_a_front_and_leaves_the_other_equal_to_its_clone(
+fn a_failed_append_adds_a_prefix_and_leaves_the_other_equal_to_its_clone(
     rt: HostRuntime,
 ) -> Result<(), Fail> {
-    let heap = LocalHeap::new(rt.alloc(), 32768)?;
+    let heap = Counting::new(rt.alloc());
     let runs = one_and_a_hundred(rt.alloc())?;
     let mut refusals = 0u32;
-    for step in 0..100usize {
-        let passed = is_appended(rt.alloc(), &heap, 48 * step, &runs)?;
-        assert!(rt; passed.is_some(), "with 48 bytes {step} times");
+    for granted in 0..100usize {
+        let passed = is_appended(&heap, granted, &runs)?;
+        assert!(rt; passed.is_some(), "with {granted} allocations");
         if passed == Some(false) {
             refusals = refusals.saturating_add(1);
         }

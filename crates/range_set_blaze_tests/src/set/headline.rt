@@ -1,0 +1,70 @@
+//! The calls on sets that the headline names, at two element types of a user's own.
+
+use range_set_blaze::laws::cmp_counted;
+use range_set_blaze::{DrawDisjoint, Integer, RangeSetBlaze};
+use rsb_commands::outside::{Side, Slot};
+use rsb_tables::{fed_by, gives};
+use std::alloc::{AllocError, Global};
+use std::cmp::Ordering::{Equal, Greater, Less};
+use std::hash::Hash;
+use std::test::*;
+
+/// The set of the least value of a type, and the set of every value.
+fn least_and_all<T: Integer>(
+    alloc: Global,
+) -> Result<(RangeSetBlaze<T>, RangeSetBlaze<T>), AllocError> {
+    let mut least = RangeSetBlaze::new(alloc);
+    least.insert(T::min_value())?;
+    Ok((least, RangeSetBlaze::universe(alloc)?))
+}
+
+/// Whether two sets have the runs and the lengths of the least value and of all.
+fn are_listed<T: Integer>(
+    least: &RangeSetBlaze<T>,
+    all: &RangeSetBlaze<T>,
+    lengths: (T::SafeLen, T::SafeLen),
+) -> bool {
+    let (min, max) = (T::min_value(), T::max_value());
+    gives(least.ranges(), &[(min, min)])
+        && gives(all.ranges(), &[(min, max)])
+        && least.len() == lengths.0
+        && all.len() == lengths.1
+        && all.ranges().members_len() == lengths.1
+}
+
+/// Whether the least value stands before all, by each comparison.
+fn are_ordered<T: Integer>(least: &RangeSetBlaze<T>, all: &RangeSetBlaze<T>) -> bool {
+    least.cmp(all) == Less
+        && least != all
+        && least == least
+        && cmp_counted(least, all) == (Less, 2)
+        && cmp_counted(all, least) == (Greater, 2)
+        && cmp_counted(all, all) == (Equal, 2)
+        && least.ranges().equal(least.ranges())
+        && !least.ranges().equal(all.ranges())
+}
+
+/// Whether equal sets feed a hasher alike, and these two do not.
+fn are_fed<T: Integer + Hash>(
+    least: &RangeSetBlaze<T>,
+    all: &RangeSetBlaze<T>,
+) -> Result<bool, AllocError> {
+    let copy = least.clone()?;
+    Ok(fed_by(least) == fed_by(&copy) && fed_by(least) != fed_by(all))
+}
+
+/// Whether the set of the least value of a type and that of all are read as they are to be.
+fn are_read<T: Integer + Hash>(
+    alloc: Global,
+    lengths: (T::SafeLen, T::SafeLen),
+) -> Result<bool, AllocError> {
+    let (least, all) = least_and_all::<T>(alloc)?;
+    Ok(are_listed(&least, &all, lengths) && are_ordered(&least, &all) && are_fed(&least, &all)?)
+}
+
+#[test]
+fn sets_of_own_types_are_listed_counted_compared_and_hashed(rt: HostRuntime) -> Result<(), Fail> {
+    assert!(rt; are_read::<Side>(rt.alloc(), (1, 2))?);
+    assert!(rt; are_read::<Slot>(rt.alloc(), (1, 96))?);
+    Ok(())
+}

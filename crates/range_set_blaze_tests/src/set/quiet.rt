@@ -1,0 +1,319 @@
+//! The calls that never allocate, on sets of no run, of one, of three and of a hundred: those that
+//! read a set make no call of its allocator at all, and those that change one or give it up only free.
+
+use crate::set::calls::{Change, carry_out};
+use crate::set::cells::{Side, runs, spaced};
+use crate::set::refusals::heaps::{Heap, HeapSet};
+use crate::set::rows::set_in;
+use range_set_blaze::laws::cmp_counted;
+use range_set_blaze::{DrawDisjoint, RangeSetBlaze};
+use rsb_tables::{Counting, fed_by};
+use std::alloc::{AllocError, Global};
+use std::test::*;
+
+/// Calls that read two sets.
+#[derive(Clone, Copy)]
+enum Reading {
+    LookUps,
+    Whole,
+    Relations,
+    Comparisons,
+    Elements,
+    Ranges,
+    Streams,
+    Questions,
+}
+
+/// All of them.
+static READINGS: [Reading; 8] = [
+    Reading::LookUps,
+    Reading::Whole,
+    Reading::Relations,
+    Reading::Comparisons,
+    Reading::Elements,
+    Reading::Ranges,
+    Reading::Streams,
+    Reading::Questions,
+];
+
+/// How many values from -8 to 815 are members, by each call that looks for one: 0 where two of these
+/// calls do not agree.
+fn members_found(set: &HeapSet<'_>) -> u64 {
+    let mut found = 0u64;
+    for value in -8..816i32 {
+        let is_member = set.contains(value);
+        let (range, is_run) = set.range_or_gap_at(value);
+        let is_told = set.range_at(value).is_some() == is_member
+            && set.get(value).is_some() == is_member
+            && is_run == is_member;
+        if !is_told || *range.start() > value {
+            return 0;
+        }
+        found = found.saturating_add(u64::from(is_member));
+    }
+    found
+}
+
+/// Whether what is asked of all of a set agrees.
+fn is_whole(set: &HeapSet<'_>) -> bool {
+    let is_empty = set.is_empty();
+    set.first().is_none() == is_empty
+        && set.last().is_none() == is_empty
+        && (set.ranges_len() == 0) == is_empty
+        && (set.len() == 0) == is_empty
+        && !set.is_universal()
+}
+
+/// Whether two sets with no common member are told apart.
+fn are_apart(set: &HeapSet<'_>, other: &HeapSet<'_>) -> bool {
+    set.is_disjoint(other)
+        && set.is_subset(other) == set.is_empty()
+        && set.is_superset(other) == other.is_empty()
+        && set.is_subset(set)
+}
+
+/// Whether two sets with no common member are equal only if both are empty, by each comparison.
+fn are_compared(set: &HeapSet<'_>, other: &HeapSet<'_>) -> bool {
+    let is_same = set.is_empty() && other.is_empty();
+    (set == other) == is_same
+        && set.cmp(other).is_eq() == is_same
+        && set.partial_cmp(other).is_some()
+        && cmp_counted(set, other).0.is_eq() == is_same
+        && (fed_by(set) == fed_by(other)) == is_same
+}
+
+/// How many elements come, from the two ends alternately.
+fn elements_found(set: &HeapSet<'_>) -> u64 {
+    let mut elements = set.iter();
+    let mut found = 0u64;
+    for _ in 0..400u16 {
+        found = found.saturating_add(u64::from(elements.next().is_some()));
+        found = found.saturating_add(u64::from(elements.next_back().is_some()));
+    }
+    let left = elements.size_hint().0 as u64;
+    found.saturating_add(left)
+}
+
+/// How many runs come, from the two ends alternately.
+fn ranges_found(set: &HeapSet<'_>) -> usize {
+    let mut ranges = set.ranges();
+    let mut found = 0usize;
+    for _ in 0..110u16 {
+        found = found.saturating_add(usize::from(ranges.next().is_some()));
+        found = found.saturating_add(usize::from(ranges.next_back().is_some()));
+    }
+    found.saturating_add(ranges.len())
+}
+
+/// How many members the runs of two sets have together, as streams of each operation tell.
+fn members_of_both(set: &HeapSet<'_>, other: &HeapSet<'_>) -> u64 {
+    let union = set.ranges().union(other.ranges()).members_len();
+    let apart = set
+        .ranges()
+        .symmetric_difference(other.ranges())
+        .members_len();
+    let left = set.ranges().difference(other.ranges()).members_len();
+    let right = other.ranges().difference(set.ranges()).members_len();
+    let both = set.ranges().intersection(other.ranges()).members_len();
+    if union != apart || union != left.saturating_add(right) || both != 0 {
+        return 0;
+    }
+    union
+}
+
+/// Whether the runs and gaps of a set are as many as those of its complement.
+fn are_filled(set: &HeapSet<'_>) -> bool {
+    let gaps = set.ranges().complement().fill_gaps().count();
+    gaps == set.ranges().fill_gaps().count()
+}
+
+/// Whether two streams of the runs of sets with no common member are told apart.
+fn are_asked(one: &HeapSet<'_>, other: &HeapSet<'_>) -> bool {
+    let (left, right) = (one.is_empty(), other.is_empty());
+    one.ranges().is_disjoint(other.ranges())
+        && one.ranges().is_subset(other.ranges()) == left
+        && one.ranges().is_superset(other.ranges()) == right
+        && one.ranges().equal(other.ranges()) == (left && right)
+        && DrawDisjoint::is_empty(one.ranges()) == left
+        && !one.ranges().is_universal()
+}
+
+/// Whether calls that read two sets with no common member answer as they are to.
+fn reads(reading: Reading, set: &HeapSet<'_>, other: &HeapSet<'_>) -> bool {
+    match reading {
+        Reading::LookUps => members_found(set) == set.len(),
+        Reading::Whole => is_whole(set),
+        Reading::Relations => are_apart(set, other),
+        Reading::Comparisons => are_compared(set, other),
+        Reading::Elements => elements_found(set) == set.len(),
+        Reading::Ranges => ranges_found(set) == set.ranges_len(),
+        Reading::Streams => {
+            members_of_both(set, other) == set.len().saturating_add(other.len()) && are_filled(set)
+        }
+        Reading::Questions => are_asked(set, other),
+    }
+}
+
+/// Whether calls that read two sets make no call of their allocator.
+fn is_quiet(reading: Reading, heap: &Heap, set: &HeapSet<'_>, other: &HeapSet<'_>) -> bool {
+    let calls = heap.calls();
+    reads(reading, set, other) && heap.calls() == calls
+}
+
+/// The place of the first reading of two sets that calls their allocator, if one does.
+fn first_loud(alloc: Global, count: i32, others: i32) -> Result<Option<usize>, AllocError> {
+    let heap = Counting::new(alloc);
+    let cells = spaced(alloc, count, others)?;
+    let set = set_in(&heap, &runs(alloc, &cells, Side::One)?)?;
+    let other = set_in(&heap, &runs(alloc, &cells, Side::Other)?)?;
+    for place in 0..READINGS.len() {
+        if !is_quiet(READINGS[place], &heap, &set, &other) {
+            return Ok(Some(place));
+        }
+    }
+    Ok(None)
+}
+
+/// Of how many runs the sets are.
+static COUNTS: [i32; 4] = [0, 1, 3, 100];
+
+#[test]
+fn what_reads_a_set_never_calls_its_allocator(rt: HostRuntime) -> Result<(), Fail> {
+    for count in &COUNTS {
+        for others in &COUNTS {
+            let loud = first_loud(rt.alloc(), *count, *others)?;
+            assert!(rt; loud.is_none(), "reading {loud:?}, {count} runs, {others}");
+        }
+    }
+    Ok(())
+}
+
+/// Calls that change a set or give it up, and never allocate.
+#[derive(Clone, Copy)]
+enum Freeing {
+    PopLast,
+    RangesRetain,
+    Clear,
+    Elements,
+    Ranges,
+    New,
+}
+
+/// All of them.
+static FREEINGS: [Freeing; 6] = [
+    Freeing::PopLast,
+    Freeing::RangesRetain,
+    Freeing::Clear,
+    Freeing::Elements,
+    Freeing::Ranges,
+    Freeing::New,
+];
+
+/// Whether the greatest member is popped as often as a set has members.
+fn are_popped(set: HeapSet<'_>) -> bool {
+    let mut set = set;
+    let mut left = set.len();
+    while set.pop_last().is_some() {
+        left = left.saturating_sub(1);
+    }
+    left == 0 && set.is_empty()
+}
+
+/// Whether a set keeps no run, by a test of each or by none.
+fn keeps_none<'a>(heap: &'a Heap, change: Change, set: HeapSet<'a>) -> Result<bool, AllocError> {
+    let mut set = set;
+    let mut other = RangeSetBlaze::new(heap);
+    carry_out(heap, change, &mut set, &mut other)?;
+    Ok(set.is_empty())
+}
+
+/// Whether a set that is given up gives as many elements as it has, from the two ends alternately.
+fn gives_elements(set: HeapSet<'_>) -> bool {
+    let length = set.len();
+    let mut elements = set.into_iter();
+    let mut found = 0u64;
+    for _ in 0..400u16 {
+        found = found.saturating_add(u64::from(elements.next().is_some()));
+        found = found.saturating_add(u64::from(elements.next_back().is_some()));
+    }
+    found == length
+}
+
+/// Whether a set that is given up gives as many runs as it has, from the two ends alternately.
+fn gives_ranges(set: HeapSet<'_>) -> bool {
+    let count = set.ranges_len();
+    let mut ranges = set.into_ranges();
+    let mut found = 0usize;
+    for _ in 0..110u16 {
+        found = found.saturating_add(usize::from(ranges.next().is_some()));
+        found = found.saturating_add(usize::from(ranges.next_back().is_some()));
+    }
+    found == count
+}
+
+/// Whether a call that gives a set up answers as it is to.
+fn frees<'a>(freeing: Freeing, heap: &'a Heap, set: HeapSet<'a>) -> Result<bool, AllocError> {
+    match freeing {
+        Freeing::PopLast => Ok(are_popped(set)),
+        Freeing::RangesRetain => keeps_none(heap, Change::RangesRetain(1, 0), set),
+        Freeing::Clear => keeps_none(heap, Change::Clear, set),
+        Freeing::Elements => Ok(gives_elements(set)),
+        Freeing::Ranges => Ok(gives_ranges(set)),
+        Freeing::New => Ok(
+            RangeSetBlaze::<i32, &Heap>::new(heap) == RangeSetBlaze::<i32, &Heap>::default(heap),
+        ),
+    }
+}
+
+/// Whether a call that gives up a set of so many runs never allocates, and keeps no memory.
+fn only_frees(alloc: Global, freeing: Freeing, count: i32) -> Result<bool, AllocError> {
+    let heap = Counting::new(alloc);
+    let cells = spaced(alloc, count, 0)?;
+    let set = set_in(&heap, &runs(alloc, &cells, Side::One)?)?;
+    let allocations = heap.allocations();
+    let is_right = frees(freeing, &heap, set)?;
+    Ok(is_right && heap.allocations() == allocations && heap.bytes() == 0)
+}
+
+#[test]
+fn what_empties_a_set_or_gives_it_up_only_frees(rt: HostRuntime) {
+    for count in &COUNTS {
+        for place in 0..FREEINGS.len() {
+            let is_right = only_frees(rt.alloc(), FREEINGS[place], *count);
+            assert!(rt; is_right == Ok(true), "call {place}, {count} runs");
+        }
+    }
+}
+
+/// A set of every second value below 200,000, which are a hundred thousand runs.
+fn hundred_thousand(heap: &Heap) -> Result<HeapSet<'_>, AllocError> {
+    RangeSetBlaze::from_iter_values(heap, (0..200_000).step_by(2))
+}
+
+/// How many calls of the allocator a change of a set of a hundred thousand runs makes that adds
+/// three runs, two of which join others. `None` if the set is not what it is to be.
+fn calls_to_add(heap: &Heap, change: Change) -> Result<Option<usize>, AllocError> {
+    let mut set = hundred_thousand(heap)?;
+    let mut few = set_in(heap, &[(1, 1), (99_999, 99_999), (300_000, 300_004)])?;
+    let calls = heap.calls();
+    carry_out(heap, change, &mut set, &mut few)?;
+    let made = heap.calls().saturating_sub(calls);
+    Ok((set.ranges_len() == 99_999 && set.len() == 100_007).then_some(made))
+}
+
+/// Changes that add a set.
+static ADDING: [Change; 3] = [
+    Change::Append,
+    Change::BitorAssign,
+    Change::BitorAssignOwned,
+];
+
+#[test]
+fn few_runs_are_added_to_many_in_few_allocations(rt: HostRuntime) -> Result<(), Fail> {
+    for change in &ADDING {
+        let heap = Counting::new(rt.alloc());
+        let calls = calls_to_add(&heap, *change)?;
+        assert!(rt; calls.unwrap_or(usize::MAX) < 12, "{calls:?}");
+    }
+    Ok(())
+}
