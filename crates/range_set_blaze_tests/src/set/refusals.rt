@@ -1,5 +1,5 @@
-//! Each growth of each call that takes memory, refused in turn: a full heap has room for some bytes
-//! more each time, until the call passes.
+//! Every allocation of each call that allocates fails, one after the other: each try is granted one
+//! allocation more than the one before it, until the call succeeds.
 //!
 //! Each call is a name of `Change`, `Making` or `Building`. A name that is added there does not compile
 //! until exhaustive matches say which name it comes after (`after`), what it comes to (`set/cells.rt`,
