@@ -108,7 +108,14 @@ fn a_union_joins_a_million_ranges_of_each_stream(rt: HostRuntime) -> Result<(), 
 
 #[test]
 fn a_symmetric_difference_joins_a_million_ranges(rt: HostRuntime) -> Result<(), Fail> {
-    assert!(rt; makes(rt.alloc(), Operation::SymmetricDifference, 1, &[(0, 2_000_199)])?);
+    assert!(rt;
+        makes(
+            rt.alloc(),
+            Operation::SymmetricDifference,
+            1,
+            &[(0, 2_000_199)]
+        )?
+    );
     Ok(())
 }
 
