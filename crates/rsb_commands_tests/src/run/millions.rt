@@ -115,6 +115,7 @@ fn shows_many(reply: Option<&Reply<i32>>, value: i32) -> bool {
     ranges.len() == MANY as usize && ranges.last() == Some(&(value..=value))
 }
 
+// In the checked build of `rt try --test` it takes more than a minute: `--seconds 400` lets it end.
 #[test]
 fn a_million_runs_are_shown(rt: HostRuntime) -> Result<(), Fail> {
     let commands = many_additions(rt.alloc(), SetNo::new(7).expect(&rt, "a slot"))?;
