@@ -98,7 +98,7 @@ fn the_worked_sessions_run_as_commands(rt: HostRuntime) {
     assert!(rt; are_answered(rt.alloc(), MOST, &MOST_TOLD) == Ok(true));
 }
 
-// Whether replies say that the values of a range, so many, were added to no others.
+// Whether replies say that the values of a range were added to an empty set.
 fn say_of_range<T: Integer>(
     replies: &[Reply<T>],
     range: &RangeInclusive<T>,
@@ -116,8 +116,7 @@ fn say_of_range<T: Integer>(
     *found == count && ranges.len() == 1 && ranges.first() == Some(range)
 }
 
-// Whether commands on a set of an element type, by its slot, are answered as they are to be, where a
-// range of values is added to it.
+// Whether commands add a range of values to an empty set, and then find these values in it.
 fn are_answered_of_range<T: Integer>(
     alloc: Global,
     set: SetNo,
@@ -143,13 +142,18 @@ fn are_answered_of_range<T: Integer>(
     }
 }
 
+// The quarter hour of a number up to 95.
+fn quarter_hour(rt: &impl Abort, n: u8) -> Slot {
+    Slot::new(n).expect(rt, "a quarter hour")
+}
+
 // Two values, and the quarter hours of a day, are types that a user of the library writes.
 #[test]
 fn commands_run_over_other_element_types(rt: HostRuntime) {
     let set = slot(&rt, 4);
     assert!(rt; are_answered_of_range(rt.alloc(), set, 250u8..=255, 6));
     assert!(rt; are_answered_of_range(rt.alloc(), set, Side::Lo..=Side::Hi, 2));
-    let morning = Slot::new(32).expect(&rt, "a quarter hour")..=Slot::new(47).expect(&rt, "a quarter hour");
+    let morning = quarter_hour(&rt, 32)..=quarter_hour(&rt, 47);
     assert!(rt; are_answered_of_range(rt.alloc(), set, morning, 16));
 }
 

@@ -17,8 +17,8 @@ const FIRST: &[u8] = b"true\n";
 const ALL: &[u8] = b"true\n1..=5\n";
 
 /// What `run` returns for the lines if the commands find the given number of bytes free, and how many
-/// bytes are written, by a writer with the given room, which then fails. `None` if these are no first
-/// bytes of the replies.
+/// bytes it writes. The writer fails once its room is full. `None` if what is written is no prefix of
+/// the replies.
 fn outcome_over(
     alloc: Global,
     spared: usize,
@@ -39,18 +39,16 @@ fn outcome_over(
     };
     let outcome = run(&heap, &mut input, &mut output);
     let written = output.taken.len();
-    Ok(ALL
-        .starts_with(&output.taken)
-        .then_some((outcome, written)))
+    Ok(ALL.starts_with(&output.taken).then_some((outcome, written)))
 }
 
-/// The outcome if the growth of the second command is refused.
+/// The outcome if the allocation of the second command fails.
 const STOPPED: Option<(Result<(), Fault>, usize)> = Some((Err(Fault::NoMemory), 5));
 
-// With more and more bytes free, first a growth before the replies is refused, then that of `show`,
-// and then none.
+// As more bytes are free, first an allocation before the replies fails, then that of `show`, and then
+// none.
 #[test]
-fn true_is_written_before_the_growth_of_show_is_refused(rt: HostRuntime) -> Result<(), Fail> {
+fn true_is_written_before_the_allocation_of_show_fails(rt: HostRuntime) -> Result<(), Fail> {
     let mut is_stopped_early = false;
     let mut is_stopped_at_show = false;
     let mut last = None;
@@ -65,8 +63,8 @@ fn true_is_written_before_the_growth_of_show_is_refused(rt: HostRuntime) -> Resu
     Ok(())
 }
 
-// Where the growth of `show` is refused, and then the reply before it can't be written, the write is
-// told.
+// If the allocation of `show` fails, and then the reply before it can't be written, the failed write
+// is reported.
 #[test]
 fn a_failed_write_is_told_before_refused_memory(rt: HostRuntime) -> Result<(), Fail> {
     let mut is_write_told = false;
@@ -75,7 +73,10 @@ fn a_failed_write_is_told_before_refused_memory(rt: HostRuntime) -> Result<(), F
         if outcome_over(rt.alloc(), spared, FIRST.len())? == STOPPED {
             for room in [0, 4] {
                 let outcome = outcome_over(rt.alloc(), spared, room)?;
-                assert!(rt; outcome == Some((Err(Fault::Io), room)), "{spared} bytes, room {room}");
+                assert!(rt;
+                    outcome == Some((Err(Fault::Io), room)),
+                    "{spared} bytes, room {room}"
+                );
                 is_write_told = true;
             }
         }
@@ -84,7 +85,7 @@ fn a_failed_write_is_told_before_refused_memory(rt: HostRuntime) -> Result<(), F
     Ok(())
 }
 
-/// As many lines as are asked for, each of which spells a command.
+/// The given number of lines, each of which spells a command.
 fn lines_of(alloc: Global, count: u8) -> Result<Vec<u8>, AllocError> {
     let mut lines = Vec::new(alloc);
     for _ in 0..count {
@@ -93,8 +94,8 @@ fn lines_of(alloc: Global, count: u8) -> Result<Vec<u8>, AllocError> {
     Ok(lines)
 }
 
-/// Whether commands are read from lines over a heap of this size, by a call that is given the heap.
-/// `None` if it returns other commands than these, another fault than `NoMemory`, or leaks.
+/// Whether a call read these commands over a heap. `None` if it returned other commands or another
+/// fault than `NoMemory`, or leaked.
 fn read_over(
     heap: &LocalHeap,
     read: Result<Vec<Command<i32>, &LocalHeap>, Fault>,
@@ -117,7 +118,7 @@ enum How {
     Dripped,
 }
 
-/// Whether commands are read so over a heap of this size, as `read_over` tells.
+/// Reads the commands over a heap of this size, and returns what `read_over` says of that.
 fn is_read_over(
     alloc: Global,
     size: usize,
@@ -144,8 +145,9 @@ fn is_read_over(
     Ok(read_over(&heap, read, wanted))
 }
 
-/// How many heaps, each larger by 16 bytes, the grain of the heap, are too small before one suffices.
-/// `None` if a call goes wrong or no heap suffices.
+/// The number of heaps that are too small, each 16 bytes larger than the one before, until one
+/// suffices. A heap rounds sizes to 16 bytes, so no allocation is passed over. `None` if a call goes
+/// wrong, or if no heap suffices.
 fn refusals(alloc: Global, how: How, count: u8) -> Result<Option<usize>, Fault> {
     let lines = lines_of(alloc, count)?;
     let wanted = parse_commands(alloc, &lines)?;
@@ -159,9 +161,9 @@ fn refusals(alloc: Global, how: How, count: u8) -> Result<Option<usize>, Fault> 
     Ok(None)
 }
 
-// A list of four commands is the first growth.
+// Only no lines allocate nothing.
 #[test]
-fn each_growth_of_the_commands_is_refused_in_turn(rt: HostRuntime) {
+fn each_allocation_of_the_commands_fails_in_turn(rt: HostRuntime) {
     for how in [How::Parsed, How::Read, How::Dripped] {
         assert!(rt; refusals(rt.alloc(), how, 0) == Ok(Some(0)));
         for count in [1, 3, 100] {
