@@ -53,6 +53,7 @@ pub extern "C" fn rsb_u64_insert(alloc: Global, set: &mut Handle, value: u64) ->
     ensures changed { result ≡ 1 → IsFalse (members set.old.kept.set value) }
     ensures refused { result ≡ 2 → set.new.kept.set ≡ set.old.kept.set }
     ensures spared { IsTrue (members set.old.kept.set value) → result ≡ 0 }
+    ensures reached { IsReached set.old.kept.set value → result < 2 }
 {
     let Ok(mut kept) = set.take_or_make(alloc) else {
         return NO_MEMORY;
