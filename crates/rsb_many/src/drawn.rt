@@ -98,8 +98,8 @@ impl<T: Integer, I: Draw<T>, A: Allocator> Drawn<T, I, A> {
         requires values { HasValues T.rank T.value_count head }
         requires room { length self.old.heads.heads < self.old.heads.room }
         ensures back { PutsBack self.old head self.new }
-        ensures compared { self.new.heads.comparisons
-            ≤ self.old.heads.comparisons + 2 * binary_digits (length self.new.heads.heads) }
+        ensures compared { self.new.heads.comparisons ≤ self.old.heads.comparisons
+            + 2 * binary_digits (length self.new.heads.heads) }
         ensures counted { self.old.heads.comparisons ≤ self.new.heads.comparisons }
     {
         self.heads.put_back(head);

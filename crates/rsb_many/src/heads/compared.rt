@@ -14,8 +14,8 @@ use std::marker::Model;
 /// How many comparisons were made so far. It has no bytes, and its methods do nothing at run time.
 /// Only this module makes and raises a count.
 #[derive(Debug, Drop)]
-pub(super) struct Comparisons {
-    pub(super) ghost made: { ℕ },
+struct Comparisons {
+    ghost made: { ℕ },
 }
 
 impl Model for Comparisons {

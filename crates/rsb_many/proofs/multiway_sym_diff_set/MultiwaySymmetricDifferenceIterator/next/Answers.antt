@@ -6,6 +6,6 @@ returns-clause-steps g c = odd-known g.T.Integer g.I.Draw c.args.self.now
     (record { iter = c.next.new.self }) c.requires c.next.result c.next.ensures.steps
 
 pub returns-clause-goes : goal.returns-clause-goes
-returns-clause-goes g c = odd-goes g.T.Integer g.I.Draw c.args.self.now
-    (record { iter = c.next.new.self }) c.requires c.next.result c.next.ensures.steps
-    c.next.ensures.goes
+returns-clause-goes g c = odd-goes g.T.Integer g.I.Draw
+    c.args.self.now (record { iter = c.next.new.self })
+    c.requires c.next.result c.next.ensures.steps c.next.ensures.goes
