@@ -1,4 +1,6 @@
 //! The loops over sets, at more than a million runs or values: none gives up at a size.
+//!
+//! In the checked build of `rt try --test` they take minutes: `--seconds 900` lets them end.
 
 use crate::set::calls::{Change, Making};
 use crate::set::many_runs::{change, counts, makes};
