@@ -22,10 +22,11 @@ enum Reading {
     Ranges,
     Streams,
     Questions,
+    Text,
 }
 
 /// All of them.
-static READINGS: [Reading; 8] = [
+static READINGS: [Reading; 9] = [
     Reading::LookUps,
     Reading::Whole,
     Reading::Relations,
@@ -34,6 +35,7 @@ static READINGS: [Reading; 8] = [
     Reading::Ranges,
     Reading::Streams,
     Reading::Questions,
+    Reading::Text,
 ];
 
 /// How many values from -8 to 815 are members, by each call that looks for one: 0 where two of these
@@ -138,8 +140,16 @@ fn are_asked(one: &HeapSet<'_>, other: &HeapSet<'_>) -> bool {
         && !one.ranges().is_universal()
 }
 
+/// Whether the texts of a set, in other memory, are empty only if it is.
+fn is_written(alloc: Global, set: &HeapSet<'_>) -> bool {
+    match format!(in alloc; "{set}{set:?}") {
+        Ok(text) => text.is_empty() == set.is_empty(),
+        Err(_) => false,
+    }
+}
+
 /// Whether calls that read two sets with no common member answer as they are to.
-fn reads(reading: Reading, set: &HeapSet<'_>, other: &HeapSet<'_>) -> bool {
+fn reads(alloc: Global, reading: Reading, set: &HeapSet<'_>, other: &HeapSet<'_>) -> bool {
     match reading {
         Reading::LookUps => members_found(set) == set.len(),
         Reading::Whole => is_whole(set),
@@ -151,27 +161,41 @@ fn reads(reading: Reading, set: &HeapSet<'_>, other: &HeapSet<'_>) -> bool {
             members_of_both(set, other) == set.len().saturating_add(other.len()) && are_filled(set)
         }
         Reading::Questions => are_asked(set, other),
+        Reading::Text => is_written(alloc, set),
     }
 }
 
 /// Whether calls that read two sets make no call of their allocator.
-fn is_quiet(reading: Reading, heap: &Heap, set: &HeapSet<'_>, other: &HeapSet<'_>) -> bool {
+fn is_quiet(
+    alloc: Global,
+    reading: Reading,
+    heap: &Heap,
+    set: &HeapSet<'_>,
+    other: &HeapSet<'_>,
+) -> bool {
     let calls = heap.calls();
-    reads(reading, set, other) && heap.calls() == calls
+    reads(alloc, reading, set, other) && heap.calls() == calls
 }
 
-/// The place of the first reading of two sets that calls their allocator, if one does.
-fn first_loud(alloc: Global, count: i32, others: i32) -> Result<Option<usize>, AllocError> {
+/// How many of the readings of two sets make no call of their allocator, up to the first that does.
+fn quiet_readings(alloc: Global, heap: &Heap, set: &HeapSet<'_>, other: &HeapSet<'_>) -> u8 {
+    let mut quiet = 0u8;
+    for reading in &READINGS {
+        if !is_quiet(alloc, *reading, heap, set, other) {
+            return quiet;
+        }
+        quiet = quiet.saturating_add(1);
+    }
+    quiet
+}
+
+/// The same, of sets of so many runs.
+fn quiet_at(alloc: Global, count: i32, others: i32) -> Result<u8, AllocError> {
     let heap = Counting::new(alloc);
     let cells = spaced(alloc, count, others)?;
     let set = set_in(&heap, &runs(alloc, &cells, Side::One)?)?;
     let other = set_in(&heap, &runs(alloc, &cells, Side::Other)?)?;
-    for place in 0..READINGS.len() {
-        if !is_quiet(READINGS[place], &heap, &set, &other) {
-            return Ok(Some(place));
-        }
-    }
-    Ok(None)
+    Ok(quiet_readings(alloc, &heap, &set, &other))
 }
 
 /// Of how many runs the sets are.
@@ -181,8 +205,8 @@ static COUNTS: [i32; 4] = [0, 1, 3, 100];
 fn what_reads_a_set_never_calls_its_allocator(rt: HostRuntime) -> Result<(), Fail> {
     for count in &COUNTS {
         for others in &COUNTS {
-            let loud = first_loud(rt.alloc(), *count, *others)?;
-            assert!(rt; loud.is_none(), "reading {loud:?}, {count} runs, {others}");
+            let quiet = quiet_at(rt.alloc(), *count, *others)?;
+            assert!(rt; quiet == 9, "{quiet} readings, {count} runs, {others}");
         }
     }
     Ok(())
@@ -212,11 +236,12 @@ static FREEINGS: [Freeing; 6] = [
 /// Whether the greatest member is popped as often as a set has members.
 fn are_popped(set: HeapSet<'_>) -> bool {
     let mut set = set;
-    let mut left = set.len();
-    while set.pop_last().is_some() {
-        left = left.saturating_sub(1);
+    let length = set.len();
+    let mut popped = 0u64;
+    for _ in 0..400u16 {
+        popped = popped.saturating_add(u64::from(set.pop_last().is_some()));
     }
-    left == 0 && set.is_empty()
+    popped == length && set.is_empty()
 }
 
 /// Whether a set keeps no run, by a test of each or by none.
@@ -278,9 +303,11 @@ fn only_frees(alloc: Global, freeing: Freeing, count: i32) -> Result<bool, Alloc
 #[test]
 fn what_empties_a_set_or_gives_it_up_only_frees(rt: HostRuntime) {
     for count in &COUNTS {
-        for place in 0..FREEINGS.len() {
-            let is_right = only_frees(rt.alloc(), FREEINGS[place], *count);
-            assert!(rt; is_right == Ok(true), "call {place}, {count} runs");
+        let mut passed = 0u8;
+        for freeing in &FREEINGS {
+            let is_right = only_frees(rt.alloc(), *freeing, *count);
+            assert!(rt; is_right == Ok(true), "after {passed} calls, {count} runs");
+            passed = passed.saturating_add(1);
         }
     }
 }

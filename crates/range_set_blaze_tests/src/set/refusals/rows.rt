@@ -95,16 +95,15 @@ fn first_refused(set: &mut HeapSet<'_>) -> Option<i32> {
     None
 }
 
-/// Whether a set has the values from 0 to 1999 but the odd ones below this one.
-fn lacks_below(set: &HeapSet<'_>, odd: i32) -> bool {
-    let mut ranges = set.ranges();
+/// The runs of the values from 0 to 1999 but the odd ones below this one.
+fn lacking_below(alloc: Global, odd: i32) -> Result<Vec<(i32, i32)>, AllocError> {
+    let mut runs = Vec::new(alloc);
     for place in 0..odd / 2 {
         let value = place.saturating_mul(2);
-        if ranges.next() != Some(value..=value) {
-            return false;
-        }
+        runs.push((value, value))?;
     }
-    ranges.next() == Some(odd.saturating_sub(1)..=1999) && ranges.next().is_none()
+    runs.push((odd.saturating_sub(1), 1999))?;
+    Ok(runs)
 }
 
 #[test]
@@ -113,9 +112,11 @@ fn every_second_value_is_removed_until_an_allocation_fails(rt: HostRuntime) -> R
     let mut set = set_in(&heap, &[(0, 1999)])?;
     heap.fail_after(0);
     let refused = first_refused(&mut set).unwrap_or(0);
-    assert!(rt; refused > 1 && lacks_below(&set, refused), "at {refused}");
+    let before = lacking_below(rt.alloc(), refused)?;
+    let after = lacking_below(rt.alloc(), refused.saturating_add(2))?;
+    assert!(rt; refused > 1 && has(&set, &before), "at {refused}");
     heap.fail_never();
-    assert!(rt; set.remove(refused) == Ok(true) && lacks_below(&set, refused.saturating_add(2)));
+    assert!(rt; set.remove(refused) == Ok(true) && has(&set, &after));
     Ok(())
 }
 
