@@ -2,12 +2,17 @@
 
 pub(crate) mod any_types;
 mod at_least;
+mod callers;
 pub(crate) mod forms;
 mod lookahead;
+mod macro_arguments;
+mod memory;
 mod merges;
 mod nested;
 mod operators;
+mod own_types;
 pub(crate) mod sets;
 mod sweeps;
-mod thousand;
+mod texts;
+pub(crate) mod thousand;
 mod touching;

@@ -1,10 +1,10 @@
-//! The operators of what is made of 1..=9, 3..=12 and 5..=20, with 8..=25.
+//! The operators of what is made of 1..=9, 3..=12 and 5..=20, and of a stream of any type, with 8..=25.
 
 ghost use Rattle.std.specs.Prelude.{IfOk};
 
 use rsb_many::{
-    MultiwayAtLeast, MultiwayIntersection, MultiwaySortedDisjoint, MultiwaySymmetricDifference,
-    MultiwayUnion,
+    DynSortedDisjoint, MultiwayAtLeast, MultiwayIntersection, MultiwaySortedDisjoint,
+    MultiwaySymmetricDifference, MultiwayUnion,
 };
 use rsb_streams::Draw;
 use rsb_tables::{Listed, OPERATIONS, Operation, Ranges, gives, stream_of, streams_of};
@@ -113,6 +113,38 @@ fn two_deep_is_met(stream: MultiwayAtLeast<u8, Listed<'static>>, operation: Oper
         Operation::SymmetricDifference => gives(stream ^ other, &[(3, 7), (13, 25)]),
         Operation::Complement => gives(!stream, &[(0, 2), (13, 255)]),
     }
+}
+
+/// The ranges of a stream of any type, which are 1..=9 and 12..=20.
+fn any_type(alloc: Global) -> Result<DynSortedDisjoint<u8>, AllocError>
+    ensures { IfOk result ⟦<DynSortedDisjoint<u8> as Draw<u8>>⟧.can_draw }
+{
+    DynSortedDisjoint::new(alloc, stream_of(&[(1, 9), (12, 20)]))
+}
+
+/// Whether an operator of it is right.
+fn any_type_is_met(stream: DynSortedDisjoint<u8>, operation: Operation) -> bool
+    requires { ⟦<DynSortedDisjoint<u8> as Draw<u8>>⟧.can_draw stream }
+{
+    let other = stream_of(OTHER);
+    match operation {
+        Operation::Union => gives(stream | other, &[(1, 25)]),
+        Operation::Intersection => gives(stream & other, &[(8, 9), (12, 20)]),
+        Operation::Difference => gives(stream - other, &[(1, 7)]),
+        Operation::SymmetricDifference => gives(stream ^ other, &[(1, 7), (10, 11), (21, 25)]),
+        Operation::Complement => gives(!stream, &[(0, 0), (10, 11), (21, 255)]),
+    }
+}
+
+#[test]
+fn operators_of_a_stream_of_any_type(rt: HostRuntime) -> Result<(), Fail> {
+    for operation in OPERATIONS {
+        assert!(rt;
+            any_type_is_met(any_type(rt.alloc())?, operation),
+            "{operation:?}"
+        );
+    }
+    Ok(())
 }
 
 #[test]

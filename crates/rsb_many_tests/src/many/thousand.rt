@@ -1,5 +1,5 @@
-//! A thousand and twenty thousand streams and sets, each of one value, and two of seventy thousand
-//! runs: none gives up at a size.
+//! Up to a hundred and twenty thousand streams and twenty thousand sets, each of one value, and two of
+//! seventy thousand runs: no call gives up at a size.
 
 ghost use Rattle.std.specs.Prelude.{All, IfOk};
 
@@ -12,13 +12,16 @@ use rsb_tables::{Form, every_fifth, form_gives, gives, of_lent, of_sets};
 use std::alloc::{AllocError, Global};
 use std::test::Fail;
 
-/// Each value as a stream.
-fn singles<T: Integer>(alloc: Global, values: &[T]) -> Result<Vec<RangeOnce<T>>, AllocError>
+/// Each range as a stream.
+pub(crate) fn singles<T: Integer>(
+    alloc: Global,
+    ends: &[(T, T)],
+) -> Result<Vec<RangeOnce<T>>, AllocError>
     ensures { IfOk result (λ streams. All ⟦<RangeOnce<T> as Draw<T>>⟧.can_draw streams.items) }
 {
     let mut streams = Vec::new(alloc);
-    for value in values {
-        streams.push(RangeOnce::new(*value..=*value))?;
+    for (start, end) in ends {
+        streams.push(RangeOnce::new(*start..=*end))?;
     }
     Ok(streams)
 }
@@ -27,8 +30,10 @@ fn singles<T: Integer>(alloc: Global, values: &[T]) -> Result<Vec<RangeOnce<T>>,
 fn numbers(alloc: Global, count: i32) -> Result<Vec<RangeOnce<i32>>, AllocError>
     ensures { IfOk result (λ streams. All ⟦<RangeOnce<i32> as Draw<i32>>⟧.can_draw streams.items) }
 {
-    let values = (0..count).collect::<Vec<i32>>(alloc)?;
-    singles(alloc, &values)
+    let ends = (0..count)
+        .map(|number| (number, number))
+        .collect::<Vec<(i32, i32)>>(alloc)?;
+    singles(alloc, &ends)
 }
 
 /// Whether some, and an odd number, of so many streams have all numbers, which are one run.
@@ -41,7 +46,16 @@ fn are_one_run(alloc: Global, count: i32, run: (i32, i32)) -> Result<bool, Alloc
 
 /// Whether a form of twenty thousand streams, each of 7, is 7.
 fn share_seven(alloc: Global, form: Form) -> Result<bool, AllocError> {
-    form_gives(alloc, form, singles(alloc, &[7; 20_000])?, &[(7, 7)])
+    form_gives(alloc, form, singles(alloc, &[(7, 7); 20_000])?, &[(7, 7)])
+}
+
+/// The number of streams of the largest rows.
+const MOST: i32 = 120_000;
+
+/// Whether a form of that many streams, each of 7, is 7.
+fn most_share_seven(alloc: Global, form: Form) -> Result<bool, AllocError> {
+    let ends = (0..MOST).map(|_| (7, 7)).collect::<Vec<(i32, i32)>>(alloc)?;
+    form_gives(alloc, form, singles(alloc, &ends)?, &[(7, 7)])
 }
 
 /// Whether a merge of so many streams, joined, has all numbers, which are one run.
@@ -57,6 +71,20 @@ fn a_thousand_single_values_are_one_run(rt: HostRuntime) -> Result<(), Fail> {
     assert!(rt; are_one_run(alloc, 20_000, (0, 19_999))?);
     assert!(rt; are_merged(alloc, 20_000, (0, 19_999))?);
     assert!(rt; share_seven(alloc, Form::All)? && share_seven(alloc, Form::AtLeast(20_000))?);
+    Ok(())
+}
+
+#[test]
+fn unions_and_merges_of_a_hundred_and_twenty_thousand_streams(rt: HostRuntime) -> Result<(), Fail> {
+    assert!(rt; are_one_run(rt.alloc(), MOST, (0, 119_999))?);
+    assert!(rt; are_merged(rt.alloc(), MOST, (0, 119_999))?);
+    Ok(())
+}
+
+#[test]
+fn what_a_hundred_and_twenty_thousand_streams_share(rt: HostRuntime) -> Result<(), Fail> {
+    assert!(rt; most_share_seven(rt.alloc(), Form::All)?);
+    assert!(rt; most_share_seven(rt.alloc(), Form::AtLeast(120_000))?);
     Ok(())
 }
 
@@ -78,6 +106,14 @@ fn start_and_end_in_turn(alloc: Global, count: i32) -> Result<bool, AllocError> 
 fn a_thousand_single_values_start_and_end_in_turn(rt: HostRuntime) -> Result<(), Fail> {
     assert!(rt; start_and_end_in_turn(rt.alloc(), 1000)?);
     assert!(rt; start_and_end_in_turn(rt.alloc(), 20_000)?);
+    Ok(())
+}
+
+#[test]
+fn a_hundred_and_twenty_thousand_single_values_start_and_end_in_turn(
+    rt: HostRuntime,
+) -> Result<(), Fail> {
+    assert!(rt; start_and_end_in_turn(rt.alloc(), MOST)?);
     Ok(())
 }
 

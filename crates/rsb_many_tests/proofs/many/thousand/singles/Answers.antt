@@ -11,8 +11,8 @@ all-after can before after item is all one = subst (All can) (sym is)
     (All-push can before item all one)
 
 -- one more may be drawn from
-pub loop-value-preserved : goal.loop-value-preserved
-loop-value-preserved g c = all-after
+pub loop-start-preserved : goal.loop-start-preserved
+loop-start-preserved g c = all-after
     (λ ranges. IsCanonicalIn g.T.Integer.value_count (intervals_of g.T.Integer.rank ranges))
-    c.loop-value.streams.items _ c.new-in-loop-value.result c.in_ok-push.ensures.items
-    c.loop-value.invariant c.new-in-loop-value.ensures.ready
+    c.loop-start.streams.items _ c.new-in-loop-start.result c.in_ok-push.ensures.items
+    c.loop-start.invariant c.new-in-loop-start.ensures.ready

@@ -1,0 +1,5 @@
+use Rattle.rsb_many_tests.proofs.many.memory.draws_quietly.Given as goal
+
+-- the stream may be drawn from
+abbrev pub invariant-loop : goal.invariant-loop
+invariant-loop g l = g.I.Draw.can_draw l.stream
