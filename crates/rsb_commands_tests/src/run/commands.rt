@@ -7,7 +7,7 @@ use rsb_commands::laws::{
 use rsb_commands::outside::{Side, Slot};
 use rsb_commands::{Command, Fault, Reply, SetNo, parse_commands, read_commands, run_commands};
 use rsb_integer::Integer;
-use std::alloc::Global;
+use std::alloc::{AllocError, Global};
 use std::ops::RangeInclusive;
 use std::process::Abort;
 use std::test::*;
@@ -116,29 +116,34 @@ fn say_of_range<T: Integer>(
     *found == count && ranges.len() == 1 && ranges.first() == Some(range)
 }
 
-// Whether commands add a range of values to an empty set, and then find these values in it.
+// Commands that add a range of values to a set, and then ask for its last value, for how many there
+// are, and for all of them. They lie in a list: an array of a type parameter has no size that generic
+// code can bound.
+fn commands_on_range<T: Integer>(
+    alloc: Global,
+    slot: SetNo,
+    range: &RangeInclusive<T>,
+) -> Result<Vec<Command<T>>, AllocError> {
+    let (first, last) = (*range.start(), *range.end());
+    let mut commands = Vec::new(alloc);
+    commands.push(Command::Add { slot, first, last })?;
+    commands.push(Command::Has { slot, value: last })?;
+    commands.push(Command::Count { slot })?;
+    commands.push(Command::Show { slot })?;
+    Ok(commands)
+}
+
+// Whether these commands add the range to an empty set, and then find its values there.
 fn are_answered_of_range<T: Integer>(
     alloc: Global,
     set: SetNo,
     range: RangeInclusive<T>,
     count: T::SafeLen,
-) -> bool {
-    let commands = [
-        Command::Add {
-            slot: set,
-            first: *range.start(),
-            last: *range.end(),
-        },
-        Command::Has {
-            slot: set,
-            value: *range.end(),
-        },
-        Command::Count { slot: set },
-        Command::Show { slot: set },
-    ];
+) -> Result<bool, AllocError> {
+    let commands = commands_on_range(alloc, set, &range)?;
     match run_commands(alloc, &commands) {
-        Ok(replies) => say_of_range(&replies, &range, count),
-        Err(_) => false,
+        Ok(replies) => Ok(say_of_range(&replies, &range, count)),
+        Err(_) => Err(AllocError),
     }
 }
 
@@ -149,12 +154,13 @@ fn quarter_hour(rt: &impl Abort, n: u8) -> Slot {
 
 // Two values, and the quarter hours of a day, are types that a user of the library writes.
 #[test]
-fn commands_run_over_other_element_types(rt: HostRuntime) {
+fn commands_run_over_other_element_types(rt: HostRuntime) -> Result<(), Fail> {
     let set = slot(&rt, 4);
-    assert!(rt; are_answered_of_range(rt.alloc(), set, 250u8..=255, 6));
-    assert!(rt; are_answered_of_range(rt.alloc(), set, Side::Lo..=Side::Hi, 2));
+    assert!(rt; are_answered_of_range(rt.alloc(), set, 250u8..=255, 6)?);
+    assert!(rt; are_answered_of_range(rt.alloc(), set, Side::Lo..=Side::Hi, 2)?);
     let morning = quarter_hour(&rt, 32)..=quarter_hour(&rt, 47);
-    assert!(rt; are_answered_of_range(rt.alloc(), set, morning, 16));
+    assert!(rt; are_answered_of_range(rt.alloc(), set, morning, 16)?);
+    Ok(())
 }
 
 #[test]
