@@ -6,6 +6,7 @@ pub mod into_range_set_blaze;
 pub mod into_ranges_iter;
 pub mod iter;
 pub mod laws;
+mod macros;
 pub mod multiway;
 mod operators;
 pub mod prelude;
@@ -22,7 +23,10 @@ pub use crate::prelude::{
     SortedStartsInVec, SortedTouching, SweepEvent, SymDiffIter, SymmetricDifference, UInt,
     UIntPlusOne, Union, UnionIter, at_least_all, at_least_falls, at_least_one,
     canonical_lists_are_runs, cmp_counted, complement_twice, de_morgan, difference_by_complement,
-    elements_stand_for_sets, equal_members_equal_lists, intersection_dyn, offsets_undo_length,
+    elements_stand_for_sets, equal_members_equal_lists, offsets_undo_length,
     one_filled_list, one_list_of_events, order_by_least_difference, run_bounds_are_ends,
-    some_list_of_events, symmetric_by_union, symmetric_difference_dyn, union_dyn,
+    some_list_of_events, symmetric_by_union,
 };
+
+/// What the macros call.
+pub use rsb_many::taken;

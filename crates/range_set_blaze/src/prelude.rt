@@ -14,12 +14,12 @@ pub use crate::laws::{
 pub use crate::multiway::{MultiwayRangeSetBlaze, MultiwayRangeSetBlazeRef};
 pub use crate::ranges_iter::RangesIter;
 pub use crate::set::RangeSetBlaze;
+pub use crate::{intersection_dyn, symmetric_difference_dyn, union_dyn};
 pub use rsb_integer::Integer;
 pub use rsb_length::{SafeLength, UInt, UIntPlusOne};
 pub use rsb_many::{
     DynSortedDisjoint, KMerge, MultiwayAtLeast, MultiwayIntersection, MultiwaySortedDisjoint,
-    MultiwaySweep, MultiwaySymmetricDifference, MultiwayUnion, SweepEvent, intersection_dyn,
-    symmetric_difference_dyn, union_dyn,
+    MultiwaySweep, MultiwaySymmetricDifference, MultiwayUnion, SweepEvent,
 };
 pub use rsb_streams::{
     AnythingGoes, AssumeSortedStarts, CheckSortedDisjoint, CheckSortedTouching, Difference, Draw,

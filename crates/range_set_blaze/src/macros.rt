@@ -1,0 +1,57 @@
+//! Set algebra over any number of streams, whatever their types. These are the macros of `rsb_many`,
+//! defined again: a crate that calls a macro has to list the crate that defines it.
+
+/// Returns what lies in some of the given streams: `union_dyn!(alloc, a, b, ..)`. The streams may have
+/// different types; it collects the ranges of each into a list. Of no streams, the result is empty. If
+/// allocation fails, it still evaluates the arguments that follow, and drops every stream.
+#[macro_export]
+macro_rules! union_dyn {
+    ($alloc:expr $(, $stream:expr)* $(,)?) => {{
+        let alloc = $alloc;
+        let none = Ok(std::vec::Vec::new(alloc));
+        $crate::with_all_taken!(union_of_taken, alloc, none $(, $stream)*)
+    }};
+}
+
+/// Returns what lies in all of the given streams: `intersection_dyn!(alloc, a, b, ..)`. The streams may
+/// have different types; it collects the ranges of each into a list. Of no streams, the result is every
+/// value. If allocation fails, it still evaluates the arguments that follow, and drops every stream.
+#[macro_export]
+macro_rules! intersection_dyn {
+    ($alloc:expr $(, $stream:expr)* $(,)?) => {{
+        let alloc = $alloc;
+        let none = Ok(std::vec::Vec::new(alloc));
+        $crate::with_all_taken!(intersection_of_taken, alloc, none $(, $stream)*)
+    }};
+}
+
+/// Returns what lies in an odd number of the given streams: `symmetric_difference_dyn!(alloc, a, b, ..)`.
+/// The streams may have different types; it collects the ranges of each into a list. Of no streams, the
+/// result is empty. If allocation fails, it still evaluates the arguments that follow, and drops every
+/// stream.
+#[macro_export]
+macro_rules! symmetric_difference_dyn {
+    ($alloc:expr $(, $stream:expr)* $(,)?) => {{
+        let alloc = $alloc;
+        let none = Ok(std::vec::Vec::new(alloc));
+        $crate::with_all_taken!(symmetric_difference_of_taken, alloc, none $(, $stream)*)
+    }};
+}
+
+/// The operation on the streams taken so far and on those that follow. It expands to calls inside one
+/// another, which evaluate every stream in order and leave no `match` in the caller's body. For the
+/// macros above; not in range-set-blaze.
+#[macro_export]
+macro_rules! with_all_taken {
+    ($operation:ident, $alloc:ident, $taken:expr) => {
+        $crate::taken::$operation($alloc, $taken)
+    };
+    ($operation:ident, $alloc:ident, $taken:expr, $stream:expr $(, $others:expr)*) => {
+        $crate::with_all_taken!(
+            $operation,
+            $alloc,
+            $crate::taken::with_one_more($alloc, $taken, $stream)
+            $(, $others)*
+        )
+    };
+}
