@@ -4,9 +4,9 @@ use Rattle.std.specs.Prelude.{Option, Some, None}
 use Rattle.std.specs.Int.{w32}
 use Rattle.std.specs.Iterator.{Yields}
 use Rattle.std.specs.declared.ops.RangeInclusive.{RangeInclusive}
-use Rattle.rsb_integer.specs.Rank.{interval_of, intervals_of, signed_rank}
-use Rattle.rsb_streams.specs.Calls.{gives_by}
-use Rattle.rsb_streams.specs.Stream.{◌⊆◌, just}
+use Rattle.range_set_blaze.specs.Rank.{interval_of, intervals_of, signed_rank}
+use Rattle.range_set_blaze.specs.Calls.{gives_by}
+use Rattle.range_set_blaze.specs.Stream.{◌⊆◌, just}
 use Rattle.rsb_commands.specs.Weekends.{rank_of_day, weekend_after, weekends, weekends_after}
 use Rattle.rsb_commands.specs.contracts.outside.ordinal_weekends.OrdinalWeekendsIterator.TheImpl.{next_gives-value}
 use Rattle.rsb_commands.specs.declared.outside.ordinal_weekends.OrdinalWeekends.{OrdinalWeekends}

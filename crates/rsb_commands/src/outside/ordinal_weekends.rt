@@ -3,12 +3,12 @@
 ghost use Rattle.std.specs.Prelude.{◌≡◌, ◌+◌, ◌-◌, ◌^◌, ◌<◌, ◌≤◌, MatchOption};
 ghost use Rattle.std.specs.Iterator.{at_most};
 ghost use Rattle.std.proofs.Common.{arith, rules};
-ghost use Rattle.rsb_integer.specs.Rank.{interval_of};
-ghost use Rattle.rsb_streams.specs.AscendingLaws.{ascending-keeps};
-ghost use Rattle.rsb_streams.specs.Calls.{gives_by};
-ghost use Rattle.rsb_streams.specs.CallsLaws.{gives_by-answers};
-ghost use Rattle.rsb_streams.specs.Stream.{◌⊆◌, just};
-ghost use Rattle.rsb_streams.specs.StreamLaws.{canonical_stream-starts, drawn-itself};
+ghost use Rattle.range_set_blaze.specs.Rank.{interval_of};
+ghost use Rattle.range_set_blaze.specs.AscendingLaws.{ascending-keeps};
+ghost use Rattle.range_set_blaze.specs.Calls.{gives_by};
+ghost use Rattle.range_set_blaze.specs.CallsLaws.{gives_by-answers};
+ghost use Rattle.range_set_blaze.specs.Stream.{◌⊆◌, just};
+ghost use Rattle.range_set_blaze.specs.StreamLaws.{canonical_stream-starts, drawn-itself};
 ghost use Rattle.rsb_commands.specs.Weekends.{weekends};
 
 use range_set_blaze::{Draw, DrawDisjoint, Integer, SortedDisjoint, SortedStarts};

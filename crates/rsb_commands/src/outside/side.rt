@@ -4,7 +4,7 @@ ghost use Rattle.std.specs.Prelude.{◌≡◌, ◌==◌, ◌<◌, cond, zero, su
 ghost use Rattle.std.specs.Ordering.{nat_cmp};
 ghost use Rattle.std.specs.declared.cmp.Ordering.TheVariants.{Equal};
 ghost use Rattle.std.proofs.Common.{arith, lit<, lit≤, refl};
-ghost use Rattle.rsb_integer.specs.Room.{have_room};
+ghost use Rattle.range_set_blaze.specs.Room.{have_room};
 ghost use Rattle.rsb_commands.specs.declared.outside.side.Side.{Side};
 ghost use Rattle.rsb_commands.specs.declared.outside.side.Side.TheVariants.{Lo, Hi};
 

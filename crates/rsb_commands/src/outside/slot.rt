@@ -3,7 +3,7 @@
 ghost use Rattle.std.specs.Prelude.{◌≡◌, ◌↔◌, ◌<◌, ℕ, IsSome, IfSome};
 ghost use Rattle.std.proofs.Common.{lit<, lit≤, refl};
 ghost use Rattle.std.proofs.lemmas.Map.Lookups.{exact_unsigned};
-ghost use Rattle.rsb_integer.specs.Room.{have_room};
+ghost use Rattle.range_set_blaze.specs.Room.{have_room};
 
 use range_set_blaze::Integer;
 use std::fmt::{self, Debug, Display, Formatter, Write};
