@@ -23,7 +23,8 @@ pub(crate) fn kept_values<T: Integer, A: Allocator + Copy, F: FnMut(&T) -> bool>
     f: F,
 ) -> Result<RangeSetBlaze<T, A>, AllocError>
     requires canonical { IsCanonicalIn T.value_count (runs_of T.rank map.now.entries) }
-    requires callable { CallableOnMembers T.rank T.value_count F.FnMut f (runs_of T.rank map.now.entries) }
+    requires callable { CallableOnMembers T.rank T.value_count F.FnMut f
+        (runs_of T.rank map.now.entries) }
     ensures within { IfOk result (λ kept. (rank : ℕ) → IsTrue (members kept rank)
         → IsTrue (members (runs_of T.rank map.now.entries) rank)) }
     ensures exact { (keeps : Selection) → AnswersByRank T.rank T.value_count F.FnMut keeps f

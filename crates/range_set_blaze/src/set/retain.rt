@@ -70,7 +70,8 @@ fn retain_runs<T: Integer, A: Allocator, F: FnMut(&RangeInclusive<T>) -> bool>(
     total: T::SafeLen,
 ) -> T::SafeLen
     requires kept { IsKept T.rank T.value_count map.old.entries (T.SafeLen.number total) }
-    requires callable { CallableOnRuns T.rank T.value_count F.FnMut f (runs_of T.rank map.old.entries) }
+    requires callable { CallableOnRuns T.rank T.value_count F.FnMut f
+        (runs_of T.rank map.old.entries) }
     ensures kept { IsKept T.rank T.value_count map.new.entries (T.SafeLen.number result) }
     ensures runs { IsSublist (runs_of T.rank map.new.entries) (runs_of T.rank map.old.entries) }
     ensures exact { (keeps : Interval → Bool)
