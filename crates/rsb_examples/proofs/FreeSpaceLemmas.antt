@@ -1,9 +1,9 @@
 -- Pages at which no free block begins.
 use Rattle.std.proofs.Common.{◌≡◌, ℕ, not, false, ◌+◌, ◌-◌, ◌^◌, ◌<◌, ◌≤◌, List, inl, inr, arith}
 use Rattle.std.proofs.lemmas.Bool.{cases_lt}
-use Rattle.rsb_integer.specs.Runs.{Interval, members}
-use Rattle.rsb_integer.specs.Selection.{complement}
-use Rattle.rsb_integer.proofs.MembersLemmas.{covers-bounds, covers-inside}
+use Rattle.range_set_blaze.specs.Runs.{Interval, members}
+use Rattle.range_set_blaze.specs.Selection.{complement}
+use Rattle.range_set_blaze.proofs.MembersLemmas.{covers-bounds, covers-inside}
 use Rattle.range_set_blaze.specs.Set.{IsRunAround}
 use Rattle.rsb_examples.specs.FreeSpace.{IsFree}
 

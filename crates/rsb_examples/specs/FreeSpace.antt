@@ -1,6 +1,6 @@
 -- Blocks of pages.
 use Rattle.std.specs.Prelude.{ℕ, ◌+◌, ◌^◌, ◌<◌, ◌≤◌, List, IsFalse}
-use Rattle.rsb_integer.specs.Runs.{Interval, members}
+use Rattle.range_set_blaze.specs.Runs.{Interval, members}
 
 -- so many pages from the start on are there, and none of them is taken
 pub record IsFree (taken : List Interval) (start pages : ℕ) : Type 0 where

@@ -1,8 +1,8 @@
 //! An allow-list of addresses: who may enter, and how far a closed block reaches.
 
 ghost use Rattle.std.specs.Prelude.{◌↔◌, ℕ, IfSome, IsFalse, IsNone, IsTrue};
-ghost use Rattle.rsb_integer.specs.Rank.{interval_of};
-ghost use Rattle.rsb_integer.specs.Runs.{covers, members};
+ghost use Rattle.range_set_blaze.specs.Rank.{interval_of};
+ghost use Rattle.range_set_blaze.specs.Runs.{covers, members};
 
 use range_set_blaze::RangeSetBlaze;
 use std::alloc::Global;

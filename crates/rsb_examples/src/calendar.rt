@@ -15,7 +15,7 @@ ghost use Rattle.std.specs.Prelude.{
   IsTrue,
   OnErr,
 };
-ghost use Rattle.rsb_integer.specs.Runs.{members};
+ghost use Rattle.range_set_blaze.specs.Runs.{members};
 ghost use Rattle.range_set_blaze.specs.Set.{Adds};
 
 use range_set_blaze::{DrawDisjoint, RangeSetBlaze};

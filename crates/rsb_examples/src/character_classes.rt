@@ -1,7 +1,7 @@
 //! The character classes of a lexer: every character is in one class or the other.
 
 ghost use Rattle.std.specs.Prelude.{◌≡◌, ℕ, not, ◌<◌, IfOk};
-ghost use Rattle.rsb_integer.specs.Runs.{members};
+ghost use Rattle.range_set_blaze.specs.Runs.{members};
 
 use range_set_blaze::RangeSetBlaze;
 use std::alloc::{AllocError, Global};

@@ -1,7 +1,7 @@
 //! The calls that most programs make, and a caller with a promise of its own.
 
 ghost use Rattle.std.specs.Prelude.{◌≡◌, ◌⊎◌, IsTrue, OnErr, OnOk};
-ghost use Rattle.rsb_integer.specs.Runs.{members};
+ghost use Rattle.range_set_blaze.specs.Runs.{members};
 ghost use Rattle.range_set_blaze.specs.Set.{only, Adds};
 
 use range_set_blaze::{IntoRangeSetBlaze, RangeSetBlaze};

@@ -1,8 +1,8 @@
 //! Acknowledged packets: they come in any order, and what is missing is asked for again.
 
 ghost use Rattle.std.specs.Prelude.{◌↔◌, ℕ, ◌^◌, ◌<◌, IfOk, IfSome, IsFalse, IsNone, IsTrue};
-ghost use Rattle.rsb_integer.specs.Runs.{members};
-ghost use Rattle.rsb_integer.specs.Selection.{difference, IsUniversal};
+ghost use Rattle.range_set_blaze.specs.Runs.{members};
+ghost use Rattle.range_set_blaze.specs.Selection.{difference, IsUniversal};
 ghost use Rattle.range_set_blaze.specs.Set.{IsSetOf};
 
 use range_set_blaze::{DrawDisjoint, IntoRangeSetBlaze, RangeSetBlaze};

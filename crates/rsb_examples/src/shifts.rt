@@ -1,9 +1,9 @@
 //! Who is on duty: two rotas of shifts with names, in which one shift may begin where another ends.
 
 ghost use Rattle.std.specs.Prelude.{length, map, All, IfOk};
-ghost use Rattle.rsb_many.specs.Many.{may_give_at, SomeOfEach};
-ghost use Rattle.rsb_many.specs.MultiwaySweep.{sweep_may_give};
-ghost use Rattle.rsb_many.specs.Sweep.{event_of, AreEvents};
+ghost use Rattle.range_set_blaze.specs.Many.{may_give_at, SomeOfEach};
+ghost use Rattle.range_set_blaze.specs.MultiwaySweep.{sweep_may_give};
+ghost use Rattle.range_set_blaze.specs.Sweep.{event_of, AreEvents};
 
 use range_set_blaze::{
     CheckSortedTouching, Draw, Integer, MultiwaySweep, SortedTouching, SweepEvent,

@@ -1,5 +1,5 @@
 use Rattle.std.proofs.Common.{ℕ, ◌+◌, ◌^◌, ◌≤◌, rules, arith}
-use Rattle.rsb_integer.specs.Rank.{interval_of}
+use Rattle.range_set_blaze.specs.Rank.{interval_of}
 use Rattle.rsb_examples.proofs.FreeSpaceLemmas.{none-at_all, none-past_gap, none-past_run}
 use Rattle.rsb_examples.proofs.free_space.first_fit.Goals as goal
 use Rattle.rsb_examples.proofs.free_space.first_fit.Goals.{else-not-is_taken-via-then-not-is_taken+else-end-start, else-not-is_taken-via-else-not-is_taken}

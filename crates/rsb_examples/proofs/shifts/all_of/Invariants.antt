@@ -1,6 +1,6 @@
 use Rattle.std.proofs.Common.{List, ◌++◌, map}
-use Rattle.rsb_many.specs.MultiwaySweep.{sweep_may_give}
-use Rattle.rsb_many.specs.Sweep.{event_of, Event}
+use Rattle.range_set_blaze.specs.MultiwaySweep.{sweep_may_give}
+use Rattle.range_set_blaze.specs.Sweep.{event_of, Event}
 use Rattle.rsb_examples.proofs.shifts.all_of.Given as goal
 
 -- what was told, and then what may come, might come of the sweep as it was

@@ -1,7 +1,7 @@
 use Rattle.std.proofs.Common.{map}
 use Rattle.std.proofs.lemmas.Result.{IfOk-weaker}
-use Rattle.rsb_many.specs.MultiwaySweep.{SweepsOver}
-use Rattle.rsb_many.specs.Sweep.{event_of}
+use Rattle.range_set_blaze.specs.MultiwaySweep.{SweepsOver}
+use Rattle.range_set_blaze.specs.Sweep.{event_of}
 use Rattle.range_set_blaze.proofs.gathering.ManySets.{given-list}
 use Rattle.rsb_examples.proofs.shifts.timeline.Goals as goal
 
