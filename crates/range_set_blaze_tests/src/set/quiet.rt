@@ -4,7 +4,9 @@
 use crate::set::calls::{Change, carry_out};
 use crate::set::cells::{Side, runs, spaced};
 use crate::set::refusals::heaps::{Heap, HeapSet};
-use crate::set::rows::set_in;
+use crate::set::rows::{
+    elements_given, elements_given_back, elements_given_up, ranges_given, ranges_given_up, set_in,
+};
 use range_set_blaze::laws::cmp_counted;
 use range_set_blaze::{DrawDisjoint, RangeSetBlaze};
 use rsb_tables::{Counting, fed_by};
@@ -84,27 +86,24 @@ fn are_compared(set: &HeapSet<'_>, other: &HeapSet<'_>) -> bool {
         && (fed_by(set) == fed_by(other)) == is_same
 }
 
-/// How many elements come, from the two ends alternately.
-fn elements_found(set: &HeapSet<'_>) -> u64 {
+/// Whether the elements of a set come from both ends, and all of them from either.
+fn elements_come(set: &HeapSet<'_>) -> bool {
     let mut elements = set.iter();
-    let mut found = 0u64;
-    for _ in 0..400u16 {
-        found = found.saturating_add(u64::from(elements.next().is_some()));
-        found = found.saturating_add(u64::from(elements.next_back().is_some()));
-    }
-    let left = elements.size_hint().0 as u64;
-    found.saturating_add(left)
+    let (first, last) = (elements.next(), elements.next_back());
+    first == set.first()
+        && last.is_some() == (set.len() > 1)
+        && elements_given(set) == set.len()
+        && elements_given_back(set) == set.len()
 }
 
-/// How many runs come, from the two ends alternately.
-fn ranges_found(set: &HeapSet<'_>) -> usize {
+/// Whether the runs of a set come from both ends, and all of them in order.
+fn ranges_come(set: &HeapSet<'_>) -> bool {
     let mut ranges = set.ranges();
-    let mut found = 0usize;
-    for _ in 0..110u16 {
-        found = found.saturating_add(usize::from(ranges.next().is_some()));
-        found = found.saturating_add(usize::from(ranges.next_back().is_some()));
-    }
-    found.saturating_add(ranges.len())
+    let (first, last) = (ranges.next(), ranges.next_back());
+    first.is_some() == !set.is_empty()
+        && last.is_some() == (set.ranges_len() > 1)
+        && ranges.len() == set.ranges_len().saturating_sub(2)
+        && ranges_given(set) == set.ranges_len()
 }
 
 /// How many members the runs of two sets have together, as streams of each operation tell.
@@ -123,10 +122,25 @@ fn members_of_both(set: &HeapSet<'_>, other: &HeapSet<'_>) -> u64 {
     union
 }
 
-/// Whether the runs and gaps of a set are as many as those of its complement.
+/// How many runs and gaps a set has.
+fn pieces(set: &HeapSet<'_>) -> usize {
+    let mut pieces = 0usize;
+    for _ in set.ranges().fill_gaps() {
+        pieces = pieces.saturating_add(1);
+    }
+    pieces
+}
+
+/// How many members the gaps of a set have.
+fn members_of_gaps(set: &HeapSet<'_>) -> u64 {
+    set.ranges().complement().members_len()
+}
+
+/// Whether the runs and gaps of a set are everything, and alternate.
 fn are_filled(set: &HeapSet<'_>) -> bool {
-    let gaps = set.ranges().complement().fill_gaps().count();
-    gaps == set.ranges().fill_gaps().count()
+    let runs = set.ranges_len();
+    members_of_gaps(set).saturating_add(set.len()) == 4_294_967_296
+        && pieces(set) == runs.saturating_mul(2).saturating_add(1)
 }
 
 /// Whether two streams of the runs of sets with no common member are told apart.
@@ -155,8 +169,8 @@ fn reads(alloc: Global, reading: Reading, set: &HeapSet<'_>, other: &HeapSet<'_>
         Reading::Whole => is_whole(set),
         Reading::Relations => are_apart(set, other),
         Reading::Comparisons => are_compared(set, other),
-        Reading::Elements => elements_found(set) == set.len(),
-        Reading::Ranges => ranges_found(set) == set.ranges_len(),
+        Reading::Elements => elements_come(set),
+        Reading::Ranges => ranges_come(set),
         Reading::Streams => {
             members_of_both(set, other) == set.len().saturating_add(other.len()) && are_filled(set)
         }
@@ -219,17 +233,21 @@ enum Freeing {
     RangesRetain,
     Clear,
     Elements,
+    LastElement,
     Ranges,
+    LastRange,
     New,
 }
 
 /// All of them.
-static FREEINGS: [Freeing; 6] = [
+static FREEINGS: [Freeing; 8] = [
     Freeing::PopLast,
     Freeing::RangesRetain,
     Freeing::Clear,
     Freeing::Elements,
+    Freeing::LastElement,
     Freeing::Ranges,
+    Freeing::LastRange,
     Freeing::New,
 ];
 
@@ -252,28 +270,30 @@ fn keeps_none<'a>(heap: &'a Heap, change: Change, set: HeapSet<'a>) -> Result<bo
     Ok(set.is_empty())
 }
 
-/// Whether a set that is given up gives as many elements as it has, from the two ends alternately.
+/// Whether a set that is given up gives as many elements as it has.
 fn gives_elements(set: HeapSet<'_>) -> bool {
     let length = set.len();
-    let mut elements = set.into_iter();
-    let mut found = 0u64;
-    for _ in 0..400u16 {
-        found = found.saturating_add(u64::from(elements.next().is_some()));
-        found = found.saturating_add(u64::from(elements.next_back().is_some()));
-    }
-    found == length
+    elements_given_up(set) == length
 }
 
-/// Whether a set that is given up gives as many runs as it has, from the two ends alternately.
+/// Whether a set that is given up gives its last element, and lets the others go.
+fn gives_last_element(set: HeapSet<'_>) -> bool {
+    let last = set.last();
+    let mut elements = set.into_iter();
+    elements.next_back() == last
+}
+
+/// Whether a set that is given up gives as many runs as it has.
 fn gives_ranges(set: HeapSet<'_>) -> bool {
     let count = set.ranges_len();
+    ranges_given_up(set) == count
+}
+
+/// Whether a set that is given up gives its last run, and lets the others go.
+fn gives_last_range(set: HeapSet<'_>) -> bool {
+    let is_empty = set.is_empty();
     let mut ranges = set.into_ranges();
-    let mut found = 0usize;
-    for _ in 0..110u16 {
-        found = found.saturating_add(usize::from(ranges.next().is_some()));
-        found = found.saturating_add(usize::from(ranges.next_back().is_some()));
-    }
-    found == count
+    ranges.next_back().is_none() == is_empty
 }
 
 /// Whether a call that gives a set up answers as it is to.
@@ -283,7 +303,9 @@ fn frees<'a>(freeing: Freeing, heap: &'a Heap, set: HeapSet<'a>) -> Result<bool,
         Freeing::RangesRetain => keeps_none(heap, Change::RangesRetain(1, 0), set),
         Freeing::Clear => keeps_none(heap, Change::Clear, set),
         Freeing::Elements => Ok(gives_elements(set)),
+        Freeing::LastElement => Ok(gives_last_element(set)),
         Freeing::Ranges => Ok(gives_ranges(set)),
+        Freeing::LastRange => Ok(gives_last_range(set)),
         Freeing::New => Ok(
             RangeSetBlaze::<i32, &Heap>::new(heap) == RangeSetBlaze::<i32, &Heap>::default(heap),
         ),
@@ -314,7 +336,7 @@ fn what_empties_a_set_or_gives_it_up_only_frees(rt: HostRuntime) {
 
 /// A set of every second value below 200,000, which are a hundred thousand runs.
 fn hundred_thousand(heap: &Heap) -> Result<HeapSet<'_>, AllocError> {
-    RangeSetBlaze::from_iter_values(heap, (0..200_000).step_by(2))
+    RangeSetBlaze::from_iter_values(heap, (0..=199_998).step_by(2))
 }
 
 /// How many calls of the allocator a change of a set of a hundred thousand runs makes that adds

@@ -81,3 +81,48 @@ pub(crate) fn is_byte_run(set: &RangeSetBlaze<u8>, start: u8, end: u8) -> bool {
     let length = u16::from(end.abs_diff(start)) + 1;
     set.range_at(start) == Some(start..=end) && set.len() == length && set.ranges_len() == 1
 }
+
+/// How many elements a loop over a set gives.
+pub(crate) fn elements_given<A: Allocator>(set: &RangeSetBlaze<i32, A>) -> u64 {
+    let mut given = 0u64;
+    for _ in set.iter() {
+        given = given.saturating_add(1);
+    }
+    given
+}
+
+/// How many elements a set gives from the last on.
+pub(crate) fn elements_given_back<A: Allocator>(set: &RangeSetBlaze<i32, A>) -> u64 {
+    let mut given = 0u64;
+    for _ in set.iter().rev() {
+        given = given.saturating_add(1);
+    }
+    given
+}
+
+/// How many runs a set gives.
+pub(crate) fn ranges_given<A: Allocator>(set: &RangeSetBlaze<i32, A>) -> usize {
+    let mut given = 0usize;
+    for _ in set.ranges() {
+        given = given.saturating_add(1);
+    }
+    given
+}
+
+/// How many elements a set that is given up gives.
+pub(crate) fn elements_given_up<A: Allocator>(set: RangeSetBlaze<i32, A>) -> u64 {
+    let mut given = 0u64;
+    for _ in set {
+        given = given.saturating_add(1);
+    }
+    given
+}
+
+/// How many runs a set that is given up gives.
+pub(crate) fn ranges_given_up<A: Allocator>(set: RangeSetBlaze<i32, A>) -> usize {
+    let mut given = 0usize;
+    for _ in set.into_ranges() {
+        given = given.saturating_add(1);
+    }
+    given
+}
