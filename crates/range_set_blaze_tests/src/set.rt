@@ -13,6 +13,7 @@ mod lacking;
 mod laws;
 mod long_walk;
 mod look_ups;
+mod macros;
 mod makings;
 pub(crate) mod many_runs;
 mod million_runs;

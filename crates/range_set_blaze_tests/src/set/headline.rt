@@ -3,7 +3,7 @@
 use range_set_blaze::laws::cmp_counted;
 use range_set_blaze::{DrawDisjoint, Integer, RangeSetBlaze};
 use rsb_commands::outside::{Side, Slot};
-use rsb_tables::{fed_by, gives};
+use rsb_tables::fed_by;
 use std::alloc::{AllocError, Global};
 use std::cmp::Ordering::{Equal, Greater, Less};
 use std::hash::Hash;
@@ -18,6 +18,15 @@ fn least_and_all<T: Integer>(
     Ok((least, RangeSetBlaze::universe(alloc)?))
 }
 
+/// Whether a set has one run, between these values.
+fn is_run<T: Integer>(set: &RangeSetBlaze<T>, start: T, end: T) -> bool {
+    let mut ranges = set.ranges();
+    let Some(range) = ranges.next() else {
+        return false;
+    };
+    *range.start() == start && *range.end() == end && ranges.next().is_none()
+}
+
 /// Whether two sets have the runs and the lengths of the least value and of all.
 fn are_listed<T: Integer>(
     least: &RangeSetBlaze<T>,
@@ -25,8 +34,8 @@ fn are_listed<T: Integer>(
     lengths: (T::SafeLen, T::SafeLen),
 ) -> bool {
     let (min, max) = (T::min_value(), T::max_value());
-    gives(least.ranges(), &[(min, min)])
-        && gives(all.ranges(), &[(min, max)])
+    is_run(least, min, min)
+        && is_run(all, min, max)
         && least.len() == lengths.0
         && all.len() == lengths.1
         && all.ranges().members_len() == lengths.1

@@ -69,15 +69,14 @@ fn is_whole(set: &HeapSet<'_>) -> bool {
 }
 
 /// Whether two sets with no common member are told apart.
-fn are_apart(set: &HeapSet<'_>, other: &HeapSet<'_>) -> bool {
+fn are_apart<'a>(set: &HeapSet<'a>, other: &HeapSet<'a>) -> bool {
     set.is_disjoint(other)
         && set.is_subset(other) == set.is_empty()
         && set.is_superset(other) == other.is_empty()
-        && set.is_subset(set)
 }
 
 /// Whether two sets with no common member are equal only if both are empty, by each comparison.
-fn are_compared(set: &HeapSet<'_>, other: &HeapSet<'_>) -> bool {
+fn are_compared<'a>(set: &HeapSet<'a>, other: &HeapSet<'a>) -> bool {
     let is_same = set.is_empty() && other.is_empty();
     (set == other) == is_same
         && set.cmp(other).is_eq() == is_same
@@ -107,7 +106,7 @@ fn ranges_come(set: &HeapSet<'_>) -> bool {
 }
 
 /// How many members the runs of two sets have together, as streams of each operation tell.
-fn members_of_both(set: &HeapSet<'_>, other: &HeapSet<'_>) -> u64 {
+fn members_of_both<'a>(set: &HeapSet<'a>, other: &HeapSet<'a>) -> u64 {
     let union = set.ranges().union(other.ranges()).members_len();
     let apart = set
         .ranges()
@@ -144,7 +143,7 @@ fn are_filled(set: &HeapSet<'_>) -> bool {
 }
 
 /// Whether two streams of the runs of sets with no common member are told apart.
-fn are_asked(one: &HeapSet<'_>, other: &HeapSet<'_>) -> bool {
+fn are_asked<'a>(one: &HeapSet<'a>, other: &HeapSet<'a>) -> bool {
     let (left, right) = (one.is_empty(), other.is_empty());
     one.ranges().is_disjoint(other.ranges())
         && one.ranges().is_subset(other.ranges()) == left
@@ -163,7 +162,7 @@ fn is_written(alloc: Global, set: &HeapSet<'_>) -> bool {
 }
 
 /// Whether calls that read two sets with no common member answer as they are to.
-fn reads(alloc: Global, reading: Reading, set: &HeapSet<'_>, other: &HeapSet<'_>) -> bool {
+fn reads<'a>(alloc: Global, reading: Reading, set: &HeapSet<'a>, other: &HeapSet<'a>) -> bool {
     match reading {
         Reading::LookUps => members_found(set) == set.len(),
         Reading::Whole => is_whole(set),
@@ -180,19 +179,19 @@ fn reads(alloc: Global, reading: Reading, set: &HeapSet<'_>, other: &HeapSet<'_>
 }
 
 /// Whether calls that read two sets make no call of their allocator.
-fn is_quiet(
+fn is_quiet<'a>(
     alloc: Global,
     reading: Reading,
     heap: &Heap,
-    set: &HeapSet<'_>,
-    other: &HeapSet<'_>,
+    set: &HeapSet<'a>,
+    other: &HeapSet<'a>,
 ) -> bool {
     let calls = heap.calls();
     reads(alloc, reading, set, other) && heap.calls() == calls
 }
 
 /// How many of the readings of two sets make no call of their allocator, up to the first that does.
-fn quiet_readings(alloc: Global, heap: &Heap, set: &HeapSet<'_>, other: &HeapSet<'_>) -> u8 {
+fn quiet_readings<'a>(alloc: Global, heap: &Heap, set: &HeapSet<'a>, other: &HeapSet<'a>) -> u8 {
     let mut quiet = 0u8;
     for reading in &READINGS {
         if !is_quiet(alloc, *reading, heap, set, other) {

@@ -1,0 +1,55 @@
+//! The macros over streams, as `range_set_blaze` defines them: of none, one, three and five streams.
+
+use range_set_blaze::prelude::*;
+use rsb_tables::gives;
+use std::test::*;
+
+/// A stream of the range of five values from this one on.
+fn range(start: u8) -> RangeOnce<u8>
+    ensures { ⟦<RangeOnce<u8> as Draw<u8>>⟧.can_draw result }
+{
+    RangeOnce::new(start..=start.saturating_add(4))
+}
+
+#[test]
+fn no_stream_gives_nothing_or_everything(rt: HostRuntime) -> Result<(), Fail> {
+    let alloc = rt.alloc();
+    let some: MultiwayUnion<u8, DynSortedDisjoint<u8>> = union_dyn!(alloc)?;
+    let all: MultiwayIntersection<u8, DynSortedDisjoint<u8>> = intersection_dyn!(alloc)?;
+    let odd: MultiwaySymmetricDifference<u8, DynSortedDisjoint<u8>> = symmetric_difference_dyn!(
+        alloc
+    )?;
+    assert!(rt; gives(some, &[]) && gives(all, &[(0, 255)]) && gives(odd, &[]));
+    Ok(())
+}
+
+#[test]
+fn one_stream_gives_its_ranges(rt: HostRuntime) -> Result<(), Fail> {
+    let alloc = rt.alloc();
+    assert!(rt; gives(union_dyn!(alloc, range(1))?, &[(1, 5)]));
+    assert!(rt; gives(intersection_dyn!(alloc, range(1),)?, &[(1, 5)]));
+    assert!(rt; gives(symmetric_difference_dyn!(alloc, range(1))?, &[(1, 5)]));
+    Ok(())
+}
+
+#[test]
+fn each_of_three_streams_counts(rt: HostRuntime) -> Result<(), Fail> {
+    let alloc = rt.alloc();
+    let some = union_dyn!(alloc, range(1), range(2), range(3))?;
+    let all = intersection_dyn!(alloc, range(1), range(2), range(3))?;
+    let odd = symmetric_difference_dyn!(alloc, range(1), range(2), range(3))?;
+    assert!(rt; gives(some, &[(1, 7)]) && gives(all, &[(3, 5)]));
+    assert!(rt; gives(odd, &[(1, 1), (3, 5), (7, 7)]));
+    Ok(())
+}
+
+#[test]
+fn each_of_five_streams_counts(rt: HostRuntime) -> Result<(), Fail> {
+    let alloc = rt.alloc();
+    let some = union_dyn!(alloc, range(1), range(2), range(3), range(4), range(5))?;
+    let all = intersection_dyn!(alloc, range(1), range(2), range(3), range(4), range(5))?;
+    let odd = symmetric_difference_dyn!(alloc, range(1), range(2), range(3), range(4), range(5))?;
+    assert!(rt; gives(some, &[(1, 9)]) && gives(all, &[(5, 5)]));
+    assert!(rt; gives(odd, &[(1, 1), (3, 3), (5, 5), (7, 7), (9, 9)]));
+    Ok(())
+}
