@@ -1,5 +1,5 @@
 //! The calls that never allocate, on sets of no run, of one, of three and of a hundred: those that
-//! read a set make no call of its allocator at all, and those that change one or give it up only free.
+//! read a set make no call of its allocator, and those that change one or take it by value only free.
 
 use crate::set::calls::{Change, carry_out};
 use crate::set::cells::{Side, runs, spaced};
@@ -269,26 +269,26 @@ fn keeps_none<'a>(heap: &'a Heap, change: Change, set: HeapSet<'a>) -> Result<bo
     Ok(set.is_empty())
 }
 
-/// Whether a set that is given up gives as many elements as it has.
+/// Whether a set passed by value gives as many elements as it has.
 fn gives_elements(set: HeapSet<'_>) -> bool {
     let length = set.len();
     elements_given_up(set) == length
 }
 
-/// Whether a set that is given up gives its last element, and lets the others go.
+/// Whether a set passed by value gives its last element, and drops the others.
 fn gives_last_element(set: HeapSet<'_>) -> bool {
     let last = set.last();
     let mut elements = set.into_iter();
     elements.next_back() == last
 }
 
-/// Whether a set that is given up gives as many runs as it has.
+/// Whether a set passed by value gives as many runs as it has.
 fn gives_ranges(set: HeapSet<'_>) -> bool {
     let count = set.ranges_len();
     ranges_given_up(set) == count
 }
 
-/// Whether a set that is given up gives its last run, and lets the others go.
+/// Whether a set passed by value gives its last run, and drops the others.
 fn gives_last_range(set: HeapSet<'_>) -> bool {
     let is_empty = set.is_empty();
     let mut ranges = set.into_ranges();

@@ -109,7 +109,7 @@ pub(crate) fn ranges_given<A: Allocator>(set: &RangeSetBlaze<i32, A>) -> usize {
     given
 }
 
-/// How many elements a set that is given up gives.
+/// How many elements a set passed by value gives.
 pub(crate) fn elements_given_up<A: Allocator>(set: RangeSetBlaze<i32, A>) -> u64 {
     let mut given = 0u64;
     for _ in set {
@@ -118,7 +118,7 @@ pub(crate) fn elements_given_up<A: Allocator>(set: RangeSetBlaze<i32, A>) -> u64
     given
 }
 
-/// How many runs a set that is given up gives.
+/// How many runs a set passed by value gives.
 pub(crate) fn ranges_given_up<A: Allocator>(set: RangeSetBlaze<i32, A>) -> usize {
     let mut given = 0usize;
     for _ in set.into_ranges() {

@@ -33,7 +33,7 @@ impl<T: Integer, A: Allocator> ComparedHeads<T, A> {
         }
     }
 
-    /// Moves the last head up to where it belongs, among heads that are a heap but for it.
+    /// Moves the last head up to where it belongs, among heads that are a heap except for it.
     pub(super) fn sift_up(&mut self)
         requires some { 0 < length self.old.heads.items }
         requires values { All (HasValues T.rank T.value_count) self.old.heads.items }
@@ -57,7 +57,7 @@ impl<T: Integer, A: Allocator> ComparedHeads<T, A> {
         }
     }
 
-    /// Moves the first head down to where it belongs, among heads that are a heap but for it. It is
+    /// Moves the first head down to where it belongs, among heads that are a heap except for it. It is
     /// put back into the list only once its place is found.
     pub(super) fn sift_down(&mut self)
         requires values { All (HasValues T.rank T.value_count) self.old.heads.items }
