@@ -1,5 +1,5 @@
 //! Laws that callers rely on: functions that do nothing, each with a law for its clause. Beside them
-//! stands `cmp_counted`, the order of two sets with the number of iterations that it takes.
+//! is `cmp_counted`, which returns the order of two sets and the number of iterations that it takes.
 
 pub use crate::set::elements::elements_stand_for_sets;
 pub use crate::set::hash::run_bounds_are_ends;

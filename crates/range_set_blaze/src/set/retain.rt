@@ -20,8 +20,8 @@ use std::ops::RangeInclusive;
 
 impl<T: Integer, A: Allocator + Copy> RangeSetBlaze<T, A> {
     /// Calls `f` on each member in ascending order, and keeps the members for which it returns true.
-    /// `f` must be callable on each member in turn. If allocation fails, the set is unchanged, and
-    /// `f` was called on a prefix of the members. (`RangeSetBlaze::retain`.)
+    /// `f` must be callable on each member, one after the other. If allocation fails, the set is
+    /// unchanged, and `f` was called on a prefix of the members. (`RangeSetBlaze::retain`.)
     pub fn retain<F: FnMut(&T) -> bool>(&mut self, f: F) -> Result<(), AllocError>
         requires { CallableOnMembers T.rank T.value_count F.FnMut f self.old }
         ensures within { OnOk result
@@ -46,7 +46,8 @@ impl<T: Integer, A: Allocator + Copy> RangeSetBlaze<T, A> {
 
 impl<T: Integer, A: Allocator> RangeSetBlaze<T, A> {
     /// Calls `f` on each run in ascending order, and keeps the runs for which it returns true. `f`
-    /// must be callable on each run in turn. Does not allocate. (`RangeSetBlaze::ranges_retain`.)
+    /// must be callable on each run, one after the other. Does not allocate.
+    /// (`RangeSetBlaze::ranges_retain`.)
     pub fn ranges_retain<F: FnMut(&RangeInclusive<T>) -> bool>(&mut self, f: F)
         requires { CallableOnRuns T.rank T.value_count F.FnMut f self.old }
         ensures runs { IsSublist self.new self.old }
