@@ -79,7 +79,7 @@ fn has_pair(
 ) -> Result<bool, AllocError> {
     let mut pair = RangeSetBlaze::new(alloc);
     pair.ranges_insert(before..=after)?;
-    Ok(letters.contains(after) && letters.is_superset(&pair))
+    Ok(pair.len() == 2 && letters.contains(after) && letters.is_superset(&pair))
 }
 
 /// The first character after which the next one is not the end of a pair that a set has, and the

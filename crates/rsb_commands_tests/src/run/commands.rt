@@ -98,13 +98,15 @@ fn the_worked_sessions_run_as_commands(rt: HostRuntime) {
     assert!(rt; are_answered(rt.alloc(), MOST, &MOST_TOLD) == Ok(true));
 }
 
-// Whether replies say that the values of a range were added to an empty set.
+// Whether replies say that an empty set lacked the last value of a range, and that the values of the
+// range were added.
 fn say_of_range<T: Integer>(
     replies: &[Reply<T>],
     range: &RangeInclusive<T>,
     count: T::SafeLen,
 ) -> bool {
     let [
+        Reply::Flag(false),
         Reply::Flag(true),
         Reply::Flag(true),
         Reply::Count(found),
@@ -116,9 +118,9 @@ fn say_of_range<T: Integer>(
     *found == count && ranges.len() == 1 && ranges.first() == Some(range)
 }
 
-// Commands that add a range of values to a set, and then ask for its last value, for how many there
-// are, and for all of them. They lie in a list: an array of a type parameter has no size that generic
-// code can bound.
+// Commands that add a range of values to a set. They ask for its last value before and after, then for
+// the count of all values and for the values. They are in a list: an array of a type parameter has no
+// size that generic code can bound.
 fn commands_on_range<T: Integer>(
     alloc: Global,
     slot: SetNo,
@@ -126,6 +128,7 @@ fn commands_on_range<T: Integer>(
 ) -> Result<Vec<Command<T>>, AllocError> {
     let (first, last) = (*range.start(), *range.end());
     let mut commands = Vec::new(alloc);
+    commands.push(Command::Has { slot, value: last })?;
     commands.push(Command::Add { slot, first, last })?;
     commands.push(Command::Has { slot, value: last })?;
     commands.push(Command::Count { slot })?;
