@@ -45,7 +45,7 @@ impl<T: Integer, A: Allocator> RangeSetBlaze<T, A> {
             (ranks_in T.rank T.value_count R.start_bound R.end_bound range))) }
     {
         match run_between(&range) {
-            Some(run) => last_meeting(&self.map, run).is_none(),
+            Some(run) => lacks_run(&self.map, run),
             None => true,
         }
     }
@@ -62,4 +62,15 @@ fn has_run<T: Integer, A: Allocator>(map: &BTreeMap<T, T, A>, range: Run<T>) -> 
         Some(run) => !is_below(run.end, range.end),
         None => false,
     }
+}
+
+// Whether no value of a range is a member.
+fn lacks_run<T: Integer, A: Allocator>(map: &BTreeMap<T, T, A>, range: Run<T>) -> bool
+    requires canonical { IsCanonicalIn T.value_count (runs_of T.rank map.now.entries) }
+    requires order { T.rank range.start ≤ T.rank range.end }
+    requires value { T.rank range.end < T.value_count }
+    ensures { IsTrue result ↔ IsEmpty (intersection (members (runs_of T.rank map.now.entries))
+        (covers (run_of T.rank range))) }
+{
+    last_meeting(map, range).is_none()
 }
