@@ -1,1 +1,3 @@
+pub mod Between
 pub mod Cuts
+pub mod Meeting

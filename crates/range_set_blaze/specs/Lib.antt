@@ -10,6 +10,7 @@ pub mod Multiway
 pub mod Order
 pub mod OrderLaws
 pub mod Removal
+pub mod RemoveRanges
 pub mod Retain
 pub mod Set
 pub mod Singles

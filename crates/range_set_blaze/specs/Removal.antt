@@ -1,15 +1,16 @@
 -- What a removal makes of a list of runs.
 use Rattle.std.specs.Prelude.{◌≡◌, ℕ, ◌&&◌, ◌||◌, nat_lt, ◌+◌, List, Contains}
-use Rattle.rsb_integer.specs.Runs.{Interval, covers, members, IsCanonicalIn}
+use Rattle.rsb_integer.specs.Runs.{Interval, covers, length_of, members, IsCanonicalIn}
 use Rattle.rsb_integer.specs.Selection.{count}
-use Rattle.range_set_blaze.specs.Set.{only, Removes}
+use Rattle.range_set_blaze.specs.Set.{Removes}
 use Rattle.range_set_blaze.specs.Starts.{without_start, StartsAscendFrom}
 
--- the new runs are canonical, and have the members of the old ones but one, which those have
-pub record IsRemoved (n : ℕ) (old new : List Interval) (point : ℕ) : Type 0 where
+-- the new runs are canonical, and have the members of the old ones but the ranks of the piece, which
+-- those have
+pub record IsRemoved (n : ℕ) (old new : List Interval) (piece : Interval) : Type 0 where
   pub canonical : IsCanonicalIn n new
-  pub removes : Removes old new (only point)
-  pub counted : count n (members new) + 1 ≡ count n (members old)
+  pub removes : Removes old new (covers piece)
+  pub counted : count n (members new) + length_of piece ≡ count n (members old)
 
 -- without the run that starts where the cut one does, the runs have what the old ones have without it,
 -- and what it has past the rank

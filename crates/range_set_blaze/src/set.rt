@@ -21,6 +21,7 @@ mod look_up;
 mod operators;
 pub(crate) mod order;
 mod remove;
+mod remove_ranges;
 mod retain;
 pub(crate) mod run;
 pub(crate) mod singles;
@@ -28,6 +29,7 @@ mod split;
 mod subsets;
 mod take_in;
 mod text;
+mod windows_asked;
 
 use crate::ranges_iter::RangesIter;
 use num_traits::Zero;

@@ -26,6 +26,7 @@ mod range;
 mod ranges;
 mod refusals;
 mod removals;
+mod remove_ranges;
 mod retain_conditions;
 mod retained;
 pub(crate) mod rows;

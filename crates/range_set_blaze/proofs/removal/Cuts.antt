@@ -1,10 +1,10 @@
--- A rank that is taken out of the run that has it.
+-- Ranks in a row that are taken out of the run that has them.
 use Rattle.std.proofs.Common.{◌≡◌, ℕ, true, false, not, ◌==◌, nat_lt, ◌&&◌, ◌||◌, ◌+◌, ◌<◌, ◌≤◌, List, refl, sym, ap, ◌∙◌, inl, inr, arith, subst}
 use Rattle.std.specs.List.{Contains}
 use Rattle.std.proofs.lemmas.Bool.Decides.{nat_tests}
-use Rattle.rsb_integer.specs.Runs.{Interval, covers, members, IsCanonicalIn}
+use Rattle.rsb_integer.specs.Runs.{Interval, covers, from_to, members, IsCanonicalIn}
 use Rattle.rsb_integer.specs.Selection.{count}
-use Rattle.rsb_integer.proofs.ListLemmas.{true_or_false}
+use Rattle.rsb_integer.proofs.ListLemmas.{true_or_false, not_both}
 use Rattle.rsb_integer.proofs.MembersLemmas.{covers-bounds, covers-inside}
 use Rattle.range_set_blaze.specs.Removal.{IsCutAbove, IsRemoved}
 use Rattle.range_set_blaze.specs.Starts.{with_run, without_start, LeavesApart, IsJoined}
@@ -66,12 +66,13 @@ module _ (n : ℕ) (runs : List Interval) (canonical : IsCanonicalIn n runs) (ru
             ∙ omega (arith, number, starts, ends, less);
       }
 
-  -- with what lies below the rank, or nothing, the rank alone is out
-  module _ (now : List Interval) (above : IsCutAbove n runs run point now) where
+  -- with what lies below the first rank of a piece, or nothing, the piece alone is out
+  module _ (first : ℕ) (starts : run.first ≤ first) (order : first ≤ point) (now : List Interval)
+      (above : IsCutAbove n runs run point now) where
     -- each other member is one still, where the rest and what is put in are told
     cut-removes : (new : List Interval) → ((rank : ℕ) → members new rank
-        ≡ (members (without_start run.first now) rank || (covers run rank && nat_lt rank point)))
-        → Removes runs new (only point)
+        ≡ (members (without_start run.first now) rank || (covers run rank && nat_lt rank first)))
+        → Removes runs new (covers (from_to first point))
     cut-removes new is rank =
         let all = joins.has rank in
         let rest = above.has rank in
@@ -80,32 +81,33 @@ module _ (n : ℕ) (runs : List Interval) (canonical : IsCanonicalIn n runs) (ru
           | inl here ↦
               let bounds = covers-bounds run rank here in
               let none = joins.free rank (omega (arith, bounds.0)) (omega (arith, bounds.1)) in
-              grind (arith, nat_tests, all, rest, none, here)
-          | inr lacks ↦ elim (true_or_false (rank == point)) [
-            | inl same ↦
-                let meets : rank ≡ point = grind (arith, nat_tests, same) in
-                let here = covers-inside run rank (omega (arith, meets, from))
-                (omega (arith, meets, to)) in
-                absurd (cc)
+              grind (arith, nat_tests, all, rest, none, here, order)
+          | inr lacks ↦ elim (true_or_false (covers (from_to first point) rank)) [
+            | inl within ↦
+                let bounds = covers-bounds (from_to first point) rank within in
+                let here = covers-inside run rank (omega (arith, bounds.0, starts))
+                (omega (arith, bounds.1, to)) in
+                absurd (not_both (covers run rank) here lacks)
             | inr differs ↦ grind (arith, all, rest, lacks, differs)
           ]
         ]
 
     -- what lies below it takes the run's place
-    pub cut-low : (low : Interval) → low.first ≡ run.first → low.last + 1 ≡ point
-        → run.first < point → IsRemoved n runs (with_run low now) point
-    cut-low low starts ends less =
+    pub cut-low : (low : Interval) → low.first ≡ run.first → low.last + 1 ≡ first
+        → run.first < first → IsRemoved n runs (with_run low now) (from_to first point)
+    cut-low low begins ends less =
         let maximal = contained-maximal n runs canonical run among in
         let placed = sym (with_run-without_start low now)
-        ∙ ap (λ start. with_run low (without_start start now)) starts in
+        ∙ ap (λ start. with_run low (without_start start now)) begins in
         let free : LeavesApart (without_start run.first now) low.first low.last =
         λ rank lower upper. above.has rank
-        ∙ (let none = joins.free rank (omega (arith, lower, starts))
-        (omega (arith, upper, ends, to)) in
-        let not_above : nat_lt point rank ≡ false = grind (arith, nat_tests, upper, ends) in
+        ∙ (let none = joins.free rank (omega (arith, lower, begins))
+        (omega (arith, upper, ends, order, to)) in
+        let not_above : nat_lt point rank ≡ false = grind (arith, nat_tests, upper, ends, order) in
         grind (arith, none, not_above)) in
         let put = with_run-joined n (without_start run.first now) above.canonical low
-        (omega (arith, starts, ends, less)) (omega (arith, ends, to, maximal.in_type)) free in
+        (omega (arith, begins, ends, less))
+        (omega (arith, ends, order, to, maximal.in_type)) free in
         let number = put.counted in
         let rest = above.counted in
         let all = joins.counted in
@@ -115,12 +117,13 @@ module _ (n : ℕ) (runs : List Interval) (canonical : IsCanonicalIn n runs) (ru
           removes = cut-removes (with_run low now) (λ rank.
               ap (λ (items : List Interval). members items rank) placed ∙ put.has rank
               ∙ ap (λ test. members (without_start run.first now) rank || test)
-              (grind (arith, nat_tests, starts, ends, to)));
-          counted = omega (arith, number, rest, all, old_number, starts, ends, less, to);
+              (grind (arith, nat_tests, begins, ends, order, to)));
+          counted = omega (arith, number, rest, all, old_number, begins, ends, less, order, to);
         }
 
     -- or nothing does
-    pub cut-none : point ≤ run.first → IsRemoved n runs (without_start run.first now) point
+    pub cut-none : first ≤ run.first → IsRemoved n runs (without_start run.first now)
+        (from_to first point)
     cut-none less =
         let rest = above.counted in
         let all = joins.counted in
@@ -130,10 +133,17 @@ module _ (n : ℕ) (runs : List Interval) (canonical : IsCanonicalIn n runs) (ru
               elim (true_or_false (covers run rank)) [
                 | inl here ↦
                     let bounds = covers-bounds run rank here in
-                    let not_below : nat_lt rank point ≡ false
+                    let not_below : nat_lt rank first ≡ false
                     = grind (arith, nat_tests, bounds.0, less) in
                     grind (arith, not_below)
                 | inr lacks ↦ grind (arith, lacks)
               ]);
-          counted = omega (arith, rest, all, from, to, less);
+          counted = omega (arith, rest, all, starts, order, to, less);
         }
+
+-- a piece of one rank is that alone
+pub removes-only : (old new : List Interval) (point : ℕ)
+    → Removes old new (covers (from_to point point)) → Removes old new (only point)
+removes-only old new point removes rank =
+    let same : covers (from_to point point) rank ≡ only point rank = grind (arith, nat_tests) in
+    removes rank ∙ ap (λ test. members old rank && not test) same

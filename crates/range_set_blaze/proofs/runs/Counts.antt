@@ -1,7 +1,7 @@
 -- How many runs a set has after a call.
 use Rattle.std.proofs.Common.{ℕ, ◌<◌, ◌≤◌, List, arith}
 use Rattle.std.proofs.lemmas.Bool.Decides.{nat_tests}
-use Rattle.rsb_integer.specs.Runs.{Interval, covers, members, IsCanonicalIn}
+use Rattle.rsb_integer.specs.Runs.{Interval, covers, from_to, members, IsCanonicalIn}
 use Rattle.rsb_integer.specs.Selection.{difference, union}
 use Rattle.rsb_integer.proofs.RunCountLemmas.{runs-with_interval, runs-without_interval}
 use Rattle.rsb_integer.proofs.RunsLemmas.{canonical-runs, runs-from_canonical}
@@ -19,12 +19,18 @@ module _ (n : ℕ) (old new : List Interval) (before : IsCanonicalIn n old)
       (runs-from_canonical n (union (members old) (covers run)) new after.0 after.1
       (λ rank within. adds rank))
 
+  -- the ranks of a run were taken out
+  pub run_count-without : (run : Interval) → run.first ≤ run.last → run.last < n
+      → Removes old new (covers run) → HasOneRunMoreAtMost old new
+  run_count-without run ordered below removes =
+      runs-without_interval n (members old) run old new ordered below
+      (canonical-runs n old before.0 before.1)
+      (runs-from_canonical n (difference (members old) (covers run)) new after.0 after.1
+      (λ rank within. removes rank))
+
   -- a rank was taken out
   pub run_count-removed : (point : ℕ) → point < n → Removes old new (only point)
       → HasOneRunMoreAtMost old new
   run_count-removed point below removes =
-      let run : Interval = record { first = point; last = point } in
-      runs-without_interval n (members old) run old new (omega arith) below
-      (canonical-runs n old before.0 before.1)
-      (runs-from_canonical n (difference (members old) (covers run)) new after.0
-      after.1 (λ rank within. let gone = removes rank in grind (arith, nat_tests)))
+      run_count-without (from_to point point) (omega arith) below
+      (λ rank. let gone = removes rank in grind (arith, nat_tests))

@@ -110,8 +110,8 @@ fn take_value<T: Integer, A: Allocator + Clone>(
         → IsTrue (members (runs_of T.rank map.old.entries) (T.rank value))) }
     ensures kept { IfOk result (λ found. IfSome found (λ length.
         IsKept T.rank T.value_count map.new.entries (T.SafeLen.number length))) }
-    ensures removed { IfOk result (λ found. IsSome found → IsRemoved T.value_count
-        (runs_of T.rank map.old.entries) (runs_of T.rank map.new.entries) (T.rank value)) }
+    ensures removed { IfOk result (λ found. IsSome found → Removes
+        (runs_of T.rank map.old.entries) (runs_of T.rank map.new.entries) (only (T.rank value))) }
     ensures err { OnErr result (map.new.entries ≡ map.old.entries) }
     ensures absent { IsFalse (members (runs_of T.rank map.old.entries) (T.rank value))
         → IsOk result }
@@ -124,37 +124,36 @@ fn take_value<T: Integer, A: Allocator + Clone>(
     if is_below(run.end, value) {
         return Ok(None);
     }
-    cut(map, run, value)?;
+    let piece = Run {
+        start: value,
+        end: value,
+    };
+    cut(map, run, piece)?;
     let mut length = total;
-    take_off_length(
-        &mut length,
-        Run {
-            start: value,
-            end: value,
-        },
-    );
+    take_off_length(&mut length, piece);
     Ok(Some(length))
 }
 
-// Takes a value out of the run that has it.
-fn cut<T: Integer, A: Allocator + Clone>(
+/// Takes some values in a row out of the run that has them.
+pub(crate) fn cut<T: Integer, A: Allocator + Clone>(
     map: &mut BTreeMap<T, T, A>,
     run: Run<T>,
-    value: T,
+    piece: Run<T>,
 ) -> Result<(), AllocError>
     requires canonical { IsCanonicalIn T.value_count (runs_of T.rank map.old.entries) }
     requires among { Contains (runs_of T.rank map.old.entries) (run_of T.rank run) }
-    requires from { T.rank run.start ≤ T.rank value }
-    requires to { T.rank value ≤ T.rank run.end }
+    requires from { T.rank run.start ≤ T.rank piece.start }
+    requires order { T.rank piece.start ≤ T.rank piece.end }
+    requires to { T.rank piece.end ≤ T.rank run.end }
     ensures removed { OnOk result (IsRemoved T.value_count (runs_of T.rank map.old.entries)
-        (runs_of T.rank map.new.entries) (T.rank value)) }
+        (runs_of T.rank map.new.entries) (run_of T.rank piece)) }
     ensures err { OnErr result (map.new.entries ≡ map.old.entries) }
-    ensures succeeds { T.rank run.end ≤ T.rank value → IsOk result }
+    ensures succeeds { T.rank run.end ≤ T.rank piece.end → IsOk result }
 {
-    // What lies above the value comes first, since it may find no memory.
-    put_above(map, run, value)?;
-    if is_below(run.start, value) {
-        let end = value.sub_one();
+    // What lies above the piece comes first, since it may find no memory.
+    put_above(map, run, piece.end)?;
+    if is_below(run.start, piece.start) {
+        let end = piece.start.sub_one();
         let start = run.start;
         put_entry(map, Run { start, end }).unwrap();
     } else {

@@ -12,6 +12,7 @@ pub(crate) enum Change {
     RangesInsert(i32, i32),
     Remove(i32),
     Take(i32),
+    RangesRemove(i32, i32),
     PopFirst,
     PopLast,
     /// The other set is then the part from the value on.
@@ -59,6 +60,9 @@ impl Change {
             }
             Change::Remove(value) => Change::Remove(value.saturating_add(by)),
             Change::Take(value) => Change::Take(value.saturating_add(by)),
+            Change::RangesRemove(start, end) => {
+                Change::RangesRemove(start.saturating_add(by), end.saturating_add(by))
+            }
             Change::SplitOff(key) => Change::SplitOff(key.saturating_add(by)),
             change => change,
         }
@@ -167,6 +171,9 @@ fn reduce<A: Allocator + Copy>(
     match change {
         Change::Remove(value) => return Ok(Answer::Truth(set.remove(value)?)),
         Change::Take(value) => return Ok(Answer::Value(set.take(value)?)),
+        Change::RangesRemove(start, end) => {
+            return Ok(Answer::Truth(set.ranges_remove(start..=end)?));
+        }
         Change::PopFirst => return Ok(Answer::Value(set.pop_first()?)),
         Change::PopLast => return Ok(Answer::Value(set.pop_last())),
         Change::SplitOff(key) => *other = set.split_off(key)?,

@@ -107,6 +107,7 @@ fn is_meant(change: Change, cell: &Cell, first: i32, last: i32, begin: i32) -> b
         Change::RangesInsert(start, end) => start <= cell.start && cell.end <= end,
         Change::Remove(value) => cell.start == value,
         Change::Take(value) => cell.start == value,
+        Change::RangesRemove(start, end) => start <= cell.start && cell.end <= end,
         Change::PopFirst => cell.start == first,
         Change::PopLast => cell.end == last,
         Change::SplitOff(key) => key <= cell.start,
@@ -160,6 +161,7 @@ fn answer(change: Change, before: Table<'_>, after: Table<'_>) -> Answer {
         Change::Insert(_) | Change::RangesInsert(_, _) | Change::Remove(_) => Answer::Truth(
             !is_same,
         ),
+        Change::RangesRemove(_, _) => Answer::Truth(!is_same),
         Change::Replace(value) => Answer::Value(is_same.then_some(value)),
         Change::Take(value) => Answer::Value((!is_same).then_some(value)),
         Change::PopFirst => Answer::Value(before.first().map(|ends| ends.0)),

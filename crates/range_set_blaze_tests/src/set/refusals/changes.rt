@@ -20,7 +20,10 @@ fn after(change: Change) -> Option<Change> {
         Change::RangesInsert(1, _) => Change::RangesInsert(-8, 815),
         Change::RangesInsert(_, _) => Change::Remove(1),
         Change::Remove(_) => Change::Take(1),
-        Change::Take(_) => Change::PopFirst,
+        Change::Take(_) => Change::RangesRemove(1, 1),
+        Change::RangesRemove(1, _) => Change::RangesRemove(2, 8),
+        Change::RangesRemove(2, _) => Change::RangesRemove(-8, 815),
+        Change::RangesRemove(_, _) => Change::PopFirst,
         Change::PopFirst => Change::PopLast,
         Change::PopLast => Change::SplitOff(1),
         Change::SplitOff(_) => Change::Retain(2, 1),
@@ -50,6 +53,10 @@ fn wants(change: Change, count: i32, others: i32) -> bool {
         Change::RangesInsert(1, _) => count == 0,
         Change::RangesInsert(_, _) => count == 0 || count == 15,
         Change::Remove(_) | Change::Take(_) | Change::PopFirst => count >= 15,
+        Change::RangesRemove(1, _) => count >= 15,
+        // Of each two neighbors the lower run loses its end, and the upper one its start.
+        Change::RangesRemove(2, _) => count == 15,
+        Change::RangesRemove(_, _) => false,
         Change::SplitOff(_) | Change::Retain(_, _) => count > 0,
         Change::PopLast | Change::RangesRetain(_, _) | Change::Clear => false,
         Change::ExtendValues(_, _) | Change::StdExtendValues(_, _) => true,
@@ -156,7 +163,7 @@ fn refusals<'a>(
 fn places(change: Change, count: i32) -> i32 {
     match change {
         Change::PopFirst | Change::PopLast => count.saturating_mul(3).saturating_add(1),
-        Change::RangesInsert(_, 815) => 1,
+        Change::RangesInsert(_, 815) | Change::RangesRemove(_, 815) => 1,
         _ if change.adds() => 1,
         _ => count.saturating_add(1),
     }

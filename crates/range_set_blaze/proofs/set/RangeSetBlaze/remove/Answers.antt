@@ -7,8 +7,8 @@ use Rattle.range_set_blaze.proofs.set.RangeSetBlaze.remove.Goals as goal
 pub returns-clause-run_count : goal.returns-clause-run_count
 returns-clause-run_count g c =
     let rank = g.T.Integer.rank in
+    let kept = rw c.in-Some.is at c.in_ok-length.ensures.kept in
     let removed = (rw (c.in-Some.is, c.known.ensures.same) at c.in_ok-length.ensures.removed) refl in
     rw (← c.self.view_is) (run_count-removed g.T.Integer.value_count
     (runs_of rank c.self.inside.map.entries) (runs_of rank c.take_value.new.map.entries)
-    c.self.invariant.canonical removed.canonical (rank c.args.value) c.known.ensures.value
-    removed.removes)
+    c.self.invariant.canonical kept.canonical (rank c.args.value) c.known.ensures.value removed)

@@ -1,4 +1,4 @@
-use Rattle.std.proofs.Common.{◌≡◌, OnOk, sym, subst, refl}
+use Rattle.std.proofs.Common.{◌≡◌, OnOk, arith, sym, subst, refl}
 use Rattle.range_set_blaze.specs.Kept.{run_of, runs_of}
 use Rattle.range_set_blaze.specs.Removal.{IsRemoved}
 use Rattle.range_set_blaze.specs.Starts.{with_run}
@@ -12,7 +12,7 @@ unwrap-requires g c =
     let there = c.in_ok-put_above.ensures.above.there in
     c.put_entry.ensures.succeeds there.0 there.1 there.2
 
--- what lies below the value takes its place
+-- what lies below the piece takes its place
 pub returns-then-is_below-clause-removed : goal.returns-then-is_below-clause-removed
 returns-then-is_below-clause-removed g c =
     let rank = g.T.Integer.rank in
@@ -22,17 +22,19 @@ returns-then-is_below-clause-removed g c =
     (runs_of rank c.put_entry.new.map.entries ≡ with_run low mid)) c.unwrap.ensures
     c.put_entry.ensures.runs in
     subst (λ runs. IsRemoved g.T.Integer.value_count (runs_of rank c.args.map.now.entries) runs
-    (rank c.args.value)) (sym is)
-    (cut-low _ _ c.requires.canonical _ c.requires.among _ c.requires.from c.requires.to _
-    c.in_ok-put_above.ensures.above low refl c.sub_one-end.ensures
+    (run_of rank c.args.piece)) (sym is)
+    (cut-low _ _ c.requires.canonical _ c.requires.among _
+    (omega (arith, c.requires.from, c.requires.order)) c.requires.to _ c.requires.from
+    c.requires.order _ c.in_ok-put_above.ensures.above low refl c.sub_one-end.ensures
     (c.is_below.ensures.0 c.if-is_below.true))
 
 -- or nothing lies there
 pub returns-else-is_below-clause-removed : goal.returns-else-is_below-clause-removed
 returns-else-is_below-clause-removed g c =
-    subst (λ runs. IsRemoved g.T.Integer.value_count
-    (runs_of g.T.Integer.rank c.args.map.now.entries) runs (g.T.Integer.rank c.args.value))
-    (sym c.take_entry.ensures)
-    (cut-none _ _ c.requires.canonical _ c.requires.among _ c.requires.from c.requires.to _
-    c.in_ok-put_above.ensures.above
+    let rank = g.T.Integer.rank in
+    subst (λ runs. IsRemoved g.T.Integer.value_count (runs_of rank c.args.map.now.entries) runs
+    (run_of rank c.args.piece)) (sym c.take_entry.ensures)
+    (cut-none _ _ c.requires.canonical _ c.requires.among _
+    (omega (arith, c.requires.from, c.requires.order)) c.requires.to _ c.requires.from
+    c.requires.order _ c.in_ok-put_above.ensures.above
     (lt-fails c.is_below.result _ _ c.is_below.ensures c.if-is_below.false))

@@ -4,6 +4,7 @@ use Rattle.rsb_integer.specs.Runs.{members}
 use Rattle.rsb_integer.proofs.CountLemmas.{count-within}
 use Rattle.rsb_integer.proofs.ListLemmas.{not_both}
 use Rattle.range_set_blaze.specs.Kept.{runs_of}
+use Rattle.range_set_blaze.proofs.removal.Cuts.{removes-only}
 use Rattle.range_set_blaze.proofs.runs.Apart.{contained-members, last-gap, none-gap}
 use Rattle.range_set_blaze.proofs.runs.Kept.{lt-fails}
 use Rattle.range_set_blaze.proofs.runs.Starts.{canonical-rises}
@@ -60,3 +61,8 @@ take_off_length-requires-clause-fits g c =
     let within = count-within g.T.Integer.value_count
     (members (runs_of g.T.Integer.rank c.args.map.now.entries)) in
     omega (arith, within, c.requires.kept.length)
+
+-- the value alone is out
+pub returns-clause-removed : goal.returns-clause-removed
+returns-clause-removed g c some =
+    removes-only _ _ (g.T.Integer.rank c.args.value) c.in_ok-cut.ensures.removed.removes

@@ -1,0 +1,15 @@
+use Rattle.std.proofs.Common.{refl}
+use Rattle.range_set_blaze.specs.Kept.{run_of, runs_of}
+use Rattle.range_set_blaze.proofs.runs.Counts.{run_count-without}
+use Rattle.range_set_blaze.proofs.set.RangeSetBlaze.remove_run.Goals as goal
+
+-- the values of a run were taken out of the runs that are kept
+pub returns-clause-run_count : goal.returns-clause-run_count
+returns-clause-run_count g c =
+    let rank = g.T.Integer.rank in
+    let kept = rw c.in-Some.is at c.in_ok-length.ensures.kept in
+    let removed = (rw c.in-Some.is at c.in_ok-length.ensures.removed) refl in
+    rw (← c.self.view_is) (run_count-without g.T.Integer.value_count
+    (runs_of rank c.self.inside.map.entries) (runs_of rank c.take_range.new.map.entries)
+    c.self.invariant.canonical kept.canonical (run_of rank c.args.run) c.requires.order
+    c.requires.value removed)

@@ -1,0 +1,80 @@
+use Rattle.std.proofs.Common.{arith}
+use Rattle.rsb_integer.specs.Runs.{members}
+use Rattle.rsb_integer.proofs.CountLemmas.{count-within}
+use Rattle.range_set_blaze.specs.Kept.{run_of, runs_of}
+use Rattle.range_set_blaze.proofs.removal.Meeting.{meeting-value, piece-ends, piece-from, piece-order, piece-to, taken-counted, taken-ends, taken-fewer, taken-outside}
+use Rattle.range_set_blaze.proofs.set.remove_ranges.take_common.Goals as goal
+
+-- the run is of values
+pub common-piece-requires-clause-run : goal.common-piece-requires-clause-run
+common-piece-requires-clause-run g c =
+    let value = meeting-value _ _ c.requires.kept.canonical _ _ c.requires.order c.requires.meets in
+    (omega (arith, value.0, value.1), value.1)
+
+-- it has the piece
+pub cut-requires-clause-from : goal.cut-requires-clause-from
+cut-requires-clause-from g c =
+    piece-from _ _ c.requires.kept.canonical _ _ c.requires.order c.requires.meets _
+    c.common-piece.ensures
+
+pub cut-requires-clause-order : goal.cut-requires-clause-order
+cut-requires-clause-order g c =
+    piece-order _ _ c.requires.kept.canonical _ _ c.requires.order c.requires.meets _
+    c.common-piece.ensures
+
+pub cut-requires-clause-to : goal.cut-requires-clause-to
+cut-requires-clause-to g c =
+    piece-to _ _ c.requires.kept.canonical _ _ c.requires.order c.requires.meets _
+    c.common-piece.ensures
+
+-- which takes memory only where the run goes on past the range
+pub returns-in_err-cut-clause-succeeds : goal.returns-in_err-cut-clause-succeeds
+returns-in_err-cut-clause-succeeds g c within =
+    let fails = c.in_err-cut.ensures.succeeds
+    (piece-ends _ _ c.requires.kept.canonical _ _ c.requires.order c.requires.meets _
+    c.common-piece.ensures within) in
+    absurd (cc)
+
+-- the piece is counted
+pub take_off_length-requires-clause-some : goal.take_off_length-requires-clause-some
+take_off_length-requires-clause-some g c =
+    piece-order _ _ c.requires.kept.canonical _ _ c.requires.order c.requires.meets _
+    c.common-piece.ensures
+
+pub take_off_length-requires-clause-fits : goal.take_off_length-requires-clause-fits
+take_off_length-requires-clause-fits g c =
+    let within = count-within g.T.Integer.value_count
+    (members (runs_of g.T.Integer.rank c.args.map.now.entries)) in
+    omega (arith, within, c.requires.kept.length)
+
+pub take_off_length-requires-clause-counted : goal.take_off_length-requires-clause-counted
+take_off_length-requires-clause-counted g c =
+    let counted = taken-counted _ _ c.requires.kept.canonical _ _ c.requires.order c.requires.meets _
+    c.common-piece.ensures _ c.in_ok-cut.ensures.removed in
+    omega (arith, counted, c.requires.kept.length)
+
+-- it is out
+pub returns-clause-narrowed : goal.returns-clause-narrowed
+returns-clause-narrowed g c =
+    let removed = c.in_ok-cut.ensures.removed in
+    record {
+      kept = record {
+        canonical = removed.canonical;
+        length = omega (
+          arith,
+          removed.counted,
+          c.take_off_length.ensures,
+          c.requires.kept.length,
+        );
+      };
+      outside = taken-outside _ _ c.requires.kept.canonical _ _ c.requires.order c.requires.meets _
+          c.common-piece.ensures _ removed;
+      ends = taken-ends _ _ c.requires.kept.canonical _ _ c.requires.order c.requires.meets _
+          c.common-piece.ensures _ removed;
+    }
+
+pub returns-clause-fewer : goal.returns-clause-fewer
+returns-clause-fewer g c =
+    let some = piece-order _ _ c.requires.kept.canonical _ _ c.requires.order c.requires.meets _
+    c.common-piece.ensures in
+    omega (arith, some, c.take_off_length.ensures)

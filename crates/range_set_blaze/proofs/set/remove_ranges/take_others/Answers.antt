@@ -1,0 +1,45 @@
+use Rattle.std.proofs.Common.{◌<◌, OnOk, refl, subst}
+use Rattle.range_set_blaze.specs.Kept.{run_of, runs_of}
+use Rattle.range_set_blaze.specs.RemoveRanges.{IsNarrowed}
+use Rattle.range_set_blaze.proofs.removal.Meeting.{meeting-ends, outside-then}
+use Rattle.range_set_blaze.proofs.set.remove_ranges.take_others.Goals as goal
+
+-- nothing was taken out at first
+pub loop-run-init : goal.loop-run-init
+loop-run-init g c = record {
+  kept = c.requires.kept;
+  outside = λ rank beyond. refl;
+  ends = c.requires.ends;
+}
+
+-- no run goes on past the range
+pub unwrap-requires : goal.unwrap-requires
+unwrap-requires g c =
+    let before = c.loop-run.invariant in
+    c.take_common.ensures.succeeds
+    (meeting-ends _ _ before.kept.canonical (run_of g.T.Integer.rank c.args.range) _
+    c.requires.order c.in-Some.ensures before.ends)
+
+-- what the next one has in common with it is out
+pub loop-run-preserved : goal.loop-run-preserved
+loop-run-preserved g c =
+    let rank = g.T.Integer.rank in
+    let before = c.loop-run.invariant in
+    let range = run_of rank c.args.range in
+    let after = subst (λ result. OnOk result (IsNarrowed rank g.T.Integer.value_count range
+    c.loop-run.map.entries c.take_common.new.map.entries
+    (g.T.SafeLen.SafeLength.number c.take_common.new.length))) c.unwrap.ensures
+    c.take_common.ensures.narrowed in
+    record {
+      kept = after.kept;
+      outside = outside-then range (runs_of rank c.args.map.now.entries)
+          (runs_of rank c.loop-run.map.entries) (runs_of rank c.take_common.new.map.entries)
+          before.outside after.outside;
+      ends = after.ends;
+    }
+
+pub loop-run-smaller : goal.loop-run-smaller
+loop-run-smaller g c =
+    let number = g.T.SafeLen.SafeLength.number in
+    subst (λ result. OnOk result (number c.take_common.new.length < number c.loop-run.length))
+    c.unwrap.ensures c.take_common.ensures.fewer

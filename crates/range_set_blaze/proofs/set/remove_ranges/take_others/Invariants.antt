@@ -1,0 +1,12 @@
+-- Runs were taken out, of which none went on past the range.
+use Rattle.range_set_blaze.specs.Kept.{run_of}
+use Rattle.range_set_blaze.specs.RemoveRanges.{IsNarrowed}
+use Rattle.range_set_blaze.proofs.set.remove_ranges.take_others.Given as goal
+
+abbrev pub invariant-loop-run : goal.invariant-loop-run
+invariant-loop-run g l =
+    IsNarrowed g.T.Integer.rank g.T.Integer.value_count (run_of g.T.Integer.rank l.fn.range)
+    l.fn.map.entries l.map.entries (g.T.SafeLen.SafeLength.number l.length)
+
+abbrev pub decreases-loop-run : goal.decreases-loop-run
+decreases-loop-run g l = g.T.SafeLen.SafeLength.number l.length

@@ -1,0 +1,28 @@
+use Rattle.range_set_blaze.specs.Kept.{run_of}
+use Rattle.range_set_blaze.proofs.removal.Meeting.{meeting-some, meeting-within, outside-removes, outside-then, some-common}
+use Rattle.range_set_blaze.proofs.set.remove_ranges.take_range.Goals as goal
+
+-- memory is wanted where the last run that meets the range goes on past it
+pub returns-in_err-take_common-clause-nothing : goal.returns-in_err-take_common-clause-nothing
+returns-in_err-take_common-clause-nothing g c nothing =
+    absurd (some-common _ (run_of g.T.Integer.rank c.args.range) nothing
+    (meeting-some _ _ c.requires.kept.canonical _ _ c.requires.order c.in-Some.ensures))
+
+pub returns-in_err-take_common-clause-succeeds : goal.returns-in_err-take_common-clause-succeeds
+returns-in_err-take_common-clause-succeeds g c lacks =
+    let fails = c.in_err-take_common.ensures.succeeds
+    (meeting-within _ _ c.requires.kept.canonical _ _ c.requires.order c.in-Some.ensures lacks) in
+    absurd (cc)
+
+-- that run has a value of the range
+pub returns-clause-some : goal.returns-clause-some
+returns-clause-some g c some =
+    meeting-some _ _ c.requires.kept.canonical _ _ c.requires.order c.in-Some.ensures
+
+-- all of them are out
+pub returns-clause-removed : goal.returns-clause-removed
+returns-clause-removed g c some =
+    let range = run_of g.T.Integer.rank c.args.range in
+    outside-removes range _ _
+    (outside-then range _ _ _ c.in_ok-take_common.ensures.narrowed.outside
+    c.take_others.ensures.outside) c.take_others.ensures.none

@@ -1,0 +1,76 @@
+//! Tests of the values between two bounds.
+
+ghost use Rattle.std.specs.Prelude.{◌↔◌, ◌<◌, ◌≤◌, IsTrue};
+ghost use Rattle.rsb_integer.specs.Runs.{covers, members, IsCanonicalIn};
+ghost use Rattle.rsb_integer.specs.Selection.{intersection, IsEmpty};
+ghost use Rattle.range_set_blaze.specs.Joining.{Has};
+ghost use Rattle.range_set_blaze.specs.Kept.{run_of, runs_of};
+ghost use Rattle.range_set_blaze.specs.Set.{ranks_in};
+
+use crate::set::RangeSetBlaze;
+use crate::set::entries::run_up_to;
+use crate::set::insert::run_between;
+use crate::set::remove_ranges::last_meeting;
+use crate::set::run::{Run, is_below};
+use rsb_integer::Integer;
+use std::alloc::Allocator;
+use std::collections::BTreeMap;
+use std::ops::RangeBounds;
+
+impl<T: Integer, A: Allocator> RangeSetBlaze<T, A> {
+    /// Returns whether every value between two bounds is a member. Empty and reversed bounds have
+    /// no value, so the result is `true`. It takes O(log n) time on a set of n runs and does not
+    /// allocate.
+    ///
+    /// The contract is silent about a type that does not report its bounds, and about a
+    /// `RangeInclusive` that was iterated to its end. Not in range-set-blaze.
+    pub fn contains_range<R: RangeBounds<T>>(&self, range: R) -> bool
+        ensures { R.has_bounds range → (IsTrue result ↔ Has self.now
+            (ranks_in T.rank T.value_count R.start_bound R.end_bound range)) }
+    {
+        match run_between(&range) {
+            Some(run) => has_run(&self.map, run),
+            None => true,
+        }
+    }
+
+    /// Returns whether no value between two bounds is a member. Empty and reversed bounds have no
+    /// value, so the result is `true`. It takes O(log n) time on a set of n runs and does not
+    /// allocate.
+    ///
+    /// The contract is silent about a type that does not report its bounds, and about a
+    /// `RangeInclusive` that was iterated to its end. Not in range-set-blaze.
+    pub fn is_disjoint_range<R: RangeBounds<T>>(&self, range: R) -> bool
+        ensures { R.has_bounds range → (IsTrue result ↔ IsEmpty (intersection (members self.now)
+            (ranks_in T.rank T.value_count R.start_bound R.end_bound range))) }
+    {
+        match run_between(&range) {
+            Some(run) => lacks_run(&self.map, run),
+            None => true,
+        }
+    }
+}
+
+// Whether every value of a range is a member.
+fn has_run<T: Integer, A: Allocator>(map: &BTreeMap<T, T, A>, range: Run<T>) -> bool
+    requires canonical { IsCanonicalIn T.value_count (runs_of T.rank map.now.entries) }
+    requires order { T.rank range.start ≤ T.rank range.end }
+    requires value { T.rank range.end < T.value_count }
+    ensures { IsTrue result ↔ Has (runs_of T.rank map.now.entries) (covers (run_of T.rank range)) }
+{
+    match run_up_to(map, range.start) {
+        Some(run) => !is_below(run.end, range.end),
+        None => false,
+    }
+}
+
+// Whether no value of a range is a member.
+fn lacks_run<T: Integer, A: Allocator>(map: &BTreeMap<T, T, A>, range: Run<T>) -> bool
+    requires canonical { IsCanonicalIn T.value_count (runs_of T.rank map.now.entries) }
+    requires order { T.rank range.start ≤ T.rank range.end }
+    requires value { T.rank range.end < T.value_count }
+    ensures { IsTrue result ↔ IsEmpty (intersection (members (runs_of T.rank map.now.entries))
+        (covers (run_of T.rank range))) }
+{
+    last_meeting(map, range).is_none()
+}
