@@ -1,5 +1,5 @@
 -- What the contracts of a set say where the first run, or the first gap, of some length is looked for.
-use Rattle.std.specs.Prelude.{ℕ, ◌+◌, ◌<◌, ◌≤◌, List, IsFalse}
+use Rattle.std.specs.Prelude.{ℕ, ◌+◌, ◌<◌, ◌≤◌, List, IsFalse, IsTrue}
 use Rattle.rsb_integer.specs.Runs.{Interval, length_of, members, IsMaximalRun}
 use Rattle.rsb_integer.specs.Selection.{Selection}
 
@@ -23,3 +23,14 @@ module _ (n : ℕ) (selected : Selection) (len : ℕ) where
 pub record IsFree (n : ℕ) (set : List Interval) (start len : ℕ) : Type 0 where
   pub in_type : start + len ≤ n
   pub free : (rank : ℕ) → start ≤ rank → rank < start + len → IsFalse (members set rank)
+
+-- every rank from one on is a member
+abbrev pub HasAllFrom : ℕ → List Interval → ℕ → Type 0
+HasAllFrom n set from = (rank : ℕ) → from ≤ rank → rank < n → IsTrue (members set rank)
+
+-- the rank is the first from another on that is no member
+pub record IsFirstFree (n : ℕ) (set : List Interval) (from rank : ℕ) : Type 0 where
+  pub later : from ≤ rank
+  pub in_type : rank < n
+  pub free : IsFalse (members set rank)
+  pub before : (other : ℕ) → from ≤ other → other < rank → IsTrue (members set other)

@@ -11,7 +11,8 @@ use Rattle.rsb_integer.proofs.ListLemmas.{not_both, Contains-cases, Contains-hea
 use Rattle.rsb_integer.proofs.MaximalLemmas.{maximal-around}
 use Rattle.rsb_integer.proofs.MembersLemmas.{covers-bounds, covers-inside, members-below, members-head, members-tail}
 use Rattle.rsb_integer.proofs.RunsLemmas.{canonical-runs}
-use Rattle.range_set_blaze.specs.FirstFit.{AllShorter, AllShorterBefore, IsFirstFit, IsFree}
+use Rattle.range_set_blaze.specs.FirstFit.{AllShorter, AllShorterBefore, HasAllFrom, IsFirstFit, IsFirstFree, IsFree}
+use Rattle.range_set_blaze.specs.Set.{IsRunAround}
 use Rattle.range_set_blaze.specs.Split.{from_on}
 use Rattle.range_set_blaze.specs.Starts.{past}
 use Rattle.range_set_blaze.proofs.runs.Apart.{contained-maximal, contained-members, starting-members}
@@ -287,37 +288,66 @@ module _ (n : ℕ) (runs : List Interval) (canonical : IsCanonicalIn n runs) whe
         ]) in
         grind (arith, some)
 
-    -- so they leave free what all runs do, from a value on that is below it with members between
-    pub past-free : (value : ℕ) → value ≤ start
-        → ((rank : ℕ) → value ≤ rank → rank < start → members runs rank ≡ true)
-        → free_from start (past start runs) ≡ free_from value runs
-    past-free value below between = λ i rank. same rank i
-      where
-        same : (rank : ℕ) → free_from start (past start runs) rank ≡ free_from value runs rank
-        same rank = elim (cases_lt rank start) [
-          | inl less ↦ elim (cases_lt rank value) [
-            | inl before ↦ grind (arith, nat_tests, less, before)
-            | inr from ↦
-                let member = between rank from less in
-                grind (arith, nat_tests, less, from, member)
-          ]
-          | inr more ↦
-              let some = past-same rank more in
-              grind (arith, nat_tests, more, below, some)
+  -- so they leave free what all runs do, from a value on where the rank is the first free one
+  pub past-free : (value start : ℕ) → IsFirstFree n runs value start
+      → free_from start (past start runs) ≡ free_from value runs
+  past-free value start first = λ i rank. same rank i
+    where
+      same : (rank : ℕ) → free_from start (past start runs) rank ≡ free_from value runs rank
+      same rank = elim (cases_lt rank start) [
+        | inl less ↦ elim (cases_lt rank value) [
+          | inl before ↦ grind (arith, nat_tests, less, before)
+          | inr from ↦
+              let member = first.before rank from less in
+              grind (arith, nat_tests, less, from, member)
         ]
+        | inr more ↦
+            let some = past-same start first.free rank more in
+            let later = first.later in
+            grind (arith, nat_tests, more, later, some)
+      ]
 
-  -- where members go on to the end of the type, nothing is free
-  pub none-free : (len value last : ℕ) → last + 1 ≡ n
-      → ((rank : ℕ) → value ≤ rank → rank ≤ last → members runs rank ≡ true)
-      → AllShorter n (free_from value runs) len
-  none-free len value last ends between =
+  -- where all are members from a value on, nothing is free
+  pub none-free : (len value : ℕ) → HasAllFrom n runs value → AllShorter n (free_from value runs) len
+  none-free len value has =
       none-shorter n (free_from value runs) len
       (λ rank less. elim (cases_lt rank value) [
         | inl before ↦ grind (arith, nat_tests, before)
-        | inr from ↦
-            let member = between rank from (omega (arith, less, ends)) in
-            grind (arith, nat_tests, from, member)
+        | inr from ↦ let member = has rank from less in grind (arith, nat_tests, from, member)
       ])
+
+-- ---- the first free rank
+
+module _ (n : ℕ) (runs : List Interval) (value : ℕ) where
+  -- the rank itself, where it is no member
+  pub free-itself : value < n → members runs value ≡ false → IsFirstFree n runs value value
+  free-itself known free = record {
+    later = omega arith;
+    in_type = known;
+    free = free;
+    before = λ rank from less. absurd (omega (arith, from, less));
+  }
+
+  module _ (run : Interval) (around : IsRunAround n (members runs) value run) where
+    within : (rank : ℕ) → value ≤ rank → rank ≤ run.last → members runs rank ≡ true
+    within rank from to =
+        let bounds = covers-bounds run value around.around in
+        around.maximal.whole rank (covers-inside run rank (omega (arith, from, bounds.0)) to)
+
+    -- or the one after the run that has it
+    pub free-after : (next : ℕ) → next ≡ run.last + 1 → next < n → IsFirstFree n runs value next
+    free-after next past known =
+        let bounds = covers-bounds run value around.around in
+        record {
+          later = omega (arith, past, bounds.1);
+          in_type = known;
+          free = ap (members runs) past ∙ around.maximal.ends_here (omega (arith, past, known));
+          before = λ rank from less. within rank from (omega (arith, less, past));
+        }
+
+    -- or none, where the type ends with that
+    pub free-none : run.last + 1 ≡ n → HasAllFrom n runs value
+    free-none ends rank from less = within rank from (omega (arith, less, ends))
 
 -- from 0 on all is free that no run has
 pub free_from-0 : (runs : List Interval) → free_from 0 runs ≡ complement (members runs)

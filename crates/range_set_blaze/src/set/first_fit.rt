@@ -5,7 +5,7 @@ ghost use Rattle.std.specs.Range.{range_inclusive_end, range_inclusive_start};
 ghost use Rattle.rsb_integer.specs.Rank.{interval_of};
 ghost use Rattle.rsb_integer.specs.Runs.{covers, from_to, length_of, members, AllEndBelow, IsCanonicalFrom, IsCanonicalIn, IsMaximalRun};
 ghost use Rattle.rsb_integer.specs.Selection.{complement, intersection};
-ghost use Rattle.range_set_blaze.specs.FirstFit.{AllShorter, AllShorterBefore, IsFirstFit, IsFree};
+ghost use Rattle.range_set_blaze.specs.FirstFit.{AllShorter, AllShorterBefore, HasAllFrom, IsFirstFit, IsFirstFree, IsFree};
 ghost use Rattle.range_set_blaze.specs.Kept.{entry_of, run_of, runs_of};
 ghost use Rattle.range_set_blaze.specs.Split.{from_on};
 ghost use Rattle.range_set_blaze.specs.Starts.{past, StartsAscendFrom};
@@ -149,11 +149,24 @@ fn gap_from<T: Integer, A: Allocator>(
         (members (runs_of T.rank map.now.entries))) (from_on (T.rank value)))
         (T.SafeLen.number len) (run_of T.rank gap)) }
 {
-    let start = match run_at(map, value) {
-        Some(run) => run.end.checked_add_one()?,
-        None => value,
-    };
+    let start = first_free(map, value)?;
     first_between(&mut runs_after(map, start), start, len)
+}
+
+// The first value from one on that is no member.
+fn first_free<T: Integer, A: Allocator>(map: &BTreeMap<T, T, A>, value: T) -> Option<T>
+    requires canonical { IsCanonicalIn T.value_count (runs_of T.rank map.now.entries) }
+    requires value { T.rank value < T.value_count }
+    ensures { MatchOption result (HasAllFrom T.value_count (runs_of T.rank map.now.entries)
+        (T.rank value))
+        (λ free. IsFirstFree T.value_count (runs_of T.rank map.now.entries) (T.rank value)
+        (T.rank free)) }
+{
+    let Some(run) = run_at(map, value) else {
+        return Some(value);
+    };
+    let free = run.end.checked_add_one()?;
+    Some(free)
 }
 
 // The first gap that is long enough, of those that runs leave from a value on. The runs start after

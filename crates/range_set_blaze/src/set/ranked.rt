@@ -1,7 +1,7 @@
 //! Members by how many lie below them.
 
 ghost use Rattle.std.specs.Prelude.{◌≡◌, ◌↔◌, ◌+◌, ◌<◌, ◌≤◌, IfSome, IsNone, IsTrue, MatchOption};
-ghost use Rattle.rsb_integer.specs.Runs.{members, IsCanonicalIn};
+ghost use Rattle.rsb_integer.specs.Runs.{length_of, members, HasRanks, IsCanonicalIn};
 ghost use Rattle.rsb_integer.specs.Selection.{count};
 ghost use Rattle.range_set_blaze.specs.Kept.{run_of, runs_of};
 ghost use Rattle.range_set_blaze.specs.Ranked.{IsPartBelow};
@@ -12,6 +12,7 @@ use crate::set::lengths::add_length;
 use crate::set::run::{Run, is_below, known};
 use num_traits::{One, Zero};
 use rsb_integer::Integer;
+use rsb_length::SafeLength;
 use std::alloc::Allocator;
 use std::collections::BTreeMap;
 
@@ -51,13 +52,36 @@ fn nth_of<T: Integer, A: Allocator>(map: &BTreeMap<T, T, A>, n: T::SafeLen) -> O
     let mut left = n;
     let mut entries = map.iter();
     while let Some(run) = next_run(&mut entries) {
-        let length = T::safe_len(&(run.start..=run.end));
-        if left < length {
+        let length = length_of_run(run);
+        if is_less(left, length) {
             return Some(value_at(run, left));
         }
-        left -= length;
+        take_off(&mut left, length);
     }
     None
+}
+
+// Whether a length is less than another.
+fn is_less<L: SafeLength>(left: L, right: L) -> bool
+    ensures { IsTrue result ↔ (L.number left < L.number right) }
+{
+    left < right
+}
+
+// Takes a length off another.
+fn take_off<L: SafeLength>(length: &mut L, taken: L)
+    requires { L.number taken ≤ L.number length.old }
+    ensures { L.number length.new + L.number taken ≡ L.number length.old }
+{
+    *length -= taken;
+}
+
+// How many values a run has.
+fn length_of_run<T: Integer>(run: Run<T>) -> T::SafeLen
+    requires { HasRanks (run_of T.rank run) }
+    ensures { T.SafeLen.number result ≡ length_of (run_of T.rank run) }
+{
+    T::safe_len(&(run.start..=run.end))
 }
 
 // The value of a run that has so many of the run below it.

@@ -9,7 +9,7 @@ invariant-loop-run g l =
     let rank = g.T.Integer.rank in
     let number = g.T.SafeLen.SafeLength.number in
     AreLeft g.T.Integer.value_count (runs_of rank l.fn.map.entries) (runs_of rank l.entries)
-    (number l.n) (number l.left)
+    (number l.fn.n) (number l.left)
 
 abbrev pub decreases-loop-run : goal.decreases-loop-run
 decreases-loop-run g l = length l.entries
