@@ -1,4 +1,4 @@
-use Rattle.std.proofs.Common.{◌≡◌, subst}
+use Rattle.std.proofs.Common.{subst}
 use Rattle.std.specs.Option.{MatchOption}
 use Rattle.rsb_integer.specs.Selection.{Selection}
 use Rattle.range_set_blaze.specs.FirstFit.{AllShorter, IsFirstFit}
