@@ -1,9 +1,11 @@
 -- The lemmas of this crate, and those of the crates below it that are for callers.
 pub mod elements
+pub mod fitting
 pub mod gathering
 pub mod insertion
 pub mod look_up
 pub mod order
+pub mod ranking
 pub mod removal
 pub mod retaining
 pub mod runs

@@ -2,6 +2,7 @@
 -- a user's crate names no other.
 pub mod Algebra
 pub mod BothEnds
+pub mod FirstFit
 pub mod Hash
 pub mod HashLaws
 pub mod Joining
@@ -9,6 +10,7 @@ pub mod Kept
 pub mod Multiway
 pub mod Order
 pub mod OrderLaws
+pub mod Ranked
 pub mod Removal
 pub mod RemoveRanges
 pub mod Retain

@@ -1,2 +1,1 @@
-pub mod FreeSpaceLemmas
 pub mod ShiftsLemmas

@@ -79,7 +79,7 @@ impl<T: Integer, A: Allocator> RangeSetBlaze<T, A> {
 }
 
 // The run that has the value, or `None` where none has it.
-fn run_at<T: Integer, A: Allocator>(map: &BTreeMap<T, T, A>, value: T) -> Option<Run<T>>
+pub(crate) fn run_at<T: Integer, A: Allocator>(map: &BTreeMap<T, T, A>, value: T) -> Option<Run<T>>
     requires canonical { IsCanonicalIn T.value_count (runs_of T.rank map.now.entries) }
     requires value { T.rank value < T.value_count }
     ensures none { IsNone result ↔

@@ -1,0 +1,45 @@
+use Rattle.std.proofs.Common.{◌≡◌, ◌+◌, ◌<◌, inl, inr, arith, refl}
+use Rattle.std.proofs.lemmas.Bool.{cases_lt}
+use Rattle.range_set_blaze.specs.Kept.{run_of, runs_of}
+use Rattle.range_set_blaze.proofs.fitting.FirstFits.{gaps-done, gaps-fit, gaps-next}
+use Rattle.range_set_blaze.proofs.runs.Kept.{le-fails}
+use Rattle.range_set_blaze.proofs.set.first_fit.first_between.Goals as goal
+
+-- the gap before the next run is long enough
+pub returns-then-is_long : goal.returns-then-is_long
+returns-then-is_long g c =
+    let rank = g.T.Integer.rank in
+    gaps-fit _ _ _ (rank c.loop-run.start) (run_of rank c.in-Some.run')
+    (runs_of rank c.next_of.new.entries) (rw c.in-Some.ensures at c.loop-run.invariant)
+    (rank c.sub_one-end.result) c.sub_one-end.ensures (c.is_long.ensures.0 c.if-is_long.true)
+
+-- or the type ends with that run
+pub returns-in_err-start : goal.returns-in_err-start
+returns-in_err-start g c =
+    let rank = g.T.Integer.rank in
+    rw c.from_residual.ensures
+    (gaps-done _ _ _ (rank c.loop-run.start) (run_of rank c.in-Some.run')
+    (runs_of rank c.next_of.new.entries) (rw c.in-Some.ensures at c.loop-run.invariant)
+    (rank c.sub_one-end.result) c.sub_one-end.ensures
+    (le-fails c.is_long.result _ _ c.is_long.ensures c.if-is_long.false)
+    (c.in_err-start.ensures.none.0 refl))
+
+-- or the next gap starts after it
+pub loop-run-preserved : goal.loop-run-preserved
+loop-run-preserved g c =
+    let rank = g.T.Integer.rank in
+    let n = g.T.Integer.value_count in
+    let next = c.in_ok-start.ensures.next in
+    let known = c.in_ok-start.ensures.value in
+    let less : rank c.in_ok-start.start < n = elim (cases_lt (rank c.in_ok-start.start) n) [
+      | inl less ↦ less
+      | inr most ↦
+          let last : rank c.in-Some.run'.end + 1 ≡ n = omega (arith, next, known, most) in
+          let never = c.in_ok-start.ensures.none.1 last in
+          absurd (cc)
+    ] in
+    gaps-next _ _ _ (rank c.loop-run.start) (run_of rank c.in-Some.run')
+    (runs_of rank c.next_of.new.entries) (rw c.in-Some.ensures at c.loop-run.invariant)
+    (rank c.sub_one-end.result) c.sub_one-end.ensures
+    (le-fails c.is_long.result _ _ c.is_long.ensures c.if-is_long.false) (rank c.in_ok-start.start)
+    next less

@@ -1,0 +1,14 @@
+-- The runs that were passed are too short.
+use Rattle.std.proofs.Common.{length}
+use Rattle.range_set_blaze.specs.Kept.{runs_of}
+use Rattle.range_set_blaze.proofs.fitting.FirstFits.{ArePassed}
+use Rattle.range_set_blaze.proofs.set.first_fit.long_run.Given as goal
+
+abbrev pub invariant-loop-run : goal.invariant-loop-run
+invariant-loop-run g l =
+    let rank = g.T.Integer.rank in
+    ArePassed g.T.Integer.value_count (g.T.SafeLen.SafeLength.number l.len)
+    (runs_of rank l.fn.map.entries) (runs_of rank l.entries)
+
+abbrev pub decreases-loop-run : goal.decreases-loop-run
+decreases-loop-run g l = length l.entries

@@ -1,0 +1,44 @@
+use Rattle.std.proofs.Common.{◌<◌}
+use Rattle.std.proofs.lemmas.List.Elements.{All-head}
+use Rattle.rsb_integer.specs.Runs.{Interval}
+use Rattle.range_set_blaze.specs.Kept.{run_of, runs_of}
+use Rattle.range_set_blaze.proofs.ranking.Counted.{counted-all, counted-fits, counted-next, counted-past}
+use Rattle.range_set_blaze.proofs.set.ranked.count_below.Goals as goal
+
+-- the next run is of the type
+pub part_below-requires-clause-run : goal.part_below-requires-clause-run
+part_below-requires-clause-run g c =
+    let rank = g.T.Integer.rank in
+    All-head (λ (each : Interval). each.last < g.T.Integer.value_count)
+    (run_of rank c.in-Some.run') (runs_of rank c.next_run.new.entries)
+    (rw c.in-Some.ensures at c.loop-run.invariant).canonical.1
+
+-- all of it is past the value
+pub returns-in_default-part_below : goal.returns-in_default-part_below
+returns-in_default-part_below g c =
+    let rank = g.T.Integer.rank in
+    counted-past _ (runs_of rank c.args.map.now.entries) (runs_of rank c.next_run.new.entries)
+    (run_of rank c.in-Some.run') _ _ (rw c.in-Some.ensures at c.loop-run.invariant)
+    c.in_default-part_below.ensures
+
+-- or a part of it is counted
+pub add_length-requires-clause-fits : goal.add_length-requires-clause-fits
+add_length-requires-clause-fits g c =
+    let rank = g.T.Integer.rank in
+    counted-fits _ (runs_of rank c.args.map.now.entries) (runs_of rank c.next_run.new.entries)
+    (run_of rank c.in-Some.run') _ _ (rw c.in-Some.ensures at c.loop-run.invariant)
+    (run_of rank c.in-Some-part_below.part) c.in-Some-part_below.ensures
+
+pub loop-run-preserved : goal.loop-run-preserved
+loop-run-preserved g c =
+    let rank = g.T.Integer.rank in
+    rw c.add_length.ensures
+    (counted-next _ (runs_of rank c.args.map.now.entries) (runs_of rank c.next_run.new.entries)
+    (run_of rank c.in-Some.run') _ _ (rw c.in-Some.ensures at c.loop-run.invariant)
+    (run_of rank c.in-Some-part_below.part) c.in-Some-part_below.ensures)
+
+-- or none is left
+pub returns : goal.returns
+returns g c =
+    counted-all _ (runs_of g.T.Integer.rank c.args.map.now.entries) _ _
+    (rw c.in_default.ensures at c.loop-run.invariant)

@@ -1,0 +1,14 @@
+-- The members of the runs that were passed are counted.
+use Rattle.std.proofs.Common.{length}
+use Rattle.range_set_blaze.specs.Kept.{runs_of}
+use Rattle.range_set_blaze.proofs.ranking.Counted.{AreCounted}
+use Rattle.range_set_blaze.proofs.set.ranked.count_below.Given as goal
+
+abbrev pub invariant-loop-run : goal.invariant-loop-run
+invariant-loop-run g l =
+    let rank = g.T.Integer.rank in
+    AreCounted g.T.Integer.value_count (runs_of rank l.fn.map.entries) (runs_of rank l.entries)
+    (rank l.value) (g.T.SafeLen.SafeLength.number l.below)
+
+abbrev pub decreases-loop-run : goal.decreases-loop-run
+decreases-loop-run g l = length l.entries

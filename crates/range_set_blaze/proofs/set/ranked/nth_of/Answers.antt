@@ -1,0 +1,60 @@
+use Rattle.std.proofs.Common.{◌<◌, arith, refl}
+use Rattle.std.proofs.lemmas.List.Elements.{All-head}
+use Rattle.rsb_integer.specs.Runs.{Interval}
+use Rattle.range_set_blaze.specs.Kept.{run_of, runs_of}
+use Rattle.range_set_blaze.proofs.ranking.Counted.{left-below, left-member, left-more, left-next, left-none}
+use Rattle.range_set_blaze.proofs.set.ranked.nth_of.Goals as goal
+
+-- the next run is of the type
+pub value_at-requires-clause-value : goal.value_at-requires-clause-value
+value_at-requires-clause-value g c =
+    let rank = g.T.Integer.rank in
+    All-head (λ (each : Interval). each.last < g.T.Integer.value_count)
+    (run_of rank c.in-Some.run') (runs_of rank c.next_run.new.entries)
+    (rw c.in-Some.ensures at c.loop-run.invariant).within
+
+-- and has the member
+pub returns-then-is_less-clause-none : goal.returns-then-is_less-clause-none
+returns-then-is_less-clause-none g c =
+    let rank = g.T.Integer.rank in
+    let fewer = c.is_less.ensures.0 c.if-is_less.true in
+    let more = left-more _ (runs_of rank c.args.map.now.entries)
+    (runs_of rank c.next_run.new.entries) (run_of rank c.in-Some.run') _ _
+    (rw c.in-Some.ensures at c.loop-run.invariant)
+    (omega (arith, fewer, c.length_of_run-length.ensures)) in
+    ((λ none. absurd (cc)), (λ most. absurd (omega (arith, more, most))))
+
+pub returns-then-is_less-clause-found : goal.returns-then-is_less-clause-found
+returns-then-is_less-clause-found g c =
+    let rank = g.T.Integer.rank in
+    let fewer = c.is_less.ensures.0 c.if-is_less.true in
+    left-member _ (runs_of rank c.args.map.now.entries)
+    (runs_of rank c.next_run.new.entries) (run_of rank c.in-Some.run') _ _
+    (rw c.in-Some.ensures at c.loop-run.invariant) _
+    (omega (arith, fewer, c.length_of_run-length.ensures)) c.value_at.ensures
+
+pub returns-then-is_less-clause-below : goal.returns-then-is_less-clause-below
+returns-then-is_less-clause-below g c =
+    let rank = g.T.Integer.rank in
+    let fewer = c.is_less.ensures.0 c.if-is_less.true in
+    left-below _ (runs_of rank c.args.map.now.entries)
+    (runs_of rank c.next_run.new.entries) (run_of rank c.in-Some.run') _ _
+    (rw c.in-Some.ensures at c.loop-run.invariant) _
+    (omega (arith, fewer, c.length_of_run-length.ensures)) c.value_at.ensures
+
+-- or is passed
+pub loop-run-preserved : goal.loop-run-preserved
+loop-run-preserved g c =
+    let rank = g.T.Integer.rank in
+    left-next _ (runs_of rank c.args.map.now.entries)
+    (runs_of rank c.next_run.new.entries) (run_of rank c.in-Some.run') _ _
+    (rw c.in-Some.ensures at c.loop-run.invariant) _
+    (omega (arith, c.take_off.ensures, c.length_of_run-length.ensures))
+
+-- or none is left
+pub returns-clause-none : goal.returns-clause-none
+returns-clause-none g c = (
+  (λ none. left-none _ (runs_of g.T.Integer.rank c.args.map.now.entries) _ _
+      (rw c.in_default.ensures at c.loop-run.invariant)),
+  (λ most. refl),
+)

@@ -1,0 +1,15 @@
+-- The runs that were passed lie below the wanted member.
+use Rattle.std.proofs.Common.{length}
+use Rattle.range_set_blaze.specs.Kept.{runs_of}
+use Rattle.range_set_blaze.proofs.ranking.Counted.{AreLeft}
+use Rattle.range_set_blaze.proofs.set.ranked.nth_of.Given as goal
+
+abbrev pub invariant-loop-run : goal.invariant-loop-run
+invariant-loop-run g l =
+    let rank = g.T.Integer.rank in
+    let number = g.T.SafeLen.SafeLength.number in
+    AreLeft g.T.Integer.value_count (runs_of rank l.fn.map.entries) (runs_of rank l.entries)
+    (number l.fn.n) (number l.left)
+
+abbrev pub decreases-loop-run : goal.decreases-loop-run
+decreases-loop-run g l = length l.entries

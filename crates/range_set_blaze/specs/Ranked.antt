@@ -1,0 +1,9 @@
+-- The part of a run that lies below a rank.
+use Rattle.std.specs.Prelude.{◌≡◌, ℕ, ◌+◌, ◌<◌, min}
+use Rattle.rsb_integer.specs.Runs.{Interval}
+
+-- the part has the ranks of the run below the bound, of which there is one
+pub record IsPartBelow (run : Interval) (bound : ℕ) (part : Interval) : Type 0 where
+  pub some : run.first < bound
+  pub first : part.first ≡ run.first
+  pub last : part.last + 1 ≡ min (run.last + 1) bound

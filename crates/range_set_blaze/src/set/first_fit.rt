@@ -1,0 +1,230 @@
+//! The first gap, or the first run, that has a given length.
+
+ghost use Rattle.std.specs.Prelude.{◌≡◌, ◌↔◌, ℕ, ◌+◌, ◌<◌, ◌≤◌, [], ◌∷◌, IfSome, IsFalse, IsNone, IsTrue, MatchOption};
+ghost use Rattle.std.specs.Range.{range_inclusive_end, range_inclusive_start};
+ghost use Rattle.rsb_integer.specs.Rank.{interval_of};
+ghost use Rattle.rsb_integer.specs.Runs.{covers, from_to, length_of, members, AllEndBelow, IsCanonicalFrom, IsCanonicalIn, IsMaximalRun};
+ghost use Rattle.rsb_integer.specs.Selection.{complement, intersection};
+ghost use Rattle.range_set_blaze.specs.FirstFit.{AllShorter, AllShorterBefore, HasAllFrom, IsFirstFit, IsFirstFree, IsFree};
+ghost use Rattle.range_set_blaze.specs.Kept.{entry_of, run_of, runs_of};
+ghost use Rattle.range_set_blaze.specs.Split.{from_on};
+ghost use Rattle.range_set_blaze.specs.Starts.{past, StartsAscendFrom};
+
+use crate::set::RangeSetBlaze;
+use crate::set::entries::next_run;
+use crate::set::look_up::run_at;
+use crate::set::run::{Run, known};
+use rsb_integer::Integer;
+use std::alloc::Allocator;
+use std::collections::BTreeMap;
+use std::collections::btree_map::Range;
+use std::ops::{Bound, RangeInclusive};
+
+impl<T: Integer, A: Allocator> RangeSetBlaze<T, A> {
+    /// Returns the first gap that has at least `len` values, or `None` if every gap is shorter. It
+    /// returns the whole gap, which reaches the runs beside it or the ends of the type. Does not
+    /// allocate. The cost is linear in the number of runs up to the gap. Not in range-set-blaze.
+    pub fn first_gap(&self, len: T::SafeLen) -> Option<RangeInclusive<T>>
+        ensures gap { IfSome result (λ range. IsMaximalRun T.value_count
+            (complement (members self.now)) (interval_of T.rank range)) }
+        ensures long { IfSome result (λ range.
+            T.SafeLen.number len ≤ length_of (interval_of T.rank range)) }
+        ensures first { IfSome result (λ range. AllShorterBefore T.value_count
+            (complement (members self.now)) (T.SafeLen.number len)
+            (interval_of T.rank range).first) }
+        ensures none { IsNone result → AllShorter T.value_count (complement (members self.now))
+            (T.SafeLen.number len) }
+
+        // The same of blocks of `len` values, as a table of free space needs it.
+        ensures fits { IfSome result (λ range. IsFree T.value_count self.now
+            (T.rank (range_inclusive_start range)) (T.SafeLen.number len)) }
+        ensures lowest { IfSome result (λ range. (start : ℕ)
+            → start < T.rank (range_inclusive_start range) → 0 < T.SafeLen.number len
+            → ¬ (IsFree T.value_count self.now start (T.SafeLen.number len))) }
+        ensures nowhere { IsNone result → (start : ℕ) → 0 < T.SafeLen.number len
+            → ¬ (IsFree T.value_count self.now start (T.SafeLen.number len)) }
+
+        // The values of the range, by its ends.
+        ensures ends { IfSome result (λ range. interval_of T.rank range
+            ≡ from_to (T.rank (range_inclusive_start range)) (T.rank (range_inclusive_end range))) }
+        ensures free { IfSome result (λ range. (rank : ℕ)
+            → IsTrue (covers (interval_of T.rank range) rank) → IsFalse (members self.now rank)) }
+    {
+        self.first_gap_from(T::min_value(), len)
+    }
+
+    /// Returns the first gap that has at least `len` values starting at `value`, or `None` if there
+    /// is none. Of a gap that has `value` in it, only the part from `value` on counts, and only that
+    /// part is returned. Does not allocate. The cost is one look-up, and then linear in the number of
+    /// runs between `value` and the gap. Not in range-set-blaze.
+    pub fn first_gap_from(&self, value: T, len: T::SafeLen) -> Option<RangeInclusive<T>>
+        ensures gap { IfSome result (λ range. IsMaximalRun T.value_count
+            (intersection (complement (members self.now)) (from_on (T.rank value)))
+            (interval_of T.rank range)) }
+        ensures long { IfSome result (λ range.
+            T.SafeLen.number len ≤ length_of (interval_of T.rank range)) }
+        ensures first { IfSome result (λ range. AllShorterBefore T.value_count
+            (intersection (complement (members self.now)) (from_on (T.rank value)))
+            (T.SafeLen.number len) (interval_of T.rank range).first) }
+        ensures none { IsNone result → AllShorter T.value_count
+            (intersection (complement (members self.now)) (from_on (T.rank value)))
+            (T.SafeLen.number len) }
+
+        // The same of blocks of `len` values, as a table of free space needs it.
+        ensures fits { IfSome result (λ range. IsFree T.value_count self.now
+            (T.rank (range_inclusive_start range)) (T.SafeLen.number len)) }
+        ensures lowest { IfSome result (λ range. (start : ℕ) → T.rank value ≤ start
+            → start < T.rank (range_inclusive_start range) → 0 < T.SafeLen.number len
+            → ¬ (IsFree T.value_count self.now start (T.SafeLen.number len))) }
+        ensures nowhere { IsNone result → (start : ℕ) → T.rank value ≤ start
+            → 0 < T.SafeLen.number len
+            → ¬ (IsFree T.value_count self.now start (T.SafeLen.number len)) }
+
+        // The values of the range, by its ends.
+        ensures from { IfSome result (λ range.
+            T.rank value ≤ T.rank (range_inclusive_start range)) }
+        ensures ends { IfSome result (λ range. interval_of T.rank range
+            ≡ from_to (T.rank (range_inclusive_start range)) (T.rank (range_inclusive_end range))) }
+        ensures free { IfSome result (λ range. (rank : ℕ)
+            → IsTrue (covers (interval_of T.rank range) rank) → IsFalse (members self.now rank)) }
+    {
+        let gap = gap_from(&self.map, known(value), len)?;
+        Some(gap.start..=gap.end)
+    }
+
+    /// Returns the first run that has at least `len` values, or `None` if every run is shorter. Does
+    /// not allocate. The cost is linear in the number of runs up to the one returned. Not in
+    /// range-set-blaze.
+    pub fn first_run(&self, len: T::SafeLen) -> Option<RangeInclusive<T>>
+        ensures run { IfSome result (λ range. IsMaximalRun T.value_count (members self.now)
+            (interval_of T.rank range)) }
+        ensures long { IfSome result (λ range.
+            T.SafeLen.number len ≤ length_of (interval_of T.rank range)) }
+        ensures first { IfSome result (λ range. AllShorterBefore T.value_count (members self.now)
+            (T.SafeLen.number len) (interval_of T.rank range).first) }
+        ensures none { IsNone result → AllShorter T.value_count (members self.now)
+            (T.SafeLen.number len) }
+
+        // The values of the range, by its ends.
+        ensures ends { IfSome result (λ range. interval_of T.rank range
+            ≡ from_to (T.rank (range_inclusive_start range)) (T.rank (range_inclusive_end range))) }
+        ensures has { IfSome result (λ range. (rank : ℕ)
+            → IsTrue (covers (interval_of T.rank range) rank) → IsTrue (members self.now rank)) }
+    {
+        let run = long_run(&self.map, len)?;
+        Some(run.start..=run.end)
+    }
+}
+
+// The first run of a map that is long enough.
+fn long_run<T: Integer, A: Allocator>(map: &BTreeMap<T, T, A>, len: T::SafeLen) -> Option<Run<T>>
+    requires { IsCanonicalIn T.value_count (runs_of T.rank map.now.entries) }
+    ensures { MatchOption result
+        (AllShorter T.value_count (members (runs_of T.rank map.now.entries)) (T.SafeLen.number len))
+        (λ run. IsFirstFit T.value_count (members (runs_of T.rank map.now.entries))
+        (T.SafeLen.number len) (run_of T.rank run)) }
+{
+    let mut entries = map.iter();
+    while let Some(run) = next_run(&mut entries) {
+        if is_long(run, len) {
+            return Some(run);
+        }
+    }
+    None
+}
+
+// The first gap that is long enough, of the gaps cut to the values from `value` on.
+fn gap_from<T: Integer, A: Allocator>(
+    map: &BTreeMap<T, T, A>,
+    value: T,
+    len: T::SafeLen,
+) -> Option<Run<T>>
+    requires canonical { IsCanonicalIn T.value_count (runs_of T.rank map.now.entries) }
+    requires value { T.rank value < T.value_count }
+    ensures { MatchOption result
+        (AllShorter T.value_count (intersection (complement
+        (members (runs_of T.rank map.now.entries))) (from_on (T.rank value)))
+        (T.SafeLen.number len))
+        (λ gap. IsFirstFit T.value_count (intersection (complement
+        (members (runs_of T.rank map.now.entries))) (from_on (T.rank value)))
+        (T.SafeLen.number len) (run_of T.rank gap)) }
+{
+    let start = first_free(map, value)?;
+    first_between(&mut runs_after(map, start), start, len)
+}
+
+// The first value from one on that is no member.
+fn first_free<T: Integer, A: Allocator>(map: &BTreeMap<T, T, A>, value: T) -> Option<T>
+    requires canonical { IsCanonicalIn T.value_count (runs_of T.rank map.now.entries) }
+    requires value { T.rank value < T.value_count }
+    ensures { MatchOption result (HasAllFrom T.value_count (runs_of T.rank map.now.entries)
+        (T.rank value))
+        (λ free. IsFirstFree T.value_count (runs_of T.rank map.now.entries) (T.rank value)
+        (T.rank free)) }
+{
+    let Some(run) = run_at(map, value) else {
+        return Some(value);
+    };
+    let free = run.end.checked_add_one()?;
+    Some(free)
+}
+
+// The first gap that is long enough, of those that runs leave from a value on. The runs start after
+// the value, and do not touch it.
+fn first_between<T: Integer>(
+    entries: &mut Range<'_, T, T>,
+    from: T,
+    len: T::SafeLen,
+) -> Option<Run<T>>
+    requires later { IsCanonicalFrom (T.rank from + 1) (runs_of T.rank entries.old) }
+    requires within { AllEndBelow T.value_count (runs_of T.rank entries.old) }
+    requires value { T.rank from < T.value_count }
+    ensures { MatchOption result
+        (AllShorter T.value_count (intersection (complement
+        (members (runs_of T.rank entries.old))) (from_on (T.rank from))) (T.SafeLen.number len))
+        (λ gap. IsFirstFit T.value_count (intersection (complement
+        (members (runs_of T.rank entries.old))) (from_on (T.rank from))) (T.SafeLen.number len)
+        (run_of T.rank gap)) }
+{
+    let mut start = from;
+    while let Some(run) = next_of(entries) {
+        let end = run.start.sub_one();
+        let gap = Run { start, end };
+        if is_long(gap, len) {
+            return Some(gap);
+        }
+        start = run.end.checked_add_one()?;
+    }
+    let end = T::max_value();
+    let gap = Run { start, end };
+    if is_long(gap, len) { Some(gap) } else { None }
+}
+
+// Whether a run has at least so many values.
+fn is_long<T: Integer>(run: Run<T>, len: T::SafeLen) -> bool
+    requires { T.rank run.start ≤ T.rank run.end }
+    ensures { IsTrue result ↔ (T.SafeLen.number len ≤ length_of (run_of T.rank run)) }
+{
+    len <= T::safe_len(&(run.start..=run.end))
+}
+
+// The runs that start after a value.
+fn runs_after<'a, T: Integer, A: Allocator>(map: &'a BTreeMap<T, T, A>, value: T) -> Range<'a, T, T>
+    requires ascending { StartsAscendFrom T.value_count 0 (runs_of T.rank map.now.entries) }
+    requires value { T.rank value < T.value_count }
+    ensures { runs_of T.rank result ≡ past (T.rank value) (runs_of T.rank map.now.entries) }
+{
+    map.range((Bound::Excluded(value), Bound::Unbounded))
+}
+
+// Takes the first run off some entries.
+fn next_of<T: Integer>(entries: &mut Range<'_, T, T>) -> Option<Run<T>>
+    ensures { MatchOption result (entries.old ≡ [])
+        (λ run. entries.old ≡ entry_of run ∷ entries.new) }
+{
+    let (start, end) = entries.next()?;
+    Some(Run {
+        start: *start,
+        end: *end,
+    })
+}

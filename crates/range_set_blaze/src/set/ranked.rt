@@ -1,0 +1,133 @@
+//! Members by how many lie below them.
+
+ghost use Rattle.std.specs.Prelude.{◌≡◌, ◌↔◌, ◌+◌, ◌<◌, ◌≤◌, IfSome, IsNone, IsTrue, MatchOption};
+ghost use Rattle.rsb_integer.specs.Runs.{length_of, members, HasRanks, IsCanonicalIn};
+ghost use Rattle.rsb_integer.specs.Selection.{count};
+ghost use Rattle.range_set_blaze.specs.Kept.{run_of, runs_of};
+ghost use Rattle.range_set_blaze.specs.Ranked.{IsPartBelow};
+
+use crate::set::RangeSetBlaze;
+use crate::set::entries::next_run;
+use crate::set::lengths::add_length;
+use crate::set::run::{Run, is_below, known};
+use num_traits::{One, Zero};
+use rsb_integer::Integer;
+use rsb_length::SafeLength;
+use std::alloc::Allocator;
+use std::collections::BTreeMap;
+
+impl<T: Integer, A: Allocator> RangeSetBlaze<T, A> {
+    /// Returns the member that has exactly `n` members below it, or `None` if there are at most `n`
+    /// members. So the least member is the one at 0. Does not allocate. The cost is linear in the
+    /// number of runs up to the member. Not in range-set-blaze.
+    pub fn nth(&self, n: T::SafeLen) -> Option<T>
+        ensures none { IsNone result
+            ↔ (count T.value_count (members self.now) ≤ T.SafeLen.number n) }
+        ensures found { IfSome result (λ value. IsTrue (members self.now (T.rank value))) }
+        ensures below { IfSome result (λ value.
+            count (T.rank value) (members self.now) ≡ T.SafeLen.number n) }
+    {
+        nth_of(&self.map, n)
+    }
+
+    /// Returns how many members are below a value, which need not be a member. Does not allocate. The
+    /// cost is linear in the number of runs up to the value. Not in range-set-blaze.
+    pub fn rank(&self, value: T) -> T::SafeLen
+        ensures { T.SafeLen.number result ≡ count (T.rank value) (members self.now) }
+    {
+        count_below(&self.map, known(value))
+    }
+}
+
+// The value of some runs that has so many below it.
+fn nth_of<T: Integer, A: Allocator>(map: &BTreeMap<T, T, A>, n: T::SafeLen) -> Option<T>
+    requires { IsCanonicalIn T.value_count (runs_of T.rank map.now.entries) }
+    ensures none { IsNone result ↔ (count T.value_count (members (runs_of T.rank map.now.entries))
+        ≤ T.SafeLen.number n) }
+    ensures found { IfSome result (λ value.
+        IsTrue (members (runs_of T.rank map.now.entries) (T.rank value))) }
+    ensures below { IfSome result (λ value. count (T.rank value)
+        (members (runs_of T.rank map.now.entries)) ≡ T.SafeLen.number n) }
+{
+    let mut left = n;
+    let mut entries = map.iter();
+    while let Some(run) = next_run(&mut entries) {
+        let length = length_of_run(run);
+        if is_less(left, length) {
+            return Some(value_at(run, left));
+        }
+        take_off(&mut left, length);
+    }
+    None
+}
+
+// Whether a length is less than another.
+fn is_less<L: SafeLength>(left: L, right: L) -> bool
+    ensures { IsTrue result ↔ (L.number left < L.number right) }
+{
+    left < right
+}
+
+// Takes a length off another.
+fn take_off<L: SafeLength>(length: &mut L, taken: L)
+    requires { L.number taken ≤ L.number length.old }
+    ensures { L.number length.new + L.number taken ≡ L.number length.old }
+{
+    *length -= taken;
+}
+
+// How many values a run has.
+fn length_of_run<T: Integer>(run: Run<T>) -> T::SafeLen
+    requires { HasRanks (run_of T.rank run) }
+    ensures { T.SafeLen.number result ≡ length_of (run_of T.rank run) }
+{
+    T::safe_len(&(run.start..=run.end))
+}
+
+// The value of a run that has so many of the run below it.
+fn value_at<T: Integer>(run: Run<T>, index: T::SafeLen) -> T
+    requires value { T.rank run.end < T.value_count }
+    requires index { T.rank run.start + T.SafeLen.number index ≤ T.rank run.end }
+    ensures { T.rank result ≡ T.rank run.start + T.SafeLen.number index }
+{
+    let mut length = index;
+    length += T::SafeLen::one();
+    run.start.inclusive_end_from_start(length)
+}
+
+// How many members of some runs are below a value.
+fn count_below<T: Integer, A: Allocator>(map: &BTreeMap<T, T, A>, value: T) -> T::SafeLen
+    requires canonical { IsCanonicalIn T.value_count (runs_of T.rank map.now.entries) }
+    requires value { T.rank value < T.value_count }
+    ensures { T.SafeLen.number result
+        ≡ count (T.rank value) (members (runs_of T.rank map.now.entries)) }
+{
+    let mut below = T::SafeLen::zero();
+    let mut entries = map.iter();
+    while let Some(run) = next_run(&mut entries) {
+        let Some(part) = part_below(run, value) else {
+            return below;
+        };
+        add_length(&mut below, part);
+    }
+    below
+}
+
+// The part of a run that is below a value, or `None` if no value of the run is.
+fn part_below<T: Integer>(run: Run<T>, value: T) -> Option<Run<T>>
+    requires order { T.rank run.start ≤ T.rank run.end }
+    requires run { T.rank run.end < T.value_count }
+    requires value { T.rank value < T.value_count }
+    ensures { MatchOption result (T.rank value ≤ T.rank run.start)
+        (λ part. IsPartBelow (run_of T.rank run) (T.rank value) (run_of T.rank part)) }
+{
+    if !is_below(run.start, value) {
+        return None;
+    }
+    if is_below(run.end, value) {
+        return Some(run);
+    }
+    let start = run.start;
+    let end = value.sub_one();
+    Some(Run { start, end })
+}
