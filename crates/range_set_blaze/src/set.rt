@@ -28,6 +28,7 @@ mod split;
 mod subsets;
 mod take_in;
 mod text;
+pub(crate) mod windows;
 
 use crate::ranges_iter::RangesIter;
 use num_traits::Zero;

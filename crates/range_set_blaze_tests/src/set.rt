@@ -36,3 +36,4 @@ mod subsets;
 mod texts;
 mod threads;
 mod unshared;
+mod windows;
