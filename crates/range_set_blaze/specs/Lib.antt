@@ -18,6 +18,7 @@ pub mod Set
 pub mod Singles
 pub mod Split
 pub mod Starts
+pub mod Windows
 pub use Rattle.rsb_length.specs.SafeLength
 pub use Rattle.rsb_length.specs.UIntPlusOne
 pub use Rattle.rsb_integer.specs.Prefix

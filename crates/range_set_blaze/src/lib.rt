@@ -10,16 +10,17 @@ mod macros;
 pub mod multiway;
 mod operators;
 pub mod prelude;
+pub mod ranges_in;
 pub mod ranges_iter;
 pub mod set;
 
 pub use crate::prelude::{
     AnythingGoes, AssumeSortedStarts, CheckSortedDisjoint, CheckSortedTouching, Difference, Draw,
-    DrawDisjoint, DynSortedDisjoint, FillGapsIter, Integer, Intersection, IntoIter,
+    DrawDisjoint, DynSortedDisjoint, FillGapsIter, GapsIn, Integer, Intersection, IntoIter,
     IntoRangeSetBlaze, IntoRangesIter, Iter, KMerge, Merge, MultiwayAtLeast, MultiwayIntersection,
     MultiwayRangeSetBlaze, MultiwayRangeSetBlazeRef, MultiwaySortedDisjoint, MultiwaySweep,
     MultiwaySymmetricDifference, MultiwayUnion, NotIter, NotSortedDisjoint, NotSortedTouching,
-    RangeOnce, RangeSetBlaze, RangesIter, SafeLength, SortedDisjoint, SortedStarts,
+    RangeOnce, RangeSetBlaze, RangesIn, RangesIter, SafeLength, SortedDisjoint, SortedStarts,
     SortedStartsInVec, SortedTouching, SweepEvent, SymDiffIter, SymmetricDifference, UInt,
     UIntPlusOne, Union, UnionIter, at_least_all, at_least_falls, at_least_one,
     canonical_lists_are_runs, cmp_counted, complement_twice, de_morgan, difference_by_complement,

@@ -31,6 +31,7 @@ mod split;
 mod subsets;
 mod take_in;
 mod text;
+pub(crate) mod windows;
 mod windows_asked;
 
 use crate::ranges_iter::RangesIter;

@@ -39,3 +39,4 @@ mod subsets;
 mod texts;
 mod threads;
 mod unshared;
+mod windows;

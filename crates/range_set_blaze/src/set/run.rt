@@ -5,7 +5,7 @@ ghost use Rattle.std.specs.Prelude.{◌≡◌, ◌↔◌, ◌+◌, ◌-◌, ◌<
 use rsb_integer::Integer;
 
 /// A run: its first and its last value.
-#[derive(Clone, Copy)]
+#[derive(Clone, Copy, Debug)]
 pub(crate) struct Run<T> {
     pub(crate) start: T,
     pub(crate) end: T,

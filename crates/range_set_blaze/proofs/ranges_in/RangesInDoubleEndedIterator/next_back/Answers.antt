@@ -1,0 +1,19 @@
+use Rattle.std.proofs.Common.{◌∙◌, sym}
+use Rattle.range_set_blaze.specs.Kept.{entry_of}
+use Rattle.range_set_blaze.specs.Windows.{with_held}
+use Rattle.range_set_blaze.proofs.windows.Ranges.{window-last, window-goes_last}
+use Rattle.range_set_blaze.proofs.ranges_in.RangesInDoubleEndedIterator.next_back.Goals as goal
+
+-- the range of the last run comes last
+pub returns-clause-steps : goal.returns-clause-steps
+returns-clause-steps g c =
+    sym c.self.view_is ∙ window-last g.T.Integer.rank c.self.inside.last
+    (with_held c.take_last.new.held c.take_last.new.entries) c.in_ok-run.run' c.new.result
+    c.new.ensures.start (c.new.ensures.end ∙ c.lesser.ensures) c.new.ensures.exhausted
+    c.in_ok-run.ensures
+
+-- what is left of canonical ranges is canonical
+pub returns-clause-goes : goal.returns-clause-goes
+returns-clause-goes g c = window-goes_last g.T.Integer.rank g.T.Integer.value_count
+    c.self.inside.last (with_held c.take_last.new.held c.take_last.new.entries)
+    (entry_of c.in_ok-run.run') c.self.view_is c.requires c.in_ok-run.ensures

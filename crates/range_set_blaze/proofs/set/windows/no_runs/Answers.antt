@@ -1,0 +1,21 @@
+use Rattle.std.proofs.Common.{◌∙◌, ◌<◌, ap, arith}
+use Rattle.std.specs.Ordering.{is_le}
+use Rattle.range_set_blaze.specs.Windows.{ranges_up_to}
+use Rattle.range_set_blaze.proofs.windows.Ranges.{filter-neither, order-forward}
+use Rattle.range_set_blaze.proofs.set.windows.no_runs.Goals as goal
+
+-- a value is not past itself
+pub range-requires : goal.range-requires
+range-requires g c =
+    let laws = g.met.T.Integer in
+    let rank = g.T.Integer.rank in
+    let value : rank c.known-start.result < g.T.Integer.value_count =
+    omega (arith, ap rank c.known-start.ensures.same, c.known-start.ensures.value) in
+    order-forward g.T.Ord.cmp rank g.T.Integer.value_count laws.in_order c.known-start.result
+    c.known-start.result value value (omega arith)
+
+-- no entry is from it on and before it
+pub returns : goal.returns
+returns g c =
+    ap (ranges_up_to g.T.Integer.rank c.known-start.result) (c.range.ensures.between tt
+    ∙ filter-neither (λ key. is_le (g.T.Ord.cmp c.known-start.result key)) c.args.map.now.entries)

@@ -1,0 +1,18 @@
+use Rattle.range_set_blaze.specs.Kept.{runs_of}
+use Rattle.range_set_blaze.proofs.windows.Kept.{held-canonical, held-members}
+use Rattle.range_set_blaze.proofs.set.windows.runs_between.Goals as goal
+
+-- what reaches in and what starts there are the window
+pub returns : goal.returns
+returns g c =
+    let rank = g.T.Integer.rank in
+    let n = g.T.Integer.value_count in
+    let runs = runs_of rank c.args.map.now.entries in
+    let held = c.reaching_in.result in
+    let entries = c.starting_in.result in
+    record {
+      canonical = held-canonical rank n runs c.requires.canonical c.args.window c.requires.order held
+          entries c.reaching_in.ensures c.starting_in.ensures;
+      members = held-members rank n runs c.requires.canonical c.args.window c.requires.order held
+          entries c.reaching_in.ensures c.starting_in.ensures;
+    }

@@ -1,0 +1,147 @@
+-- The ranges of a window, one after the other.
+use Rattle.std.proofs.Common.{◌≡◌, ℕ, Bool, true, false, not, ◌&&◌, min, cond, nat_le, nat_lt, ◌<◌, ◌≤◌, List, [], ◌∷◌, ◌++◌, ◌∙◌, Option, Some, None, MatchOption, map, ap, refl, sym, arith, length, length-append, subst, inl, inr}
+use Rattle.std.proofs.lemmas.Bool.{cases_lt}
+use Rattle.std.proofs.lemmas.Bool.Decides.{nat_tests}
+use Rattle.std.proofs.lemmas.List.{map-append}
+use Rattle.std.specs.BTreeMap.Range.{range_contains}
+use Rattle.std.specs.Iterator.{MakesProgress, item_count}
+use Rattle.std.specs.List.{filter}
+use Rattle.std.specs.Range.{range_inclusive_end, range_inclusive_exhausted, range_inclusive_start}
+use Rattle.std.specs.Ordering.{nat_cmp, is_gt, is_le, is_lt}
+use Rattle.std.specs.declared.cmp.Ordering.{Ordering}
+use Rattle.std.specs.declared.ops.Bound.TheVariants.{Included}
+use Rattle.std.specs.declared.ops.RangeInclusive.{RangeInclusive}
+use Rattle.rsb_integer.specs.Rank.{interval_of, intervals_of}
+use Rattle.rsb_integer.specs.Runs.{Interval, IsCanonicalIn}
+use Rattle.rsb_integer.proofs.CanonicalLemmas.{canonical-front}
+use Rattle.rsb_integer.proofs.ListLemmas.{true_or_false}
+use Rattle.rsb_many.proofs.inputs.Listed.{canonical-goes}
+use Rattle.range_set_blaze.specs.Kept.{entry_of, runs_of}
+use Rattle.range_set_blaze.specs.Starts.{StartsAscendFrom}
+use Rattle.range_set_blaze.specs.Windows.{lesser_of, range_up_to, ranges_up_to, starting_within, up_to}
+use Rattle.range_set_blaze.specs.declared.set.run.Run.{Run}
+use Rattle.range_set_blaze.proofs.runs.Maps.{order-cases, runs-filter}
+
+module _ {T : Type 0} (rank : T → ℕ) where
+  -- the rank of the lesser of two values is the lesser rank
+  lesser-rank : (left right : T) → rank (lesser_of rank left right) ≡ min (rank left) (rank right)
+  lesser-rank left right = elim (true_or_false (nat_lt (rank right) (rank left))) [
+    | inl less ↦ rw less (grind (arith, nat_tests, less))
+    | inr most ↦ rw most (grind (arith, nat_tests, most))
+  ]
+
+  -- the ranges of some entries up to a value have their intervals up to its rank
+  pub intervals_of-ranges_up_to : (last : T) (entries : List (T × T))
+      → intervals_of rank (ranges_up_to rank last entries)
+      ≡ map (up_to (rank last)) (runs_of rank entries)
+  intervals_of-ranges_up_to last [] = refl
+  intervals_of-ranges_up_to last (entry ∷ entries) = λ i.
+      (record { first = rank entry.0; last = lesser-rank entry.1 last i })
+      ∷ intervals_of-ranges_up_to last entries i
+
+module _ {T : Type 0} (rank : T → ℕ) (last : T) where
+  -- the range of the run that comes first of those that are left
+  pub window-first : {entries others : List (T × T)} (run : Run T) (item : RangeInclusive T)
+      → range_inclusive_start item ≡ run.start
+      → range_inclusive_end item ≡ lesser_of rank run.end last
+      → range_inclusive_exhausted item ≡ false → entries ≡ entry_of run ∷ others
+      → ranges_up_to rank last entries ≡ item ∷ ranges_up_to rank last others
+  window-first {others = others} run item starts ends more parts =
+      ap (ranges_up_to rank last) parts ∙ λ i.
+      (record { start = sym starts i; end = sym ends i; exhausted = sym more i })
+      ∷ ranges_up_to rank last others
+
+  -- and of the one that comes last
+  pub window-last : {entries : List (T × T)} (others : List (T × T)) (run : Run T)
+      (item : RangeInclusive T) → range_inclusive_start item ≡ run.start
+      → range_inclusive_end item ≡ lesser_of rank run.end last
+      → range_inclusive_exhausted item ≡ false → entries ≡ others ++ entry_of run ∷ []
+      → ranges_up_to rank last entries ≡ ranges_up_to rank last others ++ item ∷ []
+  window-last others run item starts ends more parts =
+      ap (ranges_up_to rank last) parts
+      ∙ map-append (range_up_to rank last) others (entry_of run ∷ []) ∙ λ i.
+      ranges_up_to rank last others
+      ++ (record { start = sym starts i; end = sym ends i; exhausted = sym more i }) ∷ []
+
+module _ {T : Type 0} (rank : T → ℕ) (n : ℕ) (last : T) where
+  -- canonical ranges are left, so a call that takes one makes progress
+  abbrev Goes : List (RangeInclusive T) → RangeInclusive T → List (RangeInclusive T) → Type 0
+  Goes ranges item rest = MakesProgress (λ each. IsCanonicalIn n (intervals_of rank each))
+      (item_count (λ (each : List (RangeInclusive T)). each)) ranges (Some item) rest
+
+  -- where it takes the first
+  pub window-goes_first : {ranges : List (RangeInclusive T)} {entries others : List (T × T)}
+      {entry : T × T} {item : RangeInclusive T} → ranges_up_to rank last entries ≡ ranges
+      → IsCanonicalIn n (intervals_of rank ranges) → entries ≡ entry ∷ others
+      → Goes ranges item (ranges_up_to rank last others)
+  window-goes_first are canonical is =
+      canonical-goes rank n _ _ _ _ (sym are ∙ ap (ranges_up_to rank last) is) canonical
+
+  -- and where it takes the last
+  pub window-goes_last : {ranges : List (RangeInclusive T)} {entries : List (T × T)}
+      {item : RangeInclusive T} (others : List (T × T)) (entry : T × T)
+      → ranges_up_to rank last entries ≡ ranges
+      → IsCanonicalIn n (intervals_of rank ranges) → entries ≡ others ++ entry ∷ []
+      → Goes ranges item (ranges_up_to rank last others)
+  window-goes_last others entry are canonical is =
+      let parts = sym are ∙ ap (ranges_up_to rank last) is
+      ∙ map-append (range_up_to rank last) others (entry ∷ []) in
+      let rest = canonical-front n (intervals_of rank (ranges_up_to rank last others)) _
+      (subst (IsCanonicalIn n) (ap (intervals_of rank) parts
+      ∙ map-append (interval_of rank) (ranges_up_to rank last others)
+      (range_up_to rank last entry ∷ [])) canonical) in
+      let count = ap length parts
+      ∙ length-append (ranges_up_to rank last others) (range_up_to rank last entry ∷ []) in
+      record { on = λ finite. (rest, tt, omega (arith, count)); keeps = rest; rests = λ finite. tt }
+
+-- ---- ranges of a map
+
+-- no entry's key passes a test and fails it
+pub filter-neither : {T : Type 0} (test : T → Bool) (entries : List (T × T))
+    → filter (λ (entry : T × T). test entry.0 && not (test entry.0)) entries ≡ []
+filter-neither test [] = refl
+filter-neither test (entry ∷ entries) = elim (true_or_false (test entry.0)) [
+  | inl passes ↦ rw passes (filter-neither test entries)
+  | inr fails ↦ rw fails (filter-neither test entries)
+]
+
+module _ {T : Type 0} (cmp : T → T → Ordering) (rank : T → ℕ) (n : ℕ)
+    (in_order : (x y : T) → rank x < n → rank y < n → cmp x y ≡ nat_cmp (rank x) (rank y)) where
+  -- a value is up to a key where its rank is up to the key's
+  from-test : (value key : T) → rank value < n → rank key < n
+      → is_le (cmp value key) ≡ nat_le (rank value) (rank key)
+  from-test value key known other = elim (order-cases cmp rank n in_order value key known other) [
+    | inl less ↦ rw less.1 (grind (arith, nat_tests, less.0))
+    | inr (inl same) ↦ rw same.1 (grind (arith, nat_tests, same.0))
+    | inr (inr more) ↦ rw more.1 (grind (arith, nat_tests, more.0))
+  ]
+
+  -- and not before it where the key's rank is up to its own
+  to-test : (value key : T) → rank value < n → rank key < n
+      → not (is_lt (cmp value key)) ≡ nat_le (rank key) (rank value)
+  to-test value key known other = elim (order-cases cmp rank n in_order value key known other) [
+    | inl less ↦ rw less.1 (grind (arith, nat_tests, less.0))
+    | inr (inl same) ↦ rw same.1 (grind (arith, nat_tests, same.0))
+    | inr (inr more) ↦ rw more.1 (grind (arith, nat_tests, more.0))
+  ]
+
+  -- values in order are not the wrong way round
+  pub order-forward : (first last : T) → rank first < n → rank last < n → rank first ≤ rank last
+      → is_gt (cmp first last) ≡ false
+  order-forward first last low high order =
+      elim (order-cases cmp rank n in_order first last low high) [
+        | inl less ↦ rw less.1 refl
+        | inr (inl same) ↦ rw same.1 refl
+        | inr (inr more) ↦ let wrong = more.0 in absurd (omega (arith, wrong, order))
+      ]
+
+  -- the entries from one value to another are those that start from its rank to the other's
+  pub runs-within : (first last : T) → rank first < n → rank last < n → (entries : List (T × T))
+      → StartsAscendFrom n 0 (runs_of rank entries)
+      → runs_of rank
+      (filter (λ (entry : T × T). range_contains cmp (Included first) (Included last) entry.0) entries)
+      ≡ starting_within (rank first) (rank last) (runs_of rank entries)
+  runs-within first last low high entries ascending =
+      runs-filter rank n (range_contains cmp (Included first) (Included last))
+      (λ start. nat_le (rank first) start && nat_le start (rank last)) 0 entries
+      (λ key other. λ i. from-test first key low other i && to-test last key high other i) ascending

@@ -1,0 +1,149 @@
+//! The part of a set between two bounds: its runs, its gaps, and how many members it has.
+
+ghost use Rattle.std.specs.Prelude.{◌≡◌, [], ◌<◌, ◌≤◌, MatchOption};
+ghost use Rattle.rsb_integer.specs.Rank.{intervals_of};
+ghost use Rattle.rsb_integer.specs.Runs.{covers, members, AreRuns, IsCanonicalIn};
+ghost use Rattle.rsb_integer.specs.Selection.{count, difference, intersection};
+ghost use Rattle.rsb_streams.specs.Stream.{◌⊆◌};
+ghost use Rattle.range_set_blaze.specs.Kept.{run_of, runs_of};
+ghost use Rattle.range_set_blaze.specs.Set.{ranks_in, IsSetOf};
+ghost use Rattle.range_set_blaze.specs.Split.{NoneOver};
+ghost use Rattle.range_set_blaze.specs.Windows.{starting_within, ReachesIn};
+
+use crate::ranges_in::RangesIn;
+use crate::set::RangeSetBlaze;
+use crate::set::entries::run_up_to;
+use crate::set::insert::run_between;
+use crate::set::run::{Run, is_below, known, previous};
+use rsb_integer::Integer;
+use rsb_streams::{Difference, Draw, DrawDisjoint, RangeOnce};
+use std::alloc::Allocator;
+use std::collections::BTreeMap;
+use std::collections::btree_map::Range;
+use std::ops::RangeBounds;
+
+/// The gaps of a set between two bounds: what `gaps_in` returns. Not in range-set-blaze.
+pub type GapsIn<'a, T> = Difference<T, RangeOnce<T>, RangesIn<'a, T>>;
+
+impl<T: Integer, A: Allocator> RangeSetBlaze<T, A> {
+    /// Returns the runs between two bounds in ascending order, from both ends. A run that goes on
+    /// past a bound has only its values between the bounds. Reversed bounds have no runs. It does
+    /// not allocate, and finds its ends in O(log n) for n runs. Not in range-set-blaze.
+    pub fn ranges_in<'a, R: RangeBounds<T>>(&'a self, range: R) -> RangesIn<'a, T>
+        ensures members { R.has_bounds range → IsSetOf (intervals_of T.rank result)
+            (intersection (members self.now)
+            (ranks_in T.rank T.value_count R.start_bound R.end_bound range)) }
+        ensures ready { IsCanonicalIn T.value_count (intervals_of T.rank result) }
+        ensures runs { R.has_bounds range → AreRuns T.value_count
+            (intersection (members self.now)
+            (ranks_in T.rank T.value_count R.start_bound R.end_bound range))
+            (intervals_of T.rank result) }
+    {
+        match run_between(&range) {
+            Some(window) => runs_between(&self.map, window),
+            None => no_runs(&self.map),
+        }
+    }
+
+    /// Returns the number of members between two bounds. It does not allocate, and takes a step for
+    /// each run between them. Not in range-set-blaze.
+    pub fn len_in<R: RangeBounds<T>>(&self, range: R) -> T::SafeLen
+        ensures { R.has_bounds range → T.SafeLen.number result ≡ count T.value_count
+            (intersection (members self.now)
+            (ranks_in T.rank T.value_count R.start_bound R.end_bound range)) }
+    {
+        self.ranges_in(range).members_len()
+    }
+
+    /// Returns the gaps between two bounds in ascending order: the values there that are not
+    /// members. It does not allocate. Not in range-set-blaze.
+    pub fn gaps_in<'a, R: RangeBounds<T>>(&'a self, range: R) -> GapsIn<'a, T>
+        ensures ready { ⟦<GapsIn<'a, T> as Draw<T>>⟧.can_draw result }
+        ensures members { R.has_bounds range → ⟦<GapsIn<'a, T> as Draw<T>>⟧.may_give result
+            ⊆ (λ gaps. IsSetOf gaps (difference
+            (ranks_in T.rank T.value_count R.start_bound R.end_bound range) (members self.now))) }
+        ensures runs { R.has_bounds range → ⟦<GapsIn<'a, T> as Draw<T>>⟧.may_give result
+            ⊆ AreRuns T.value_count (difference
+            (ranks_in T.rank T.value_count R.start_bound R.end_bound range) (members self.now)) }
+    {
+        values_between(&range).difference(self.ranges_in(range))
+    }
+}
+
+// The values between two bounds, as a stream.
+fn values_between<T: Integer, R: RangeBounds<T>>(range: &R) -> RangeOnce<T>
+    ensures ready { ⟦<RangeOnce<T> as Draw<T>>⟧.can_draw result }
+    ensures gives { R.has_bounds range.now → ⟦<RangeOnce<T> as Draw<T>>⟧.may_give result
+        ⊆ (λ runs. IsSetOf runs
+        (ranks_in T.rank T.value_count R.start_bound R.end_bound range.now)) }
+{
+    match run_between(range) {
+        Some(run) => RangeOnce::new(run.start..=run.end),
+        None => RangeOnce::new(T::exhausted_range()),
+    }
+}
+
+// The runs between the ends of a run.
+fn runs_between<'a, T: Integer, A: Allocator>(
+    map: &'a BTreeMap<T, T, A>,
+    window: Run<T>,
+) -> RangesIn<'a, T>
+    requires canonical { IsCanonicalIn T.value_count (runs_of T.rank map.now.entries) }
+    requires order { T.rank window.start ≤ T.rank window.end }
+    requires value { T.rank window.end < T.value_count }
+    ensures canonical { IsCanonicalIn T.value_count (intervals_of T.rank result) }
+    ensures members { IsSetOf (intervals_of T.rank result)
+        (intersection (members (runs_of T.rank map.now.entries))
+        (covers (run_of T.rank window))) }
+{
+    RangesIn {
+        first: reaching_in(map, window.start),
+        entries: starting_in(map, window),
+        last: window.end,
+    }
+}
+
+// No runs.
+fn no_runs<'a, T: Integer, A: Allocator>(map: &'a BTreeMap<T, T, A>) -> RangesIn<'a, T>
+    ensures { result ≡ [] }
+{
+    let start = known(T::min_value());
+    RangesIn {
+        first: None,
+        entries: map.range(start..start),
+        last: start,
+    }
+}
+
+// What a run that starts before a value has from it on, or `None` where none reaches it.
+fn reaching_in<T: Integer, A: Allocator>(map: &BTreeMap<T, T, A>, start: T) -> Option<Run<T>>
+    requires canonical { IsCanonicalIn T.value_count (runs_of T.rank map.now.entries) }
+    requires value { T.rank start < T.value_count }
+    ensures { MatchOption result (NoneOver (runs_of T.rank map.now.entries) (T.rank start))
+        (λ part. ReachesIn (runs_of T.rank map.now.entries) (T.rank start)
+        (run_of T.rank part)) }
+{
+    let before = previous(start)?;
+    let run = run_up_to(map, before)?;
+    if is_below(run.end, start) {
+        return None;
+    }
+    Some(Run {
+        start,
+        end: run.end,
+    })
+}
+
+// The runs that start between the ends of a run.
+fn starting_in<'a, T: Integer, A: Allocator>(
+    map: &'a BTreeMap<T, T, A>,
+    window: Run<T>,
+) -> Range<'a, T, T>
+    requires canonical { IsCanonicalIn T.value_count (runs_of T.rank map.now.entries) }
+    requires order { T.rank window.start ≤ T.rank window.end }
+    requires value { T.rank window.end < T.value_count }
+    ensures { runs_of T.rank result ≡ starting_within (T.rank window.start) (T.rank window.end)
+        (runs_of T.rank map.now.entries) }
+{
+    map.range(window.start..=window.end)
+}

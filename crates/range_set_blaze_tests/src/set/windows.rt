@@ -1,0 +1,315 @@
+//! The part of a set between two bounds: its runs, its gaps, and how many members it has.
+
+ghost use Rattle.std.specs.Prelude.{◌≡◌, IfOk};
+ghost use Rattle.std.specs.declared.ops.Bound.TheVariants.{Included};
+ghost use Rattle.range_set_blaze.specs.Runs.{members};
+ghost use Rattle.range_set_blaze.specs.Selection.{count, difference, intersection};
+ghost use Rattle.range_set_blaze.specs.Set.{between, IsSetOf};
+
+use crate::set::rows::has;
+use range_set_blaze::{Integer, IntoRangeSetBlaze, RangeSetBlaze};
+use rsb_commands::outside::Slot;
+use rsb_tables::{Table, every_fifth, gives, set_of, slot, slots};
+use std::alloc::{AllocError, Global};
+use std::ops::Bound;
+use std::test::*;
+
+/// Returns the set of the values from one to another that a set lacks.
+fn missing<T: Integer>(
+    alloc: Global,
+    set: &RangeSetBlaze<T>,
+    a: T,
+    b: T,
+) -> Result<RangeSetBlaze<T>, AllocError>
+    ensures { IfOk result (λ gaps. IsSetOf gaps
+        (difference (between T.rank T.value_count (Included a) (Included b)) (members set.now))) }
+{
+    set.gaps_in(a..=b).into_range_set_blaze(alloc)
+}
+
+/// Returns the set of the members from one value to another.
+fn kept<T: Integer>(
+    alloc: Global,
+    set: &RangeSetBlaze<T>,
+    a: T,
+    b: T,
+) -> Result<RangeSetBlaze<T>, AllocError>
+    ensures { IfOk result (λ part. IsSetOf part
+        (intersection (members set.now) (between T.rank T.value_count (Included a) (Included b)))) }
+{
+    RangeSetBlaze::from_sorted_disjoint(alloc, set.ranges_in(a..=b))
+}
+
+/// Returns how many members lie from one value to another.
+fn members_between<T: Integer>(set: &RangeSetBlaze<T>, a: T, b: T) -> T::SafeLen
+    ensures { T.SafeLen.number result ≡ count T.value_count
+        (intersection (members set.now) (between T.rank T.value_count (Included a) (Included b))) }
+{
+    set.len_in(a..=b)
+}
+
+/// Returns how many runs lie between two bounds, from either end, and how many gaps.
+fn pieces<T: Integer>(
+    set: &RangeSetBlaze<T>,
+    bounds: (Bound<T>, Bound<T>),
+) -> (usize, usize, usize) {
+    let (mut runs, mut back, mut gaps) = (0usize, 0usize, 0usize);
+    for _ in set.ranges_in(bounds) {
+        runs = runs.saturating_add(1);
+    }
+    for _ in set.ranges_in(bounds).rev() {
+        back = back.saturating_add(1);
+    }
+    for _ in set.gaps_in(bounds) {
+        gaps = gaps.saturating_add(1);
+    }
+    (runs, back, gaps)
+}
+
+/// Returns the set of the values from one to another that two sets have and a third lacks
+/// nowhere from there on.
+fn nest(
+    alloc: Global,
+    set: &RangeSetBlaze<i32>,
+    other: &RangeSetBlaze<i32>,
+    third: &RangeSetBlaze<i32>,
+    a: i32,
+    b: i32,
+) -> Result<RangeSetBlaze<i32>, AllocError> {
+    let nest = (set.ranges_in(a..=b) & other.ranges()) - !third.ranges_in(..);
+    nest.into_range_set_blaze(alloc)
+}
+
+/// A set and two bounds, and what lies between these: runs, gaps, and the number of members.
+struct Row {
+    set: Table<'static>,
+    start: Bound<i32>,
+    end: Bound<i32>,
+    runs: Table<'static>,
+    gaps: Table<'static>,
+    members: u64,
+}
+
+/// Three runs.
+const THREE: Table<'static> = &[(1, 4), (8, 13), (20, 20)];
+
+static ROWS: [Row; 17] = [
+    Row {
+        set: &[],
+        start: Bound::Included(3),
+        end: Bound::Included(9),
+        runs: &[],
+        gaps: &[(3, 9)],
+        members: 0,
+    },
+    Row {
+        set: &[],
+        start: Bound::Unbounded,
+        end: Bound::Unbounded,
+        runs: &[],
+        gaps: &[(i32::MIN, i32::MAX)],
+        members: 0,
+    },
+    Row {
+        set: THREE,
+        start: Bound::Included(3),
+        end: Bound::Included(9),
+        runs: &[(3, 4), (8, 9)],
+        gaps: &[(5, 7)],
+        members: 4,
+    },
+    Row {
+        set: THREE,
+        start: Bound::Excluded(4),
+        end: Bound::Excluded(8),
+        runs: &[],
+        gaps: &[(5, 7)],
+        members: 0,
+    },
+    Row {
+        set: THREE,
+        start: Bound::Included(9),
+        end: Bound::Included(12),
+        runs: &[(9, 12)],
+        gaps: &[],
+        members: 4,
+    },
+    Row {
+        set: THREE,
+        start: Bound::Included(8),
+        end: Bound::Included(13),
+        runs: &[(8, 13)],
+        gaps: &[],
+        members: 6,
+    },
+    Row {
+        set: THREE,
+        start: Bound::Excluded(8),
+        end: Bound::Excluded(20),
+        runs: &[(9, 13)],
+        gaps: &[(14, 19)],
+        members: 5,
+    },
+    Row {
+        set: THREE,
+        start: Bound::Unbounded,
+        end: Bound::Excluded(9),
+        runs: &[(1, 4), (8, 8)],
+        gaps: &[(i32::MIN, 0), (5, 7)],
+        members: 5,
+    },
+    Row {
+        set: THREE,
+        start: Bound::Included(13),
+        end: Bound::Unbounded,
+        runs: &[(13, 13), (20, 20)],
+        gaps: &[(14, 19), (21, i32::MAX)],
+        members: 2,
+    },
+    Row {
+        set: THREE,
+        start: Bound::Included(0),
+        end: Bound::Included(25),
+        runs: THREE,
+        gaps: &[(0, 0), (5, 7), (14, 19), (21, 25)],
+        members: 11,
+    },
+    Row {
+        set: THREE,
+        start: Bound::Included(9),
+        end: Bound::Included(8),
+        runs: &[],
+        gaps: &[],
+        members: 0,
+    },
+    Row {
+        set: THREE,
+        start: Bound::Excluded(9),
+        end: Bound::Excluded(9),
+        runs: &[],
+        gaps: &[],
+        members: 0,
+    },
+    Row {
+        set: THREE,
+        start: Bound::Excluded(9),
+        end: Bound::Included(-9),
+        runs: &[],
+        gaps: &[],
+        members: 0,
+    },
+    Row {
+        set: &[(i32::MIN, i32::MAX)],
+        start: Bound::Excluded(i32::MAX),
+        end: Bound::Unbounded,
+        runs: &[],
+        gaps: &[],
+        members: 0,
+    },
+    Row {
+        set: &[(i32::MIN, i32::MAX)],
+        start: Bound::Unbounded,
+        end: Bound::Excluded(i32::MIN),
+        runs: &[],
+        gaps: &[],
+        members: 0,
+    },
+    Row {
+        set: &[(i32::MIN, i32::MAX)],
+        start: Bound::Unbounded,
+        end: Bound::Unbounded,
+        runs: &[(i32::MIN, i32::MAX)],
+        gaps: &[],
+        members: 4_294_967_296,
+    },
+    Row {
+        set: &[(i32::MIN, i32::MIN), (i32::MAX, i32::MAX)],
+        start: Bound::Included(i32::MIN),
+        end: Bound::Included(i32::MAX),
+        runs: &[(i32::MIN, i32::MIN), (i32::MAX, i32::MAX)],
+        gaps: &[(-2_147_483_647, 2_147_483_646)],
+        members: 2,
+    },
+];
+
+/// Whether these runs, gaps and members lie between the bounds.
+fn lie_between(set: &RangeSetBlaze<i32>, row: &Row) -> bool {
+    let bounds = (row.start, row.end);
+    gives(set.ranges_in(bounds), row.runs)
+        && gives(set.gaps_in(bounds), row.gaps)
+        && set.len_in(bounds) == row.members
+        && pieces(set, bounds) == (row.runs.len(), row.runs.len(), row.gaps.len())
+}
+
+#[test]
+fn what_lies_between_two_bounds_comes_in_order(rt: HostRuntime) -> Result<(), Fail> {
+    let mut number = 0u8;
+    for row in &ROWS {
+        let set = set_of(rt.alloc(), row.set)?;
+        assert!(rt; lie_between(&set, row), "row {number}");
+        number = number.saturating_add(1);
+    }
+    Ok(())
+}
+
+/// Whether the runs between two values come from either end.
+fn come_from_both_ends(set: &RangeSetBlaze<i32>) -> bool {
+    let mut ranges = set.ranges_in(3..=9);
+    ranges.next_back() == Some(8..=9)
+        && ranges.next() == Some(3..=4)
+        && ranges.next().is_none()
+        && ranges.next_back().is_none()
+}
+
+/// Whether the sets of what lies between two values are these.
+fn make_sets(alloc: Global, set: &RangeSetBlaze<i32>) -> Result<bool, AllocError> {
+    Ok(
+        has(&missing(alloc, set, 3, 9)?, &[(5, 7)])
+            && has(&kept(alloc, set, 3, 9)?, &[(3, 4), (8, 9)])
+            && members_between(set, 3, 9) == 4,
+    )
+}
+
+/// Whether a nest of windows has these values.
+fn nests(alloc: Global, set: &RangeSetBlaze<i32>) -> Result<bool, AllocError> {
+    let (other, third) = (set_of(alloc, &[(0, 9)])?, set_of(alloc, &[(4, 30)])?);
+    Ok(has(&nest(alloc, set, &other, &third, 2, 12)?, &[(4, 4), (8, 9)]))
+}
+
+#[test]
+fn windows_are_streams(rt: HostRuntime) -> Result<(), Fail> {
+    let set = set_of(rt.alloc(), THREE)?;
+    assert!(rt; come_from_both_ends(&set));
+    assert!(rt; make_sets(rt.alloc(), &set)? && nests(rt.alloc(), &set)?);
+    Ok(())
+}
+
+/// Whether the slots between two are told, at a type of one's own.
+fn slots_lie_between(alloc: Global) -> Result<bool, AllocError> {
+    let mut booked = RangeSetBlaze::<Slot>::from(alloc, slots(8, 11))?;
+    let is_new = booked.ranges_insert(slots(20, 23))?;
+    Ok(
+        is_new
+            && gives(
+                booked.ranges_in(slots(10, 20)),
+                &[(slot(10), slot(11)), (slot(20), slot(20))],
+            )
+            && gives(booked.gaps_in(slots(10, 20)), &[(slot(12), slot(19))])
+            && booked.len_in(slots(10, 20)) == 3,
+    )
+}
+
+#[test]
+fn free_slots_of_a_morning_are_gaps(rt: HostRuntime) -> Result<(), Fail> {
+    assert!(rt; slots_lie_between(rt.alloc())?);
+    Ok(())
+}
+
+#[test]
+fn seventy_thousand_runs_lie_between_two_bounds(rt: HostRuntime) -> Result<(), Fail> {
+    let set = every_fifth(rt.alloc(), 0, 2)?;
+    let bounds = (Bound::Included(1), Bound::Included(349_996));
+    assert!(rt; pieces(&set, bounds) == (70_000, 70_000, 69_999));
+    assert!(rt; set.len_in(bounds) == 209_998);
+    Ok(())
+}
