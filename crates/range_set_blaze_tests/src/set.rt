@@ -1,6 +1,7 @@
 //! Sets.
 
 mod additions;
+mod assign;
 mod calls;
 mod cells;
 mod element_types;
@@ -30,6 +31,7 @@ mod retain_conditions;
 mod retained;
 pub(crate) mod rows;
 mod splits;
+mod std_habits;
 mod std_traits;
 mod steps;
 mod subsets;
