@@ -18,6 +18,7 @@ mod macros;
 mod makings;
 pub(crate) mod many_runs;
 mod million_runs;
+mod one_set_more;
 mod operators;
 mod order;
 mod own_types;

@@ -118,7 +118,7 @@ pub(super) fn intersection_of<
 }
 
 // The set of what one stream has and the other lacks.
-pub(super) fn difference_of<T: Integer, A: Allocator + Copy, L: DrawDisjoint<T>, R: DrawDisjoint<T>>(
+fn difference_of<T: Integer, A: Allocator + Copy, L: DrawDisjoint<T>, R: DrawDisjoint<T>>(
     alloc: A,
     left: L,
     right: R,
