@@ -1,6 +1,7 @@
 -- Values and ranges that an iterator lends, and what they come to by value.
 use denote.Ref.{Bor}
-use Rattle.std.proofs.Common.{◌≡◌, ◌||◌, ℕ, List, [], ◌∷◌, refl, sym, ap, subst, ◌∙◌}
+use Rattle.std.proofs.Common.{◌≡◌, ◌||◌, ℕ, List, [], ◌∷◌, refl, sym, ap, subst, ◌∙◌, arith}
+use Rattle.std.proofs.lemmas.Bool.Decides.{nat_tests}
 use Rattle.std.specs.Iterator.{Yields}
 use Rattle.std.specs.Iterator.Adapters.{copied_source, copied_steps}
 use Rattle.std.specs.Option.{option_copied}
@@ -8,13 +9,18 @@ use Rattle.std.specs.Prelude.{Option, None, Some}
 use Rattle.std.specs.declared.iter.Copied.{Copied}
 use Rattle.std.specs.declared.ops.RangeInclusive.{RangeInclusive}
 use Rattle.rsb_integer.specs.Rank.{interval_of, intervals_of}
-use Rattle.rsb_integer.specs.Runs.{Interval, members}
+use Rattle.rsb_integer.specs.Runs.{Interval, covers, members, HasNoRanks}
 use Rattle.rsb_integer.proofs.MembersLemmas.{members-cons}
 use Rattle.rsb_streams.specs.Items.{GaveAll}
 use Rattle.range_set_blaze.specs.Algebra.{IsSetOfItems}
 use Rattle.range_set_blaze.specs.Lent.{lent_steps, pointed_to}
 use Rattle.range_set_blaze.specs.Set.{IsSetOf}
 use Rattle.range_set_blaze.specs.declared.set.lent_ranges.LentRanges.{LentRanges}
+
+-- intervals with no rank cover the same: nothing
+pub same-nothing : (one other : Interval) → HasNoRanks one → HasNoRanks other → (point : ℕ)
+    → covers one point ≡ covers other point
+same-nothing one other empty none point = grind (arith, nat_tests)
 
 module _ {T : Type 0} where
   -- a copy is one of what a reference points to

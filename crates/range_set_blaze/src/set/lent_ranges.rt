@@ -1,5 +1,6 @@
 //! The ranges that an iterator lends, by value.
 
+ghost use Rattle.std.specs.Prelude.{◌≡◌};
 ghost use Rattle.range_set_blaze.specs.Lent.{lent_steps, HaveSameRanks};
 
 use crate::set::run::known;
