@@ -11,6 +11,7 @@ pub mod retaining
 pub mod runs
 pub mod splitting
 pub mod windows
+pub mod HowManyLemmas
 pub use Rattle.rsb_integer.proofs.AnyOfLemmas
 pub use Rattle.rsb_integer.proofs.CountLemmas
 pub use Rattle.rsb_integer.proofs.MembersLemmas

@@ -7,6 +7,7 @@ pub mod Hash
 pub mod HashLaws
 pub mod Joining
 pub mod Kept
+pub mod Lent
 pub mod Multiway
 pub mod Order
 pub mod OrderLaws

@@ -7,6 +7,7 @@ ghost use Rattle.rsb_integer.specs.Selection.{count, IsEmpty};
 ghost use Rattle.range_set_blaze.specs.Set.{IsGreatest, IsLeast};
 
 mod algebra;
+mod assign;
 mod bulk;
 mod collect;
 pub(crate) mod elements;
@@ -18,7 +19,10 @@ pub(crate) mod hash;
 mod insert;
 mod keep;
 mod lengths;
+mod lent;
+pub(crate) mod lent_ranges;
 mod look_up;
+mod made_empty;
 mod operators;
 pub(crate) mod order;
 mod ranked;

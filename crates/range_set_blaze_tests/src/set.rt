@@ -1,6 +1,7 @@
 //! Sets.
 
 mod additions;
+mod assign;
 mod calls;
 mod cells;
 mod element_types;
@@ -18,6 +19,7 @@ mod macros;
 mod makings;
 pub(crate) mod many_runs;
 mod million_runs;
+mod one_set_more;
 mod operators;
 mod order;
 mod own_types;
@@ -33,6 +35,7 @@ mod retain_conditions;
 mod retained;
 pub(crate) mod rows;
 mod splits;
+mod std_habits;
 mod std_traits;
 mod steps;
 mod subsets;

@@ -52,7 +52,7 @@ impl<T: Integer, A: Allocator + Clone> RangeSetBlaze<T, A> {
     }
 
     // Adds the values of a range. Without memory the set is as it was.
-    fn add_range(&mut self, range: RangeInclusive<T>) -> Result<(), AllocError>
+    pub(super) fn add_range(&mut self, range: RangeInclusive<T>) -> Result<(), AllocError>
         ensures members { OnOk result
             (Adds self.old self.new (covers (interval_of T.rank range))) }
         ensures err { OnErr result (self.new ≡ self.old) }

@@ -32,9 +32,25 @@ pub(crate) enum Change {
     StdExtend,
     /// Adds each fourth value from the one to the other.
     StdExtendValues(i32, i32),
+    BitandAssign,
+    SubAssign,
+    BitxorAssign,
 }
 
 impl Change {
+    /// Whether it reads the other set, and adds it or not.
+    pub(crate) fn takes_other(self) -> bool {
+        self.adds() || self.meets()
+    }
+
+    /// Whether it keeps, removes or exchanges members by the other set, which stays as it is.
+    fn meets(self) -> bool {
+        matches!(
+            self,
+            Change::BitandAssign | Change::SubAssign | Change::BitxorAssign
+        )
+    }
+
     /// Whether it adds the other set.
     pub(crate) fn adds(self) -> bool {
         matches!(
@@ -134,6 +150,21 @@ fn add<A: Allocator + Copy>(
     Ok(Answer::Nothing)
 }
 
+/// Changes a set by what another has.
+fn meet<A: Allocator + Copy>(
+    change: Change,
+    set: &mut RangeSetBlaze<i32, A>,
+    other: &RangeSetBlaze<i32, A>,
+) -> Result<Answer, AllocError> {
+    let changed = match change {
+        Change::BitandAssign => set.bitand_assign(other),
+        Change::SubAssign => set.sub_assign(other),
+        _ => set.bitxor_assign(other),
+    };
+    changed?;
+    Ok(Answer::Nothing)
+}
+
 /// Keeps some values, and says about how many it was asked.
 fn retain<A: Allocator + Copy>(
     set: &mut RangeSetBlaze<i32, A>,
@@ -204,6 +235,7 @@ pub(crate) fn carry_out<A: Allocator + Copy>(
 ) -> Result<Answer, AllocError> {
     match change {
         _ if change.adds() => add(alloc, change, set, other),
+        _ if change.meets() => meet(change, set, other),
         Change::Insert(_) | Change::Replace(_) | Change::RangesInsert(_, _) => put(change, set),
         Change::Retain(divisor, rest) => retain(set, divisor, rest),
         Change::RangesRetain(divisor, rest) => Ok(retain_ranges(set, divisor, rest)),

@@ -121,6 +121,8 @@ fn is_meant(change: Change, cell: &Cell, first: i32, last: i32, begin: i32) -> b
         | Change::BitorAssignOwned
         | Change::StdExtend
         | Change::StdExtendValues(_, _) => is_added(change, cell),
+        Change::BitandAssign => !cell.is_other,
+        Change::SubAssign | Change::BitxorAssign => cell.is_other,
     }
 }
 
@@ -137,7 +139,9 @@ fn puts(change: Change) -> bool {
 /// are these, and whose run at the cell begins at a value.
 fn is_member_after(change: Change, cell: Cell, first: i32, last: i32, begin: i32) -> bool {
     let is_meant = is_meant(change, &cell, first, last, begin);
-    if puts(change) {
+    if matches!(change, Change::BitxorAssign) {
+        cell.is_member != is_meant
+    } else if puts(change) {
         cell.is_member || is_meant
     } else {
         cell.is_member && !is_meant

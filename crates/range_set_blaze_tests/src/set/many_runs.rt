@@ -12,7 +12,7 @@ use std::test::*;
 
 /// Changes in turn of the set of the first three of each five values from 0 on, beside that of the
 /// fourth, and how many runs and members each leaves.
-static CHANGED: [(Change, usize, u64); 22] = [
+static CHANGED: [(Change, usize, u64); 25] = [
     (Change::Insert(-5), 70_001, 210_001),
     (Change::Insert(170_003), 70_001, 210_002),
     (Change::Insert(170_004), 70_000, 210_003),
@@ -32,12 +32,15 @@ static CHANGED: [(Change, usize, u64); 22] = [
     (Change::Extend, 95_057, 229_484),
     (Change::BitorAssign, 95_057, 229_484),
     (Change::BitorAssignOwned, 95_057, 229_484),
+    (Change::SubAssign, 89_886, 159_484),
+    (Change::BitxorAssign, 95_057, 229_484),
     (Change::RangesInsert(10, 349_980), 7, 349_982),
     (Change::RangesInsert(-5, 350_005), 1, 350_011),
+    (Change::BitandAssign, 70_000, 70_000),
     (Change::Clear, 0, 0),
 ];
 
-/// Changes a set, beside a copy of another where the call adds one.
+/// Changes a set, beside a copy of another where the call takes one.
 pub(crate) fn change(
     alloc: Global,
     call: Change,
@@ -45,7 +48,7 @@ pub(crate) fn change(
     added: &RangeSetBlaze<i32>,
 ) -> Result<(), AllocError> {
     let mut other = RangeSetBlaze::new(alloc);
-    if call.adds() {
+    if call.takes_other() {
         other = added.clone()?;
     }
     carry_out(alloc, call, set, &mut other)?;

@@ -6,7 +6,7 @@
 //! `meaning`), and where it wants memory (`wants`); so it is tried.
 
 mod built;
-mod changes;
+pub(crate) mod changes;
 mod dropped;
 pub(crate) mod heaps;
 mod makings;

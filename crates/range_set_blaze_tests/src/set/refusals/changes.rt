@@ -36,7 +36,10 @@ fn after(change: Change) -> Option<Change> {
         Change::StdExtend => Change::Append,
         Change::Append => Change::BitorAssign,
         Change::BitorAssign => Change::BitorAssignOwned,
-        Change::BitorAssignOwned => return None,
+        Change::BitorAssignOwned => Change::BitandAssign,
+        Change::BitandAssign => Change::SubAssign,
+        Change::SubAssign => Change::BitxorAssign,
+        Change::BitxorAssign => return None,
     };
     Some(next)
 }
@@ -67,6 +70,10 @@ fn wants(change: Change, count: i32, others: i32) -> bool {
             let (few, more) = (count.min(others), count.max(others));
             few > 0 && grows(more, few) || is_anew(count, others)
         }
+        // The two sets have no common member.
+        Change::BitandAssign => false,
+        Change::SubAssign => count > 0 && others > 0,
+        Change::BitxorAssign => others > 0,
     }
 }
 
@@ -164,7 +171,7 @@ fn places(change: Change, count: i32) -> i32 {
     match change {
         Change::PopFirst | Change::PopLast => count.saturating_mul(3).saturating_add(1),
         Change::RangesInsert(_, 815) | Change::RangesRemove(_, 815) => 1,
-        _ if change.adds() => 1,
+        _ if change.takes_other() => 1,
         _ => count.saturating_add(1),
     }
 }
@@ -224,13 +231,13 @@ fn is_right(alloc: Global, change: Change, count: i32, others: i32) -> Result<bo
     Ok(refused == Some(wants(change, count, others)) && heap.bytes() == 0)
 }
 
-/// The place of the first change that is not refused as it is to be, if any is: of those that add
-/// where there is something to add, and of all else.
+/// The place of the first change that is not refused as it is to be, if any is: of those that take
+/// another set, and of all else where that is empty.
 fn first_wrong(alloc: Global, count: i32, others: i32) -> Option<u8> {
     let mut next = Some(FIRST);
     for place in 0..u8::MAX {
         let change = next?;
-        let is_tried = others == 0 || change.adds();
+        let is_tried = others == 0 || change.takes_other();
         if is_tried && is_right(alloc, change, count, others) != Ok(true) {
             return Some(place);
         }

@@ -1,0 +1,5 @@
+use Rattle.range_set_blaze.proofs.set.lent_ranges.LentRangesIterator.next.Goals as goal
+
+-- the range has the ranks of the one that was lent
+pub returns-clause-steps : goal.returns-clause-steps
+returns-clause-steps g c = (c.in_ok-range.range, c.in_ok-range.ensures.steps, c.range_like.ensures)

@@ -1,0 +1,50 @@
+//! The ranges that an iterator lends, by value.
+
+ghost use Rattle.std.specs.Prelude.{◌≡◌};
+ghost use Rattle.range_set_blaze.specs.Lent.{lent_steps, HaveSameRanks};
+
+use crate::set::run::known;
+use rsb_integer::Integer;
+use std::ops::RangeInclusive;
+
+/// The ranges that an iterator lends, each as one with the same members.
+#[derive(Drop)]
+pub(crate) struct LentRanges<I> {
+    ranges: I,
+}
+
+impl<I> LentRanges<I> {
+    /// What an iterator lends, by value; nothing is drawn yet.
+    pub(crate) fn new(ranges: I) -> Self
+        ensures { result.ranges ≡ ranges }
+    {
+        LentRanges { ranges }
+    }
+}
+
+impl<'a, T: Integer + 'a, I: Iterator<Item = &'a RangeInclusive<T>>> Iterator for LentRanges<I> {
+    type Item = RangeInclusive<T>;
+
+    ghost can_next = { λ s. I.can_next s.ranges };
+
+    ghost next_gives = { lent_steps T.rank I.next_gives };
+
+    ghost remaining = { λ s. I.remaining s.ranges };
+
+    fn next(&mut self) -> Option<RangeInclusive<T>> {
+        let range = self.ranges.next()?;
+        Some(range_like(range))
+    }
+}
+
+/// A range with the same members: an empty one for a range that was iterated to its end.
+pub(crate) fn range_like<T: Integer>(range: &RangeInclusive<T>) -> RangeInclusive<T>
+    ensures { HaveSameRanks T.rank result range.now }
+{
+    let start = known(*range.start());
+    let end = known(*range.end());
+    if range.is_empty() {
+        return T::exhausted_range();
+    }
+    start..=end
+}

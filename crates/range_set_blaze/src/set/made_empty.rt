@@ -1,0 +1,36 @@
+//! Empty sets in place of others, as std's collections make them, and the allocator of a set.
+
+ghost use Rattle.std.specs.Prelude.{◌≡◌, [], IsOk};
+
+use crate::set::RangeSetBlaze;
+use rsb_integer::Integer;
+use std::alloc::{AllocError, Allocator};
+use std::default::{Emptied, MadeWith};
+
+/// `mem::try_take(&mut set)?`: an empty set stays, and no allocation can fail.
+impl<T: Integer, A: Allocator + Copy> Emptied for RangeSetBlaze<T, A> {
+    ghost is_emptied = { λ set. set ≡ [] };
+
+    fn emptied(like: &Self) -> Result<Self, AllocError>
+        ensures succeeds { IsOk result }
+    {
+        Ok(RangeSetBlaze::new(like.alloc))
+    }
+}
+
+/// `or_default` of a map of sets: an absent key gets the empty set.
+impl<T: Integer, A: Allocator + Copy> MadeWith<A> for RangeSetBlaze<T, A> {
+    ghost is_made_with = { λ set. set ≡ [] };
+
+    fn made_with(alloc: A) -> Self {
+        RangeSetBlaze::new(alloc)
+    }
+}
+
+impl<T: Integer, A: Allocator> RangeSetBlaze<T, A> {
+    /// Returns the allocator of the set, with which the calls on the set make others. Not in
+    /// range-set-blaze.
+    pub fn allocator(&self) -> &A {
+        &self.alloc
+    }
+}

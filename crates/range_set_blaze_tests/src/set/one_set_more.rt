@@ -1,0 +1,41 @@
+//! Sets that are taken up one after the other, with how many of them have each value.
+
+ghost use Rattle.std.specs.Prelude.{map, IfOk};
+ghost use Rattle.rsb_integer.specs.Runs.{members};
+ghost use Rattle.rsb_integer.specs.Selection.{at_least};
+ghost use Rattle.range_set_blaze.specs.Set.{IsSetOf};
+
+use crate::set::rows::has;
+use range_set_blaze::{Integer, MultiwayRangeSetBlazeRef, RangeSetBlaze};
+use rsb_tables::set_of;
+use std::alloc::{AllocError, Allocator};
+use std::test::*;
+
+/// Returns the set of what lies in at least two of some sets.
+fn in_two<T: Integer, A: Allocator + Copy>(
+    alloc: A,
+    sets: &[RangeSetBlaze<T, A>],
+) -> Result<RangeSetBlaze<T, A>, AllocError>
+    ensures { IfOk result (λ set. IsSetOf set (at_least 2 (map members sets.now))) }
+{
+    let mut once = RangeSetBlaze::new(alloc);
+    let mut twice = RangeSetBlaze::new(alloc);
+    for set in sets {
+        twice.bitor_assign(&once.bitand(set)?)?;
+        once.bitor_assign(set)?;
+    }
+    Ok(twice)
+}
+
+#[test]
+fn what_two_of_three_have_is_found_set_by_set(rt: HostRuntime) -> Result<(), Fail> {
+    let alloc = rt.alloc();
+    let mut sets = Vec::new(alloc);
+    sets.push(set_of(alloc, &[(0, 9)])?)?;
+    sets.push(set_of(alloc, &[(5, 20)])?)?;
+    sets.push(set_of(alloc, &[(8, 9), (20, 30)])?)?;
+    let twice = in_two(alloc, &sets)?;
+    assert!(rt; has(&twice, &[(5, 9), (20, 20)]));
+    assert!(rt; MultiwayRangeSetBlazeRef::at_least(&sets, alloc, 2)? == twice);
+    Ok(())
+}
