@@ -1,8 +1,8 @@
 //! A table of taken pages: the first gap that is long enough, and what a failed allocation leaves.
 
-ghost use Rattle.std.specs.Prelude.{◌≡◌, ℕ, nat_le, nat_lt, ◌&&◌, ◌+◌, ◌^◌, ◌<◌, IfOk, IfSome, IsNone, OnErr};
+ghost use Rattle.std.specs.Prelude.{◌≡◌, ℕ, nat_le, nat_lt, ◌&&◌, ◌+◌, ◌^◌, ◌<◌, ◌≤◌, IfOk, IfSome, IsNone, OnErr, OnOk};
 ghost use Rattle.range_set_blaze.specs.FirstFit.{IsFree};
-ghost use Rattle.range_set_blaze.specs.Set.{Adds};
+ghost use Rattle.range_set_blaze.specs.Set.{Adds, Removes};
 
 use range_set_blaze::RangeSetBlaze;
 use std::alloc::{AllocError, Global};
@@ -20,7 +20,8 @@ pub fn show(alloc: Global, rt: &impl Print) -> io::Result<()> {
             None => println!(rt; "no room for {pages} pages; taken: {taken}")?,
         }
     }
-    Ok(())
+    give_back(&mut taken, 12, 3)?;
+    println!(rt; "12 to 14 are given back; taken: {taken}")
 }
 
 /// Takes the first free block of the given number of pages, and returns where it starts, or `None` if
@@ -39,6 +40,22 @@ pub fn take_block(taken: &mut RangeSetBlaze<u16>, pages: u16) -> Result<Option<u
     };
     taken.ranges_insert(start..=start + (pages - 1))?;
     Ok(Some(start))
+}
+
+/// Gives a block of pages back, and returns whether one of them was taken. If allocation fails, the
+/// table is unchanged.
+pub fn give_back(
+    taken: &mut RangeSetBlaze<u16>,
+    start: u16,
+    pages: u16,
+) -> Result<bool, AllocError>
+    requires some { 0 < pages }
+    requires within { start + pages ≤ 2 ^ 16 }
+    ensures given { OnOk result (Removes taken.old taken.new
+        (λ page. nat_le start page && nat_lt page (start + pages))) }
+    ensures err { OnErr result (taken.new ≡ taken.old) }
+{
+    taken.ranges_remove(start..=start + (pages - 1))
 }
 
 /// Where the first free block of the given number of pages starts, or `None` if there is none.

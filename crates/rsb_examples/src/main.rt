@@ -10,6 +10,7 @@ pub mod free_space;
 pub mod many_sets;
 pub mod packets;
 pub mod shifts;
+pub mod votes;
 
 use std::{env, io};
 
@@ -33,6 +34,8 @@ fn main(rt: HostRuntime) -> io::Result<()> {
     calendar::show(rt.alloc(), &rt)?;
     println!(rt; "# shifts")?;
     shifts::show(rt.alloc(), &rt)?;
+    println!(rt; "# votes")?;
+    votes::show(rt.alloc(), &rt)?;
     println!(rt; "# many sets")?;
     many_sets::show(rt.alloc(), &rt)
 }

@@ -5,7 +5,7 @@ ghost use Rattle.range_set_blaze.specs.Runs.{members};
 ghost use Rattle.range_set_blaze.specs.Selection.{difference, IsUniversal};
 ghost use Rattle.range_set_blaze.specs.Set.{IsSetOf};
 
-use range_set_blaze::{DrawDisjoint, IntoRangeSetBlaze, RangeSetBlaze};
+use range_set_blaze::{Draw, DrawDisjoint, GapsIn, IntoRangeSetBlaze, RangeSetBlaze};
 use std::alloc::{AllocError, Global};
 use std::io;
 
@@ -22,7 +22,11 @@ pub fn show(alloc: Global, rt: &impl Print) -> io::Result<()> {
         println!(rt; "next wanted: {next}")?;
     }
     let sent = RangeSetBlaze::from(alloc, 0..=9)?;
-    println!(rt; "missing of {sent}: {}", missing(alloc, &sent, &acked)?)
+    println!(rt; "missing of {sent}: {}", missing(alloc, &sent, &acked)?)?;
+    for gap in missing_below(&acked, 10) {
+        println!(rt; "ask again for {} to {}", gap.start(), gap.end())?;
+    }
+    Ok(())
 }
 
 /// The first number that is missing, or `None` where all have come.
@@ -51,4 +55,11 @@ pub fn missing(
 {
     let unanswered = sent.ranges().difference(acked.ranges());
     unanswered.into_range_set_blaze(alloc)
+}
+
+/// Returns the numbers below `end` that have not come, as a stream that does not allocate.
+pub fn missing_below<'a>(acked: &'a RangeSetBlaze<u32>, end: u32) -> GapsIn<'a, u32>
+    ensures { ⟦<GapsIn<'a, u32> as Draw<u32>>⟧.can_draw result }
+{
+    acked.gaps_in(..end)
 }
