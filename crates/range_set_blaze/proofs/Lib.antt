@@ -8,6 +8,7 @@ pub mod removal
 pub mod retaining
 pub mod runs
 pub mod splitting
+pub mod texts
 pub use Rattle.rsb_integer.proofs.AnyOfLemmas
 pub use Rattle.rsb_integer.proofs.CountLemmas
 pub use Rattle.rsb_integer.proofs.MembersLemmas

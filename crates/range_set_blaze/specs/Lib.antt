@@ -9,12 +9,15 @@ pub mod Kept
 pub mod Multiway
 pub mod Order
 pub mod OrderLaws
+pub mod Reading
 pub mod Removal
 pub mod Retain
 pub mod Set
 pub mod Singles
 pub mod Split
 pub mod Starts
+pub mod Text
+pub mod Written
 pub use Rattle.rsb_length.specs.SafeLength
 pub use Rattle.rsb_length.specs.UIntPlusOne
 pub use Rattle.rsb_integer.specs.Prefix

@@ -20,6 +20,7 @@ mod lengths;
 mod look_up;
 mod operators;
 pub(crate) mod order;
+pub mod parse;
 mod remove;
 mod retain;
 pub(crate) mod run;

@@ -20,6 +20,7 @@ mod million_runs;
 mod operators;
 mod order;
 mod own_types;
+mod parse;
 mod prelude;
 mod quiet;
 mod range;
