@@ -5,6 +5,11 @@ use Rattle.range_set_blaze.specs.Text.{BlanksThen, DigitsThen, EndThen, NumberTh
 use Rattle.range_set_blaze.specs.declared.set.parse.Place.{Place}
 use Rattle.range_set_blaze.specs.declared.set.parse.Place.TheVariants.{Start, Before, Signed, Digits, Behind, Dot, Dots}
 
+-- the start of a range that ends with this number, and has begun with another one, or else with itself
+abbrev pub start_or : {T : Type 0} → Option T → T → T
+start_or None value = value
+start_or (Some start) value = start
+
 module _ {T : Type 0} (number : T → ℤ) (fits : ℤ → Type 0) where
   -- what comes after a number of the range, which has begun with the other one, if there is one
   abbrev pub NextThen : Option T → RangeInclusive T → (List ℕ → Type 0) → T → List ℕ → Type 0

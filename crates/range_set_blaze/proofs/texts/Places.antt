@@ -1,15 +1,20 @@
 -- Where each byte of a text of ranges leads.
 use Rattle.std.proofs.Common.{◌≡◌, ◌≢◌, ◌↔◌, ℕ, ℤ, pos, Bool, true, false, cond, ◌+◌, ◌*◌, ◌<◌, ◌++◌, ◌⊎◌, inl, inr, List, [], ◌∷◌, Option, Some, None, IsTrue, sym, ap, ◌∙◌, subst, refl, arith, unsigned_abs}
+use Rattle.std.proofs.lemmas.Bool.{false≢true}
 use Rattle.std.proofs.lemmas.Bool.Decides.{nat_tests}
 use Rattle.std.specs.Char.{digit_value}
 use Rattle.std.specs.declared.ops.RangeInclusive.{RangeInclusive}
 use Rattle.range_set_blaze.specs.Kept.{range_of}
-use Rattle.range_set_blaze.specs.Reading.{Finishes, Follows, NextThen, Steps}
+use Rattle.range_set_blaze.specs.Reading.{Finishes, Follows, NextThen, Steps, start_or}
 use Rattle.range_set_blaze.specs.Text.{BlanksThen, DigitsThen, HasDigit, NumberThen, NumeralThen, OthersFollow, SignedThen, Then, is_blank, signed_by}
 use Rattle.range_set_blaze.specs.declared.set.parse.Place.{Place}
 use Rattle.range_set_blaze.specs.declared.set.parse.Place.TheVariants.{Start, Before, Signed, Digits, Behind, Dot, Dots}
 
 -- ---- bytes
+
+-- a list with an item is not empty
+nothing-follows : (byte : ℕ) (rest : List ℕ) → byte ∷ rest ≡ [] → ⊥
+nothing-follows byte rest is = cc
 
 -- a blank is no digit, sign, dot or comma
 blank-digit : (byte : ℕ) → is_blank byte ≡ true → digit_value byte < 10 → ⊥
@@ -23,6 +28,17 @@ digit-dot : (byte : ℕ) → digit_value byte < 10 → byte ≢ 46
 digit-dot byte digit is = omega (arith, ap digit_value is)
 
 module _ {T : Type 0} (number : T → ℤ) (fits : ℤ → Type 0) where
+  -- a byte leads where it leads from a place that is the same to it
+  pub leads-back : (place other : Place T) (byte : ℕ) (result : Option (Place T))
+      → ((more : List (RangeInclusive T)) (rest : List ℕ)
+      → Follows number fits place more (byte ∷ rest) ↔ Follows number fits other more (byte ∷ rest))
+      → Steps number fits other byte result → Steps number fits place byte result
+  leads-back place other byte None same steps = λ more rest h. steps more rest ((same more rest).0 h)
+  leads-back place other byte (Some next) same steps = λ more rest. (
+    λ h. (steps more rest).0 ((same more rest).0 h),
+    λ h. (same more rest).1 ((steps more rest).1 h),
+  )
+
   -- ---- what comes after a number
 
   -- other ranges begin with a comma
@@ -131,6 +147,27 @@ module _ {T : Type 0} (number : T → ℤ) (fits : ℤ → Type 0) where
             (one_value negative (unsigned_abs (number before)) (digit_value byte) h.0 value h.2 has)
             h.3
 
+    pub signed-found : (start : Option T) (negative : Bool) (byte digit : ℕ) (zero value : T)
+        → digit_value byte < 10 → digit ≡ digit_value byte → number zero ≡ pos 0
+        → HasDigit number fits negative (unsigned_abs (number zero)) digit value
+        → (more : List (RangeInclusive T)) (rest : List ℕ)
+        → Follows number fits (Signed start negative) more (byte ∷ rest)
+        ↔ Follows number fits (Digits start negative value) more rest
+    signed-found start negative byte digit zero value below is is_zero has =
+        signed-digit start negative byte value below
+        (subst (λ (d : ℕ). HasDigit number fits negative 0 d value) is
+        (subst (λ (n : ℤ). HasDigit number fits negative (unsigned_abs n) digit value) is_zero has))
+
+    pub digits-found : (start : Option T) (negative : Bool) (before value : T) (byte digit : ℕ)
+        → byte ≢ 44 → digit_value byte < 10 → digit ≡ digit_value byte
+        → HasDigit number fits negative (unsigned_abs (number before)) digit value
+        → (more : List (RangeInclusive T)) (rest : List ℕ)
+        → Follows number fits (Digits start negative before) more (byte ∷ rest)
+        ↔ Follows number fits (Digits start negative value) more rest
+    digits-found start negative before value byte digit other below is has =
+        digits-digit start negative before value byte other below
+        (subst (λ (d : ℕ). HasDigit number fits negative (unsigned_abs (number before)) d value) is has)
+
   pub signed-none : (start : Option T) (negative : Bool) (byte : ℕ)
       → ¬ (digit_value byte < 10 × fits (signed_by negative (0 * 10 + digit_value byte)))
       → (more : List (RangeInclusive T)) (rest : List ℕ)
@@ -150,6 +187,15 @@ module _ {T : Type 0} (number : T → ℤ) (fits : ℤ → Type 0) where
       blank-digit byte h.0 digit
   digits-none start negative before byte other digit none (range ∷ others) rest (inr h) =
       none h.2.of_type
+
+  pub digits-lacking : (start : Option T) (negative : Bool) (before : T) (byte digit : ℕ)
+      → byte ≢ 44 → digit_value byte < 10 → digit ≡ digit_value byte
+      → ¬ fits (signed_by negative (unsigned_abs (number before) * 10 + digit))
+      → (more : List (RangeInclusive T)) (rest : List ℕ)
+      → Follows number fits (Digits start negative before) more (byte ∷ rest) → ⊥
+  digits-lacking start negative before byte digit other below is none =
+      digits-none start negative before byte other below
+      (subst (λ (d : ℕ). ¬ fits (signed_by negative (unsigned_abs (number before) * 10 + d))) is none)
 
   -- a byte that is no digit ends the number
   pub digits-ended : (start : Option T) (negative : Bool) (value : T) (byte : ℕ)
@@ -304,3 +350,87 @@ module _ {T : Type 0} (number : T → ℤ) (fits : ℤ → Type 0) where
       → Follows number fits (Dots start) more (byte ∷ rest) → ⊥
   dots-none start byte other [] rest h = h
   dots-none start byte other (range ∷ others) rest h = other h.0
+
+  -- ---- where a range may end
+
+  others-comma : (others : List (RangeInclusive T)) (rest : List ℕ)
+      → OthersFollow number fits others (44 ∷ rest) → Follows number fits (Before None) others rest
+  others-comma [] rest h = absurd (nothing-follows 44 rest h)
+  others-comma (range ∷ others) rest h = h.1
+
+  others-more : (others : List (RangeInclusive T)) (rest : List ℕ)
+      → Follows number fits (Before None) others rest → OthersFollow number fits others (44 ∷ rest)
+  others-more [] rest h = absurd h
+  others-more (range ∷ others) rest h = (refl, h)
+
+  others-end : (others : List (RangeInclusive T)) → OthersFollow number fits others [] → others ≡ []
+  others-end [] h = refl
+  others-end (range ∷ others) h = absurd h
+
+  -- after a comma come the others
+  finishes-comma : (start : Option T) (value : T) (more : List (RangeInclusive T)) (rest : List ℕ)
+      → Follows number fits (Behind start value) more (44 ∷ rest)
+      → (others : List (RangeInclusive T)) × (more ≡ range_of (start_or start value, value) ∷ others)
+      × Follows number fits (Before None) others rest
+  finishes-comma start value [] rest h = absurd h
+  finishes-comma None value (range ∷ others) rest (inl (inl h)) =
+      (others, ap (λ (first : RangeInclusive T). first ∷ others) h.0, others-comma others rest h.1)
+  finishes-comma None value (range ∷ others) rest (inl (inr h)) = absurd (omega (arith, h.0))
+  finishes-comma None value (range ∷ others) rest (inr h) = absurd (false≢true h.0)
+  finishes-comma (Some start) value (range ∷ others) rest (inl h) =
+      (others, ap (λ (first : RangeInclusive T). first ∷ others) h.0, others-comma others rest h.1)
+  finishes-comma (Some start) value (range ∷ others) rest (inr h) = absurd (false≢true h.0)
+
+  finishes-other : (start : Option T) (value : T) (others : List (RangeInclusive T)) (rest : List ℕ)
+      → Follows number fits (Before None) others rest
+      → Follows number fits (Behind start value) (range_of (start_or start value, value) ∷ others)
+      (44 ∷ rest)
+  finishes-other None value others rest h = inl (inl (refl, others-more others rest h))
+  finishes-other (Some start) value others rest h = inl (refl, others-more others rest h)
+
+  finishes-end : (start : Option T) (value : T) (more : List (RangeInclusive T))
+      → Follows number fits (Behind start value) more []
+      → more ≡ range_of (start_or start value, value) ∷ []
+  finishes-end start value [] h = absurd h
+  finishes-end None value (range ∷ others) (inl h) =
+      (λ i. h.0 i ∷ others-end others h.1 i)
+  finishes-end None value (range ∷ others) (inr h) = absurd h
+  finishes-end (Some start) value (range ∷ others) h = (λ i. h.0 i ∷ others-end others h.1 i)
+
+  finishes-last : (start : Option T) (value : T)
+      → Follows number fits (Behind start value) (range_of (start_or start value, value) ∷ []) []
+  finishes-last None value = inl (refl, refl)
+  finishes-last (Some start) value = (refl, refl)
+
+  pub behind-finishes : (start : Option T) (value : T)
+      → Finishes number fits (Behind start value) (Some (range_of (start_or start value, value)))
+  behind-finishes start value = record {
+    comma = finishes-comma start value;
+    other = finishes-other start value;
+    end = finishes-end start value;
+    last = finishes-last start value;
+  }
+
+  -- the end of a text is as behind the number
+  digits-end : (start : Option T) (negative : Bool) (value : T) (more : List (RangeInclusive T))
+      → Follows number fits (Digits start negative value) more []
+      → Follows number fits (Behind start value) more []
+  digits-end start negative value [] h = h
+  digits-end start negative value (range ∷ others) h = h
+
+  comma-digit : ¬ (digit_value 44 < 10)
+  comma-digit digit = omega (arith, digit)
+
+  pub digits-finishes : (start : Option T) (negative : Bool) (value : T)
+      → Finishes number fits (Digits start negative value)
+      (Some (range_of (start_or start value, value)))
+  digits-finishes start negative value = record {
+    comma = λ more rest h. finishes-comma start value more rest
+        ((digits-ended start negative value 44 comma-digit more rest).0 h);
+    other = λ others rest h.
+        (digits-ended start negative value 44 comma-digit
+        (range_of (start_or start value, value) ∷ others) rest).1
+        (finishes-other start value others rest h);
+    end = λ more h. finishes-end start value more (digits-end start negative value more h);
+    last = finishes-last start value;
+  }

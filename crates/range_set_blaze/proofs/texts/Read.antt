@@ -1,7 +1,8 @@
 -- What was read of a text of ranges.
-use Rattle.std.proofs.Common.{◌≡◌, ◌≢◌, ◌↔◌, ℕ, ℤ, pos, neg_ℤ, Bool, true, false, cond, ◌+◌, ◌*◌, ◌<◌, ◌≤◌, ◌++◌, inl, inr, List, [], ◌∷◌, Option, Some, None, length, take, get_or, sym, ap, ◌∙◌, subst, refl, arith, rules, append_assoc, append-nil, lit<, unsigned_abs}
+use Rattle.std.proofs.Common.{◌≡◌, ◌≢◌, ◌↔◌, ℕ, ℤ, pos, neg_ℤ, Bool, true, false, cond, ◌+◌, ◌*◌, ◌<◌, ◌≤◌, ◌++◌, inl, inr, List, [], ◌∷◌, Option, Some, None, length, take, drop, get_or, sym, ap, ◌∙◌, subst, refl, arith, rules, append_assoc, append-nil, lit<, unsigned_abs}
 use Rattle.std.proofs.Math.Seq.{take-length}
-use Rattle.std.proofs.lemmas.List.{take_more}
+use Rattle.std.proofs.lemmas.Bool.{cases_lt}
+use Rattle.std.proofs.lemmas.List.{take_more, take-append-drop}
 use Rattle.std.specs.declared.ops.RangeInclusive.{RangeInclusive}
 use Rattle.range_set_blaze.specs.Kept.{range_of}
 use Rattle.range_set_blaze.specs.Reading.{Finishes, Follows, HasRead, Steps}
@@ -88,6 +89,15 @@ module _ {T : Type 0} (number : T → ℤ) (fits : ℤ → Type 0) where
       subst (λ (read : List ℕ). HasRead number fits read (ranges ++ range ∷ []) (Before None))
       (ap (λ (byte : ℕ). take at text ++ byte ∷ []) (sym comma) ∙ sym (take_more text at 0 below))
       (has_read-range (take at text) ranges place range had finish)
+
+  -- all bytes were read
+  pub has_read-all : (text : List ℕ) (at : ℕ) (ranges : List (RangeInclusive T)) (place : Place T)
+      → length text ≤ at → at ≤ length text → HasRead number fits (take at text) ranges place
+      → HasRead number fits text ranges place
+  has_read-all text at ranges place past within had =
+      let is : at ≡ length text = omega arith in
+      subst (λ (read : List ℕ). HasRead number fits read ranges place)
+      (ap (λ (n : ℕ). take n text) is ∙ take-length text) had
 
   -- ---- the end
 
@@ -226,3 +236,13 @@ module _ {T : Type 0} (number : T → ℤ) (fits : ℤ → Type 0) where
               (subst (λ (bytes : List ℕ). Spells number fits bytes others) (sym (append-nil text)) h)
           in none found.0 found.2;
     }
+
+-- a text with an unexpected byte spells no ranges
+pub unexpected-none : {T : Type 0} (number : T → ℤ) (fits : ℤ → Type 0) (text : List ℕ) (place : ℕ)
+    → IsFirstUnexpected number fits text place → (ranges : List (RangeInclusive T))
+    → ¬ Spells number fits text ranges
+unexpected-none number fits text place unexpected ranges h = elim (cases_lt place (length text)) [
+  | inl below ↦ unexpected.stops below (drop (place + 1) text) ranges
+      (subst (λ (bytes : List ℕ). Spells number fits bytes ranges) (sym (take-append-drop (place + 1) text)) h)
+  | inr past ↦ let within = unexpected.within in unexpected.ends (omega arith) ranges h
+]

@@ -5,7 +5,8 @@ ghost use Rattle.std.specs.Char.{digit_value};
 ghost use Rattle.std.specs.declared.ops.RangeInclusive.{RangeInclusive as Range};
 ghost use Rattle.rsb_integer.specs.Rank.{intervals_of};
 ghost use Rattle.rsb_integer.specs.Runs.{members};
-ghost use Rattle.range_set_blaze.specs.Reading.{Finishes, Steps};
+ghost use Rattle.range_set_blaze.specs.Kept.{range_of};
+ghost use Rattle.range_set_blaze.specs.Reading.{Finishes, Steps, start_or};
 ghost use Rattle.range_set_blaze.specs.Set.{IsSetOf};
 ghost use Rattle.range_set_blaze.specs.Text.{IsFirstUnexpected, Spells, is_blank as is_blank_byte};
 ghost use Rattle.range_set_blaze.specs.declared.set.parse.Place.TheVariants.{Signed, Digits, Behind, Before};
@@ -13,6 +14,7 @@ ghost use Rattle.range_set_blaze.specs.declared.set.parse.ParseError.TheVariants
 
 use crate::parse_integer::ParseInteger;
 use crate::set::RangeSetBlaze;
+use rsb_integer::Integer;
 use std::alloc::{AllocError, AllocFailed, Allocator};
 use std::error::Error;
 use std::fmt;
@@ -81,7 +83,7 @@ impl<T: ParseInteger, A: Allocator + Copy> RangeSetBlaze<T, A> {
             → result ≢ Err (ParseError.Unexpected place) }
     {
         let ranges = ranges_in(alloc, text.as_bytes())?;
-        let set = RangeSetBlaze::from_iter(alloc, ranges)?;
+        let set = set_of(alloc, ranges)?;
         Ok(set)
     }
 }
@@ -201,17 +203,19 @@ fn after_blanks<T: ParseInteger>(start: Option<T>, byte: u8) -> Option<Place<T>>
     requires { is_blank_byte byte ≡ false }
     ensures { Steps T.number T.fits (Before start) byte result }
 {
-    match byte {
-        b'+' => Some(Place::Signed {
+    if byte == b'+' {
+        return Some(Place::Signed {
             start,
             negative: false,
-        }),
-        b'-' => Some(Place::Signed {
+        });
+    }
+    if byte == b'-' {
+        return Some(Place::Signed {
             start,
             negative: true,
-        }),
-        _ => after_sign(start, false, byte),
+        });
     }
+    after_sign(start, false, byte)
 }
 
 // The place after the first digit of a number.
@@ -270,10 +274,31 @@ fn finished<T: ParseInteger>(place: Place<T>) -> Option<RangeInclusive<T>>
     ensures { Finishes T.number T.fits place result }
 {
     match place {
-        Place::Digits { start, value, .. } => Some(start.unwrap_or(value)..=value),
-        Place::Behind { start, value } => Some(start.unwrap_or(value)..=value),
+        Place::Digits { start, value, .. } => Some(range_to(start, value)),
+        Place::Behind { start, value } => Some(range_to(start, value)),
         _ => None,
     }
+}
+
+// The range that ends with a number, and has begun with another one, or else with itself.
+fn range_to<T: Copy>(start: Option<T>, value: T) -> RangeInclusive<T>
+    ensures { result ≡ range_of (start_or start value, value) }
+{
+    match start {
+        Some(start) => start..=value,
+        None => value..=value,
+    }
+}
+
+// The set of ranges in any order.
+fn set_of<T: Integer, A: Allocator + Copy>(
+    alloc: A,
+    ranges: Vec<RangeInclusive<T>, A>,
+) -> Result<RangeSetBlaze<T, A>, AllocError>
+    ensures { IfOk result (λ set. IsSetOf set (members (intervals_of T.rank ranges.items))) }
+{
+    let set = RangeSetBlaze::from_iter(alloc, ranges)?;
+    Ok(set)
 }
 
 // Whether a byte is a space, a tab or an end of a line.
