@@ -233,7 +233,7 @@ module _ {T : Type 0} (number : T → ℤ) (fits : ℤ → Type 0) where
       stops = λ below rest ranges h. absurd (omega arith);
       ends = λ is others h.
           let found = had.into others []
-              (subst (λ (bytes : List ℕ). Spells number fits bytes others) (sym (append-nil text)) h)
+          (subst (λ (bytes : List ℕ). Spells number fits bytes others) (sym (append-nil text)) h)
           in none found.0 found.2;
     }
 

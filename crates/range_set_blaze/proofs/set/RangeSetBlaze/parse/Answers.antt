@@ -12,7 +12,7 @@ use Rattle.range_set_blaze.proofs.set.RangeSetBlaze.parse.Goals as goal
 pub returns-in_err-ranges-clause-refused : goal.returns-in_err-ranges-clause-refused
 returns-in_err-ranges-clause-refused g c = λ ranges place h is.
     let found : (at : ℕ) → c.from_residual.result ≡ Err (Unexpected at)
-                → IsFirstUnexpected g.T.ParseInteger.number g.T.ParseInteger.fits c.args.text.now at = search rules in
+    → IsFirstUnexpected g.T.ParseInteger.number g.T.ParseInteger.fits c.args.text.now at = search rules in
     unexpected-none g.T.ParseInteger.number g.T.ParseInteger.fits c.args.text.now place (found place is) ranges h
 
 pub returns-clause-spelled : goal.returns-clause-spelled
@@ -26,7 +26,7 @@ returns-clause-spelled g c = (
 pub returns-clause-only : goal.returns-clause-only
 returns-clause-only g c = λ ranges h.
     let same = c.in_ok-ranges.ensures.only ranges
-            (subst (λ (text : List ℕ). Spells g.T.ParseInteger.number g.T.ParseInteger.fits text ranges) (sym c.as_bytes.ensures.value) h) in
+    (subst (λ (text : List ℕ). Spells g.T.ParseInteger.number g.T.ParseInteger.fits text ranges) (sym c.as_bytes.ensures.value) h) in
     subst (λ (items : List (RangeInclusive g.row.T.Denot)).
     IsSetOf c.in_ok-set.set (members (intervals_of g.T.Integer.rank items))) (sym same)
     c.in_ok-set.ensures

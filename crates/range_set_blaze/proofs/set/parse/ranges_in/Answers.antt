@@ -50,13 +50,13 @@ returns-in_default-after-clause-unexpected g c = λ place is.
 pub returns-in-Start-clause-spelled : goal.returns-in-Start-clause-spelled
 returns-in-Start-clause-spelled g c =
     let had = has_read-all g.T.ParseInteger.number g.T.ParseInteger.fits c.args.text.now c.loop-at.at c.loop-at.ranges.items c.loop-at.place
-            c.loop-at-test.false c.loop-at.auto.at-end c.loop-at.invariant in
+    c.loop-at-test.false c.loop-at.auto.at-end c.loop-at.invariant in
     spells-none g.T.ParseInteger.number g.T.ParseInteger.fits c.args.text.now c.loop-at.ranges.items (rw c.in-Start.is at had)
 
 pub returns-in-Start-clause-only : goal.returns-in-Start-clause-only
 returns-in-Start-clause-only g c = λ others h.
     let had = has_read-all g.T.ParseInteger.number g.T.ParseInteger.fits c.args.text.now c.loop-at.at c.loop-at.ranges.items c.loop-at.place
-            c.loop-at-test.false c.loop-at.auto.at-end c.loop-at.invariant in
+    c.loop-at-test.false c.loop-at.auto.at-end c.loop-at.invariant in
     only-none g.T.ParseInteger.number g.T.ParseInteger.fits c.args.text.now c.loop-at.ranges.items others (rw c.in-Start.is at had) h
 
 -- the text ends too early
@@ -69,7 +69,7 @@ returns-in_default-finished g c = record {
       let zero = g.met.T.ParseInteger.has_zero in
       let same : length text ≡ place = cc in
       let had = has_read-all g.T.ParseInteger.number g.T.ParseInteger.fits text c.loop-at.at c.loop-at.ranges.items c.loop-at.place
-              c.loop-at-test.false c.loop-at.auto.at-end c.loop-at.invariant in
+      c.loop-at-test.false c.loop-at.auto.at-end c.loop-at.invariant in
       subst (λ (p : ℕ). IsFirstUnexpected g.T.ParseInteger.number g.T.ParseInteger.fits text p) same
       (unexpected_end g.T.ParseInteger.number g.T.ParseInteger.fits zero.0 zero.1 zero.2 text c.loop-at.ranges.items c.loop-at.place had
       (λ more. c.in_default-finished.ensures.end more c.in_default-place.not-Start));
@@ -79,13 +79,13 @@ returns-in_default-finished g c = record {
 pub returns-clause-spelled : goal.returns-clause-spelled
 returns-clause-spelled g c =
     let had = has_read-all g.T.ParseInteger.number g.T.ParseInteger.fits c.args.text.now c.loop-at.at c.loop-at.ranges.items c.loop-at.place
-            c.loop-at-test.false c.loop-at.auto.at-end c.loop-at.invariant in
+    c.loop-at-test.false c.loop-at.auto.at-end c.loop-at.invariant in
     rw c.in_ok-push-2.ensures.items (spells-last g.T.ParseInteger.number g.T.ParseInteger.fits c.args.text.now c.loop-at.ranges.items
     c.loop-at.place c.in-Some-finished.range had c.in-Some-finished.ensures)
 
 pub returns-clause-only : goal.returns-clause-only
 returns-clause-only g c = λ others h.
     let had = has_read-all g.T.ParseInteger.number g.T.ParseInteger.fits c.args.text.now c.loop-at.at c.loop-at.ranges.items c.loop-at.place
-            c.loop-at-test.false c.loop-at.auto.at-end c.loop-at.invariant in
+    c.loop-at-test.false c.loop-at.auto.at-end c.loop-at.invariant in
     only-last g.T.ParseInteger.number g.T.ParseInteger.fits c.args.text.now c.loop-at.ranges.items others c.loop-at.place
     c.in-Some-finished.range had c.in-Some-finished.ensures h ∙ sym c.in_ok-push-2.ensures.items
