@@ -10,8 +10,9 @@ pub mod removal
 pub mod retaining
 pub mod runs
 pub mod splitting
-pub mod windows
 pub mod HowManyLemmas
+pub mod texts
+pub mod windows
 pub use Rattle.rsb_integer.proofs.AnyOfLemmas
 pub use Rattle.rsb_integer.proofs.CountLemmas
 pub use Rattle.rsb_integer.proofs.MembersLemmas

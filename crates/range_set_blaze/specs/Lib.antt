@@ -12,6 +12,7 @@ pub mod Multiway
 pub mod Order
 pub mod OrderLaws
 pub mod Ranked
+pub mod Reading
 pub mod Removal
 pub mod RemoveRanges
 pub mod Retain
@@ -19,7 +20,9 @@ pub mod Set
 pub mod Singles
 pub mod Split
 pub mod Starts
+pub mod Text
 pub mod Windows
+pub mod Written
 pub use Rattle.rsb_length.specs.SafeLength
 pub use Rattle.rsb_length.specs.UIntPlusOne
 pub use Rattle.rsb_integer.specs.Prefix

@@ -9,6 +9,7 @@ pub mod laws;
 mod macros;
 pub mod multiway;
 mod operators;
+pub mod parse_integer;
 pub mod prelude;
 pub mod ranges_in;
 pub mod ranges_iter;
@@ -20,13 +21,13 @@ pub use crate::prelude::{
     IntoRangeSetBlaze, IntoRangesIter, Iter, KMerge, Merge, MultiwayAtLeast, MultiwayIntersection,
     MultiwayRangeSetBlaze, MultiwayRangeSetBlazeRef, MultiwaySortedDisjoint, MultiwaySweep,
     MultiwaySymmetricDifference, MultiwayUnion, NotIter, NotSortedDisjoint, NotSortedTouching,
-    RangeOnce, RangeSetBlaze, RangesIn, RangesIter, SafeLength, SortedDisjoint, SortedStarts,
-    SortedStartsInVec, SortedTouching, SweepEvent, SymDiffIter, SymmetricDifference, UInt,
-    UIntPlusOne, Union, UnionIter, at_least_all, at_least_falls, at_least_one,
-    canonical_lists_are_runs, cmp_counted, complement_twice, de_morgan, difference_by_complement,
-    elements_stand_for_sets, equal_members_equal_lists, offsets_undo_length, one_filled_list,
-    one_list_of_events, order_by_least_difference, run_bounds_are_ends, some_list_of_events,
-    symmetric_by_union,
+    ParseError, ParseInteger, RangeOnce, RangeSetBlaze, RangesIn, RangesIter, SafeLength,
+    SortedDisjoint, SortedStarts, SortedStartsInVec, SortedTouching, SweepEvent, SymDiffIter,
+    SymmetricDifference, UInt, UIntPlusOne, Union, UnionIter, at_least_all, at_least_falls,
+    at_least_one, canonical_lists_are_runs, cmp_counted, complement_twice, de_morgan,
+    difference_by_complement, elements_stand_for_sets, equal_members_equal_lists,
+    offsets_undo_length, one_filled_list, one_list_of_events, order_by_least_difference,
+    run_bounds_are_ends, some_list_of_events, symmetric_by_union,
 };
 
 /// What the macros call.

@@ -12,9 +12,11 @@ pub use crate::laws::{
     order_by_least_difference, run_bounds_are_ends, some_list_of_events, symmetric_by_union,
 };
 pub use crate::multiway::{MultiwayRangeSetBlaze, MultiwayRangeSetBlazeRef};
+pub use crate::parse_integer::ParseInteger;
 pub use crate::ranges_in::RangesIn;
 pub use crate::ranges_iter::RangesIter;
 pub use crate::set::RangeSetBlaze;
+pub use crate::set::parse::ParseError;
 pub use crate::set::windows::GapsIn;
 pub use crate::{intersection_dyn, symmetric_difference_dyn, union_dyn};
 pub use rsb_integer::Integer;

@@ -25,6 +25,7 @@ mod look_up;
 mod made_empty;
 mod operators;
 pub(crate) mod order;
+pub mod parse;
 mod ranked;
 mod remove;
 mod remove_ranges;

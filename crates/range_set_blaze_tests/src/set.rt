@@ -23,6 +23,7 @@ mod one_set_more;
 mod operators;
 mod order;
 mod own_types;
+mod parse;
 mod prelude;
 mod quiet;
 mod range;

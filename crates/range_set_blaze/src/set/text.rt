@@ -1,26 +1,50 @@
 //! How sets are written.
 
+ghost use Rattle.std.specs.Prelude.{[]};
+ghost use Rattle.std.specs.Fmt.{DisplaysOnOk, debug_items};
+ghost use Rattle.range_set_blaze.specs.Written.{ends_text, runs_text};
+
 use crate::set::RangeSetBlaze;
+use crate::set::entries::next_run;
 use rsb_integer::Integer;
 use std::alloc::Allocator;
+use std::collections::BTreeMap;
 use std::fmt::{self, Debug, Display, Formatter, Write};
 
 /// Each run is written as `start..=end`, with a comma and a space between two of them. A width and
 /// other flags change nothing, as in the Rust crate.
 impl<T: Integer, A: Allocator> Display for RangeSetBlaze<T, A> {
+    ghost output = { runs_text (λ rank. T.debug_output (T.value_at rank)) };
+
     fn fmt<W: Write>(&self, f: &mut Formatter<W>) -> fmt::Result {
-        let mut separator = "";
-        for (start, end) in self.map.iter() {
-            write!(f, "{separator}{start:?}..={end:?}")?;
-            separator = ", ";
-        }
-        Ok(())
+        write_runs(&self.map, f)
     }
 }
 
 /// As by `Display`.
 impl<T: Integer, A: Allocator> Debug for RangeSetBlaze<T, A> {
+    ghost debug_output = { runs_text (λ rank. T.debug_output (T.value_at rank)) };
+
     fn fmt<W: Write>(&self, f: &mut Formatter<W>) -> fmt::Result {
         Display::fmt(self, f)
     }
+}
+
+// Writes the runs of a map, with a comma and a space between two.
+fn write_runs<T: Copy + Ord + Debug, A: Allocator, W: Write>(
+    map: &BTreeMap<T, T, A>,
+    f: &mut Formatter<W>,
+) -> fmt::Result
+    ensures { DisplaysOnOk W.write_str_gives f.old result
+        (debug_items (λ run. ends_text (T.debug_output run.0) (T.debug_output run.1)) []
+        map.now.entries) f.new }
+{
+    let mut rest = map.iter();
+    let mut separator = "";
+    while let Some(run) = next_run(&mut rest) {
+        let (start, end) = (run.start, run.end);
+        write!(f, "{separator}{start:?}..={end:?}")?;
+        separator = ", ";
+    }
+    Ok(())
 }

@@ -1,0 +1,16 @@
+use Rattle.std.proofs.Common.{false}
+use Rattle.range_set_blaze.specs.declared.set.parse.Place.TheVariants.{Before, Signed}
+use Rattle.range_set_blaze.proofs.texts.Places.{before-plus, before-minus, before-bare, leads-back}
+use Rattle.range_set_blaze.proofs.set.parse.after_blanks.Goals as goal
+
+pub returns-then-byte-eq43 : goal.returns-then-byte-eq43
+returns-then-byte-eq43 g c = before-plus g.T.ParseInteger.number g.T.ParseInteger.fits c.args.start c.args.byte c.if-byte-eq43.true
+
+pub returns-then-byte-eq45 : goal.returns-then-byte-eq45
+returns-then-byte-eq45 g c = before-minus g.T.ParseInteger.number g.T.ParseInteger.fits c.args.start c.args.byte c.if-byte-eq45.true
+
+-- a byte that is no sign begins the digits
+pub returns : goal.returns
+returns g c = leads-back g.T.ParseInteger.number g.T.ParseInteger.fits (Before c.args.start) (Signed c.args.start false) c.args.byte
+    c.after_sign.result (before-bare g.T.ParseInteger.number g.T.ParseInteger.fits c.args.start c.args.byte c.requires c.if-byte-eq43.false
+    c.if-byte-eq45.false) c.after_sign.ensures

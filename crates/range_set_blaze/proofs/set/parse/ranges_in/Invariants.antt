@@ -1,0 +1,8 @@
+use Rattle.std.proofs.Common.{take}
+use Rattle.range_set_blaze.specs.Reading.{HasRead}
+use Rattle.range_set_blaze.proofs.set.parse.ranges_in.Given as goal
+
+-- what was read leads to the place
+abbrev pub invariant-loop-at : goal.invariant-loop-at
+invariant-loop-at g l = HasRead g.T.ParseInteger.number g.T.ParseInteger.fits (take l.at l.text)
+    l.ranges.items l.place

@@ -1,0 +1,23 @@
+use Rattle.std.proofs.Common.{arith, sym, [], Option, List, ℕ, subst}
+use Rattle.std.specs.Fmt.{DisplaysOnOk}
+use Rattle.rsb_integer.specs.Runs.{members}
+use Rattle.rsb_integer.proofs.RangeLemmas.{value_at-rank}
+use Rattle.rsb_integer.proofs.RunsLemmas.{canonical-maximal}
+use Rattle.range_set_blaze.specs.Kept.{runs_of}
+use Rattle.range_set_blaze.proofs.texts.Pieces.{items-runs}
+use Rattle.range_set_blaze.proofs.set.text.RangeSetBlazeDisplay.fmt.Goals as goal
+
+-- the entries are the runs
+pub returns-clause-writes : goal.returns-clause-writes
+returns-clause-writes g c =
+    let rank = g.T.Integer.rank in
+    let n = g.T.Integer.value_count in
+    let laws = g.met.T.Integer in
+    let runs = runs_of rank c.self.inside.map.entries in
+    let canonical = c.self.invariant.canonical in
+    let placed = value_at-rank rank n g.T.Ord.cmp laws.exact laws.in_order g.T.Integer.value_at laws.ranks in
+    rw (
+      ← c.self.view_is,
+      ← items-runs rank n g.T.Integer.value_at placed g.T.Debug.debug_output (members runs) [] c.self.inside.map.entries (canonical-maximal n 0 runs canonical.0 canonical.1),
+    )
+    c.write_runs.ensures

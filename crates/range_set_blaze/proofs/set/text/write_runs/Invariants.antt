@@ -1,0 +1,16 @@
+use Rattle.std.proofs.Common.{length}
+use Rattle.range_set_blaze.specs.Written.{ends_text}
+use Rattle.range_set_blaze.proofs.texts.Pieces.{WritesOn}
+use Rattle.range_set_blaze.proofs.set.text.write_runs.Given as goal
+use denote.Shadow.{shadow}
+use denote.Text.{Utf8}
+
+-- what was written leads, with the entries that are left, to the text of all; what comes before an
+-- entry is text
+abbrev pub invariant-loop-run : goal.invariant-loop-run
+invariant-loop-run g l = shadow (Utf8 l.separator) × WritesOn g.W.Write.write_str_gives
+    (λ entry. ends_text (g.T.Debug.debug_output entry.0) (g.T.Debug.debug_output entry.1))
+    l.fn.f l.f l.separator l.rest l.fn.map.entries
+
+abbrev pub decreases-loop-run : goal.decreases-loop-run
+decreases-loop-run g l = length l.rest

@@ -1,0 +1,4 @@
+-- Reading texts of ranges.
+pub mod Pieces
+pub mod Places
+pub mod Read

@@ -1,0 +1,328 @@
+//! Whole numbers that are read from their decimal digits.
+
+ghost use Rattle.std.specs.Prelude.{◌≡◌, ℕ, ℤ, ◌*◌, ◌+◌, ◌<◌, IfSome, IsNone, pos, unsigned_abs};
+ghost use Rattle.std.specs.Int.{FitsUnsignedBits, w8, w16, w32, w64, w128};
+ghost use Rattle.std.specs.Int.RustNames.{FitsSigned};
+ghost use Rattle.std.proofs.Common.{lit<, refl};
+ghost use Rattle.range_set_blaze.specs.Text.{HasDigit, signed_by};
+
+use rsb_integer::Integer;
+
+/// An element type whose values are whole numbers, and are written in decimal. The given types are
+/// `u8` to `u128`, `usize`, `i8` to `i128` and `isize`. Not in range-set-blaze.
+pub trait ParseInteger: Integer {
+    // The number that a value is.
+    ghost number: { Self → ℤ };
+
+    // The numbers of the type.
+    ghost fits: { ℤ → Type 0 };
+
+    /// Returns the number 0.
+    fn zero() -> Self
+        ensures { number result ≡ pos 0 };
+
+    /// Returns the number whose digits are those of this one and one more, below 0 if `negative` is
+    /// true. The sign of this number does not matter. Returns `None` if the type lacks it.
+    fn with_digit(self, negative: bool, digit: u8) -> Option<Self>
+        ensures none { IsNone result → ¬ fits
+            (signed_by negative (unsigned_abs (number self) * 10 + digit)) }
+        ensures some { IfSome result
+            (HasDigit number fits negative (unsigned_abs (number self)) digit) };
+
+    // One of the values is 0.
+    ghost has_zero: { (zero : Self) × (number zero ≡ pos 0) × fits (pos 0) };
+
+    // Values that are one number are equal.
+    ghost numbers_differ: { (x y : Self) → number x ≡ number y → x ≡ y };
+}
+
+impl ParseInteger for u8 {
+    ghost number = { λ n. pos n };
+
+    ghost fits = { FitsUnsignedBits 8 };
+
+    fn zero() -> u8 {
+        0
+    }
+
+    fn with_digit(self, negative: bool, digit: u8) -> Option<u8> {
+        let longer = self.checked_mul(10)?.checked_add(digit)?;
+        if negative && longer != 0 {
+            None
+        } else {
+            Some(longer)
+        }
+    }
+
+    ghost has_zero = { (0, refl, lit< tt) };
+
+    ghost numbers_differ = { λ x y same. Prim.cc };
+}
+
+impl ParseInteger for u16 {
+    ghost number = { λ n. pos n };
+
+    ghost fits = { FitsUnsignedBits 16 };
+
+    fn zero() -> u16 {
+        0
+    }
+
+    fn with_digit(self, negative: bool, digit: u8) -> Option<u16> {
+        let longer = self.checked_mul(10)?.checked_add(u16::from(digit))?;
+        if negative && longer != 0 {
+            None
+        } else {
+            Some(longer)
+        }
+    }
+
+    ghost has_zero = { (0, refl, lit< tt) };
+
+    ghost numbers_differ = { λ x y same. Prim.cc };
+}
+
+impl ParseInteger for u32 {
+    ghost number = { λ n. pos n };
+
+    ghost fits = { FitsUnsignedBits 32 };
+
+    fn zero() -> u32 {
+        0
+    }
+
+    fn with_digit(self, negative: bool, digit: u8) -> Option<u32> {
+        let longer = self.checked_mul(10)?.checked_add(u32::from(digit))?;
+        if negative && longer != 0 {
+            None
+        } else {
+            Some(longer)
+        }
+    }
+
+    ghost has_zero = { (0, refl, lit< tt) };
+
+    ghost numbers_differ = { λ x y same. Prim.cc };
+}
+
+impl ParseInteger for u64 {
+    ghost number = { λ n. pos n };
+
+    ghost fits = { FitsUnsignedBits 64 };
+
+    fn zero() -> u64 {
+        0
+    }
+
+    fn with_digit(self, negative: bool, digit: u8) -> Option<u64> {
+        let longer = self.checked_mul(10)?.checked_add(u64::from(digit))?;
+        if negative && longer != 0 {
+            None
+        } else {
+            Some(longer)
+        }
+    }
+
+    ghost has_zero = { (0, refl, lit< tt) };
+
+    ghost numbers_differ = { λ x y same. Prim.cc };
+}
+
+impl ParseInteger for u128 {
+    ghost number = { λ n. pos n };
+
+    ghost fits = { FitsUnsignedBits 128 };
+
+    fn zero() -> u128 {
+        0
+    }
+
+    fn with_digit(self, negative: bool, digit: u8) -> Option<u128> {
+        let longer = self.checked_mul(10)?.checked_add(u128::from(digit))?;
+        if negative && longer != 0 {
+            None
+        } else {
+            Some(longer)
+        }
+    }
+
+    ghost has_zero = { (0, refl, lit< tt) };
+
+    ghost numbers_differ = { λ x y same. Prim.cc };
+}
+
+impl ParseInteger for usize {
+    ghost number = { λ n. pos n };
+
+    ghost fits = { FitsUnsignedBits 64 };
+
+    fn zero() -> usize {
+        0
+    }
+
+    fn with_digit(self, negative: bool, digit: u8) -> Option<usize> {
+        let longer = self.checked_mul(10)?.checked_add(usize::from(digit))?;
+        if negative && longer != 0 {
+            None
+        } else {
+            Some(longer)
+        }
+    }
+
+    ghost has_zero = { (0, refl, lit< tt) };
+
+    ghost numbers_differ = { λ x y same. Prim.cc };
+}
+
+impl ParseInteger for i8 {
+    ghost number = { λ z. z };
+
+    ghost fits = { FitsSigned w8 };
+
+    fn zero() -> i8 {
+        0
+    }
+
+    fn with_digit(self, negative: bool, digit: u8) -> Option<i8> {
+        let longer = self.unsigned_abs().checked_mul(10)?.checked_add(digit)?;
+        if negative {
+            0i8.checked_sub_unsigned(longer)
+        } else {
+            0i8.checked_add_unsigned(longer)
+        }
+    }
+
+    ghost has_zero = { (pos 0, refl, lit< tt) };
+
+    ghost numbers_differ = { λ x y same. same };
+}
+
+impl ParseInteger for i16 {
+    ghost number = { λ z. z };
+
+    ghost fits = { FitsSigned w16 };
+
+    fn zero() -> i16 {
+        0
+    }
+
+    fn with_digit(self, negative: bool, digit: u8) -> Option<i16> {
+        let longer = self
+            .unsigned_abs()
+            .checked_mul(10)?
+            .checked_add(u16::from(digit))?;
+        if negative {
+            0i16.checked_sub_unsigned(longer)
+        } else {
+            0i16.checked_add_unsigned(longer)
+        }
+    }
+
+    ghost has_zero = { (pos 0, refl, lit< tt) };
+
+    ghost numbers_differ = { λ x y same. same };
+}
+
+impl ParseInteger for i32 {
+    ghost number = { λ z. z };
+
+    ghost fits = { FitsSigned w32 };
+
+    fn zero() -> i32 {
+        0
+    }
+
+    fn with_digit(self, negative: bool, digit: u8) -> Option<i32> {
+        let longer = self
+            .unsigned_abs()
+            .checked_mul(10)?
+            .checked_add(u32::from(digit))?;
+        if negative {
+            0i32.checked_sub_unsigned(longer)
+        } else {
+            0i32.checked_add_unsigned(longer)
+        }
+    }
+
+    ghost has_zero = { (pos 0, refl, lit< tt) };
+
+    ghost numbers_differ = { λ x y same. same };
+}
+
+impl ParseInteger for i64 {
+    ghost number = { λ z. z };
+
+    ghost fits = { FitsSigned w64 };
+
+    fn zero() -> i64 {
+        0
+    }
+
+    fn with_digit(self, negative: bool, digit: u8) -> Option<i64> {
+        let longer = self
+            .unsigned_abs()
+            .checked_mul(10)?
+            .checked_add(u64::from(digit))?;
+        if negative {
+            0i64.checked_sub_unsigned(longer)
+        } else {
+            0i64.checked_add_unsigned(longer)
+        }
+    }
+
+    ghost has_zero = { (pos 0, refl, lit< tt) };
+
+    ghost numbers_differ = { λ x y same. same };
+}
+
+impl ParseInteger for i128 {
+    ghost number = { λ z. z };
+
+    ghost fits = { FitsSigned w128 };
+
+    fn zero() -> i128 {
+        0
+    }
+
+    fn with_digit(self, negative: bool, digit: u8) -> Option<i128> {
+        let longer = self
+            .unsigned_abs()
+            .checked_mul(10)?
+            .checked_add(u128::from(digit))?;
+        if negative {
+            0i128.checked_sub_unsigned(longer)
+        } else {
+            0i128.checked_add_unsigned(longer)
+        }
+    }
+
+    ghost has_zero = { (pos 0, refl, lit< tt) };
+
+    ghost numbers_differ = { λ x y same. same };
+}
+
+impl ParseInteger for isize {
+    ghost number = { λ z. z };
+
+    ghost fits = { FitsSigned w64 };
+
+    fn zero() -> isize {
+        0
+    }
+
+    fn with_digit(self, negative: bool, digit: u8) -> Option<isize> {
+        let longer = self
+            .unsigned_abs()
+            .checked_mul(10)?
+            .checked_add(usize::from(digit))?;
+        if negative {
+            0isize.checked_sub_unsigned(longer)
+        } else {
+            0isize.checked_add_unsigned(longer)
+        }
+    }
+
+    ghost has_zero = { (pos 0, refl, lit< tt) };
+
+    ghost numbers_differ = { λ x y same. same };
+}

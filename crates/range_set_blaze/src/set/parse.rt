@@ -1,0 +1,320 @@
+//! Sets from their texts.
+
+ghost use Rattle.std.specs.Prelude.{◌≡◌, ◌≢◌, ℕ, ◌<◌, List, IfOk, SomeIff, alloc_error, false};
+ghost use Rattle.std.specs.Char.{digit_value};
+ghost use Rattle.std.specs.declared.ops.RangeInclusive.{RangeInclusive as Range};
+ghost use Rattle.rsb_integer.specs.Rank.{intervals_of};
+ghost use Rattle.rsb_integer.specs.Runs.{members};
+ghost use Rattle.range_set_blaze.specs.Kept.{range_of};
+ghost use Rattle.range_set_blaze.specs.Reading.{Finishes, Steps, start_or};
+ghost use Rattle.range_set_blaze.specs.Set.{IsSetOf};
+ghost use Rattle.range_set_blaze.specs.Text.{IsFirstUnexpected, Spells, is_blank as is_blank_byte};
+ghost use Rattle.range_set_blaze.specs.declared.set.parse.Place.TheVariants.{Signed, Digits, Behind, Before};
+ghost use Rattle.range_set_blaze.specs.declared.set.parse.ParseError.TheVariants.{NoMemory};
+
+use crate::parse_integer::ParseInteger;
+use crate::set::RangeSetBlaze;
+use rsb_integer::Integer;
+use std::alloc::{AllocError, AllocFailed, Allocator};
+use std::error::Error;
+use std::fmt;
+use std::ops::RangeInclusive;
+
+/// Why a text was not read as a set. Not in range-set-blaze.
+#[derive(Clone, Copy, Debug, PartialEq, Eq)]
+pub enum ParseError {
+    /// An allocation failed.
+    NoMemory(AllocError),
+    /// The place of the first byte that fits nothing, in bytes from 0. If the text ends too early,
+    /// it is the length of the text. Of a number outside the type it is the first digit that makes
+    /// the number too large.
+    Unexpected(usize),
+}
+
+impl fmt::Display for ParseError {
+    fn fmt<W: fmt::Write>(&self, f: &mut fmt::Formatter<W>) -> fmt::Result {
+        match self {
+            ParseError::NoMemory(_) => write!(f, "no memory"),
+            ParseError::Unexpected(place) => write!(f, "unexpected text at byte {place}"),
+        }
+    }
+}
+
+impl Error for ParseError {}
+
+impl From<AllocError> for ParseError {
+    ghost from_gives = { λ error parsed. parsed ≡ NoMemory error };
+
+    fn from(error: AllocError) -> ParseError {
+        ParseError::NoMemory(error)
+    }
+}
+
+impl<T: Drop> From<AllocFailed<T>> for ParseError {
+    ghost from_gives = { λ _ parsed. parsed ≡ NoMemory alloc_error };
+
+    fn from(_error: AllocFailed<T>) -> ParseError {
+        ParseError::NoMemory(AllocError)
+    }
+}
+
+impl<T: ParseInteger, A: Allocator + Copy> RangeSetBlaze<T, A> {
+    /// Returns the set of the ranges that a text lists, such as `1..=3, 7..=8`, which is how
+    /// `Display` writes a set.
+    ///
+    /// The ranges may come in any order and overlap. A single value such as `5` is the range of
+    /// itself. A range whose start is past its end has no members. Blanks may stand around each
+    /// number: spaces, tabs and ends of lines. A number may have a sign. A text of blanks, or the
+    /// empty text, is the empty set.
+    ///
+    /// Returns `Unexpected` with the place of the first byte that fits nothing, and `NoMemory` if
+    /// allocation fails. Not in range-set-blaze.
+    pub fn parse(alloc: A, text: &str) -> Result<Self, ParseError>
+        ensures spelled { IfOk result (λ set. (ranges : List (Range T))
+            × Spells T.number T.fits text.now ranges
+            × IsSetOf set (members (intervals_of T.rank ranges))) }
+        ensures only { IfOk result (λ set. (ranges : List (Range T))
+            → Spells T.number T.fits text.now ranges
+            → IsSetOf set (members (intervals_of T.rank ranges))) }
+        ensures unexpected { (place : ℕ) → result ≡ Err (ParseError.Unexpected place)
+            → IsFirstUnexpected T.number T.fits text.now place }
+        ensures refused { (ranges : List (Range T)) (place : ℕ)
+            → Spells T.number T.fits text.now ranges
+            → result ≢ Err (ParseError.Unexpected place) }
+    {
+        let ranges = ranges_in(alloc, text.as_bytes())?;
+        let set = set_of(alloc, ranges)?;
+        Ok(set)
+    }
+}
+
+// Where in a text of ranges the next byte stands, and what was read of its range.
+#[derive(Clone, Copy)]
+enum Place<T> {
+    // Before the first byte that is not blank.
+    Start,
+    // Before a number, which ends the range if another one has begun it.
+    Before(Option<T>),
+    // Behind the sign of such a number.
+    Signed {
+        start: Option<T>,
+        negative: bool,
+    },
+    // Behind a digit of such a number.
+    Digits {
+        start: Option<T>,
+        negative: bool,
+        value: T,
+    },
+    // Behind a blank that follows such a number.
+    Behind {
+        start: Option<T>,
+        value: T,
+    },
+    // Behind a dot that follows the start of a range.
+    Dot(T),
+    // Behind two.
+    Dots(T),
+}
+
+// The ranges that a text spells.
+fn ranges_in<T: ParseInteger, A: Allocator>(
+    alloc: A,
+    text: &[u8],
+) -> Result<Vec<RangeInclusive<T>, A>, ParseError>
+    ensures spelled { IfOk result (λ ranges. Spells T.number T.fits text.now ranges.items) }
+    ensures only { IfOk result (λ ranges. (others : List (Range T))
+        → Spells T.number T.fits text.now others → others ≡ ranges.items) }
+    ensures unexpected { (place : ℕ) → result ≡ Err (ParseError.Unexpected place)
+        → IsFirstUnexpected T.number T.fits text.now place }
+{
+    let mut ranges = Vec::new(alloc);
+    let mut place = Place::Start;
+    for (at, byte) in text.iter().enumerate() {
+        if *byte == b',' {
+            let Some(range) = finished(place) else {
+                return Err(ParseError::Unexpected(at));
+            };
+            ranges.push(range)?;
+            place = Place::Before(None);
+        } else {
+            let Some(next) = after(place, *byte) else {
+                return Err(ParseError::Unexpected(at));
+            };
+            place = next;
+        }
+    }
+    if let Place::Start = place {
+        return Ok(ranges);
+    }
+    let Some(range) = finished(place) else {
+        return Err(ParseError::Unexpected(text.len()));
+    };
+    ranges.push(range)?;
+    Ok(ranges)
+}
+
+// The place after a byte that is no comma, or `None` if the byte fits nothing there.
+fn after<T: ParseInteger>(place: Place<T>, byte: u8) -> Option<Place<T>>
+    requires { byte ≢ 44 }
+    ensures { Steps T.number T.fits place byte result }
+{
+    match place {
+        Place::Start => {
+            if is_blank(byte) {
+                Some(Place::Start)
+            } else {
+                after_blanks(None, byte)
+            }
+        }
+        Place::Before(start) => {
+            if is_blank(byte) {
+                Some(Place::Before(start))
+            } else {
+                after_blanks(start, byte)
+            }
+        }
+        Place::Signed { start, negative } => after_sign(start, negative, byte),
+        Place::Digits {
+            start,
+            negative,
+            value,
+        } => after_digit(start, negative, value, byte),
+        Place::Behind { start, value } => after_number(start, value, byte),
+        Place::Dot(start) => {
+            if byte == b'.' {
+                Some(Place::Dots(start))
+            } else {
+                None
+            }
+        }
+        Place::Dots(start) => {
+            if byte == b'=' {
+                Some(Place::Before(Some(start)))
+            } else {
+                None
+            }
+        }
+    }
+}
+
+// The place after the first byte of a number.
+fn after_blanks<T: ParseInteger>(start: Option<T>, byte: u8) -> Option<Place<T>>
+    requires { is_blank_byte byte ≡ false }
+    ensures { Steps T.number T.fits (Before start) byte result }
+{
+    if byte == b'+' {
+        return Some(Place::Signed {
+            start,
+            negative: false,
+        });
+    }
+    if byte == b'-' {
+        return Some(Place::Signed {
+            start,
+            negative: true,
+        });
+    }
+    after_sign(start, false, byte)
+}
+
+// The place after the first digit of a number.
+fn after_sign<T: ParseInteger>(start: Option<T>, negative: bool, byte: u8) -> Option<Place<T>>
+    ensures { Steps T.number T.fits (Signed start negative) byte result }
+{
+    let digit = value_of(byte)?;
+    let value = T::zero().with_digit(negative, digit)?;
+    Some(Place::Digits {
+        start,
+        negative,
+        value,
+    })
+}
+
+// The place after a byte that follows a digit.
+fn after_digit<T: ParseInteger>(
+    start: Option<T>,
+    negative: bool,
+    value: T,
+    byte: u8,
+) -> Option<Place<T>>
+    requires { byte ≢ 44 }
+    ensures { Steps T.number T.fits (Digits start negative value) byte result }
+{
+    let Some(digit) = value_of(byte) else {
+        return after_number(start, value, byte);
+    };
+    let value = value.with_digit(negative, digit)?;
+    Some(Place::Digits {
+        start,
+        negative,
+        value,
+    })
+}
+
+// The place after a byte that follows a number.
+fn after_number<T: ParseInteger>(start: Option<T>, value: T, byte: u8) -> Option<Place<T>>
+    requires { byte ≢ 44 }
+    ensures { Steps T.number T.fits (Behind start value) byte result }
+{
+    if is_blank(byte) {
+        return Some(Place::Behind { start, value });
+    }
+    if byte != b'.' {
+        return None;
+    }
+    match start {
+        None => Some(Place::Dot(value)),
+        Some(_) => None,
+    }
+}
+
+// The range that may end at a place.
+fn finished<T: ParseInteger>(place: Place<T>) -> Option<RangeInclusive<T>>
+    ensures { Finishes T.number T.fits place result }
+{
+    match place {
+        Place::Digits { start, value, .. } => Some(range_to(start, value)),
+        Place::Behind { start, value } => Some(range_to(start, value)),
+        _ => None,
+    }
+}
+
+// The range that ends with a number, and has begun with another one, or else with itself.
+fn range_to<T: Copy>(start: Option<T>, value: T) -> RangeInclusive<T>
+    ensures { result ≡ range_of (start_or start value, value) }
+{
+    match start {
+        Some(start) => start..=value,
+        None => value..=value,
+    }
+}
+
+// The set of ranges in any order.
+fn set_of<T: Integer, A: Allocator + Copy>(
+    alloc: A,
+    ranges: Vec<RangeInclusive<T>, A>,
+) -> Result<RangeSetBlaze<T, A>, AllocError>
+    ensures { IfOk result (λ set. IsSetOf set (members (intervals_of T.rank ranges.items))) }
+{
+    let set = RangeSetBlaze::from_iter(alloc, ranges)?;
+    Ok(set)
+}
+
+// Whether a byte is a space, a tab or an end of a line.
+fn is_blank(byte: u8) -> bool
+    ensures { result ≡ is_blank_byte byte }
+{
+    byte == b' ' || byte == b'\t' || byte == b'\n' || byte == b'\r'
+}
+
+// What a decimal digit counts.
+fn value_of(byte: u8) -> Option<u8>
+    ensures { SomeIff result (digit_value byte < 10) (digit_value byte) }
+{
+    if byte.is_ascii_digit() {
+        Some(byte - b'0')
+    } else {
+        None
+    }
+}
