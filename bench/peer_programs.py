@@ -1,8 +1,11 @@
-"""Builds the programs under bench/peers/ with cargo, over the published crate or over sources of it in a folder."""
+"""Builds the programs under bench/peers/ with cargo, over the published crate or over sources of it in a folder, and
+makes the folders in which `rt` runs those over this library."""
 
 import os
+import shutil
 import subprocess
 import sys
+from pathlib import Path
 
 HERE = os.path.dirname(os.path.abspath(__file__))
 ORIGINAL_HELP = """folder of the original crate, with its Cargo.toml, in place of the one that cargo fetches; a
@@ -33,3 +36,18 @@ def built(peer, original=None):
         print(f"{peer}: not built, and left out: {' '.join(made.stderr.split()[-30:])}", file=sys.stderr)
         return None
     return os.path.join(folder, "target", "release", peer)
+
+
+def made_room(folder, peer):
+    """The folder of a program `app`, a peer's `here.rattle` over copies of the libraries, made in a folder."""
+    root = Path(HERE).parent
+    for crate in (root / "crates").iterdir():
+        for part in ("src", "specs", "proofs"):
+            if (crate / part).is_dir():
+                shutil.copytree(crate / part, folder / "crates" / crate.name / part)
+    shutil.copy(root / "HANDLES", folder)
+    (folder / "crates.txt").write_text((root / "crates.txt").read_text() + "app: range_set_blaze\n")
+    source = folder / "crates" / "app" / "src"
+    source.mkdir(parents=True)
+    shutil.copy(Path(HERE) / "peers" / peer / "here.rattle", source / "main.rt")
+    return source.parent
