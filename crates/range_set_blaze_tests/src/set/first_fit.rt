@@ -75,12 +75,7 @@ static FITTING: [(Table<'static>, u64, Ends, Ends); 21] = [
     (&[], 0, Some((i32::MIN, i32::MAX)), None),
     (&[], 4_294_967_296, Some((i32::MIN, i32::MAX)), None),
     (&[], 4_294_967_297, None, None),
-    (
-        &[(i32::MIN, i32::MAX)],
-        0,
-        None,
-        Some((i32::MIN, i32::MAX)),
-    ),
+    (&[(i32::MIN, i32::MAX)], 0, None, Some((i32::MIN, i32::MAX))),
     (
         &[(i32::MIN, i32::MAX)],
         4_294_967_296,
@@ -169,18 +164,8 @@ static FITTING: [(Table<'static>, u64, Ends, Ends); 21] = [
         Some((i32::MIN, 0)),
         Some((12, 20)),
     ),
-    (
-        &[(1, 3), (7, 10), (12, 20)],
-        10,
-        Some((i32::MIN, 0)),
-        None,
-    ),
-    (
-        &[(0, 9)],
-        2_147_483_649,
-        None,
-        None,
-    ),
+    (&[(1, 3), (7, 10), (12, 20)], 10, Some((i32::MIN, 0)), None),
+    (&[(0, 9)], 2_147_483_649, None, None),
 ];
 
 /// Whether an answer is the range with these ends.
@@ -207,7 +192,10 @@ fn fit(
 #[test]
 fn the_first_gap_and_run_that_fit_are_found(rt: HostRuntime) -> Result<(), Fail> {
     for (ranges, len, gap, run) in &FITTING {
-        assert!(rt; fit(rt.alloc(), ranges, *len, *gap, *run)?, "{len} in {ranges:?}");
+        assert!(rt;
+            fit(rt.alloc(), ranges, *len, *gap, *run)?,
+            "{len} in {ranges:?}"
+        );
     }
     Ok(())
 }
@@ -242,7 +230,6 @@ fn gaps_are_cut_to_the_values_from_one_on(rt: HostRuntime) -> Result<(), Fail> {
     Ok(())
 }
 
-/// Whether a gap up to the greatest value is cut to the values from one on.
 #[test]
 fn the_last_gap_is_cut_too(rt: HostRuntime) -> Result<(), Fail> {
     let set = set_of(rt.alloc(), &[(-5, -1)])?;
@@ -253,13 +240,17 @@ fn the_last_gap_is_cut_too(rt: HostRuntime) -> Result<(), Fail> {
     Ok(())
 }
 
+/// All values of a type.
+fn all<T: Integer>() -> RangeInclusive<T> {
+    T::min_value()..=T::max_value()
+}
+
 /// Whether a whole type is free, and then a run.
 fn whole_type_fits<T: Integer>(alloc: Global, whole: T::SafeLen) -> Result<bool, AllocError> {
     let mut set = RangeSetBlaze::<T>::new(alloc);
-    let all = T::min_value()..=T::max_value();
-    let is_free = set.first_gap(whole) == Some(all.clone()) && set.first_run(whole).is_none();
-    set.ranges_insert(all.clone())?;
-    Ok(is_free && set.first_gap(whole).is_none() && set.first_run(whole) == Some(all))
+    let is_free = set.first_gap(whole) == Some(all()) && set.first_run(whole).is_none();
+    set.ranges_insert(all::<T>())?;
+    Ok(is_free && set.first_gap(whole).is_none() && set.first_run(whole) == Some(all()))
 }
 
 #[test]

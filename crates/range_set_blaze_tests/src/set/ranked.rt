@@ -44,11 +44,20 @@ static NUMBERED: [(Table<'static>, u64, Option<i32>); 14] = [
     (&[(i32::MIN, i32::MAX)], 2_147_483_648, Some(0)),
     (&[(i32::MIN, i32::MAX)], 4_294_967_295, Some(i32::MAX)),
     (&[(i32::MIN, i32::MAX)], 4_294_967_296, None),
-    (&[(i32::MIN, -1), (i32::MAX, i32::MAX)], 2_147_483_648, Some(i32::MAX)),
+    (
+        &[(i32::MIN, -1), (i32::MAX, i32::MAX)],
+        2_147_483_648,
+        Some(i32::MAX),
+    ),
 ];
 
 /// Whether the member of a number is this one, whose rank is the number then.
-fn is_nth(alloc: Global, ranges: Table<'_>, n: u64, member: Option<i32>) -> Result<bool, AllocError> {
+fn is_nth(
+    alloc: Global,
+    ranges: Table<'_>,
+    n: u64,
+    member: Option<i32>,
+) -> Result<bool, AllocError> {
     let set = set_of(alloc, ranges)?;
     let rank = if member.is_some() { Some(n) } else { None };
     Ok(set.nth(n) == member && rank_of_nth(&set, n) == rank)
@@ -57,7 +66,10 @@ fn is_nth(alloc: Global, ranges: Table<'_>, n: u64, member: Option<i32>) -> Resu
 #[test]
 fn members_are_found_by_number(rt: HostRuntime) -> Result<(), Fail> {
     for (ranges, n, member) in &NUMBERED {
-        assert!(rt; is_nth(rt.alloc(), ranges, *n, *member)?, "{n} of {ranges:?}");
+        assert!(rt;
+            is_nth(rt.alloc(), ranges, *n, *member)?,
+            "{n} of {ranges:?}"
+        );
     }
     Ok(())
 }
@@ -114,10 +126,10 @@ fn booked_slots_are_numbered(rt: HostRuntime) -> Result<(), Fail> {
     Ok(())
 }
 
-/// Whether each member of seventy thousand runs has its number: every seven-hundredth.
+/// Whether each member of seventy thousand runs has its number: every seven-thousandth.
 fn are_numbered(set: &RangeSetBlaze<i32>) -> bool {
-    for place in 0..300i32 {
-        let number = place.saturating_mul(700);
+    for place in 0..30i32 {
+        let number = place.saturating_mul(7_000);
         let wanted = number / 3 * 5 + number % 3;
         let n = number.unsigned_abs();
         if set.nth(u64::from(n)) != Some(wanted) || set.rank(wanted) != u64::from(n) {
