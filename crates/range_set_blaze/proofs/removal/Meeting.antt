@@ -1,8 +1,6 @@
 -- A range that is taken out of the runs that it meets, from the last on.
-use Rattle.std.proofs.Common.{◌≡◌, ◌↔◌, ℕ, Bool, true, false, not, ◌&&◌, ◌+◌, ◌<◌, ◌≤◌, List, IsTrue, ap, ◌∙◌, inl, inr, arith, refl}
-use Rattle.std.specs.List.{Contains}
+use Rattle.std.proofs.Common.{◌≡◌, ◌↔◌, ℕ, Bool, true, false, not, ◌&&◌, ◌+◌, ◌<◌, ◌≤◌, List, IsTrue, ◌∙◌, inl, inr, arith, refl}
 use Rattle.std.proofs.lemmas.Bool.{cases_lt, false≢true}
-use Rattle.std.proofs.lemmas.Bool.Decides.{nat_tests}
 use Rattle.rsb_integer.specs.Runs.{Interval, covers, length_of, members, IsCanonicalIn}
 use Rattle.rsb_integer.specs.Selection.{count, intersection, IsEmpty}
 use Rattle.rsb_integer.proofs.ListLemmas.{true_or_false, not_both}

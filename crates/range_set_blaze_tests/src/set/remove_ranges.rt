@@ -17,13 +17,13 @@ use std::alloc::{AllocError, Allocator, Global};
 use std::ops::{Bound, RangeBounds};
 use std::test::*;
 
-/// What a set has of the values between two bounds: all, some or none, or there are no values.
+/// What a set has of the values between two bounds, if there are any.
 #[derive(Clone, Copy)]
 enum Held {
     All,
-    Some,
-    None,
+    Part,
     Nothing,
+    NoValues,
 }
 
 /// Whether a set tells what it has between two bounds, and removing that makes it the set of a table.
@@ -35,10 +35,10 @@ fn is_removed(
     after: Table<'_>,
 ) -> Result<bool, AllocError> {
     let mut set = set_of(alloc, before)?;
-    let has_all = matches!(held, Held::All | Held::Nothing);
-    let has_some = matches!(held, Held::All | Held::Some);
-    let is_told =
-        set.contains_range(bounds) == has_all && set.is_disjoint_range(bounds) != has_some;
+    let has_all = matches!(held, Held::All | Held::NoValues);
+    let has_some = matches!(held, Held::All | Held::Part);
+    let is_told = set.contains_range(bounds) == has_all
+        && set.is_disjoint_range(bounds) != has_some;
     Ok(is_told && set.ranges_remove(bounds)? == has_some && has(&set, after))
 }
 
@@ -53,33 +53,39 @@ const ALL: Table<'static> = &[(i32::MIN, i32::MAX)];
 
 /// A start and an end, the set before, what it has of them, and the set after.
 static REMOVED: [(i32, i32, Table<'static>, Held, Table<'static>); 27] = [
-    (1, 5, &[], Held::None, &[]),
+    (1, 5, &[], Held::Nothing, &[]),
     (3, 4, TWO, Held::All, &[(1, 2), (5, 5), (9, 9)]),
     (3, 3, TWO, Held::All, &[(1, 2), (4, 5), (9, 9)]),
     (1, 3, TWO, Held::All, &[(4, 5), (9, 9)]),
-    (0, 3, TWO, Held::Some, &[(4, 5), (9, 9)]),
+    (0, 3, TWO, Held::Part, &[(4, 5), (9, 9)]),
     (3, 5, TWO, Held::All, &[(1, 2), (9, 9)]),
-    (3, 8, TWO, Held::Some, &[(1, 2), (9, 9)]),
+    (3, 8, TWO, Held::Part, &[(1, 2), (9, 9)]),
     (1, 5, TWO, Held::All, &[(9, 9)]),
     (9, 9, TWO, Held::All, &[(1, 5)]),
-    (5, 9, TWO, Held::Some, &[(1, 4)]),
-    (0, 10, TWO, Held::Some, &[]),
-    (6, 8, TWO, Held::None, TWO),
-    (i32::MIN, 0, TWO, Held::None, TWO),
-    (10, i32::MAX, TWO, Held::None, TWO),
-    (5, 3, TWO, Held::Nothing, TWO),
-    (2, 15, FOUR, Held::Some, &[(1, 1), (16, 20)]),
-    (3, 12, FOUR, Held::Some, &[(1, 2), (13, 20)]),
-    (5, 10, FOUR, Held::Some, &[(1, 2), (13, 20)]),
-    (6, 9, FOUR, Held::Some, &[(1, 2), (5, 5), (10, 10), (13, 20)]),
-    (4, 9, FOUR, Held::Some, &[(1, 2), (10, 10), (13, 20)]),
-    (1, 20, FOUR, Held::Some, &[]),
-    (i32::MIN, i32::MAX, FOUR, Held::Some, &[]),
+    (5, 9, TWO, Held::Part, &[(1, 4)]),
+    (0, 10, TWO, Held::Part, &[]),
+    (6, 8, TWO, Held::Nothing, TWO),
+    (i32::MIN, 0, TWO, Held::Nothing, TWO),
+    (10, i32::MAX, TWO, Held::Nothing, TWO),
+    (5, 3, TWO, Held::NoValues, TWO),
+    (2, 15, FOUR, Held::Part, &[(1, 1), (16, 20)]),
+    (3, 12, FOUR, Held::Part, &[(1, 2), (13, 20)]),
+    (5, 10, FOUR, Held::Part, &[(1, 2), (13, 20)]),
+    (
+        6,
+        9,
+        FOUR,
+        Held::Part,
+        &[(1, 2), (5, 5), (10, 10), (13, 20)],
+    ),
+    (4, 9, FOUR, Held::Part, &[(1, 2), (10, 10), (13, 20)]),
+    (1, 20, FOUR, Held::Part, &[]),
+    (i32::MIN, i32::MAX, FOUR, Held::Part, &[]),
     (i32::MIN, i32::MAX, ALL, Held::All, &[]),
     (i32::MIN, -1, ALL, Held::All, &[(0, i32::MAX)]),
     (0, i32::MAX, ALL, Held::All, &[(i32::MIN, -1)]),
     (0, 0, ALL, Held::All, &[(i32::MIN, -1), (1, i32::MAX)]),
-    (i32::MAX, i32::MIN, ALL, Held::Nothing, ALL),
+    (i32::MAX, i32::MIN, ALL, Held::NoValues, ALL),
 ];
 
 #[test]
@@ -95,7 +101,7 @@ fn what_lies_in_a_range_is_told_and_removed(rt: HostRuntime) {
 
 /// A start and an end, the set before, what it has between them, and the set after.
 static BOUNDED: [(Bound<i32>, Bound<i32>, Table<'static>, Held, Table<'static>); 7] = [
-    (Bound::Unbounded, Bound::Unbounded, TWO, Held::Some, &[]),
+    (Bound::Unbounded, Bound::Unbounded, TWO, Held::Part, &[]),
     (Bound::Unbounded, Bound::Unbounded, ALL, Held::All, &[]),
     (
         Bound::Excluded(1),
@@ -104,10 +110,34 @@ static BOUNDED: [(Bound<i32>, Bound<i32>, Table<'static>, Held, Table<'static>);
         Held::All,
         &[(1, 1), (5, 5), (9, 9)],
     ),
-    (Bound::Excluded(5), Bound::Excluded(9), TWO, Held::None, TWO),
-    (Bound::Excluded(3), Bound::Excluded(4), TWO, Held::Nothing, TWO),
-    (Bound::Excluded(i32::MAX), Bound::Unbounded, ALL, Held::Nothing, ALL),
-    (Bound::Unbounded, Bound::Excluded(i32::MIN), ALL, Held::Nothing, ALL),
+    (
+        Bound::Excluded(5),
+        Bound::Excluded(9),
+        TWO,
+        Held::Nothing,
+        TWO,
+    ),
+    (
+        Bound::Excluded(3),
+        Bound::Excluded(4),
+        TWO,
+        Held::NoValues,
+        TWO,
+    ),
+    (
+        Bound::Excluded(i32::MAX),
+        Bound::Unbounded,
+        ALL,
+        Held::NoValues,
+        ALL,
+    ),
+    (
+        Bound::Unbounded,
+        Bound::Excluded(i32::MIN),
+        ALL,
+        Held::NoValues,
+        ALL,
+    ),
 ];
 
 #[test]
@@ -191,4 +221,13 @@ fn are_free<T: Integer, A: Allocator, R: RangeBounds<T>>(
         (ranks_in T.rank T.value_count R.start_bound R.end_bound range))) }
 {
     booked.is_disjoint_range(range)
+}
+
+#[test]
+fn callers_know_what_is_left_and_what_is_free(rt: HostRuntime) -> Result<(), Fail> {
+    let mut set = set_of(rt.alloc(), TWO)?;
+    let rest = outside(&set, 3..=9)?;
+    assert!(rt; has(&rest, &[(1, 2)]) && lacks_none(&set, 2..5) && are_free(&set, 6..9));
+    assert!(rt; keep_below(&mut set, 4) && has(&set, &[(1, 3)]));
+    Ok(())
 }

@@ -1,8 +1,8 @@
 use Rattle.std.proofs.Common.{arith}
 use Rattle.rsb_integer.specs.Runs.{members}
 use Rattle.rsb_integer.proofs.CountLemmas.{count-within}
-use Rattle.range_set_blaze.specs.Kept.{run_of, runs_of}
-use Rattle.range_set_blaze.proofs.removal.Meeting.{meeting-value, piece-ends, piece-from, piece-order, piece-to, taken-counted, taken-ends, taken-fewer, taken-outside}
+use Rattle.range_set_blaze.specs.Kept.{runs_of}
+use Rattle.range_set_blaze.proofs.removal.Meeting.{meeting-value, piece-ends, piece-from, piece-order, piece-to, taken-counted, taken-ends, taken-outside}
 use Rattle.range_set_blaze.proofs.set.remove_ranges.take_common.Goals as goal
 
 -- the run is of values
