@@ -7,6 +7,8 @@ pub mod HashLaws
 pub mod Joining
 pub mod Kept
 pub mod Multiway
+pub mod NumberLaws
+pub mod Numbers
 pub mod Order
 pub mod OrderLaws
 pub mod Reading
