@@ -9,6 +9,8 @@ pub mod Joining
 pub mod Kept
 pub mod Lent
 pub mod Multiway
+pub mod NumberLaws
+pub mod Numbers
 pub mod Order
 pub mod OrderLaws
 pub mod Ranked

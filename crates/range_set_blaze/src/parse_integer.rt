@@ -3,7 +3,9 @@
 ghost use Rattle.std.specs.Prelude.{◌≡◌, ℕ, ℤ, ◌*◌, ◌+◌, ◌<◌, IfSome, IsNone, pos, unsigned_abs};
 ghost use Rattle.std.specs.Int.{FitsUnsignedBits, w8, w16, w32, w64, w128};
 ghost use Rattle.std.specs.Int.RustNames.{FitsSigned};
-ghost use Rattle.std.proofs.Common.{lit<, refl};
+ghost use Rattle.std.proofs.Common.{lit<, lit≤, refl};
+ghost use Rattle.range_set_blaze.specs.NumberLaws.{signed-numbers, unsigned-numbers};
+ghost use Rattle.range_set_blaze.specs.Numbers.{AreNumbers};
 ghost use Rattle.range_set_blaze.specs.Text.{HasDigit, signed_by};
 
 use rsb_integer::Integer;
@@ -32,8 +34,8 @@ pub trait ParseInteger: Integer {
     // One of the values is 0.
     ghost has_zero: { (zero : Self) × (number zero ≡ pos 0) × fits (pos 0) };
 
-    // Values that are one number are equal.
-    ghost numbers_differ: { (x y : Self) → number x ≡ number y → x ≡ y };
+    // There is one value for each number of the type, and `Debug` writes it in decimal.
+    ghost numbers: { AreNumbers Self.rank Self.value_count number fits Self.debug_output };
 }
 
 impl ParseInteger for u8 {
@@ -56,7 +58,7 @@ impl ParseInteger for u8 {
 
     ghost has_zero = { (0, refl, lit< tt) };
 
-    ghost numbers_differ = { λ x y same. Prim.cc };
+    ghost numbers = { unsigned-numbers 8 (lit≤ tt) };
 }
 
 impl ParseInteger for u16 {
@@ -79,7 +81,7 @@ impl ParseInteger for u16 {
 
     ghost has_zero = { (0, refl, lit< tt) };
 
-    ghost numbers_differ = { λ x y same. Prim.cc };
+    ghost numbers = { unsigned-numbers 16 (lit≤ tt) };
 }
 
 impl ParseInteger for u32 {
@@ -102,7 +104,7 @@ impl ParseInteger for u32 {
 
     ghost has_zero = { (0, refl, lit< tt) };
 
-    ghost numbers_differ = { λ x y same. Prim.cc };
+    ghost numbers = { unsigned-numbers 32 (lit≤ tt) };
 }
 
 impl ParseInteger for u64 {
@@ -125,7 +127,7 @@ impl ParseInteger for u64 {
 
     ghost has_zero = { (0, refl, lit< tt) };
 
-    ghost numbers_differ = { λ x y same. Prim.cc };
+    ghost numbers = { unsigned-numbers 64 (lit≤ tt) };
 }
 
 impl ParseInteger for u128 {
@@ -148,7 +150,7 @@ impl ParseInteger for u128 {
 
     ghost has_zero = { (0, refl, lit< tt) };
 
-    ghost numbers_differ = { λ x y same. Prim.cc };
+    ghost numbers = { unsigned-numbers 128 (lit≤ tt) };
 }
 
 impl ParseInteger for usize {
@@ -171,7 +173,7 @@ impl ParseInteger for usize {
 
     ghost has_zero = { (0, refl, lit< tt) };
 
-    ghost numbers_differ = { λ x y same. Prim.cc };
+    ghost numbers = { unsigned-numbers 64 (lit≤ tt) };
 }
 
 impl ParseInteger for i8 {
@@ -194,7 +196,7 @@ impl ParseInteger for i8 {
 
     ghost has_zero = { (pos 0, refl, lit< tt) };
 
-    ghost numbers_differ = { λ x y same. same };
+    ghost numbers = { signed-numbers w8 (lit≤ tt) };
 }
 
 impl ParseInteger for i16 {
@@ -220,7 +222,7 @@ impl ParseInteger for i16 {
 
     ghost has_zero = { (pos 0, refl, lit< tt) };
 
-    ghost numbers_differ = { λ x y same. same };
+    ghost numbers = { signed-numbers w16 (lit≤ tt) };
 }
 
 impl ParseInteger for i32 {
@@ -246,7 +248,7 @@ impl ParseInteger for i32 {
 
     ghost has_zero = { (pos 0, refl, lit< tt) };
 
-    ghost numbers_differ = { λ x y same. same };
+    ghost numbers = { signed-numbers w32 (lit≤ tt) };
 }
 
 impl ParseInteger for i64 {
@@ -272,7 +274,7 @@ impl ParseInteger for i64 {
 
     ghost has_zero = { (pos 0, refl, lit< tt) };
 
-    ghost numbers_differ = { λ x y same. same };
+    ghost numbers = { signed-numbers w64 (lit≤ tt) };
 }
 
 impl ParseInteger for i128 {
@@ -298,7 +300,7 @@ impl ParseInteger for i128 {
 
     ghost has_zero = { (pos 0, refl, lit< tt) };
 
-    ghost numbers_differ = { λ x y same. same };
+    ghost numbers = { signed-numbers w128 (lit≤ tt) };
 }
 
 impl ParseInteger for isize {
@@ -324,5 +326,5 @@ impl ParseInteger for isize {
 
     ghost has_zero = { (pos 0, refl, lit< tt) };
 
-    ghost numbers_differ = { λ x y same. same };
+    ghost numbers = { signed-numbers w64 (lit≤ tt) };
 }

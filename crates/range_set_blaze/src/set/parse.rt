@@ -1,14 +1,15 @@
 //! Sets from their texts.
 
-ghost use Rattle.std.specs.Prelude.{◌≡◌, ◌≢◌, ℕ, ◌<◌, List, IfOk, SomeIff, alloc_error, false};
+ghost use Rattle.std.specs.Prelude.{◌≡◌, ◌≢◌, ℕ, ◌<◌, List, IfOk, Some, SomeIff, alloc_error, false};
 ghost use Rattle.std.specs.Char.{digit_value};
 ghost use Rattle.std.specs.declared.ops.RangeInclusive.{RangeInclusive as Range};
 ghost use Rattle.rsb_integer.specs.Rank.{intervals_of};
-ghost use Rattle.rsb_integer.specs.Runs.{members};
+ghost use Rattle.rsb_integer.specs.Runs.{members, AreRuns, Interval, IsCanonicalIn};
 ghost use Rattle.range_set_blaze.specs.Kept.{range_of};
 ghost use Rattle.range_set_blaze.specs.Reading.{Finishes, Steps, start_or};
 ghost use Rattle.range_set_blaze.specs.Set.{IsSetOf};
 ghost use Rattle.range_set_blaze.specs.Text.{IsFirstUnexpected, Spells, is_blank as is_blank_byte};
+ghost use Rattle.range_set_blaze.specs.Written.{runs_text};
 ghost use Rattle.range_set_blaze.specs.declared.set.parse.Place.TheVariants.{Signed, Digits, Behind, Before};
 ghost use Rattle.range_set_blaze.specs.declared.set.parse.ParseError.TheVariants.{NoMemory};
 
@@ -80,6 +81,14 @@ impl<T: ParseInteger, A: Allocator + Copy> RangeSetBlaze<T, A> {
             → IsFirstUnexpected T.number T.fits text.now place }
         ensures refused { (ranges : List (Range T)) (place : ℕ)
             → Spells T.number T.fits text.now ranges
+            → result ≢ Err (ParseError.Unexpected place) }
+
+        // What `Display` writes of a set is read as that set.
+        ensures written { (runs : List Interval) → IsCanonicalIn T.value_count runs
+            → runs_text (λ rank. T.debug_output (T.value_at rank)) runs ≡ Some text.now
+            → IfOk result (λ set. set ≡ runs) }
+        ensures taken { (runs : List Interval) (place : ℕ) → IsCanonicalIn T.value_count runs
+            → runs_text (λ rank. T.debug_output (T.value_at rank)) runs ≡ Some text.now
             → result ≢ Err (ParseError.Unexpected place) }
     {
         let ranges = ranges_in(alloc, text.as_bytes())?;
@@ -295,9 +304,13 @@ fn set_of<T: Integer, A: Allocator + Copy>(
     alloc: A,
     ranges: Vec<RangeInclusive<T>, A>,
 ) -> Result<RangeSetBlaze<T, A>, AllocError>
-    ensures { IfOk result (λ set. IsSetOf set (members (intervals_of T.rank ranges.items))) }
+    ensures members { IfOk result (λ set.
+        IsSetOf set (members (intervals_of T.rank ranges.items))) }
+    ensures runs { IfOk result (λ set. AreRuns T.value_count (members set) set) }
 {
     let set = RangeSetBlaze::from_iter(alloc, ranges)?;
+    // Called for its clause alone.
+    set.ranges_len();
     Ok(set)
 }
 

@@ -1,7 +1,14 @@
 //! Sets read from texts.
 
-use crate::set::many_runs::counts;
-use range_set_blaze::{Integer, ParseError, ParseInteger, RangeSetBlaze};
+ghost use Rattle.std.specs.Prelude.{IfOk, List};
+ghost use Rattle.std.specs.declared.ops.RangeInclusive.{RangeInclusive as Range};
+ghost use Rattle.range_set_blaze.specs.Rank.{intervals_of};
+ghost use Rattle.range_set_blaze.specs.Runs.{members};
+ghost use Rattle.range_set_blaze.specs.Selection.{union};
+ghost use Rattle.range_set_blaze.specs.Set.{IsSetOf};
+ghost use Rattle.range_set_blaze.specs.Text.{Spells};
+
+use range_set_blaze::{ParseError, ParseInteger, RangeSetBlaze};
 use rsb_tables::{Counting, Table, every_fifth, set_of};
 use std::alloc::{AllocError, Allocator, Global};
 use std::test::*;
@@ -26,7 +33,10 @@ static READ: [(&'static str, Table<'static>); 19] = [
     ("-0", &[(0, 0)]),
     ("000000000000000000007", &[(7, 7)]),
     ("-2147483648..=2147483647", &[(i32::MIN, i32::MAX)]),
-    ("2147483647, -2147483648", &[(i32::MIN, i32::MIN), (i32::MAX, i32::MAX)]),
+    (
+        "2147483647, -2147483648",
+        &[(i32::MIN, i32::MIN), (i32::MAX, i32::MAX)],
+    ),
     ("1..=-1", &[]),
     ("-1..=1", &[(-1, 1)]),
     ("1, 2, 3, 5, 4", &[(1, 5)]),
@@ -105,9 +115,11 @@ fn is_whole<T: ParseInteger>(
     let Ok(set) = RangeSetBlaze::<T>::parse(alloc, text) else {
         return Ok(false);
     };
-    Ok(set.is_universal()
-        && is_refused::<T>(alloc, low, low_place)
-        && is_refused::<T>(alloc, high, high_place))
+    Ok(
+        set.is_universal()
+            && is_refused::<T>(alloc, low, low_place)
+            && is_refused::<T>(alloc, high, high_place),
+    )
 }
 
 #[test]
@@ -137,11 +149,86 @@ fn signed_types_are_read_to_their_ends(rt: HostRuntime) -> Result<(), Fail> {
     let refused = [("-9223372036854775809", 19), ("9223372036854775808", 18)];
     assert!(rt; is_whole::<i64>(alloc, whole, refused)?);
     assert!(rt; is_whole::<isize>(alloc, whole, refused)?);
-    let whole = "-170141183460469231731687303715884105728..=170141183460469231731687303715884105727";
+    let whole =
+        "-170141183460469231731687303715884105728..=170141183460469231731687303715884105727";
     let refused = [
         ("-170141183460469231731687303715884105729", 39),
         ("170141183460469231731687303715884105728", 38),
     ];
     assert!(rt; is_whole::<i128>(alloc, whole, refused)?);
+    Ok(())
+}
+
+/// Whether the text of a set is read as the set.
+fn is_reread(alloc: Global, set: &RangeSetBlaze<i32>) -> Result<bool, AllocError> {
+    let text = format!(in alloc; "{set}")?;
+    match RangeSetBlaze::parse(alloc, text.as_str()) {
+        Ok(again) => Ok(again == *set),
+        Err(ParseError::NoMemory(error)) => Err(error),
+        Err(ParseError::Unexpected(_)) => Ok(false),
+    }
+}
+
+#[test]
+fn the_text_of_seventy_thousand_runs_is_read_as_they_are(rt: HostRuntime) -> Result<(), Fail> {
+    assert!(rt; is_reread(rt.alloc(), &every_fifth(rt.alloc(), -200_000, 3)?)?);
+    assert!(rt; is_reread(rt.alloc(), &RangeSetBlaze::new(rt.alloc()))?);
+    Ok(())
+}
+
+/// Whether a text is read as the set of these ranges if the heap grants the given number of
+/// allocations, or the allocation that it refuses is told.
+fn is_tried(
+    heap: &Counting<Global>,
+    granted: usize,
+    wanted: &RangeSetBlaze<i32>,
+) -> Result<bool, AllocError> {
+    heap.fail_after(granted);
+    match RangeSetBlaze::<i32, &Counting<Global>>::parse(heap, "7..=9, 1, 4..=5, 20..=30, 12") {
+        Ok(set) => Ok(set == *wanted),
+        Err(ParseError::NoMemory(error)) => Err(error),
+        Err(ParseError::Unexpected(_)) => Ok(false),
+    }
+}
+
+#[test]
+fn each_refused_allocation_is_told_and_nothing_is_kept(rt: HostRuntime) -> Result<(), Fail> {
+    let wanted = set_of(rt.alloc(), &[(1, 1), (4, 5), (7, 9), (12, 12), (20, 30)])?;
+    let heap = Counting::new(rt.alloc());
+    let mut refused = 0u32;
+    for granted in 0..30usize {
+        match is_tried(&heap, granted, &wanted) {
+            Ok(is_right) => assert!(rt; is_right, "with {granted} allocations"),
+            Err(_) => refused = refused.saturating_add(1),
+        }
+        assert!(rt; heap.bytes() == 0);
+    }
+    assert!(rt; refused > 2 && refused < 30);
+    Ok(())
+}
+
+/// The set with the members that a text lists too, or the set alone if the text lists none. A caller
+/// over any type.
+fn with_listed<T: ParseInteger, A: Allocator + Copy>(
+    alloc: A,
+    set: &RangeSetBlaze<T, A>,
+    text: &str,
+) -> Result<RangeSetBlaze<T, A>, ParseError>
+    ensures { IfOk result (λ both. (ranges : List (Range T)) → Spells T.number T.fits text.now ranges
+        → IsSetOf both (union (members set.now) (members (intervals_of T.rank ranges)))) }
+{
+    let listed = RangeSetBlaze::parse(alloc, text)?;
+    let both = set.bitor(&listed)?;
+    Ok(both)
+}
+
+#[test]
+fn a_text_is_added_to_a_set(rt: HostRuntime) -> Result<(), Fail> {
+    let set = set_of(rt.alloc(), &[(1, 3)])?;
+    let both = set_of(rt.alloc(), &[(1, 5), (7, 7)])?;
+    match with_listed(rt.alloc(), &set, "7, 4..=5") {
+        Ok(found) => assert!(rt; found == both),
+        Err(_) => assert!(rt; false),
+    }
     Ok(())
 }

@@ -6,6 +6,7 @@ use Rattle.range_set_blaze.specs.Set.{IsSetOf}
 use Rattle.range_set_blaze.specs.Text.{IsFirstUnexpected, Spells}
 use Rattle.range_set_blaze.specs.declared.set.parse.ParseError.TheVariants.{Unexpected}
 use Rattle.range_set_blaze.proofs.texts.Read.{unexpected-none}
+use Rattle.range_set_blaze.proofs.texts.Reread.{ranges_of_runs, runs-spelled, set-reread}
 use Rattle.range_set_blaze.proofs.set.RangeSetBlaze.parse.Goals as goal
 
 -- a text that spells ranges has no unexpected byte
@@ -20,7 +21,7 @@ returns-clause-spelled g c = (
   c.in_ok-ranges.ranges.items,
   subst (λ (text : List ℕ). Spells g.T.ParseInteger.number g.T.ParseInteger.fits text c.in_ok-ranges.ranges.items) c.as_bytes.ensures.value
       c.in_ok-ranges.ensures.spelled,
-  c.in_ok-set.ensures,
+  c.in_ok-set.ensures.members,
 )
 
 pub returns-clause-only : goal.returns-clause-only
@@ -29,4 +30,25 @@ returns-clause-only g c = λ ranges h.
     (subst (λ (text : List ℕ). Spells g.T.ParseInteger.number g.T.ParseInteger.fits text ranges) (sym c.as_bytes.ensures.value) h) in
     subst (λ (items : List (RangeInclusive g.row.T.Denot)).
     IsSetOf c.in_ok-set.set (members (intervals_of g.T.Integer.rank items))) (sym same)
-    c.in_ok-set.ensures
+    c.in_ok-set.ensures.members
+
+-- what `Display` writes of runs spells them, and is read as them
+pub returns-clause-written : goal.returns-clause-written
+returns-clause-written g c = λ runs canonical is.
+    let laws = g.met.T.Integer in
+    let rank = g.T.Integer.rank in
+    let n = g.T.Integer.value_count in
+    let spelled = runs-spelled rank n g.T.Integer.value_at laws.ranks g.T.ParseInteger.number g.T.ParseInteger.fits g.T.Debug.debug_output
+            g.met.T.ParseInteger.numbers runs c.args.text.now canonical is in
+    set-reread rank n g.T.Integer.value_at laws.ranks c.in_ok-set.set runs c.in_ok-set.ensures.runs
+    canonical (returns-clause-only g c (ranges_of_runs rank n g.T.Integer.value_at laws.ranks runs) spelled)
+
+pub returns-in_err-ranges-clause-taken : goal.returns-in_err-ranges-clause-taken
+returns-in_err-ranges-clause-taken g c = λ runs place canonical is err.
+    let laws = g.met.T.Integer in
+    let rank = g.T.Integer.rank in
+    let n = g.T.Integer.value_count in
+    let spelled = runs-spelled rank n g.T.Integer.value_at laws.ranks g.T.ParseInteger.number g.T.ParseInteger.fits g.T.Debug.debug_output
+            g.met.T.ParseInteger.numbers runs c.args.text.now canonical is in
+    returns-in_err-ranges-clause-refused g c
+    (ranges_of_runs rank n g.T.Integer.value_at laws.ranks runs) place spelled err
