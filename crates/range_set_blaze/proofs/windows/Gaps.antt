@@ -1,5 +1,5 @@
 -- The gaps of a window.
-use Rattle.std.proofs.Common.{◌≡◌, ℕ, not, ◌&&◌, ◌<◌, ◌≤◌, List, sym, ap, ◌∙◌, arith}
+use Rattle.std.proofs.Common.{ℕ, List, sym, ap, ◌∙◌, arith}
 use Rattle.rsb_integer.specs.Runs.{Interval, members, AreRuns, IsCanonicalIn}
 use Rattle.rsb_integer.specs.Selection.{Selection, difference, intersection}
 use Rattle.rsb_integer.proofs.MembersLemmas.{members-end}

@@ -1,13 +1,12 @@
 -- A window by the run that is held and the entries that follow.
-use Rattle.std.proofs.Common.{◌≡◌, ℕ, ◌+◌, ◌<◌, ◌≤◌, List, ◌∷◌, ap, sym, arith, subst, Option, Some, None, MatchOption, map}
+use Rattle.std.proofs.Common.{◌≡◌, ℕ, ◌≤◌, List, ◌∷◌, sym, subst, Option, Some, None, MatchOption}
 use Rattle.rsb_integer.specs.Rank.{intervals_of}
 use Rattle.rsb_integer.specs.Runs.{Interval, covers, members, IsCanonicalIn}
 use Rattle.rsb_integer.specs.Selection.{intersection}
 use Rattle.range_set_blaze.specs.Kept.{run_of, runs_of}
 use Rattle.range_set_blaze.specs.Set.{IsSetOf}
 use Rattle.range_set_blaze.specs.Split.{NoneOver}
-use Rattle.range_set_blaze.specs.Starts.{IsLastBelow, NoneBelow}
-use Rattle.range_set_blaze.specs.Windows.{ranges_up_to, starting_within, up_to, with_held, IsWindow, ReachesIn}
+use Rattle.range_set_blaze.specs.Windows.{ranges_up_to, starting_within, with_held, IsWindow, ReachesIn}
 use Rattle.range_set_blaze.specs.declared.set.run.Run.{Run}
 use Rattle.range_set_blaze.proofs.windows.Parts.{window-canonical, window-members, window-none, window-reached}
 use Rattle.range_set_blaze.proofs.windows.Ranges.{intervals_of-ranges_up_to}

@@ -1,5 +1,5 @@
 -- The parts of canonical runs between two ranks.
-use Rattle.std.proofs.Common.{◌≡◌, ℕ, true, false, min, not, nat_le, nat_lt, ◌&&◌, ◌||◌, ◌+◌, ◌<◌, ◌≤◌, List, [], ◌∷◌, map, refl, sym, ap, ◌∙◌, inl, inr, arith, subst}
+use Rattle.std.proofs.Common.{◌≡◌, ℕ, true, false, min, nat_le, nat_lt, ◌&&◌, ◌+◌, ◌<◌, ◌≤◌, List, [], ◌∷◌, map, refl, ap, ◌∙◌, inl, inr, arith, subst}
 use Rattle.std.specs.List.{Contains}
 use Rattle.std.proofs.lemmas.Bool.{cases_lt}
 use Rattle.std.proofs.lemmas.Bool.Decides.{nat_tests}
@@ -7,7 +7,7 @@ use Rattle.std.proofs.lemmas.List.Elements.{All-cons, All-filter, All-head, All-
 use Rattle.rsb_integer.specs.Runs.{Interval, covers, from_to, members, AllEndBelow, IsCanonicalFrom, IsCanonicalIn}
 use Rattle.rsb_integer.specs.Selection.{intersection}
 use Rattle.rsb_integer.proofs.CanonicalLemmas.{canonical-lower}
-use Rattle.rsb_integer.proofs.ListLemmas.{true_or_false, not_both, Contains-cases, Contains-head, Contains-tail}
+use Rattle.rsb_integer.proofs.ListLemmas.{not_both, Contains-cases, Contains-head, Contains-tail}
 use Rattle.rsb_integer.proofs.MembersLemmas.{covers-bounds, covers-inside, covers-outside, members-cons}
 use Rattle.range_set_blaze.specs.Set.{IsSetOf}
 use Rattle.range_set_blaze.specs.Split.{NoneOver}

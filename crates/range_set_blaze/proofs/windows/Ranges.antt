@@ -1,6 +1,5 @@
 -- The ranges of a window, one after the other.
-use Rattle.std.proofs.Common.{◌≡◌, ℕ, Bool, true, false, not, ◌&&◌, min, cond, nat_le, nat_lt, ◌<◌, ◌≤◌, List, [], ◌∷◌, ◌++◌, ◌∙◌, Option, Some, None, MatchOption, map, ap, refl, sym, arith, length, length-append, subst, inl, inr}
-use Rattle.std.proofs.lemmas.Bool.{cases_lt}
+use Rattle.std.proofs.Common.{◌≡◌, ℕ, Bool, false, not, ◌&&◌, min, nat_le, nat_lt, ◌<◌, ◌≤◌, List, [], ◌∷◌, ◌++◌, ◌∙◌, Some, map, ap, refl, sym, arith, length, length-append, subst, inl, inr}
 use Rattle.std.proofs.lemmas.Bool.Decides.{nat_tests}
 use Rattle.std.proofs.lemmas.List.{map-append}
 use Rattle.std.specs.BTreeMap.Range.{range_contains}
@@ -12,7 +11,7 @@ use Rattle.std.specs.declared.cmp.Ordering.{Ordering}
 use Rattle.std.specs.declared.ops.Bound.TheVariants.{Included}
 use Rattle.std.specs.declared.ops.RangeInclusive.{RangeInclusive}
 use Rattle.rsb_integer.specs.Rank.{interval_of, intervals_of}
-use Rattle.rsb_integer.specs.Runs.{Interval, IsCanonicalIn}
+use Rattle.rsb_integer.specs.Runs.{IsCanonicalIn}
 use Rattle.rsb_integer.proofs.CanonicalLemmas.{canonical-front}
 use Rattle.rsb_integer.proofs.ListLemmas.{true_or_false}
 use Rattle.rsb_many.proofs.inputs.Listed.{canonical-goes}

@@ -1,6 +1,5 @@
 use Rattle.std.proofs.Common.{refl}
 use Rattle.rsb_integer.specs.Rank.{intervals_of}
-use Rattle.rsb_integer.specs.Selection.{difference}
 use Rattle.range_set_blaze.proofs.windows.Gaps.{gaps-set, window-gaps}
 use Rattle.range_set_blaze.proofs.set.RangeSetBlaze.gaps_in.Goals as goal
 
