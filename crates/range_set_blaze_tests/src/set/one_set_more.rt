@@ -27,6 +27,16 @@ fn in_two<T: Integer, A: Allocator + Copy>(
     Ok(twice)
 }
 
+/// Returns the set of what lies in at least two of the sets of a list, all at once.
+fn in_two_of_list<T: Integer, A: Allocator + Copy>(
+    alloc: A,
+    sets: &Vec<RangeSetBlaze<T, A>>,
+) -> Result<RangeSetBlaze<T, A>, AllocError>
+    ensures { IfOk result (λ set. IsSetOf set (at_least 2 (map members sets.now.items))) }
+{
+    sets.at_least(alloc, 2)
+}
+
 #[test]
 fn what_two_of_three_have_is_found_set_by_set(rt: HostRuntime) -> Result<(), Fail> {
     let alloc = rt.alloc();
@@ -36,6 +46,6 @@ fn what_two_of_three_have_is_found_set_by_set(rt: HostRuntime) -> Result<(), Fai
     sets.push(set_of(alloc, &[(8, 9), (20, 30)])?)?;
     let twice = in_two(alloc, &sets)?;
     assert!(rt; has(&twice, &[(5, 9), (20, 20)]));
-    assert!(rt; MultiwayRangeSetBlazeRef::at_least(&sets, alloc, 2)? == twice);
+    assert!(rt; in_two_of_list(alloc, &sets)? == twice && (&sets).at_least(alloc, 2)? == twice);
     Ok(())
 }
