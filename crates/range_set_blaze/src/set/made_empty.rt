@@ -1,6 +1,6 @@
 //! Empty sets in place of others, as std's collections make them, and the allocator of a set.
 
-ghost use Rattle.std.specs.Prelude.{◌≡◌, [], IsOk};
+ghost use Rattle.std.specs.Prelude.{◌≡◌, [], IfOk, IsOk};
 
 use crate::set::RangeSetBlaze;
 use rsb_integer::Integer;
@@ -12,6 +12,7 @@ impl<T: Integer, A: Allocator + Copy> Emptied for RangeSetBlaze<T, A> {
     ghost is_emptied = { λ set. set ≡ [] };
 
     fn emptied(like: &Self) -> Result<Self, AllocError>
+        ensures made { IfOk result (λ set. set ≡ []) }
         ensures succeeds { IsOk result }
     {
         Ok(RangeSetBlaze::new(like.alloc))
