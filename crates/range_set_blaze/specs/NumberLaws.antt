@@ -3,7 +3,7 @@ use Rattle.std.specs.Prelude.{◌≡◌, ℕ, ℤ, pos, negsuc, zero, suc, ◌*�
 use Rattle.std.specs.Fmt.{signed_decimal}
 use Rattle.std.specs.Int.{FitsUnsignedBits, Width}
 use Rattle.std.specs.Int.RustNames.{FitsSigned}
-use Rattle.std.proofs.Common.{arith, refl, lit<, lit≤}
+use Rattle.std.proofs.Common.{arith, refl, lit<}
 use Rattle.std.proofs.lemmas.Bool.Decides.{nat_tests}
 use Rattle.std.proofs.lemmas.Nat.{pow_pos}
 use Rattle.rsb_integer.specs.Rank.{signed_rank}

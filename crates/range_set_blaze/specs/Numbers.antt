@@ -1,5 +1,5 @@
 -- Element types whose values are whole numbers, written in decimal.
-use Rattle.std.specs.Prelude.{◌≡◌, ℕ, ℤ, pos, ◌^◌, ◌<◌, ◌≤◌, Bool, List, Option, Some, unsigned_abs}
+use Rattle.std.specs.Prelude.{◌≡◌, ℕ, ℤ, ◌^◌, ◌<◌, ◌≤◌, Bool, List, Option, Some, unsigned_abs}
 use Rattle.std.specs.Fmt.{signed_decimal}
 use Rattle.range_set_blaze.specs.Text.{signed_by}
 

@@ -6,7 +6,7 @@ use Rattle.std.specs.declared.fmt.Formatter.{Formatter}
 use Rattle.std.proofs.lemmas.List.Elements.{All-tail}
 use Rattle.std.specs.Prelude.{All}
 use Rattle.std.specs.Fmt.{◌++?◌, HasWritten, IsPlainFormatter, debug_items, comma_space}
-use Rattle.rsb_integer.specs.Runs.{Interval, IsMaximalRun}
+use Rattle.rsb_integer.specs.Runs.{IsMaximalRun}
 use Rattle.rsb_integer.specs.Selection.{Selection}
 use Rattle.range_set_blaze.specs.Kept.{entry_run, runs_of}
 use Rattle.range_set_blaze.specs.Written.{ends_text, run_text}

@@ -1,12 +1,12 @@
 -- Where each byte of a text of ranges leads.
-use Rattle.std.proofs.Common.{◌≡◌, ◌≢◌, ◌↔◌, ℕ, ℤ, pos, Bool, true, false, cond, ◌+◌, ◌*◌, ◌<◌, ◌++◌, ◌⊎◌, inl, inr, List, [], ◌∷◌, Option, Some, None, IsTrue, sym, ap, ◌∙◌, subst, refl, arith, unsigned_abs}
+use Rattle.std.proofs.Common.{◌≡◌, ◌≢◌, ◌↔◌, ℕ, ℤ, pos, Bool, true, false, ◌+◌, ◌*◌, ◌<◌, inl, inr, List, [], ◌∷◌, Option, Some, None, sym, ap, ◌∙◌, subst, refl, arith, unsigned_abs}
 use Rattle.std.proofs.lemmas.Bool.{false≢true}
 use Rattle.std.proofs.lemmas.Bool.Decides.{nat_tests}
 use Rattle.std.specs.Char.{digit_value}
 use Rattle.std.specs.declared.ops.RangeInclusive.{RangeInclusive}
 use Rattle.range_set_blaze.specs.Kept.{range_of}
 use Rattle.range_set_blaze.specs.Reading.{Finishes, Follows, NextThen, Steps, start_or}
-use Rattle.range_set_blaze.specs.Text.{BlanksThen, DigitsThen, HasDigit, NumberThen, NumeralThen, OthersFollow, SignedThen, Then, is_blank, signed_by}
+use Rattle.range_set_blaze.specs.Text.{BlanksThen, HasDigit, NumberThen, NumeralThen, OthersFollow, is_blank, signed_by}
 use Rattle.range_set_blaze.specs.declared.set.parse.Place.{Place}
 use Rattle.range_set_blaze.specs.declared.set.parse.Place.TheVariants.{Start, Before, Signed, Digits, Behind, Dot, Dots}
 

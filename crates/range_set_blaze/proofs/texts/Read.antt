@@ -1,5 +1,5 @@
 -- What was read of a text of ranges.
-use Rattle.std.proofs.Common.{◌≡◌, ◌≢◌, ◌↔◌, ℕ, ℤ, pos, neg_ℤ, Bool, true, false, cond, ◌+◌, ◌*◌, ◌<◌, ◌≤◌, ◌++◌, inl, inr, List, [], ◌∷◌, Option, Some, None, length, take, drop, get_or, sym, ap, ◌∙◌, subst, refl, arith, rules, append_assoc, append-nil, lit<, unsigned_abs}
+use Rattle.std.proofs.Common.{◌≡◌, ◌↔◌, ℕ, ℤ, pos, Bool, true, false, ◌+◌, ◌<◌, ◌≤◌, ◌++◌, inl, inr, List, [], ◌∷◌, Some, None, length, take, drop, get_or, sym, ap, ◌∙◌, subst, refl, arith, append_assoc, append-nil, lit<}
 use Rattle.std.proofs.Math.Seq.{take-length}
 use Rattle.std.proofs.lemmas.Bool.{cases_lt}
 use Rattle.std.proofs.lemmas.List.{take_more, take-append-drop}

@@ -3,7 +3,7 @@ use Rattle.std.proofs.Common.{◌≡◌, ℕ, ℤ, pos, negsuc, zero, suc, Bool,
 use Rattle.std.proofs.lemmas.Fmt.{decimal_is_IsNumeral_wide}
 use Rattle.std.proofs.lemmas.List.Elements.{All-head, All-tail, All-weaker}
 use Rattle.std.specs.Char.{digit_value}
-use Rattle.std.specs.Fmt.{◌++?◌, comma_space, debug_items, signed_decimal}
+use Rattle.std.specs.Fmt.{comma_space, debug_items, signed_decimal}
 use Rattle.std.specs.Prelude.{All}
 use Rattle.std.specs.Str.Parse.{AllDigits, digits_value, digits_value_after}
 use Rattle.std.specs.declared.ops.RangeInclusive.{RangeInclusive}
@@ -54,12 +54,12 @@ module _ {T : Type 0} (rank : T → ℕ) (n : ℕ) (number : T → ℤ) (fits : 
   digits-written negative Rest (digit ∷ digits) rest magnitude before value all is total fit h =
       let longer = magnitude * 10 + digit_value digit in
       let fit_longer = numbers.lower negative longer (digits_value_after 10 longer digits)
-              (value_after-ge longer digits) fit in
+      (value_after-ge longer digits) fit in
       let next = numbers.all (signed_by negative longer) fit_longer in
       let same : magnitude ≡ unsigned_abs (number before) =
-              sym (ap unsigned_abs is ∙ abs-signed_by negative magnitude) in
+      sym (ap unsigned_abs is ∙ abs-signed_by negative magnitude) in
       let has : HasDigit number fits negative magnitude (digit_value digit) next.0 =
-              record { is = next.1; of_type = fit_longer } in
+      record { is = next.1; of_type = fit_longer } in
       inr (
         next.0,
         all.0,
@@ -77,7 +77,7 @@ module _ {T : Type 0} (rank : T → ℕ) (n : ℕ) (number : T → ℤ) (fits : 
   numeral-written negative Rest (digit ∷ digits) rest value some all total fit h =
       let longer = 0 * 10 + digit_value digit in
       let fit_longer = numbers.lower negative longer (digits_value_after 10 longer digits)
-              (value_after-ge longer digits) fit in
+      (value_after-ge longer digits) fit in
       let next = numbers.all (signed_by negative longer) fit_longer in (
         next.0,
         all.0,
@@ -91,15 +91,18 @@ module _ {T : Type 0} (rank : T → ℕ) (n : ℕ) (number : T → ℤ) (fits : 
   signed-written Rest value rest (pos m) is fit h =
       let numeral = decimal_is_IsNumeral_wide m (numbers.short (pos m) fit) in
       let same : signed_by false m ≡ signed_by false (digits_value 10 (decimal m)) =
-              ap (signed_by false) (sym numeral.1) in
+      ap (signed_by false) (sym numeral.1) in
       inl (numeral-written false Rest (decimal m) rest value numeral.0.0 numeral.0.1 (is ∙ same)
       (subst fits same fit) h)
   signed-written Rest value rest (negsuc m) is fit h =
       let numeral = decimal_is_IsNumeral_wide (suc m) (numbers.short (negsuc m) fit) in
       let same : signed_by true (suc m) ≡ signed_by true (digits_value 10 (decimal (suc m))) =
-              ap (signed_by true) (sym numeral.1) in
-      inr (inr (refl, numeral-written true Rest (decimal (suc m)) rest value numeral.0.0 numeral.0.1
-      (is ∙ same) (subst fits same fit) h))
+      ap (signed_by true) (sym numeral.1) in
+      inr (inr (
+        refl,
+        numeral-written true Rest (decimal (suc m)) rest value numeral.0.0 numeral.0.1
+            (is ∙ same) (subst fits same fit) h,
+      ))
 
   number-written : (Rest : T → List ℕ → Type 0) (value : T) (rest : List ℕ) → rank value < n
       → Rest value rest → NumberThen number fits Rest (signed_decimal (number value) ++ rest)
@@ -118,8 +121,17 @@ module _ {T : Type 0} (rank : T → ℕ) (n : ℕ) (number : T → ℤ) (fits : 
   range-written Rest start end rest low high h =
       number-written (StartThen number fits (range_of (start, end)) Rest) start
       (codes "..=" ++ (signed_decimal (number end) ++ rest)) low
-      (inr (refl, (refl, (refl, number-written (EndThen number fits (range_of (start, end)) Rest start)
-      end rest high (refl, h)))))
+      (inr (
+        refl,
+        (
+          refl,
+          (
+            refl,
+            number-written (EndThen number fits (range_of (start, end)) Rest start)
+                end rest high (refl, h),
+          ),
+        ),
+      ))
 
   -- the text of a range
   ends-written : (start end : T) → ends_text (written start) (written end)
@@ -149,7 +161,7 @@ module _ {T : Type 0} (rank : T → ℕ) (n : ℕ) (number : T → ℤ) (fits : 
         let front = signed_decimal (number (start item)) in
         let back = signed_decimal (number (end item)) in
         let same : front ++ (codes "..=" ++ back) ≡ head =
-                cc (ends-written (start item) (end item), is) in
+        cc (ends-written (start item) (end item), is) in
         subst (λ (text : List ℕ).
         NumberThen number fits (StartThen number fits (range_of (start item, end item)) Rest) text)
         (three front (codes "..=") back tail ∙ ap (λ (t : List ℕ). t ++ tail) same)
@@ -162,11 +174,16 @@ module _ {T : Type 0} (rank : T → ℕ) (n : ℕ) (number : T → ℤ) (fits : 
     others-written (item ∷ items) left valid is =
         let parts = parted comma_space (text_at item) (debug_items text_at comma_space items) left is in
         let others = others-written items parts.tail (All-tail IsOfType item items valid)
-                parts.others_are in
+        parts.others_are in
         subst (λ (text : List ℕ). OthersFollow number fits (ranges_at (item ∷ items)) text)
-        (sym parts.whole)
-        (refl, inr (refl, item-written (OthersFollow number fits (ranges_at items)) item parts.head
-        parts.tail (All-head IsOfType item items valid) parts.first_is others))
+        (sym parts.whole) (
+          refl,
+          inr (
+            refl,
+            item-written (OthersFollow number fits (ranges_at items)) item parts.head
+                parts.tail (All-head IsOfType item items valid) parts.first_is others,
+          ),
+        )
 
     -- all of them
     pub spells-written : (items : List X) (text : List ℕ) → All IsOfType items
@@ -177,7 +194,7 @@ module _ {T : Type 0} (rank : T → ℕ) (n : ℕ) (number : T → ℤ) (fits : 
     spells-written (item ∷ items) text valid is =
         let parts = parted [] (text_at item) (debug_items text_at comma_space items) text is in
         let others = others-written items parts.tail (All-tail IsOfType item items valid)
-                parts.others_are in
+        parts.others_are in
         subst (λ (t : List ℕ). Spells number fits t (ranges_at (item ∷ items))) (sym parts.whole)
         (item-written (OthersFollow number fits (ranges_at items)) item parts.head parts.tail
         (All-head IsOfType item items valid) parts.first_is others)
@@ -226,7 +243,7 @@ module _ {T : Type 0} (rank : T → ℕ) (n : ℕ) (value_at : ℕ → T)
       → IsSetOf set (members (intervals_of rank (ranges_of_runs runs))) → set ≡ runs
   set-reread set runs are canonical has =
       let same = intervals-of_runs (members runs) runs
-              (canonical-maximal n 0 runs canonical.0 canonical.1) in
+      (canonical-maximal n 0 runs canonical.0 canonical.1) in
       runs-same n (members set) (members runs) set runs are
       (canonical-runs n runs canonical.0 canonical.1)
       (λ place below. has place ∙ ap (λ (intervals : List Interval). members intervals place) same)

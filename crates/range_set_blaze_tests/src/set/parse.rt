@@ -2,12 +2,13 @@
 
 ghost use Rattle.std.specs.Prelude.{IfOk, List};
 ghost use Rattle.std.specs.declared.ops.RangeInclusive.{RangeInclusive as Range};
-ghost use Rattle.range_set_blaze.specs.Rank.{intervals_of};
-ghost use Rattle.range_set_blaze.specs.Runs.{members};
-ghost use Rattle.range_set_blaze.specs.Selection.{union};
+ghost use Rattle.rsb_integer.specs.Rank.{intervals_of};
+ghost use Rattle.rsb_integer.specs.Runs.{members};
+ghost use Rattle.rsb_integer.specs.Selection.{union};
 ghost use Rattle.range_set_blaze.specs.Set.{IsSetOf};
 ghost use Rattle.range_set_blaze.specs.Text.{Spells};
 
+use crate::set::rows::has;
 use range_set_blaze::{ParseError, ParseInteger, RangeSetBlaze};
 use rsb_tables::{Counting, Table, every_fifth, set_of};
 use std::alloc::{AllocError, Allocator, Global};
@@ -181,11 +182,11 @@ fn the_text_of_seventy_thousand_runs_is_read_as_they_are(rt: HostRuntime) -> Res
 fn is_tried(
     heap: &Counting<Global>,
     granted: usize,
-    wanted: &RangeSetBlaze<i32>,
+    wanted: Table<'_>,
 ) -> Result<bool, AllocError> {
     heap.fail_after(granted);
     match RangeSetBlaze::<i32, &Counting<Global>>::parse(heap, "7..=9, 1, 4..=5, 20..=30, 12") {
-        Ok(set) => Ok(set == *wanted),
+        Ok(set) => Ok(has(&set, wanted)),
         Err(ParseError::NoMemory(error)) => Err(error),
         Err(ParseError::Unexpected(_)) => Ok(false),
     }
@@ -193,11 +194,11 @@ fn is_tried(
 
 #[test]
 fn each_refused_allocation_is_told_and_nothing_is_kept(rt: HostRuntime) -> Result<(), Fail> {
-    let wanted = set_of(rt.alloc(), &[(1, 1), (4, 5), (7, 9), (12, 12), (20, 30)])?;
+    let wanted = &[(1, 1), (4, 5), (7, 9), (12, 12), (20, 30)];
     let heap = Counting::new(rt.alloc());
     let mut refused = 0u32;
     for granted in 0..30usize {
-        match is_tried(&heap, granted, &wanted) {
+        match is_tried(&heap, granted, wanted) {
             Ok(is_right) => assert!(rt; is_right, "with {granted} allocations"),
             Err(_) => refused = refused.saturating_add(1),
         }

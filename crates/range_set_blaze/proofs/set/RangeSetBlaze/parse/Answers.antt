@@ -1,4 +1,4 @@
-use Rattle.std.proofs.Common.{◌≡◌, ℕ, List, Err, sym, ap, ◌∙◌, subst, rules}
+use Rattle.std.proofs.Common.{◌≡◌, ℕ, List, Err, sym, subst, rules}
 use Rattle.std.specs.declared.ops.RangeInclusive.{RangeInclusive}
 use Rattle.rsb_integer.specs.Rank.{intervals_of}
 use Rattle.rsb_integer.specs.Runs.{members}
@@ -39,7 +39,7 @@ returns-clause-written g c = λ runs canonical is.
     let rank = g.T.Integer.rank in
     let n = g.T.Integer.value_count in
     let spelled = runs-spelled rank n g.T.Integer.value_at laws.ranks g.T.ParseInteger.number g.T.ParseInteger.fits g.T.Debug.debug_output
-            g.met.T.ParseInteger.numbers runs c.args.text.now canonical is in
+    g.met.T.ParseInteger.numbers runs c.args.text.now canonical is in
     set-reread rank n g.T.Integer.value_at laws.ranks c.in_ok-set.set runs c.in_ok-set.ensures.runs
     canonical (returns-clause-only g c (ranges_of_runs rank n g.T.Integer.value_at laws.ranks runs) spelled)
 
@@ -49,6 +49,6 @@ returns-in_err-ranges-clause-taken g c = λ runs place canonical is err.
     let rank = g.T.Integer.rank in
     let n = g.T.Integer.value_count in
     let spelled = runs-spelled rank n g.T.Integer.value_at laws.ranks g.T.ParseInteger.number g.T.ParseInteger.fits g.T.Debug.debug_output
-            g.met.T.ParseInteger.numbers runs c.args.text.now canonical is in
+    g.met.T.ParseInteger.numbers runs c.args.text.now canonical is in
     returns-in_err-ranges-clause-refused g c
     (ranges_of_runs rank n g.T.Integer.value_at laws.ranks runs) place spelled err

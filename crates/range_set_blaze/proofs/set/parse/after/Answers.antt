@@ -1,4 +1,4 @@
-use Rattle.std.proofs.Common.{◌≡◌, None, sym, ◌∙◌}
+use Rattle.std.proofs.Common.{None, sym, ◌∙◌}
 use Rattle.range_set_blaze.specs.declared.set.parse.Place.TheVariants.{Before, Start}
 use Rattle.range_set_blaze.proofs.texts.Places.{leads-back, start-full}
 use Rattle.range_set_blaze.proofs.set.parse.after.Goals as goal

@@ -1,4 +1,4 @@
-use Rattle.std.proofs.Common.{◌≡◌, ℕ, sym, ◌∙◌}
+use Rattle.std.proofs.Common.{sym, ◌∙◌}
 use Rattle.range_set_blaze.proofs.texts.Places.{behind-blank, behind-dot, behind-none, behind-third}
 use Rattle.range_set_blaze.proofs.set.parse.after_number.Goals as goal
 

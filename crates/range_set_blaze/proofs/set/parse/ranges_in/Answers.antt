@@ -1,5 +1,4 @@
-use Rattle.std.proofs.Common.{◌≡◌, ◌≢◌, ℕ, ◌∷◌, length, get_or, List, sym, ap, ◌∙◌, subst, rules}
-use Rattle.std.specs.declared.ops.RangeInclusive.{RangeInclusive}
+use Rattle.std.proofs.Common.{◌≡◌, ℕ, ◌∷◌, length, sym, ◌∙◌, subst}
 use Rattle.range_set_blaze.specs.Reading.{Follows}
 use Rattle.range_set_blaze.specs.Text.{IsFirstUnexpected}
 use Rattle.range_set_blaze.proofs.texts.Read.{has_read-nil, has_read-more, has_read-comma, has_read-all, spells-none, only-none, spells-last, only-last, unexpected_byte, unexpected_end}
