@@ -56,9 +56,8 @@ fn wants(change: Change, count: i32, others: i32) -> bool {
         Change::RangesInsert(1, _) => count == 0,
         Change::RangesInsert(_, _) => count == 0 || count == 15,
         Change::Remove(_) | Change::Take(_) | Change::PopFirst => count >= 15,
-        Change::RangesRemove(1, _) => count >= 15,
-        // Of each two neighbors the lower run loses its end, and the upper one its start.
-        Change::RangesRemove(2, _) => count == 15,
+        // A value within a run, or the end of one and the start of the next.
+        Change::RangesRemove(1 | 2, _) => count >= 15,
         Change::RangesRemove(_, _) => false,
         Change::SplitOff(_) | Change::Retain(_, _) => count > 0,
         Change::PopLast | Change::RangesRetain(_, _) | Change::Clear => false,
