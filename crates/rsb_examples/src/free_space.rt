@@ -44,11 +44,7 @@ pub fn take_block(taken: &mut RangeSetBlaze<u16>, pages: u16) -> Result<Option<u
 
 /// Gives a block of pages back, and returns whether one of them was taken. If allocation fails, the
 /// table is unchanged.
-pub fn give_back(
-    taken: &mut RangeSetBlaze<u16>,
-    start: u16,
-    pages: u16,
-) -> Result<bool, AllocError>
+pub fn give_back(taken: &mut RangeSetBlaze<u16>, start: u16, pages: u16) -> Result<bool, AllocError>
     requires some { 0 < pages }
     requires within { start + pages ≤ 2 ^ 16 }
     ensures given { OnOk result (Removes taken.old taken.new
