@@ -20,7 +20,7 @@ pub use crate::prelude::{
     MultiwayRangeSetBlaze, MultiwayRangeSetBlazeRef, MultiwaySortedDisjoint, MultiwaySweep,
     MultiwaySymmetricDifference, MultiwayUnion, NotIter, NotSortedDisjoint, NotSortedTouching,
     RangeOnce, RangeSetBlaze, RangesIter, SafeLength, SortedDisjoint, SortedStarts,
-    SortedStartsInVec, SortedTouching, SweepEvent, SymDiffIter, SymmetricDifference, UInt,
+    SortedStartsInVec, SortedTouching, Streams, SweepEvent, SymDiffIter, SymmetricDifference, UInt,
     UIntPlusOne, Union, UnionIter, at_least_all, at_least_falls, at_least_one,
     canonical_lists_are_runs, cmp_counted, complement_twice, de_morgan, difference_by_complement,
     elements_stand_for_sets, equal_members_equal_lists, offsets_undo_length, one_filled_list,
