@@ -1,7 +1,6 @@
 -- What a caller of operations on a list of streams needs: the operation was on the streams of the list.
 use Rattle.std.proofs.Common.{List}
 use Rattle.std.specs.Vec.Iter.{into_iter_steps}
-use Rattle.std.specs.declared.vec.IntoIter.{IntoIter}
 use Rattle.rsb_streams.specs.Items.{GaveRun}
 use Rattle.rsb_many.proofs.inputs.GivenList.{given-list}
 use Rattle.rsb_many.specs.StreamList.{GivesStreams}
