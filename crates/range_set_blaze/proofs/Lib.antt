@@ -24,4 +24,5 @@ pub use Rattle.rsb_streams.proofs.questions.Taken
 pub use Rattle.rsb_streams.proofs.sources.Arrays
 pub use Rattle.rsb_streams.proofs.sources.Lawful
 pub use Rattle.rsb_many.proofs.calling.Results as ManyResults
+pub use Rattle.rsb_many.proofs.calling.StreamLists
 pub use Rattle.rsb_many.proofs.calling.Taken as MacroCalls

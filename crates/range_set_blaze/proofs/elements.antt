@@ -1,4 +1,5 @@
 pub mod Ends
+pub mod GivenRuns
 pub mod Listed
 pub mod Ranges
 pub mod Shortened

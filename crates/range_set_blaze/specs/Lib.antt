@@ -72,4 +72,5 @@ pub use Rattle.rsb_many.specs.MultiwayResults
 pub use Rattle.rsb_many.specs.MultiwaySweep
 pub use Rattle.rsb_many.specs.MultiwaySymmetricDifference
 pub use Rattle.rsb_many.specs.MultiwayUnion
+pub use Rattle.rsb_many.specs.StreamList
 pub use Rattle.rsb_many.specs.Sweep

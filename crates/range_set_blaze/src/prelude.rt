@@ -23,7 +23,7 @@ pub use rsb_integer::Integer;
 pub use rsb_length::{SafeLength, UInt, UIntPlusOne};
 pub use rsb_many::{
     DynSortedDisjoint, KMerge, MultiwayAtLeast, MultiwayIntersection, MultiwaySortedDisjoint,
-    MultiwaySweep, MultiwaySymmetricDifference, MultiwayUnion, SweepEvent,
+    MultiwaySweep, MultiwaySymmetricDifference, MultiwayUnion, Streams, SweepEvent,
 };
 pub use rsb_streams::{
     AnythingGoes, AssumeSortedStarts, CheckSortedDisjoint, CheckSortedTouching, Difference, Draw,

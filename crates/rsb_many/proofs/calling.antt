@@ -1,3 +1,4 @@
 pub mod Examples
 pub mod Results
+pub mod StreamLists
 pub mod Taken

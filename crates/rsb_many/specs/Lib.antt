@@ -19,6 +19,7 @@ pub mod MultiwayResults
 pub mod MultiwaySweep
 pub mod MultiwaySymmetricDifference
 pub mod MultiwayUnion
+pub mod StreamList
 pub mod Sweep
 pub mod SweepPieces
 pub mod SweepPiecesLaws
