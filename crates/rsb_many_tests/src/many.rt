@@ -12,6 +12,7 @@ mod nested;
 mod operators;
 mod own_types;
 pub(crate) mod sets;
+mod stream_lists;
 mod sweeps;
 mod texts;
 pub(crate) mod thousand;
