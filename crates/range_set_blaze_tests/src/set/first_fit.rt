@@ -3,6 +3,7 @@
 
 ghost use Rattle.std.specs.Prelude.{◌≡◌, ◌&&◌, ℕ, ◌+◌, ◌<◌, ◌≤◌, nat_le, nat_lt, List, IfOk, IfSome, IsNone, OnErr};
 ghost use Rattle.range_set_blaze.specs.FirstFit.{IsFree};
+ghost use Rattle.range_set_blaze.specs.Runs.{Interval};
 ghost use Rattle.range_set_blaze.specs.Set.{Adds};
 
 use crate::set::refusals::heaps::{Heap, HeapSet};
@@ -22,8 +23,6 @@ struct Blocks<T: Integer, A: Allocator> {
 }
 
 impl<T: Integer, A: Allocator> Model for Blocks<T, A> {
-    ghost use Rattle.range_set_blaze.specs.Runs.{Interval};
-
     ghost Value = { List Interval };
 
     ghost view = { λ blocks. blocks.taken };
