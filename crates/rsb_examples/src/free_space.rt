@@ -1,8 +1,8 @@
-//! A table of taken pages: the first gap that is long enough, and what a failed allocation leaves.
+//! A table of taken pages: the first gap that is long enough, and what stands after refused memory.
 
-ghost use Rattle.std.specs.Prelude.{◌≡◌, ℕ, nat_le, nat_lt, ◌&&◌, ◌+◌, ◌^◌, ◌<◌, IfOk, IfSome, IsNone, OnErr};
-ghost use Rattle.range_set_blaze.specs.FirstFit.{IsFree};
+ghost use Rattle.std.specs.Prelude.{◌≡◌, ℕ, nat_le, nat_lt, ◌&&◌, ◌+◌, ◌<◌, ◌≤◌, IfOk, IfSome, IsNone, IsSome, OnErr};
 ghost use Rattle.range_set_blaze.specs.Set.{Adds};
+ghost use Rattle.rsb_examples.specs.FreeSpace.{IsFree};
 
 use range_set_blaze::RangeSetBlaze;
 use std::alloc::{AllocError, Global};
@@ -23,12 +23,11 @@ pub fn show(alloc: Global, rt: &impl Print) -> io::Result<()> {
     Ok(())
 }
 
-/// Takes the first free block of the given number of pages, and returns where it starts, or `None` if
-/// there is none. If allocation fails, the table is unchanged.
+/// Takes the first free block of so many pages and gives its start, or `None` where there is none.
+/// Without memory the table is as it was.
 pub fn take_block(taken: &mut RangeSetBlaze<u16>, pages: u16) -> Result<Option<u16>, AllocError>
     requires { 0 < pages }
-    ensures free { IfOk result (λ found. IfSome found (λ start.
-        IsFree (2 ^ 16) taken.old start pages)) }
+    ensures free { IfOk result (λ found. IfSome found (λ start. IsFree taken.old start pages)) }
     ensures taken { IfOk result (λ found. IfSome found (λ start.
         Adds taken.old taken.new (λ page. nat_le start page && nat_lt page (start + pages)))) }
     ensures full { IfOk result (λ found. IsNone found → taken.new ≡ taken.old) }
@@ -41,14 +40,21 @@ pub fn take_block(taken: &mut RangeSetBlaze<u16>, pages: u16) -> Result<Option<u
     Ok(Some(start))
 }
 
-/// Where the first free block of the given number of pages starts, or `None` if there is none.
+/// Where the first free block of so many pages starts, or `None` where there is none.
 pub fn first_fit(taken: &RangeSetBlaze<u16>, pages: u16) -> Option<u16>
     requires { 0 < pages }
-    ensures fits { IfSome result (λ start. IsFree (2 ^ 16) taken.now start pages) }
+    ensures fits { IfSome result (λ start. IsFree taken.now start pages) }
     ensures first { IfSome result (λ start. (lower : ℕ) → lower < start
-        → ¬ (IsFree (2 ^ 16) taken.now lower pages)) }
-    ensures none { IsNone result → (start : ℕ) → ¬ (IsFree (2 ^ 16) taken.now start pages) }
+        → ¬ (IsFree taken.now lower pages)) }
+    ensures none { IsNone result → (start : ℕ) → ¬ (IsFree taken.now start pages) }
 {
-    let gap = taken.first_gap(u32::from(pages))?;
-    Some(*gap.start())
+    let mut from = 0;
+    loop {
+        let (block, is_taken) = taken.range_or_gap_at(from);
+        let (start, end) = block.into_inner();
+        if !is_taken && end - start >= pages - 1 {
+            return Some(start);
+        }
+        from = end.checked_add(1)?;
+    }
 }
