@@ -193,7 +193,10 @@ fn a_thousand_streams_that_a_loop_added_are_one_run(rt: HostRuntime) -> Result<(
     let alloc = rt.alloc();
     assert!(rt; gives(in_some(alloc, numbers(alloc, 1000)?)?.ranges(), &[(0, 999)]));
     assert!(rt; event_count(alloc, numbers(alloc, 1000)?)? == 2000);
-    let sets = [in_some(alloc, numbers(alloc, 7)?)?, RangeSetBlaze::from(alloc, 5..=70_000)?];
+    let sets = [
+        in_some(alloc, numbers(alloc, 7)?)?,
+        RangeSetBlaze::from(alloc, 5..=70_000)?,
+    ];
     assert!(rt; gives(ranges_of(alloc, &sets)?.intersection(alloc)?, &[(5, 6)]));
     Ok(())
 }
