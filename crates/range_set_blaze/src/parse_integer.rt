@@ -194,7 +194,7 @@ impl ParseInteger for i8 {
         }
     }
 
-    ghost has_zero = { (pos 0, refl, lit< tt) };
+    ghost has_zero = { (pos 0, refl, record { sfits = lit< tt }) };
 
     ghost numbers = { signed-numbers w8 (lit≤ tt) };
 }
@@ -220,7 +220,7 @@ impl ParseInteger for i16 {
         }
     }
 
-    ghost has_zero = { (pos 0, refl, lit< tt) };
+    ghost has_zero = { (pos 0, refl, record { sfits = lit< tt }) };
 
     ghost numbers = { signed-numbers w16 (lit≤ tt) };
 }
@@ -246,7 +246,7 @@ impl ParseInteger for i32 {
         }
     }
 
-    ghost has_zero = { (pos 0, refl, lit< tt) };
+    ghost has_zero = { (pos 0, refl, record { sfits = lit< tt }) };
 
     ghost numbers = { signed-numbers w32 (lit≤ tt) };
 }
@@ -272,7 +272,7 @@ impl ParseInteger for i64 {
         }
     }
 
-    ghost has_zero = { (pos 0, refl, lit< tt) };
+    ghost has_zero = { (pos 0, refl, record { sfits = lit< tt }) };
 
     ghost numbers = { signed-numbers w64 (lit≤ tt) };
 }
@@ -298,7 +298,7 @@ impl ParseInteger for i128 {
         }
     }
 
-    ghost has_zero = { (pos 0, refl, lit< tt) };
+    ghost has_zero = { (pos 0, refl, record { sfits = lit< tt }) };
 
     ghost numbers = { signed-numbers w128 (lit≤ tt) };
 }
@@ -324,7 +324,7 @@ impl ParseInteger for isize {
         }
     }
 
-    ghost has_zero = { (pos 0, refl, lit< tt) };
+    ghost has_zero = { (pos 0, refl, record { sfits = lit< tt }) };
 
     ghost numbers = { signed-numbers w64 (lit≤ tt) };
 }

@@ -1,4 +1,4 @@
-use Rattle.std.proofs.Common.{◌≡◌, ℕ, List, [], ◌∷◌, ◌++◌, Option, Some, Ok, refl, sym, ap, ◌∙◌, subst, rules}
+use Rattle.std.proofs.Common.{List, [], Ok, refl, sym, subst, rules}
 use Rattle.std.specs.Fmt.{WritesOnOk, debug_items}
 use Rattle.range_set_blaze.specs.Written.{ends_text}
 use Rattle.range_set_blaze.proofs.texts.Pieces.{WritesOn, if_some, if_some_at, writes_on-none, writes_on-more, writes_on-all}

@@ -1,5 +1,4 @@
-use Rattle.std.proofs.Common.{arith, sym, [], Option, List, ℕ, subst}
-use Rattle.std.specs.Fmt.{DisplaysOnOk}
+use Rattle.std.proofs.Common.{[]}
 use Rattle.rsb_integer.specs.Runs.{members}
 use Rattle.rsb_integer.proofs.RangeLemmas.{value_at-rank}
 use Rattle.rsb_integer.proofs.RunsLemmas.{canonical-maximal}
