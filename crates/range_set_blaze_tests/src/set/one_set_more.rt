@@ -1,28 +1,41 @@
 //! Sets that are taken up one after the other, with how many of them have each value.
 
-ghost use Rattle.std.specs.Prelude.{map, IfOk};
+ghost use Rattle.std.specs.Prelude.{map, IfOk, OnOk};
 ghost use Rattle.rsb_integer.specs.Runs.{members};
-ghost use Rattle.rsb_integer.specs.Selection.{at_least};
+ghost use Rattle.rsb_integer.specs.Selection.{at_least, intersection, union};
 ghost use Rattle.range_set_blaze.specs.Set.{IsSetOf};
 
 use crate::set::rows::has;
 use range_set_blaze::{Integer, MultiwayRangeSetBlazeRef, RangeSetBlaze};
 use rsb_tables::set_of;
-use std::alloc::{AllocError, Allocator};
+use std::alloc::{AllocError, Allocator, Global};
 use std::test::*;
 
+/// Takes up a set after others, of which some have what `once` has, and two what `twice` has.
+fn take_up(
+    once: &mut RangeSetBlaze<i32>,
+    twice: &mut RangeSetBlaze<i32>,
+    set: &RangeSetBlaze<i32>,
+) -> Result<(), AllocError>
+    ensures once { OnOk result
+        (IsSetOf once.new (union (members once.old) (members set.now))) }
+    ensures twice { OnOk result (IsSetOf twice.new
+        (union (members twice.old) (intersection (members once.old) (members set.now)))) }
+{
+    let again = once.bitand(set)?;
+    twice.bitor_assign(&again)?;
+    once.bitor_assign(set)?;
+    Ok(())
+}
+
 /// Returns the set of what lies in at least two of some sets.
-fn in_two<T: Integer, A: Allocator + Copy>(
-    alloc: A,
-    sets: &[RangeSetBlaze<T, A>],
-) -> Result<RangeSetBlaze<T, A>, AllocError>
+fn in_two(alloc: Global, sets: &[RangeSetBlaze<i32>]) -> Result<RangeSetBlaze<i32>, AllocError>
     ensures { IfOk result (λ set. IsSetOf set (at_least 2 (map members sets.now))) }
 {
     let mut once = RangeSetBlaze::new(alloc);
     let mut twice = RangeSetBlaze::new(alloc);
     for set in sets {
-        twice.bitor_assign(&once.bitand(set)?)?;
-        once.bitor_assign(set)?;
+        take_up(&mut once, &mut twice, set)?;
     }
     Ok(twice)
 }

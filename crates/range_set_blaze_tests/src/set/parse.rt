@@ -4,7 +4,6 @@ ghost use Rattle.std.specs.Prelude.{IfOk, List};
 ghost use Rattle.std.specs.declared.ops.RangeInclusive.{RangeInclusive as Range};
 ghost use Rattle.rsb_integer.specs.Rank.{intervals_of};
 ghost use Rattle.rsb_integer.specs.Runs.{members};
-ghost use Rattle.rsb_integer.specs.Selection.{union};
 ghost use Rattle.range_set_blaze.specs.Set.{IsSetOf};
 ghost use Rattle.range_set_blaze.specs.Text.{Spells};
 
@@ -208,18 +207,26 @@ fn each_refused_allocation_is_told_and_nothing_is_kept(rt: HostRuntime) -> Resul
     Ok(())
 }
 
-/// The set with the members that a text lists too, or the set alone if the text lists none. A caller
-/// over any type.
+/// The set that a text lists. A caller over any type.
+fn listed<T: ParseInteger, A: Allocator + Copy>(
+    alloc: A,
+    text: &str,
+) -> Result<RangeSetBlaze<T, A>, ParseError>
+    ensures { IfOk result (λ listed. (ranges : List (Range T))
+        → Spells T.number T.fits text.now ranges
+        → IsSetOf listed (members (intervals_of T.rank ranges))) }
+{
+    let listed = RangeSetBlaze::parse(alloc, text)?;
+    Ok(listed)
+}
+
+/// The set with the members that a text lists too.
 fn with_listed<T: ParseInteger, A: Allocator + Copy>(
     alloc: A,
     set: &RangeSetBlaze<T, A>,
     text: &str,
-) -> Result<RangeSetBlaze<T, A>, ParseError>
-    ensures { IfOk result (λ both. (ranges : List (Range T)) → Spells T.number T.fits text.now ranges
-        → IsSetOf both (union (members set.now) (members (intervals_of T.rank ranges)))) }
-{
-    let listed = RangeSetBlaze::parse(alloc, text)?;
-    let both = set.bitor(&listed)?;
+) -> Result<RangeSetBlaze<T, A>, ParseError> {
+    let both = set.bitor(&listed(alloc, text)?)?;
     Ok(both)
 }
 

@@ -130,7 +130,7 @@ fn booked_slots_are_numbered(rt: HostRuntime) -> Result<(), Fail> {
 fn are_numbered(set: &RangeSetBlaze<i32>) -> bool {
     for place in 0..30i32 {
         let number = place.saturating_mul(7_000);
-        let wanted = number / 3 * 5 + number % 3;
+        let wanted = (number / 3).saturating_mul(5).saturating_add(number % 3);
         let n = number.unsigned_abs();
         if set.nth(u64::from(n)) != Some(wanted) || set.rank(wanted) != u64::from(n) {
             return false;

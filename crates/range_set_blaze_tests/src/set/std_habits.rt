@@ -36,9 +36,7 @@ fn of_ranges<T: Integer>(
 fn of_list<T: Integer>(
     alloc: Global,
     ranges: &Vec<RangeInclusive<T>>,
-) -> Result<RangeSetBlaze<T>, AllocError>
-    ensures { IfOk result (IsSetOfItems T.rank ranges.now.items) }
-{
+) -> Result<RangeSetBlaze<T>, AllocError> {
     FromIterator::from_iter(alloc, ranges)
 }
 

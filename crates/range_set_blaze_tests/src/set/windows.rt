@@ -1,6 +1,6 @@
 //! The part of a set between two bounds: its runs, its gaps, and how many members it has.
 
-ghost use Rattle.std.specs.Prelude.{◌≡◌, IfOk};
+ghost use Rattle.std.specs.Prelude.{◌≡◌, ◌^◌, IfOk};
 ghost use Rattle.std.specs.declared.ops.Bound.TheVariants.{Included};
 ghost use Rattle.range_set_blaze.specs.Runs.{members};
 ghost use Rattle.range_set_blaze.specs.Selection.{count, difference, intersection};
@@ -14,15 +14,15 @@ use std::alloc::{AllocError, Global};
 use std::ops::Bound;
 use std::test::*;
 
-/// Returns the set of the values from one to another that a set lacks.
-fn missing<T: Integer>(
+/// Returns the set of the numbers from one to another that a set lacks.
+fn missing(
     alloc: Global,
-    set: &RangeSetBlaze<T>,
-    a: T,
-    b: T,
-) -> Result<RangeSetBlaze<T>, AllocError>
+    set: &RangeSetBlaze<u32>,
+    a: u32,
+    b: u32,
+) -> Result<RangeSetBlaze<u32>, AllocError>
     ensures { IfOk result (λ gaps. IsSetOf gaps
-        (difference (between T.rank T.value_count (Included a) (Included b)) (members set.now))) }
+        (difference (between (λ n. n) (2 ^ 32) (Included a) (Included b)) (members set.now))) }
 {
     set.gaps_in(a..=b).into_range_set_blaze(alloc)
 }
@@ -49,10 +49,7 @@ fn members_between<T: Integer>(set: &RangeSetBlaze<T>, a: T, b: T) -> T::SafeLen
 }
 
 /// Returns how many runs lie between two bounds, from either end, and how many gaps.
-fn pieces<T: Integer>(
-    set: &RangeSetBlaze<T>,
-    bounds: (Bound<T>, Bound<T>),
-) -> (usize, usize, usize) {
+fn pieces(set: &RangeSetBlaze<i32>, bounds: (Bound<i32>, Bound<i32>)) -> (usize, usize, usize) {
     let (mut runs, mut back, mut gaps) = (0usize, 0usize, 0usize);
     for _ in set.ranges_in(bounds) {
         runs = runs.saturating_add(1);
@@ -263,8 +260,11 @@ fn come_from_both_ends(set: &RangeSetBlaze<i32>) -> bool {
 
 /// Whether the sets of what lies between two values are these.
 fn make_sets(alloc: Global, set: &RangeSetBlaze<i32>) -> Result<bool, AllocError> {
+    let mut numbers = RangeSetBlaze::from(alloc, 1..=4)?;
+    let is_new = numbers.ranges_insert(8..=13)?;
     Ok(
-        has(&missing(alloc, set, 3, 9)?, &[(5, 7)])
+        is_new
+            && gives(missing(alloc, &numbers, 3, 9)?.ranges(), &[(5, 7)])
             && has(&kept(alloc, set, 3, 9)?, &[(3, 4), (8, 9)])
             && members_between(set, 3, 9) == 4,
     )
