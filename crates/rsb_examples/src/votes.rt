@@ -1,6 +1,6 @@
 //! Votes among block lists: the addresses that enough of the lists block.
 
-ghost use Rattle.std.specs.Prelude.{map, IfOk};
+ghost use Rattle.std.specs.Prelude.{◌<◌, map, IfOk};
 ghost use Rattle.range_set_blaze.specs.Runs.{members};
 ghost use Rattle.range_set_blaze.specs.Selection.{at_least};
 ghost use Rattle.range_set_blaze.specs.Set.{IsSetOf};
@@ -28,7 +28,8 @@ pub fn agreed(
     lists: &[RangeSetBlaze<u32>],
     votes: usize,
 ) -> Result<RangeSetBlaze<u32>, AllocError>
-    ensures { IfOk result (λ agreed. IsSetOf agreed (at_least votes (map members lists.now))) }
+    ensures { 0 < votes
+        → IfOk result (λ agreed. IsSetOf agreed (at_least votes (map members lists.now))) }
 {
     lists.at_least(alloc, votes)
 }
