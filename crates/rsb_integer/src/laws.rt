@@ -75,8 +75,7 @@ pub fn at_least_one<T: Integer>()
     ensures { (sets : List Selection) (rank : ℕ) → at_least 1 sets rank ≡ any_of sets rank }
 {}
 
-/// The ranks in at least as many sets as there are, are the intersection of all. Not in
-/// range-set-blaze.
+/// The ranks in at least n of n sets are the intersection of the sets. Not in range-set-blaze.
 pub fn at_least_all<T: Integer>()
     ensures { (sets : List Selection) (rank : ℕ)
         → at_least (length sets) sets rank ≡ all_of sets rank }

@@ -10,7 +10,7 @@ use std::ops::{AddAssign, SubAssign};
 
 /// A type of lengths: the whole numbers from 0 to a greatest one, in order. `+=` and `-=` are
 /// exact; they require that the result is a length of the type. Not in range-set-blaze, which
-/// requires only the num-traits.
+/// requires only traits of std and num-traits.
 pub trait SafeLength: Copy + PartialOrd + Zero + One + AddAssign + SubAssign {
     // The whole number that a length means.
     ghost number: { Self → ℕ };

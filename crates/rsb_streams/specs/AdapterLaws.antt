@@ -89,7 +89,7 @@ module _ {S T N : Type 0} (integer : Elements T N) (stream : Stream S T N)
         (λ s t can each nothing. some (filter_source s) can.0 (λ given at.
         nothing given at (sublist-none given)))
 
-    -- A ready `Filter` may give something, it is ordered by start, and it ends.
+    -- A ready `Filter` may give something, it is sorted by start, and it ends.
     pub filter-sorted : IsSorted integer (filter_draws integer stream next call filters)
     filter-sorted s ready =
         let source = filter_source s in
@@ -121,7 +121,7 @@ module _ {S T N : Type 0} (integer : Elements T N) (stream : Stream S T N)
         (λ s t can each nothing. some (take_while_source s) can.0 (λ given at.
         nothing given at (take_while-none (take_while_done s) given)))
 
-    -- A ready `TakeWhile` may give something, it is ordered by start, and it ends.
+    -- A ready `TakeWhile` may give something, it is sorted by start, and it ends.
     pub take_while-sorted : IsSorted integer (take_while_draws integer stream next call takes_while)
     take_while-sorted s ready =
         let source = take_while_source s in
@@ -176,7 +176,7 @@ module _ {S T N : Type 0} (integer : Elements T N) (stream : Stream S T N)
         (λ s t can each. skip_while-none (skip_while_done_skipping s) (skip_while_source s)
         (skip_while_source t) can.0 (skip_while-end s t (skip_while_done_skipping s) each))
 
-    -- A ready `SkipWhile` may give something, it is ordered by start, and it ends.
+    -- A ready `SkipWhile` may give something, it is sorted by start, and it ends.
     pub skip_while-sorted : IsSorted integer (skip_while_draws integer stream next call skips_while)
     skip_while-sorted s ready =
         let source = skip_while_source s in
@@ -208,7 +208,7 @@ module _ {S T N : Type 0} (integer : Elements T N) (stream : Stream S T N)
       (take-gives rank stream.may_give next.next_gives gives)
       (λ s t. take-none (take_count s) (take_source s) (take_source t))
 
-  -- A ready `Take` may give something, it is ordered by start, and it ends.
+  -- A ready `Take` may give something, it is sorted by start, and it ends.
   pub take-sorted : IsSorted integer (take_draws integer stream next takes)
   take-sorted s ready =
       let source = take_source s in
@@ -244,7 +244,7 @@ module _ {S T N : Type 0} (integer : Elements T N) (stream : Stream S T N)
       (λ s t can each. skip-none (skip_count s) (skip_source s) (skip_source t) each.1.0 can
       each.1.1 each.1.2)
 
-  -- A ready `Skip` may give something, it is ordered by start, and it ends.
+  -- A ready `Skip` may give something, it is sorted by start, and it ends.
   pub skip-sorted : IsSorted integer (skip_draws integer stream next skips)
   skip-sorted s ready =
       let source = skip_source s in
@@ -275,7 +275,7 @@ module _ {S T N : Type 0} (integer : Elements T N) (stream : Stream S T N)
       (fuse-gives rank stream.may_give next.next_gives gives)
       (λ s t can each. fuse-none (fuse_done s) (fuse_source s) (fuse_source t) can each.0)
 
-  -- A ready `Fuse` may give something, it is ordered by start, and it ends.
+  -- A ready `Fuse` may give something, it is sorted by start, and it ends.
   pub fuse-sorted : IsSorted integer (fuse_draws integer stream next fuses)
   fuse-sorted s ready = fuse-keeps {N = N} (record {
     can_draw = stream.can_draw;

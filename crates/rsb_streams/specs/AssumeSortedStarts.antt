@@ -1,4 +1,4 @@
--- A stream whose starts are known not to fall.
+-- A stream that is known to be sorted by start.
 use Rattle.std.specs.declared.iter.Iterator.{Ghosts as Iteration}
 use Rattle.std.specs.declared.ops.RangeInclusive.{RangeInclusive}
 use Rattle.rsb_integer.specs.declared.integer.Integer.{Ghosts as Elements}

@@ -107,7 +107,7 @@ module _ {I T N : Type 0} (integer : Elements T N) (iterator : Iteration I (Rang
       (tt, All-nil (λ (run : Interval). run.last < integer.value_count))
       (calls-keeps (IsCanonicalIn integer.value_count))
 
-  -- What is known to be ordered by start is ordered by start in a `Fuse`.
+  -- What is known to be sorted by start is sorted by start in a `Fuse`.
   pub known-sorted :
       IsSorted integer (fuse (calls integer iterator (HasSortedStarts integer.value_count)))
   known-sorted = fuse-keeps (calls integer iterator (HasSortedStarts integer.value_count))

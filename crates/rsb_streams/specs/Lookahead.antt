@@ -132,7 +132,8 @@ pub record Spares (before : Input) (run : Interval) (now : Input) : Type 0 where
   pub uses : Uses before [] now
   pub later : IsOneFrom run.first now.held
 
--- Whether a call returns a range of the input at one place, and uses nothing of the others.
+-- Whether a call returns a range of the input at one place, and uses nothing of the others, as
+-- `Spares` states.
 pub record TakesOne {Place : Type 0} (before : Place → Input) (run : Interval)
     (now : Place → Input) : Type 0 where
   pub place : Place

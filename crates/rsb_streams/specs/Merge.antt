@@ -20,7 +20,7 @@ module _ {T N L R : Type 0} (integer : Elements T N) (lefts : Stream L T N)
   merge_inputs s Left = input_of integer lefts s.left
   merge_inputs s Right = input_of integer rights s.right
 
-  -- The merge: what is held and still to come of both streams, ordered by start. A draw takes one
+  -- The merge: what is held and still to come of both streams, sorted by start. A draw takes one
   -- range of one stream. As many are left as in both streams together, with those held.
   abbrev pub merge : Stream (Merge T L R) T N
   merge = asking integer (AsksOne integer.rank merge_inputs) MergeReady

@@ -1,4 +1,4 @@
--- The law of a merge: it is ordered by start.
+-- The law of a merge: it is sorted by start.
 use Rattle.std.proofs.Common.{ℕ, zero, suc, ◌+◌, ◌≤◌, List, [], ◌∷◌, length, refl, inl, inr, arith}
 use Rattle.std.proofs.lemmas.Bool.{cases_lt}
 use Rattle.std.specs.Iterator.{Count, IsFinite, count_add}
@@ -13,7 +13,7 @@ use Rattle.rsb_streams.specs.Rows.{IsSorted}
 use Rattle.rsb_streams.specs.Stream.{Outcomes, merges, HasSortedStarts, HasSortedStartsFrom, IsMergeOf, Keeps}
 use Rattle.rsb_streams.specs.declared.draw.Draw.{Ghosts as Stream}
 
--- ---- lists ordered by start
+-- ---- lists sorted by start
 
 -- If two lists start at `low` or later, so does their merge.
 pub merge-starts : (n low : ℕ) (left right runs : List Interval) → HasSortedStartsFrom n low left
@@ -27,7 +27,7 @@ merge-starts n low left right (run ∷ runs) first second sorted merged =
     ] in
     (starts, sorted.1, sorted.2, sorted.3)
 
--- Two lists ordered by start have a merge. `size` is at least the sum of their lengths.
+-- Two lists sorted by start have a merge. `size` is at least the sum of their lengths.
 merge-from : (n size low : ℕ) (left right : List Interval) → length left + length right ≤ size
     → HasSortedStartsFrom n low left → HasSortedStartsFrom n low right
     → (runs : List Interval) × HasSortedStartsFrom n low runs × IsMergeOf left right runs
@@ -54,7 +54,7 @@ merge-from n (suc size) low (run ∷ left) (other ∷ right) within first second
           (other ∷ rest.0, (second.0, second.1, second.2, rest.1), inr (right, refl, rest.2))
     ]
 
--- Two lists ordered by start have a merge.
+-- Two lists sorted by start have a merge.
 pub merge-exists : (n : ℕ) (left right : List Interval) → HasSortedStarts n left
     → HasSortedStarts n right
     → (runs : List Interval) × HasSortedStarts n runs × IsMergeOf left right runs
@@ -69,8 +69,8 @@ both-finite left right first second = elim (true_or_false left.bounded) [
   | inr endless ↦ absurd (rw endless at first)
 ]
 
--- If two streams are ordered by start, their merge may give something, it is ordered by start, and
--- it ends.
+-- If two streams are sorted by start, their merge may give something, it is sorted by start, and it
+-- ends.
 pub merges-keeps : (n : ℕ) (P Q : Outcomes) (left right : Count) → Keeps (HasSortedStarts n) P left
     → Keeps (HasSortedStarts n) Q right
     → Keeps (HasSortedStarts n) (merges n P Q) (count_add left right)
@@ -82,7 +82,7 @@ merges-keeps n P Q left right first second = record {
   ends = both-finite left right first.ends second.ends;
 }
 
--- The merge of two streams ordered by start is ordered by start.
+-- The merge of two streams sorted by start is sorted by start.
 pub merge-sorted : {T N L R : Type 0} (integer : Elements T N) (left : Stream L T N)
     (right : Stream R T N) → IsSorted integer left → IsSorted integer right
     → IsSorted integer (merge integer left right)

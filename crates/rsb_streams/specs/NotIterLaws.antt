@@ -37,6 +37,6 @@ module _ {T N I : Type 0} (integer : Elements T N) (stream : Stream I T N) where
         ends = input.ends;
       }
 
-  -- The complement of a stream ordered by start is canonical.
+  -- The complement of a stream sorted by start is canonical.
   pub not_iter-disjoint : IsSorted integer stream → IsDisjoint integer (not_iter integer stream)
   not_iter-disjoint sorted s ready = keeps-by sorted s.start s.iter ready

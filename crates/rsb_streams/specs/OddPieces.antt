@@ -20,14 +20,14 @@ oddly_covered runs = odd_of (map (λ run rank. covers run rank) runs)
 abbrev pub IsTwoDeep : List Interval → Type 0
 IsTwoDeep runs = (rank : ℕ) → cover runs rank ≤ 2
 
--- Whether the intervals are non-empty and within a type of n values, no start falls, and no rank is
--- in more than two of them.
+-- Whether the intervals are non-empty, within a type of n values and sorted by start, and no rank
+-- is in more than two of them.
 pub record IsTwofold (n : ℕ) (runs : List Interval) : Type 0 where
   pub sorted : HasSortedStarts n runs
   pub deep : IsTwoDeep runs
 
--- Whether the pieces are non-empty intervals within a type of n values, their starts do not fall,
--- and their members are the set.
+-- Whether the pieces are non-empty intervals within a type of n values, sorted by start, and their
+-- members are the set.
 pub record ArePieces (n : ℕ) (selected : Selection) (pieces : List Interval) : Type 0 where
   pub sorted : HasSortedStarts n pieces
   pub same : Agree n (members pieces) selected

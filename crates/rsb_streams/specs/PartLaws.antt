@@ -76,7 +76,7 @@ module _ (n : ℕ) {Part : List Interval → List Interval → Type 0} (part : I
   part-canonical canonical runs may = settled_canonical_in n runs (λ fails. may (λ given at is.
       fails (sublist-canonical n runs given (canonical given at) (part.within runs given is))))
 
-  -- If lists are ordered by start, so are their parts; there is a part, and the calls end.
+  -- If lists are sorted by start, so are their parts; there is a part, and the calls end.
   pub part-keeps : (left more : Count) → IsFinite more → Keeps (HasSortedStarts n) P left
       → Keeps (HasSortedStarts n) (part_of P Part) more
   part-keeps left more ends kept = record {

@@ -53,7 +53,7 @@ module _ {T N I : Type 0} (integer : Elements T N) (stream : Stream I T N) where
     some-by (Some range) s some =
         λ never. some (λ runs may. never (interval_of rank range ∷ runs) (runs, may, refl))
 
-    -- The stream is ordered by start.
+    -- The stream is sorted by start.
     pub put_back-sorted : IsSorted integer (put_back integer stream)
     put_back-sorted s ready =
         let kept = fused-keeps stream (HasSortedStarts n) tt sorted (fused_of s) ready.callable in

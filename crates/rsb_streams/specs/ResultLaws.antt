@@ -16,7 +16,7 @@ use Rattle.rsb_streams.specs.UnionIter.{union_iter}
 use Rattle.rsb_streams.specs.UnionIterLaws.{union_iter-disjoint}
 use Rattle.rsb_streams.specs.declared.draw.Draw.{Ghosts as Stream}
 
--- The complement of a stream is ordered by start.
+-- The complement of a stream is sorted by start.
 not_iter-sorted : {T N S : Type 0} (integer : Elements T N) (stream : Stream S T N)
     → IsSorted integer stream → IsSorted integer (not_iter integer stream)
 not_iter-sorted integer stream sorted = disjoint-sorted integer (not_iter integer stream)

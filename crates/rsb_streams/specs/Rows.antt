@@ -19,7 +19,7 @@ abbrev pub KeepsLaw : {S T N : Type 0} → (List Interval → Type 0) → Stream
 KeepsLaw {S = S} law stream = (s : S) → stream.can_draw s
     → Keeps law (stream.may_give s) (stream.draws_left s)
 
--- Whether a ready stream is ordered by start.
+-- Whether a ready stream is sorted by start.
 abbrev pub IsSorted : {S T N : Type 0} → Elements T N → Stream S T N → Type 0
 IsSorted integer stream = KeepsLaw (HasSortedStarts integer.value_count) stream
 

@@ -8,15 +8,15 @@ use Rattle.rsb_integer.specs.Selection.{Selection, complement, difference, inter
 
 -- ---- lists of intervals
 
--- Whether the intervals are non-empty and within a type of n values, the first starts at `low` or
--- later, and no start falls.
+-- Whether the intervals are non-empty, within a type of n values and sorted by start, and the first
+-- starts at `low` or later.
 abbrev pub HasSortedStartsFrom : ℕ → ℕ → List Interval → Type 0
 HasSortedStartsFrom n low [] = Unit {0}
 HasSortedStartsFrom n low (run ∷ runs) =
     (low ≤ run.first) × (run.first ≤ run.last) × (run.last < n)
     × HasSortedStartsFrom n run.first runs
 
--- Whether the intervals are non-empty and within a type of n values, and no start falls.
+-- Whether the intervals are non-empty, within a type of n values and sorted by start.
 abbrev pub HasSortedStarts : ℕ → List Interval → Type 0
 HasSortedStarts n runs = HasSortedStartsFrom n 0 runs
 
@@ -49,7 +49,7 @@ just runs others = others ≡ runs
 abbrev pub HasOutcome : Outcomes → Type 0
 HasOutcome P = ¬ ((runs : List Interval) → ¬ (P runs))
 
--- Whether the fact holds of some list that may be given.
+-- Whether the fact holds of some list that may be given. This names no list either.
 abbrev pub SomeOutcome : Outcomes → (List Interval → Type 0) → Type 0
 SomeOutcome P Fact = ¬ ((runs : List Interval) → P runs → ¬ (Fact runs))
 
@@ -72,7 +72,7 @@ abbrev pub runs_by_two : ℕ → (Selection → Selection → Selection) → Out
 runs_by_two n operation P Q runs =
     SomeOutcomes P Q (λ left right. AreRuns n (operation (members left) (members right)) runs)
 
--- The merges of what two streams gave, ordered by start.
+-- The merges of what two streams gave, sorted by start.
 abbrev pub merges : ℕ → Outcomes → Outcomes → Outcomes
 merges n P Q runs =
     SomeOutcomes P Q (λ left right. HasSortedStarts n runs × IsMergeOf left right runs)

@@ -59,7 +59,7 @@ settled_canonical_in n runs holds = (
   settled_below n runs (λ fails. holds (λ all. fails all.1)),
 )
 
--- The starts of a list do not fall if the contrary is excluded.
+-- A list is sorted by start if the contrary is excluded.
 pub settled_sorted : (n low : ℕ) (runs : List Interval) → ¬ (¬ (HasSortedStartsFrom n low runs))
     → HasSortedStartsFrom n low runs
 settled_sorted n low [] holds = tt
@@ -70,16 +70,16 @@ settled_sorted n low (run ∷ runs) holds = (
   settled_sorted n run.first runs (λ fails. holds (λ all. fails all.3)),
 )
 
--- ---- lists ordered by start
+-- ---- lists sorted by start
 
--- A list ordered by start from `low` is also one from any lower rank.
+-- A list sorted by start from `low` is also one from any lower rank.
 pub sorted-lower : (n low lower : ℕ) (runs : List Interval) → lower ≤ low
     → HasSortedStartsFrom n low runs → HasSortedStartsFrom n lower runs
 sorted-lower n low lower [] less sorted = tt
 sorted-lower n low lower (run ∷ runs) less sorted =
     let starts = sorted.0 in (omega arith, sorted.1, sorted.2, sorted.3)
 
--- A canonical list is ordered by start.
+-- A canonical list is sorted by start.
 pub canonical-sorted : (n low : ℕ) (runs : List Interval) → IsCanonicalFrom low runs
     → AllEndBelow n runs
     → HasSortedStartsFrom n low runs
@@ -94,7 +94,7 @@ canonical-sorted n low (run ∷ runs) canonical below =
           (canonical-sorted n (run.last + 2) runs canonical.2 (All-tail P run runs below)),
     )
 
--- If a stream may give only canonical lists, they are ordered by start.
+-- If a stream may give only canonical lists, they are sorted by start.
 pub canonical_stream-starts : (n : ℕ) (P : Outcomes) (remaining : Count)
     → Keeps (IsCanonicalIn n) P remaining
     → Keeps (HasSortedStarts n) P remaining
@@ -106,13 +106,13 @@ canonical_stream-starts n P remaining kept = record {
   ends = kept.ends;
 }
 
--- A canonical stream is ordered by start.
+-- A canonical stream is sorted by start.
 pub disjoint-sorted : {S T N : Type 0} (integer : Elements T N) (stream : Stream S T N)
     → IsDisjoint integer stream → IsSorted integer stream
 disjoint-sorted integer stream disjoint s can =
     canonical_stream-starts integer.value_count _ _ (disjoint s can)
 
--- Every interval of a list ordered by start ends below n.
+-- Every interval of a list sorted by start ends below n.
 pub sorted-below : (n low : ℕ) (runs : List Interval) → HasSortedStartsFrom n low runs
     → AllEndBelow n runs
 sorted-below n low [] sorted = All-nil (λ (run : Interval). run.last < n)
@@ -120,7 +120,7 @@ sorted-below n low (run ∷ runs) sorted =
     All-cons (λ (each : Interval). each.last < n) run runs sorted.2
     (sorted-below n run.first runs sorted.3)
 
--- No member is below the start of a list ordered by start.
+-- No member is below the start of a list sorted by start.
 pub sorted-members : (n low : ℕ) (runs : List Interval) (rank : ℕ) → HasSortedStartsFrom n low runs
     → members runs rank ≡ true → low ≤ rank
 sorted-members n low [] rank sorted member = absurd (cc)

@@ -42,7 +42,7 @@ module _ {X : Type 0} where
   sublist-drop (suc count) [] = refl
   sublist-drop (suc count) (first ∷ others) = inl (sublist-drop count others)
 
--- If the starts of a list do not fall, those of a sublist do not.
+-- A sublist of a list sorted by start is sorted by start.
 sublist-sorted_from : (n low : ℕ) (kept all : List Interval) → HasSortedStartsFrom n low all
     → IsSublist kept all → HasSortedStartsFrom n low kept
 sublist-sorted_from n low kept [] sorted sub = rw sub tt

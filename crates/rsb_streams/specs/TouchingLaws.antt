@@ -47,7 +47,7 @@ settled_touching_in n runs holds = (
   settled_below n runs (λ fails. holds (λ all. fails all.1)),
 )
 
--- A list whose intervals may touch is ordered by start.
+-- A list whose intervals may touch is sorted by start.
 pub touching-sorted : (n low : ℕ) (runs : List Interval) → IsTouchingFrom low runs
     → AllEndBelow n runs → HasSortedStartsFrom n low runs
 touching-sorted n low [] touching below = tt
@@ -61,7 +61,7 @@ touching-sorted n low (run ∷ runs) touching below =
           (touching-sorted n (run.last + 1) runs touching.2 (All-tail P run runs below)),
     )
 
--- If a stream may give only such lists, they are ordered by start.
+-- If a stream may give only such lists, they are sorted by start.
 pub touching-starts : (n : ℕ) (P : Outcomes) (remaining : Count)
     → Keeps (IsTouchingIn n) P remaining
     → Keeps (HasSortedStarts n) P remaining

@@ -1,4 +1,4 @@
--- The union of a stream whose starts do not fall.
+-- The union of the ranges of a stream that is sorted by start.
 use Rattle.std.proofs.Common.{Bool, true, false, ◌+◌, List, [], ◌++◌}
 use Rattle.std.specs.Iterator.{YieldsThen}
 use Rattle.std.specs.Prelude.{Option, None, MatchOption}

@@ -25,7 +25,7 @@ joined-keeps n law P remaining kept = record {
   ends = kept.ends;
 }
 
--- The union of a stream ordered by start is canonical.
+-- The union of a stream sorted by start is canonical.
 pub union_iter-disjoint : {T N S : Type 0} (integer : Elements T N) (stream : Stream S T N)
     → IsSorted integer stream → IsDisjoint integer (union_iter integer stream)
 union_iter-disjoint integer stream sorted s ready =

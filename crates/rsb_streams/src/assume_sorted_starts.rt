@@ -1,4 +1,4 @@
-//! Streams of ranges whose starts are known not to fall.
+//! Streams of ranges that are known to be sorted by start.
 
 ghost use Rattle.rsb_streams.specs.Calls.{gives_as, GivesOnly};
 ghost use Rattle.rsb_streams.specs.CallsLaws.{known-answered, known-sorted};
@@ -13,7 +13,7 @@ use std::iter::{Fuse, FusedIterator};
 use std::marker::PhantomData;
 use std::ops::RangeInclusive;
 
-/// The ranges of an iterator whose starts are known not to fall. (`AssumeSortedStarts` in
+/// The ranges of an iterator that are known to be sorted by start. (`AssumeSortedStarts` in
 /// range-set-blaze.)
 #[derive(Clone, Debug, Drop)]
 pub struct AssumeSortedStarts<T, I> {
@@ -22,9 +22,9 @@ pub struct AssumeSortedStarts<T, I> {
 }
 
 impl<T: Integer, I: Iterator> AssumeSortedStarts<T, I> {
-    /// Returns the ranges of a value as a stream. Requires that the value becomes an iterator that
-    /// may be called and gives finitely many ranges. The ranges must be non-empty, and their starts
-    /// must not fall. Does not allocate. (`AssumeSortedStarts::new`.)
+    /// Returns the ranges of `iter` as a stream. Requires that `iter` becomes an iterator that may
+    /// be called and gives finitely many ranges. The ranges must be non-empty and sorted by start.
+    /// Does not allocate. (`AssumeSortedStarts::new`.)
     pub fn new<J: IntoIterator<Item = RangeInclusive<T>, IntoIter = I>>(iter: J) -> Self
         requires { GivesOnly T.rank ⟦<I as Iterator>⟧ J.into_iter_gives (HasSortedStarts T.value_count)
             iter }

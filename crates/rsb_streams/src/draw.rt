@@ -8,14 +8,14 @@ ghost use Rattle.rsb_streams.specs.Stream.{Answers, HasSortedStarts, Keeps, Outc
 use rsb_integer::Integer;
 use std::ops::RangeInclusive;
 
-/// A source of non-empty ranges whose starts do not fall, which ends. Not in range-set-blaze; every
+/// A finite source of non-empty ranges, sorted by start. Not in range-set-blaze; every
 /// `SortedStarts` is one, and its `draw` is its `next`.
 ///
 /// A stream that is built from other streams requires only this of them. The trait has no
 /// supertrait with members, so each level of nesting adds only one dictionary to those that a call
-/// passes.
+/// passes. A source is ready if a range may be drawn from it (`can_draw`).
 pub trait Draw<T: Integer>: Drop {
-    // Whether the source is ready: a range may be drawn.
+    // Whether the source is ready, that is, a range may be drawn from it.
     ghost can_draw: { Self → Type 0 };
 
     // What a draw returns, and the state that it leaves.
@@ -37,7 +37,7 @@ pub trait Draw<T: Integer>: Drop {
     ghost answers: { (s t : Self) (item : Option (RangeInclusive T))
         → draw_gives s item t → Answers T.rank may_give s item t };
 
-    // A ready source may give at least one list, it ends, and its starts do not fall.
+    // A ready source may give something, it is sorted by start, and it ends.
     ghost sorted: { (s : Self) → can_draw s
         → Keeps (HasSortedStarts T.value_count) (may_give s) (draws_left s) };
 }

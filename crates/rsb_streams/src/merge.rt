@@ -13,7 +13,7 @@ use rsb_integer::Integer;
 use std::iter::FusedIterator;
 use std::ops::RangeInclusive;
 
-/// The ranges of two streams, ordered by start. The order of two ranges with the same start is
+/// The ranges of two streams, sorted by start. The order of two ranges with the same start is
 /// unspecified. It draws a range from a stream only when it is asked for one more and has given the
 /// one that it held. (`Merge` in range-set-blaze.)
 #[derive(Clone, Debug, Drop)]

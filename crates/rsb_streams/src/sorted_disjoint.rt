@@ -42,15 +42,15 @@ use rsb_integer::Integer;
 use std::iter::FusedIterator;
 use std::ops::RangeInclusive;
 
-/// A stream of non-empty ranges whose starts do not fall. (`SortedStarts` in range-set-blaze.)
+/// A stream of non-empty ranges, sorted by start. (`SortedStarts` in range-set-blaze.)
 ///
 /// Your own stream states what it may give in its `Draw`, whose `draw` is its `next`, and gives
 /// `drawn-itself` for the law here. After `None`, the streams of this crate return `None` again. No
 /// law says so for other streams, so this crate holds each stream in a way that never calls it
 /// again after its end.
 pub trait SortedStarts<T: Integer>: Iterator<Item = RangeInclusive<T>> + FusedIterator + Draw<T> {
-    /// Does nothing. It gives each implementation for a type that contains a closure a function of
-    /// its own. Not in range-set-blaze.
+    /// Does nothing. An implementation for a type that contains a closure needs a function of its
+    /// own, and this can be it. Not in range-set-blaze.
     fn mark_sorted(&self) {}
 
     // `next` does what `draw` does.
@@ -229,7 +229,7 @@ pub trait DrawDisjoint<T: Integer>: Draw<T> {
         right.draw().is_none()
     }
 
-    /// Returns whether each member of a ready stream is a member of another ready stream. If some
+    /// Returns whether each member of `self` is a member of `other`. Both must be ready. If some
     /// are not, it draws from both at most as far as the second run of those members, and one more
     /// range from each. Otherwise it draws to both ends. Does not allocate.
     /// (`SortedDisjoint::is_subset`.)
@@ -244,8 +244,8 @@ pub trait DrawDisjoint<T: Integer>: Draw<T> {
         self.difference(other).is_empty()
     }
 
-    /// Returns whether each member of another ready stream is a member of this one, which is ready
-    /// too. Draws as `is_subset` of the other does. (`SortedDisjoint::is_superset`.)
+    /// Returns whether each member of `other` is a member of `self`. Both must be ready. Draws as
+    /// `other.is_subset(self)` does. (`SortedDisjoint::is_superset`.)
     final fn is_superset<R: DrawDisjoint<T>>(self, other: R) -> bool
     where
         Self: Sized,
@@ -271,8 +271,8 @@ pub trait DrawDisjoint<T: Integer>: Draw<T> {
         self.intersection(other).is_empty()
     }
 
-    /// Does nothing. It gives each implementation for a type that contains a closure a function of
-    /// its own. Not in range-set-blaze.
+    /// Does nothing. An implementation for a type that contains a closure needs a function of its
+    /// own, and this can be it. Not in range-set-blaze.
     fn mark_disjoint(&self) {}
 
     // Whatever a ready stream may give is canonical.

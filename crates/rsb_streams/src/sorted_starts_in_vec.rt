@@ -13,7 +13,7 @@ use std::alloc::{AllocError, Allocator, Global};
 use std::ops::RangeInclusive;
 use std::vec::IntoIter;
 
-/// The ranges of a list whose starts are known not to fall. (`SortedStartsInVec` in
+/// The ranges of a list that are known to be sorted by start. (`SortedStartsInVec` in
 /// range-set-blaze.)
 pub type SortedStartsInVec<T, A = Global> = AssumeSortedStarts<T, IntoIter<RangeInclusive<T>, A>>;
 
@@ -21,7 +21,8 @@ impl<T: Integer, A: Allocator> UnionIter<T, SortedStartsInVec<T, A>> {
     /// Returns the union of ranges in any order, some of which may be empty. Requires an iterator
     /// that may be called and ends. It collects the ranges, joined as `UnsortedDisjoint` joins
     /// them, so ranges that are nearly in order need little memory. Then it sorts them once, in
-    /// place. If allocation fails, it returns only the error. (`FromIterator` of `UnionIter`.)
+    /// place. If allocation fails, it returns the error and builds nothing. (`FromIterator` of
+    /// `UnionIter`.)
     pub fn from_iter<J: IntoIterator<Item = RangeInclusive<T>>>(
         alloc: A,
         ranges: J,

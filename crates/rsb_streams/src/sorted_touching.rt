@@ -29,8 +29,8 @@ pub trait SortedTouching<T: Integer>: SortedStarts<T> {
         UnionIter::new(self)
     }
 
-    /// Does nothing. It gives each implementation for a type that contains a closure a function of
-    /// its own. Not in range-set-blaze.
+    /// Does nothing. An implementation for a type that contains a closure needs a function of its
+    /// own, and this can be it. Not in range-set-blaze.
     fn mark_touching(&self) {}
 
     // Whatever a ready stream may give ascends, and no two ranges of it overlap.

@@ -1,4 +1,4 @@
-//! The union of ranges that come ordered by start.
+//! The union of ranges that are sorted by start.
 
 ghost use Rattle.std.specs.Prelude.{◌≡◌};
 ghost use Rattle.rsb_streams.specs.PutBack.{IsFresh};
@@ -16,7 +16,7 @@ use rsb_integer::Integer;
 use std::iter::FusedIterator;
 use std::ops::RangeInclusive;
 
-/// The ranges of a stream whose starts do not fall, joined if they overlap or touch. What it has
+/// The ranges of a stream that is sorted by start, joined if they overlap or touch. What it has
 /// drawn lies within the ranges that it has returned, except for at most one range that it holds.
 /// That one starts past the last returned range, with a gap between. (`UnionIter` in
 /// range-set-blaze.)

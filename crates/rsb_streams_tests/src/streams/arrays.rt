@@ -1,4 +1,4 @@
-//! Arrays of ranges as streams, if they are known to be ordered by start, to ascend and perhaps
+//! Arrays of ranges as streams, if they are known to be sorted by start, to ascend and perhaps
 //! touch, or to be canonical.
 
 use rsb_streams::{AssumeSortedStarts, CheckSortedDisjoint, CheckSortedTouching, UnionIter};

@@ -37,7 +37,7 @@ pub(crate) fn union_with_complement<T: Integer, L: SortedDisjoint<T>, R: SortedD
     left.union(right.complement())
 }
 
-/// Returns the ranges of a stream again, joined. Their starts are known not to fall.
+/// Returns the ranges of a stream again, joined. They are known to be sorted by start.
 pub(crate) fn joined_again<T: Integer, I: SortedStarts<T>>(
     stream: I,
 ) -> UnionIter<T, AssumeSortedStarts<T, I>>
@@ -47,7 +47,7 @@ pub(crate) fn joined_again<T: Integer, I: SortedStarts<T>>(
     UnionIter::new(sorted(stream))
 }
 
-/// Returns the ranges of a stream again. Their starts are known not to fall.
+/// Returns the ranges of a stream again. They are known to be sorted by start.
 pub(crate) fn sorted<T: Integer, I: SortedStarts<T>>(stream: I) -> AssumeSortedStarts<T, I>
     requires { I.can_draw stream }
     ensures { ⟦<AssumeSortedStarts<T, I> as Draw<T>>⟧.can_draw result }
