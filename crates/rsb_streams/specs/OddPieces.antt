@@ -26,8 +26,8 @@ pub record IsTwofold (n : ℕ) (runs : List Interval) : Type 0 where
   pub sorted : HasSortedStarts n runs
   pub deep : IsTwoDeep runs
 
--- Whether the pieces are non-empty intervals within a type of n values, sorted by start, and their
--- members are the set.
+-- Whether the pieces are non-empty intervals within a type of n values, sorted by start, and have
+-- exactly the ranks of the set.
 pub record ArePieces (n : ℕ) (selected : Selection) (pieces : List Interval) : Type 0 where
   pub sorted : HasSortedStarts n pieces
   pub same : Agree n (members pieces) selected
@@ -40,7 +40,7 @@ pieces_of n before P pieces =
 
 -- ---- the range that has begun and not ended
 
--- From the rank up to which the range was given, to its end.
+-- The rest of a range, from `start` to its end. There is none if no range has begun and not ended.
 abbrev pub begun_from : {T : Type 0} → (T → ℕ) → T → Option T → List Interval
 begun_from rank start None = []
 begun_from rank start (Some end) = record { first = rank start; last = rank end } ∷ []
@@ -73,7 +73,7 @@ first_end (end ∷ ends) = end
 abbrev pub HasOneEnd : {T : Type 0} → List (Option T) → Type 0
 HasOneEnd ends = ends ≡ ends_in (first_end ends)
 
--- The state of the pieces if the first end in a vector is the pending one.
+-- The state of the pieces with the first end in a vector as the pending one.
 abbrev pub holding : {T I : Type 0} → OddPieces T I → List (Option T) → OddPieces T I
 holding s ends =
     record { iter = s.iter; done = s.done; start = s.start; end = first_end ends }
@@ -86,8 +86,8 @@ module _ {T N I : Type 0} (integer : Elements T N) (stream : Stream I T N) where
     pub twofold : (given : List Interval) → stream.may_give s.iter given
         → IsTwofold integer.value_count (pending integer.rank s ++ given)
 
-  -- The pieces of the ranks in an odd number of the pending range and those to come. After the end,
-  -- there are none.
+  -- The pieces of the ranks in an odd number of the pending range and those to come. Once the
+  -- source has ended and all was given, there are none.
   abbrev pub odd_may_give : OddPieces T I → Outcomes
   odd_may_give s = unless s.done
       (pieces_of integer.value_count (pending integer.rank s) (stream.may_give s.iter))

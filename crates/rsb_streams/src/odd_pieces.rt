@@ -38,7 +38,7 @@ pub(crate) struct OddPieces<T, I> {
     iter: I,
     // Whether the source has ended and all pieces were given.
     done: bool,
-    // Where the next piece starts of the range that has begun and not ended.
+    // Where the next piece of the range that has begun and not ended starts.
     start: T,
     // The end of that range, between two calls. During a call, the pending ends are in a vector.
     end: Option<T>,
