@@ -12,9 +12,9 @@ use Rattle.rsb_length.specs.declared.uint_plus_one.UIntPlusOne.TheVariants.{UInt
 
 -- The number that `UInt` of n means. Up to the limit, and so for every value of the unsigned type,
 -- it is n. No code can build `UInt` of a number past the limit, but the laws of `==` and of the
--- order cover those too. If `UInt` of limit + 1 meant limit + 1, as `MaxPlusOne` does, the derived
--- `==` would not be equality of numbers, because it distinguishes the two. So a number past the
--- limit means the next one, and only `MaxPlusOne` means limit + 1.
+-- order cover those too. Suppose `UInt` of limit + 1 meant limit + 1, as `MaxPlusOne` does. Then
+-- the derived `==`, which distinguishes the two, would not be equality of numbers. So a number past
+-- the limit means the next one, and only `MaxPlusOne` means limit + 1.
 abbrev pub stretched : ℕ → ℕ → ℕ
 stretched limit n = cond (nat_le n limit) n (n + 1)
 
@@ -56,8 +56,8 @@ stretched-same limit m n e = grind (arith, nat_tests)
 pub stretched-not_past : (limit n : ℕ) → stretched limit n ≢ limit + 1
 stretched-not_past limit n e = grind (arith, nat_tests)
 
--- `same` behaves as the derived `==`: it compares two `UInt`s by `equal`, which is true exactly for
--- equal numbers, and it is false between a `UInt` and `MaxPlusOne`.
+-- `same` behaves as the derived `==`. It compares two `UInt`s by `equal`, which is true exactly for
+-- equal numbers, and is false between a `UInt` and `MaxPlusOne`.
 module _ {T : Type 0} (number : T → ℕ) (limit : ℕ) (equal : T → T → Bool)
     (same : UIntPlusOne T → UIntPlusOne T → Bool)
     (by_number : (a b : T) → IsTrue (equal a b) ↔ (number a ≡ number b))

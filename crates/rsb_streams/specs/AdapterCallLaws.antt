@@ -1,5 +1,5 @@
 -- If `next` of a std adapter over a stream returns a range, the call fits what the adapter may
--- give: the range might come before whatever may come after the call.
+-- give. That is, the range might come before whatever may come after the call.
 use Rattle.std.proofs.Common.{◌≡◌, ℕ, zero, suc, ◌+◌, Bool, true, false, List, [], ◌∷◌, ◌++◌, take, drop, length, refl, sym, ap, ◌∙◌, subst, inl, inr, arith}
 use Rattle.std.proofs.lemmas.List.{length-map}
 use Rattle.std.proofs.Math.Seq.{drop-append_seam}

@@ -20,8 +20,8 @@ IsAscendingFrom low [] = Unit {0}
 IsAscendingFrom low (pair ∷ pairs) =
     (low ≤ pair.0.first) × IsAscendingFrom (pair.0.first + 1) pairs
 
--- Whether the list ascends and has the runs of the set with `true` and those of its complement with
--- `false`: all of them, and nothing else, in a type of n values.
+-- Whether the list ascends and has exactly the runs of the set with `true` and those of its
+-- complement with `false`, in a type of n values.
 pub record IsFilledList (n : ℕ) (selected : Selection) (pairs : List (Interval × Bool)) : Type
     0 where
   pub ascending : IsAscendingFrom 0 pairs

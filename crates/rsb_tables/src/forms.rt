@@ -1,5 +1,5 @@
-//! The operations on any number of streams or sets: the values in at least one, in all, in an odd
-//! number, or in at least a given number of them.
+//! The operations on any number of streams or sets. They give the values in at least one, in all,
+//! in an odd number, or in at least a given number of them.
 
 ghost use Rattle.std.specs.Prelude.{All, IfOk};
 

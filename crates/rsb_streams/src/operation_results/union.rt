@@ -13,9 +13,9 @@ use rsb_integer::Integer;
 use std::iter::FusedIterator;
 use std::ops::RangeInclusive;
 
-/// The values in either of two streams. It looks at most one range ahead in each stream: what it
-/// has drawn lies within the ranges that it has returned, except for at most one range. That one
-/// starts past the last returned range, with a gap between. (`Union` in range-set-blaze.)
+/// The values in either of two streams. It looks at most one range ahead in each stream. All other
+/// ranges that it has drawn lie within those that it has returned. The one ahead starts past the
+/// last returned range, with a gap between. (`Union` in range-set-blaze.)
 #[derive(Clone, Debug, Drop)]
 pub struct Union<T, L, R> {
     iter: UnionIter<T, Merge<T, L, R>>,
