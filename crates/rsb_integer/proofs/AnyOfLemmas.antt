@@ -1,4 +1,4 @@
--- What lies in some of many sets, as one more of them is taken up: the step of a loop.
+-- The ranks in at least one of many sets when one more set is added: the step of a loop.
 use Rattle.std.proofs.Common.{◌≡◌, ℕ, ◌||◌, ◌+◌, ◌<◌, List, [], ◌∷◌, ◌++◌, length, get_or, map, take, sym, ap, ◌∙◌}
 use Rattle.std.proofs.Math.Bool.{or_assoc, or-false}
 use Rattle.std.proofs.lemmas.List.{take_more}

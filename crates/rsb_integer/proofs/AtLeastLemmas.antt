@@ -1,4 +1,4 @@
--- What lies in at least k of many sets.
+-- The ranks in at least k of many sets.
 use Rattle.std.proofs.Common.{◌≡◌, ℕ, suc, Bool, true, false, ◌&&◌, ◌||◌, cond, ◌+◌, ◌≤◌, nat_le, List, [], ◌∷◌, length, refl, ap, ◌∙◌, arith}
 use Rattle.std.proofs.lemmas.Bool.Decides.{nat_tests}
 use Rattle.rsb_integer.specs.Selection.{Selection, all_of, any_of, at_least, how_many}

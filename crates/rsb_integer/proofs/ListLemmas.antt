@@ -1,4 +1,4 @@
--- What every list of a head and a tail keeps, where std says it of pushes and appends alone.
+-- Facts about a list of a head and a tail that std states only for pushes and appends.
 use Rattle.std.proofs.Common.{◌≡◌, ◌⊎◌, zero, suc, Bool, true, false, List, [], ◌∷◌, ◌++◌, get_or, refl, inl, inr, arith}
 use Rattle.std.proofs.lemmas.List.Elements.{All-cons, All-head, All-nil, All-tail, Contains-append_left, Contains-append_right, Contains-append_cases, Contains-push, Contains-push_cases}
 use Rattle.std.specs.List.{All, AllPairs, Contains}

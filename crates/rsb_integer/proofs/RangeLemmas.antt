@@ -1,4 +1,4 @@
--- Ranges of values are told by their intervals of ranks.
+-- Ranges of values are determined by their intervals of ranks.
 use Rattle.std.proofs.Common.{◌≡◌, ℕ, Bool, true, false, cond, List, [], ◌∷◌, ◌<◌, ◌≤◌, refl, sym, ap, ◌+◌, ◌∙◌, subst, arith}
 use Rattle.std.proofs.lemmas.List.Elements.{All-head, All-tail}
 use Rattle.std.proofs.lemmas.Map.Lookups.{CmpEqualImpliesEq}

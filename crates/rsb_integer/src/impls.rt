@@ -1,4 +1,4 @@
-//! The element types that are given.
+//! `Integer` for the integer types of Rust and for `char`.
 
 mod char;
 mod i128;

@@ -15,13 +15,13 @@ use std::hash::Hash;
 use std::ops::{AddAssign, RangeInclusive, SubAssign};
 
 /// A type of elements: finitely many values in a row, each one step from the next. The rank of a
-/// value is its place in that row, from 0 on. (`Integer` of the Rust crate.)
+/// value is its position in that row, starting at 0. (`Integer` in range-set-blaze.)
 ///
-/// An own type says its `rank`, its `value_count` and its `value_at`, and proves the seven laws
-/// below. The given types are also `Send` and `Sync`; generic code that uses threads asks
-/// `T: Integer + Send + Sync`.
+/// Your own type states its `rank`, `value_count` and `value_at`, and proves the seven laws below.
+/// The types that this crate implements it for are also `Send` and `Sync`; generic code that uses
+/// threads requires `T: Integer + Send + Sync`.
 pub trait Integer: Copy + PartialEq + PartialOrd + Ord + Debug {
-    /// The lengths of ranges of the type. (`Integer::SafeLen`.)
+    /// The type of the lengths of ranges. (`Integer::SafeLen`.)
     type SafeLen: SafeLength
         + Hash
         + Copy
@@ -32,60 +32,64 @@ pub trait Integer: Copy + PartialEq + PartialOrd + Ord + Debug {
         + AddAssign
         + SubAssign;
 
-    // The place of a value, from 0 on. What is no value, as 256 at `u8`, has a rank past all
-    // places.
+    // The rank of a value, starting at 0. A term that is not a value, such as 256 for `u8`, has a
+    // rank of `value_count` or more.
     ghost rank: { Self → ℕ };
 
-    // How many values there are.
+    // The number of values.
     ghost value_count: { ℕ };
 
-    // The value at a place. (What is told of no place is left open.)
+    // The value with a given rank. It is unspecified for a number that is not the rank of a value.
     ghost value_at: { ℕ → Self };
 
-    /// The value one rank higher, or `None` exactly at the greatest. (`Integer::checked_add_one`.)
+    /// Returns the value one rank higher, or `None` exactly at the greatest value.
+    /// (`Integer::checked_add_one`.)
     fn checked_add_one(self) -> Option<Self>
         ensures value { rank self < value_count }
         ensures none { IsNone result ↔ (rank self + 1 ≡ value_count) }
         ensures next { IfSome result (λ next. rank next ≡ rank self + 1) };
 
-    /// The value one rank higher, of a value below the greatest. (`Integer::add_one`.)
+    /// Returns the value one rank higher. Requires a value below the greatest.
+    /// (`Integer::add_one`.)
     fn add_one(self) -> Self
         requires { rank self + 1 < value_count }
         ensures { rank result ≡ rank self + 1 };
 
-    /// The value one rank lower, of a value above the least. (`Integer::sub_one`.)
+    /// Returns the value one rank lower. Requires a value above the least. (`Integer::sub_one`.)
     fn sub_one(self) -> Self
         requires { 0 < rank self }
         ensures { rank result + 1 ≡ rank self };
 
-    /// The least value, of rank 0. (`Integer::min_value`.)
+    /// Returns the least value, whose rank is 0. (`Integer::min_value`.)
     fn min_value() -> Self
         ensures { rank result ≡ 0 };
 
-    /// The greatest value, of the last rank. (`Integer::max_value`.)
+    /// Returns the greatest value, whose rank is `value_count - 1`. (`Integer::max_value`.)
     fn max_value() -> Self
         ensures { rank result + 1 ≡ value_count };
 
-    /// How many values a non-empty range has. (`Integer::safe_len`.)
+    /// Returns the number of values in a range. Requires a non-empty range. (`Integer::safe_len`.)
     fn safe_len(range: &RangeInclusive<Self>) -> Self::SafeLen
         requires { HasRanks (interval_of rank range.now) }
         ensures { Self.SafeLen.number result ≡ length_of (interval_of rank range.now) };
 
-    /// The end of the range of `b` values that starts here: at least one value, and at most as many
-    /// as there are from here to the greatest. (`Integer::inclusive_end_from_start`.)
+    /// Returns the end of the range of `b` values that starts at `self`. Requires that `b` is at
+    /// least 1, and at most the number of values from `self` to the greatest.
+    /// (`Integer::inclusive_end_from_start`.)
     fn inclusive_end_from_start(self, b: Self::SafeLen) -> Self
         requires some { 1 ≤ Self.SafeLen.number b }
         requires room { rank self + Self.SafeLen.number b ≤ value_count }
         ensures { rank result + 1 ≡ rank self + Self.SafeLen.number b };
 
-    /// The start of the range of `b` values that ends here: at least one value, and at most as many
-    /// as there are from the least to here. (`Integer::start_from_inclusive_end`.)
+    /// Returns the start of the range of `b` values that ends at `self`. Requires that `b` is at
+    /// least 1, and at most the number of values from the least to `self`.
+    /// (`Integer::start_from_inclusive_end`.)
     fn start_from_inclusive_end(self, b: Self::SafeLen) -> Self
         requires some { 1 ≤ Self.SafeLen.number b }
         requires room { Self.SafeLen.number b ≤ rank self + 1 }
         ensures { rank result + Self.SafeLen.number b ≡ rank self + 1 };
 
-    /// Steps to the value one rank lower, from a value above the least.
+    /// Replaces the value with the value one rank lower. Requires a value above the least.
     /// (`Integer::assign_sub_one`.)
     fn assign_sub_one(&mut self)
         requires { 0 < rank self.old }
@@ -94,8 +98,7 @@ pub trait Integer: Copy + PartialEq + PartialOrd + Ord + Debug {
         *self = self.sub_one();
     }
 
-    /// A range with no members: from the greatest value to the least.
-    /// (`Integer::exhausted_range`.)
+    /// Returns an empty range, from the greatest value to the least. (`Integer::exhausted_range`.)
     fn exhausted_range() -> RangeInclusive<Self>
         ensures start { rank (range_inclusive_start result) + 1 ≡ value_count }
         ensures end { rank (range_inclusive_end result) ≡ 0 }
@@ -104,8 +107,8 @@ pub trait Integer: Copy + PartialEq + PartialOrd + Ord + Debug {
         Self::max_value()..=Self::min_value()
     }
 
-    /// The first member of a range, which leaves the range, or `None` exactly where it has none.
-    /// Which ends an emptied range has is left open. (`Integer::range_next`.)
+    /// Removes and returns the first member of a range, or returns `None` exactly when the range is
+    /// empty. If no member is left, the ends of the range are unspecified. (`Integer::range_next`.)
     fn range_next(range: &mut RangeInclusive<Self>) -> Option<Self>
         ensures value { (interval_of rank range.old).last < value_count }
         ensures none { IsNone result ↔ HasNoRanks (interval_of rank range.old) }
@@ -114,7 +117,7 @@ pub trait Integer: Copy + PartialEq + PartialOrd + Ord + Debug {
     {
         let start = *range.start();
         let end = *range.end();
-        // Both are known for values from here on.
+        // After these calls, both ends are known to be values.
         start.checked_add_one();
         end.checked_add_one();
         if range.is_empty() {
@@ -128,8 +131,9 @@ pub trait Integer: Copy + PartialEq + PartialOrd + Ord + Debug {
         Some(start)
     }
 
-    /// The last member of a range, which leaves the range, or `None` exactly where it has none.
-    /// Which ends an emptied range has is left open. (`Integer::range_next_back`.)
+    /// Removes and returns the last member of a range, or returns `None` exactly when the range is
+    /// empty. If no member is left, the ends of the range are unspecified.
+    /// (`Integer::range_next_back`.)
     fn range_next_back(range: &mut RangeInclusive<Self>) -> Option<Self>
         ensures value { (interval_of rank range.old).last < value_count }
         ensures none { IsNone result ↔ HasNoRanks (interval_of rank range.old) }
@@ -138,7 +142,7 @@ pub trait Integer: Copy + PartialEq + PartialOrd + Ord + Debug {
     {
         let start = *range.start();
         let end = *range.end();
-        // Both are known for values from here on.
+        // After these calls, both ends are known to be values.
         start.checked_add_one();
         end.checked_add_one();
         if range.is_empty() {
@@ -152,25 +156,25 @@ pub trait Integer: Copy + PartialEq + PartialOrd + Ord + Debug {
         Some(end)
     }
 
-    // The value at a place has that place.
+    // `value_at` gives a value with the given rank.
     ghost ranks: { (place : ℕ) → place < value_count → rank (value_at place) ≡ place };
 
-    // Values that compare as equal are equal, so no two have one place.
+    // Values that compare as equal are equal, so no two values have the same rank.
     ghost exact: { CmpEqualImpliesEq Self.cmp };
 
-    // Values are ordered as their places are.
+    // Values are ordered by rank.
     ghost in_order: { (x y : Self) → rank x < value_count → rank y < value_count
         → Self.cmp x y ≡ nat_cmp (rank x) (rank y) };
 
-    // There are two values at least.
+    // There are at least two values.
     ghost some_values: { 2 ≤ value_count };
 
-    // There are at most as many as 128 bits can tell apart.
+    // There are at most as many values as 128 bits can distinguish.
     ghost countable: { value_count ≤ 2 ^ 128 };
 
-    // There is a length for the whole type.
+    // The lengths reach the length of the whole type.
     ghost lengths_suffice: { value_count ≤ Self.SafeLen.limit };
 
-    // Two ends of ranges, each of which may be lacking, fit in memory.
+    // Two optional ends of ranges fit in memory.
     ghost two_ends_fit: { (end : Self) → HaveRoom (two_ends Self.row) };
 }

@@ -1,4 +1,4 @@
-//! Laws that callers rely on. The clause of each function is the law; the function does nothing.
+//! Laws that callers rely on. Each function has a law as its clause, and does nothing.
 
 ghost use Rattle.std.specs.Prelude.{◌≡◌, ◌↔◌, ℕ, ◌+◌, ◌<◌, ◌≤◌, IsTrue, List, length};
 ghost use Rattle.std.specs.declared.ops.RangeInclusive.{RangeInclusive};
@@ -8,7 +8,7 @@ ghost use Rattle.rsb_integer.specs.Selection.{Agree, Selection, all_of, any_of, 
 
 use crate::integer::Integer;
 
-/// Two canonical lists of ranges with the same members are the same list. (Own.)
+/// Two canonical lists of ranges with the same members are equal. Not in range-set-blaze.
 pub fn equal_members_equal_lists<T: Integer>()
     ensures { (ranges others : List (RangeInclusive T))
         → IsCanonical (intervals_of T.rank ranges) → IsCanonical (intervals_of T.rank others)
@@ -19,15 +19,16 @@ pub fn equal_members_equal_lists<T: Integer>()
         → ranges ≡ others }
 {}
 
-/// A list of intervals is canonical, and lies in the type, exactly where it is the ascending list
-/// of all maximal runs of its members. (Own.)
+/// A list of intervals is canonical and within the type exactly when it is the ascending list of
+/// all maximal runs of its members. Not in range-set-blaze.
 pub fn canonical_lists_are_runs<T: Integer>()
     ensures { (runs : List Interval)
         → IsCanonicalIn T.value_count runs ↔ AreRuns T.value_count (members runs) runs }
 {}
 
-/// The length of a range leads from its start to its end, and from its end to its start: whatever
-/// `inclusive_end_from_start` and `start_from_inclusive_end` may answer by it is that value. (Own.)
+/// The length of a range determines its end from its start, and its start from its end. For that
+/// length, `inclusive_end_from_start` and `start_from_inclusive_end` can return only these. Not in
+/// range-set-blaze.
 pub fn offsets_undo_length<T: Integer>()
     ensures end { (start end found : T) (length : ℕ)
         → T.rank start ≤ T.rank end → T.rank end < T.value_count
@@ -39,14 +40,14 @@ pub fn offsets_undo_length<T: Integer>()
         → T.rank found + length ≡ T.rank end + 1 → found ≡ start }
 {}
 
-/// What the complement leaves out is the set again. (Own.)
+/// The complement of the complement is the set itself. Not in range-set-blaze.
 pub fn complement_twice<T: Integer>()
     ensures { (selected : Selection) (rank : ℕ)
         → complement (complement selected) rank ≡ selected rank }
 {}
 
-/// What a union leaves out is what both leave out, and what an intersection leaves out is what one
-/// of the two leaves out. (Own.)
+/// The complement of a union is the intersection of the complements. The complement of an
+/// intersection is the union of the complements. Not in range-set-blaze.
 pub fn de_morgan<T: Integer>()
     ensures union { (left right : Selection) (rank : ℕ) → complement (union left right) rank
         ≡ intersection (complement left) (complement right) rank }
@@ -55,31 +56,32 @@ pub fn de_morgan<T: Integer>()
         ≡ union (complement left) (complement right) rank }
 {}
 
-/// What the left set has and the right one lacks is what the left set and the complement of the
-/// right one both have. (Own.)
+/// The difference of two sets is the intersection of the left set and the complement of the right
+/// one. Not in range-set-blaze.
 pub fn difference_by_complement<T: Integer>()
     ensures { (left right : Selection) (rank : ℕ)
         → difference left right rank ≡ intersection left (complement right) rank }
 {}
 
-/// What one of two sets alone has is what one of them has, less what both have. (Own.)
+/// The symmetric difference of two sets is their union minus their intersection. Not in
+/// range-set-blaze.
 pub fn symmetric_by_union<T: Integer>()
     ensures { (left right : Selection) (rank : ℕ) → symmetric_difference left right rank
         ≡ difference (union left right) (intersection left right) rank }
 {}
 
-/// What lies in at least one of some sets is what lies in some of them. (Own.)
+/// The ranks in at least one of any number of sets are their union. Not in range-set-blaze.
 pub fn at_least_one<T: Integer>()
     ensures { (sets : List Selection) (rank : ℕ) → at_least 1 sets rank ≡ any_of sets rank }
 {}
 
-/// What lies in at least as many sets as there are is what lies in all of them. (Own.)
+/// The ranks in at least n of n sets are the intersection of the sets. Not in range-set-blaze.
 pub fn at_least_all<T: Integer>()
     ensures { (sets : List Selection) (rank : ℕ)
         → at_least (length sets) sets rank ≡ all_of sets rank }
 {}
 
-/// What lies in at least one set more lies in at least as many. (Own.)
+/// A rank in at least k + 1 of any number of sets is in at least k of them. Not in range-set-blaze.
 pub fn at_least_falls<T: Integer>()
     ensures { (k : ℕ) (sets : List Selection) (rank : ℕ)
         → IsTrue (at_least (k + 1) sets rank) → IsTrue (at_least k sets rank) }

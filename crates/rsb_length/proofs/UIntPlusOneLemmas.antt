@@ -1,4 +1,4 @@
--- What `UIntPlusOne::mul` cites.
+-- The lemmas that `UIntPlusOne::mul` uses.
 use Rattle.std.proofs.Common.{◌≡◌, ℕ, ◌*◌, ◌≤◌, zero, suc, arith, refl}
 use Rattle.std.proofs.Math.Nat.{mul-le-mul_left}
 use Rattle.rsb_length.specs.UIntPlusOne.{stretched, stretched-within, zero-le}

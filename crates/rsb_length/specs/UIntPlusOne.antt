@@ -1,5 +1,5 @@
--- What a `UIntPlusOne` means, and why it keeps the laws of lengths. `number` and `limit` are those
--- of the unsigned type under it.
+-- What a `UIntPlusOne` means, and why it satisfies the laws of lengths. `number` and `limit` belong
+-- to the unsigned type that it extends.
 use Rattle.std.specs.Prelude.{◌≡◌, ◌≢◌, ◌↔◌, ◌==◌, ℕ, ℤ, Bool, List, Option, Some, true, false, pos, negsuc, cond, nat_le, ◌+◌, ◌≤◌, ◌≤ℤ◌, IsTrue}
 use Rattle.std.specs.Bool.{one_answer}
 use Rattle.std.specs.Cmp.{IsPartialOrder, nat_cmp_total, on_total, po, unsigned_Decides, unsigned_ties}
@@ -10,54 +10,54 @@ use Rattle.std.proofs.lemmas.Int.{ints}
 use Rattle.rsb_length.specs.declared.uint_plus_one.UIntPlusOne.{UIntPlusOne}
 use Rattle.rsb_length.specs.declared.uint_plus_one.UIntPlusOne.TheVariants.{UInt, MaxPlusOne}
 
--- The number that `UInt` of n means: n itself up to the limit, so at each value of the unsigned
--- type. No code can make `UInt` of a number past the limit, but the laws of `==` and of the order
--- speak of those too. If `UInt` of limit + 1 meant limit + 1, as `MaxPlusOne` does, the derived
--- `==`, which tells the two apart, would not be equality of numbers. So a number past the limit
--- means the one after it, and limit + 1 is left to `MaxPlusOne`.
+-- The number that `UInt` of n means. Up to the limit, and so for every value of the unsigned type,
+-- it is n. No code can build `UInt` of a number past the limit, but the laws of `==` and of the
+-- order cover those too. Suppose `UInt` of limit + 1 meant limit + 1, as `MaxPlusOne` does. Then
+-- the derived `==`, which distinguishes the two, would not be equality of numbers. So a number past
+-- the limit means the next one, and only `MaxPlusOne` means limit + 1.
 abbrev pub stretched : ℕ → ℕ → ℕ
 stretched limit n = cond (nat_le n limit) n (n + 1)
 
--- the number that a `UIntPlusOne` means
+-- The number that a `UIntPlusOne` means.
 abbrev pub number_of : {T : Type 0} → (T → ℕ) → ℕ → UIntPlusOne T → ℕ
 number_of number limit (UInt value) = stretched limit (number value)
 number_of number limit MaxPlusOne = limit + 1
 
--- the `UIntPlusOne` that means a number: one past the limit, at each number past it
+-- The `UIntPlusOne` that means a number: `MaxPlusOne` for every number past the limit.
 abbrev pub plus_one_at : {T : Type 0} → (ℕ → T) → ℕ → ℕ → UIntPlusOne T
 plus_one_at value_at limit n = cond (nat_le n limit) (UInt (value_at n)) MaxPlusOne
 
--- the text of a `UIntPlusOne`, from the texts of the values and that of the number past the limit
+-- The text of a `UIntPlusOne`, from the texts of the values and of the number one past the limit.
 abbrev pub text_of : {T : Type 0} → (T → Option (List ℕ)) → List ℕ → UIntPlusOne T → Option (List ℕ)
 text_of output past_text (UInt value) = output value
 text_of output past_text MaxPlusOne = Some past_text
 
--- the integer is a whole number up to n
+-- Whether an integer is a whole number of at most n.
 abbrev pub IsUpTo : ℕ → ℤ → Type 0
 IsUpTo n (pos m) = m ≤ n
 IsUpTo n (negsuc m) = ⊥
 
--- an integer between two whole numbers up to n is one too
+-- An integer between two whole numbers of at most n is one too.
 pub IsUpTo-between : (n : ℕ) (x y z : ℤ) → IsUpTo n x → IsUpTo n z → x ≤ℤ y → y ≤ℤ z → IsUpTo n y
 IsUpTo-between n x (pos m) (pos k) f g low high = let h : k ≤ n = g in omega (arith, ints)
 IsUpTo-between n x (pos m) (negsuc k) f g low high = absurd g
 IsUpTo-between n (pos j) (negsuc m) z f g low high = absurd (omega (arith, ints))
 IsUpTo-between n (negsuc j) (negsuc m) z f g low high = absurd f
 
--- a number within the limit means itself
+-- A number within the limit means itself.
 pub stretched-within : (limit n m : ℕ) → n ≡ m → m ≤ limit → stretched limit n ≡ m
 stretched-within limit n m e h = grind (arith, nat_tests)
 
--- what means one number is one
+-- Two numbers with the same meaning are equal.
 pub stretched-same : (limit m n : ℕ) → stretched limit m ≡ stretched limit n → m ≡ n
 stretched-same limit m n e = grind (arith, nat_tests)
 
--- no `UInt` means the number one past the limit
+-- No `UInt` means the number one past the limit.
 pub stretched-not_past : (limit n : ℕ) → stretched limit n ≢ limit + 1
 stretched-not_past limit n e = grind (arith, nat_tests)
 
--- `same` compares `UInt`s by `equal`, which tells equal numbers, and tells `MaxPlusOne` from them,
--- as the derived `==` does
+-- `same` behaves as the derived `==`. It compares two `UInt`s by `equal`, which is true exactly for
+-- equal numbers, and is false between a `UInt` and `MaxPlusOne`.
 module _ {T : Type 0} (number : T → ℕ) (limit : ℕ) (equal : T → T → Bool)
     (same : UIntPlusOne T → UIntPlusOne T → Bool)
     (by_number : (a b : T) → IsTrue (equal a b) ↔ (number a ≡ number b))
@@ -66,7 +66,7 @@ module _ {T : Type 0} (number : T → ℕ) (limit : ℕ) (equal : T → T → Bo
     (of_past_and_value : (b : T) → same MaxPlusOne (UInt b) ≡ false)
     (of_past : same MaxPlusOne MaxPlusOne ≡ true)
   where
-    -- then it tells equal numbers too
+    -- Then `same` is true exactly for equal numbers.
     pub same-number_of : (x y : UIntPlusOne T)
         → IsTrue (same x y) ↔ (number_of number limit x ≡ number_of number limit y)
     same-number_of (UInt a) (UInt b) = (
@@ -83,18 +83,19 @@ module _ {T : Type 0} (number : T → ℕ) (limit : ℕ) (equal : T → T → Bo
     )
     same-number_of MaxPlusOne MaxPlusOne = ((λ h. refl), (λ h. of_past))
 
--- a number that `UInt` means and that is not past the one after the limit is within the limit
+-- If `UInt` of n means at most limit + 1, then n is within the limit.
 stretched-limited : (limit n : ℕ) → stretched limit n ≤ limit + 1 → n ≤ limit
 stretched-limited limit n h = grind (arith, nat_tests)
 
--- a number is within the limit, or it is not
+-- The test `nat_le` passes each number within the limit, and fails the number after the limit.
 le-within : (n limit : ℕ) → n ≤ limit → nat_le n limit ≡ true
 le-within n limit h = grind (arith, nat_tests)
 
 le-past : (limit : ℕ) → nat_le (limit + 1) limit ≡ false
 le-past limit = grind (arith, nat_tests)
 
--- where each value is the one at its number, so is each `UIntPlusOne`
+-- If `value_at` takes the number of each value back to that value, `plus_one_at` takes the number
+-- of each `UIntPlusOne` back to it.
 pub plus_one_at-number : {T : Type 0} (number : T → ℕ) (limit : ℕ) (value_at : ℕ → T)
     → ((a : T) → number a ≤ limit → value_at (number a) ≡ a)
     → (x : UIntPlusOne T) → number_of number limit x ≤ limit + 1
@@ -105,7 +106,7 @@ plus_one_at-number number limit value_at numbers (UInt a) h =
     (ap UInt (numbers a within))
 plus_one_at-number number limit value_at numbers MaxPlusOne h = rw (le-past limit) refl
 
--- what means numbers is ordered as they are, where `==` tells equal numbers
+-- If `==` is true exactly for equal numbers, comparing by number is a partial order that fits `==`.
 pub order-by_number : {A : Type 0} (number : A → ℕ) (same : A → A → Bool)
     → ((x y : A) → IsTrue (same x y) ↔ (number x ≡ number y))
     → IsPartialOrder same (λ x y. Some (nat_cmp (number x) (number y)))
@@ -114,14 +115,14 @@ order-by_number number same by_number = po (on_total number nat_cmp_total) (λ x
     (unsigned_Decides (number x) (number y))
     ∙ unsigned_ties (number x) (number y))
 
--- a test that tells equal whole numbers tells equal integers
+-- A test that is true exactly for equal whole numbers is also true exactly for equal integers.
 pub same-integers : (same : Bool) (m n : ℕ) → IsTrue same ↔ (m ≡ n) → IsTrue same ↔ (pos m ≡ pos n)
 same-integers same m n told = ((λ h. ap pos (told.0 h)), (λ h. told.1 (omega (arith, ints))))
 
--- no number is below 0
+-- No number is below 0.
 pub zero-le : (n : ℕ) → 0 ≤ n
 zero-le n = omega arith
 
--- one past a number is at least 1
+-- One more than any number is at least 1.
 pub one-le_next : (n : ℕ) → 1 ≤ n + 1
 one-le_next n = omega arith

@@ -1,4 +1,4 @@
-//! Lengths of ranges, as whole numbers from 0 to a greatest one.
+//! Lengths of ranges: whole numbers from 0 to a greatest one.
 #![tactic(auto)]
 
 pub mod safe_length;

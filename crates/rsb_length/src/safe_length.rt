@@ -1,4 +1,4 @@
-//! Types of lengths.
+//! The trait of length types, and its implementations for unsigned types.
 
 ghost use Rattle.std.specs.Prelude.{◌≡◌, ◌↔◌, ℕ, ◌+◌, ◌-◌, ◌≤◌, ◌^◌, pos, Some, IsTrue};
 ghost use Rattle.std.specs.Ordering.{nat_cmp};
@@ -9,8 +9,8 @@ use num_traits::{One, Zero};
 use std::ops::{AddAssign, SubAssign};
 
 /// A type of lengths: the whole numbers from 0 to a greatest one, in order. `+=` and `-=` are
-/// exact, and may be used where the result is one of them. (Own: the Rust crate asks num-traits
-/// alone.)
+/// exact; they require that the result is a length of the type. Not in range-set-blaze, which
+/// requires only traits of std and num-traits.
 pub trait SafeLength: Copy + PartialOrd + Zero + One + AddAssign + SubAssign {
     // The whole number that a length means.
     ghost number: { Self → ℕ };
@@ -21,29 +21,29 @@ pub trait SafeLength: Copy + PartialOrd + Zero + One + AddAssign + SubAssign {
     // The length that means a whole number up to the limit.
     ghost length_at: { ℕ → Self };
 
-    /// The greatest length. (Own.)
+    /// Returns the greatest length. Not in range-set-blaze.
     fn greatest() -> Self
         ensures { number result ≡ limit };
 
-    // Lengths are whole numbers to `num_traits` too: exact, and never negative.
+    // To `num_traits`, lengths are whole numbers too: exact and never negative.
     ghost exactly: { Self.exact };
 
     ghost values: { (a : Self) → Self.value a ≡ pos (number a) };
 
-    // There is a length for each whole number up to the limit.
+    // A whole number fits exactly when it is at most the limit.
     ghost fitting: { (n : ℕ) → Self.fits (pos n) ↔ (n ≤ limit) };
 
     ghost zero_is_0: { number Self.zero ≡ 0 };
 
     ghost one_is_1: { number Self.one ≡ 1 };
 
-    // A sum up to the limit may be formed, and is exact.
+    // A sum of at most the limit is allowed, and is exact.
     ghost sum_allowed: { (a b : Self) → number a + number b ≤ limit → Self.can_add_assign a b };
 
     ghost sum_exact: { (a b sum : Self) → Self.add_assign_gives a b sum
         → number sum ≡ number a + number b };
 
-    // A difference from 0 on may be formed, and is exact.
+    // A difference of at least 0 is allowed, and is exact.
     ghost difference_allowed: { (a b : Self) → number b ≤ number a → Self.can_sub_assign a b };
 
     ghost difference_exact: { (a b rest : Self) → number b ≤ number a
@@ -54,7 +54,7 @@ pub trait SafeLength: Copy + PartialOrd + Zero + One + AddAssign + SubAssign {
 
     ghost in_order: { (a b : Self) → Self.partial_cmp a b ≡ Some (nat_cmp (number a) (number b)) };
 
-    // Each length is the one at its number.
+    // `length_at` takes the number of a length back to that length.
     ghost lengths: { (a : Self) → number a ≤ limit → length_at (number a) ≡ a };
 }
 

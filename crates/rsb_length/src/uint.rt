@@ -1,4 +1,4 @@
-//! The unsigned types under `UIntPlusOne`.
+//! The unsigned types that `UIntPlusOne` extends by one number.
 
 ghost use Rattle.std.specs.Prelude.{◌≡◌, ◌↔◌, ℕ, ◌+◌, ◌-◌, ◌*◌, ◌<◌, ◌≤◌, ◌^◌, List, pos, Some, IsNone, IfSome, IsTrue, codes};
 ghost use Rattle.std.specs.Ordering.{nat_cmp};
@@ -9,8 +9,9 @@ use num_traits::{One, Zero};
 use std::fmt::{Debug, Display};
 
 /// An unsigned type: the whole numbers from 0 to a greatest one, in order. Its calls are exact, and
-/// answer `None` where the result is none of them. (`UInt` of the Rust crate, whose calls are those
-/// of `Unsigned`, `Bounded`, `OverflowingAdd` and the like. The five here are own.)
+/// return `None` if the result is not a value of the type. (`UInt` in range-set-blaze, which takes
+/// its calls from `Unsigned`, `Bounded`, `OverflowingAdd` and similar traits. The five calls here
+/// are not in range-set-blaze.)
 pub trait UInt: Zero + One + PartialOrd + Copy + Display + Debug {
     // The whole number that a value means.
     ghost number: { Self → ℕ };
@@ -24,37 +25,40 @@ pub trait UInt: Zero + One + PartialOrd + Copy + Display + Debug {
     // The text of the number one past the limit.
     ghost past_text: { List ℕ };
 
-    /// The greatest value. (Own.)
+    /// Returns the greatest value. Not in range-set-blaze.
     fn greatest() -> Self
         ensures { number result ≡ limit };
 
-    /// The sum, or `None` exactly where it is past the greatest value. (Own.)
+    /// Returns the sum, or `None` exactly when it is past the greatest value. Not in
+    /// range-set-blaze.
     fn checked_sum(self, other: Self) -> Option<Self>
         ensures none { IsNone result ↔ (limit < number self + number other) }
         ensures sum { IfSome result (λ sum. number sum ≡ number self + number other) };
 
-    /// What is left of `self` without `other`, or `None` exactly where `other` is more. (Own.)
+    /// Returns `self` minus `other`, or `None` exactly when `other` is greater. Not in
+    /// range-set-blaze.
     fn checked_difference(self, other: Self) -> Option<Self>
         ensures value { number self ≤ limit }
         ensures none { IsNone result ↔ (number self < number other) }
         ensures rest { IfSome result (λ rest. number rest + number other ≡ number self) };
 
-    /// The product, or `None` exactly where it is past the greatest value. (Own.)
+    /// Returns the product, or `None` exactly when it is past the greatest value. Not in
+    /// range-set-blaze.
     fn checked_product(self, other: Self) -> Option<Self>
         ensures none { IsNone result ↔ (limit < number self * number other) }
         ensures product { IfSome result (λ product.
             number product ≡ number self * number other) };
 
-    /// The text of the number one past the greatest value. (Own.)
+    /// Returns the text of the number one past the greatest value. Not in range-set-blaze.
     fn one_past_text() -> &'static str
         ensures { result.now ≡ past_text };
 
-    // Values are whole numbers to `num_traits` too: exact, and never negative.
+    // To `num_traits`, values are whole numbers too: exact and never negative.
     ghost exactly: { Self.exact };
 
     ghost values: { (a : Self) → Self.value a ≡ pos (number a) };
 
-    // There is a value for each whole number up to the limit.
+    // A whole number fits exactly when it is at most the limit.
     ghost fitting: { (n : ℕ) → Self.fits (pos n) ↔ (n ≤ limit) };
 
     ghost zero_is_0: { number Self.zero ≡ 0 };
@@ -66,7 +70,7 @@ pub trait UInt: Zero + One + PartialOrd + Copy + Display + Debug {
 
     ghost in_order: { (a b : Self) → Self.partial_cmp a b ≡ Some (nat_cmp (number a) (number b)) };
 
-    // Each value is the one at its number.
+    // `value_at` takes the number of a value back to that value.
     ghost numbers: { (a : Self) → number a ≤ limit → value_at (number a) ≡ a };
 }
 

@@ -1,4 +1,4 @@
-//! The whole numbers from 0 to one past the greatest of an unsigned type.
+//! The whole numbers from 0 to one past the greatest value of an unsigned type.
 
 ghost use Rattle.std.specs.Prelude.{◌≡◌, ◌≢◌, ℕ, ◌+◌, ◌*◌, ◌≤◌, ⊤, Some, pos};
 ghost use Rattle.std.specs.Ordering.{nat_cmp};
@@ -13,18 +13,18 @@ use std::cmp::Ordering;
 use std::fmt::{self, Display, Formatter};
 use std::ops::{Add, AddAssign, Mul, SubAssign};
 
-/// The whole numbers from 0 to one past the greatest of `T`, in order: each length that a range of
-/// `T` can have. `+`, `+=`, `-=` and `*` are exact, and may be used where the result is one of
-/// them. (`UIntPlusOne` of the Rust crate, which panics elsewhere.)
+/// The whole numbers from 0 to one past the greatest value of `T`, in order: every length that a
+/// range of `T` can have. `+`, `+=`, `-=` and `*` are exact; they require that the result is one of
+/// these numbers. (`UIntPlusOne` in range-set-blaze, which panics if it is not.)
 #[derive(Debug, Clone, Copy, PartialEq, Eq, Hash)]
 pub enum UIntPlusOne<T: UInt> {
-    /// A number that `T` has.
+    /// A number that is a value of `T`.
     UInt(T),
-    /// The number one past the greatest of `T`.
+    /// The number one past the greatest value of `T`.
     MaxPlusOne,
 }
 
-// They are ordered as their numbers are.
+// These numbers are ordered by size.
 impl<T: UInt> PartialOrd for UIntPlusOne<T> {
     ghost partial_cmp = { λ a b.
         Some (nat_cmp (number_of T.number T.limit a) (number_of T.number T.limit b)) };
@@ -36,7 +36,8 @@ impl<T: UInt> PartialOrd for UIntPlusOne<T> {
     fn partial_cmp(&self, other: &Self) -> Option<Ordering> {
         match (*self, *other) {
             (Self::UInt(value), Self::UInt(limit)) => value.partial_cmp(&limit),
-            // `T` says that no value is above its greatest. One past it is above that one too.
+            // Nothing here states that `value` is at most the greatest, so `T` compares the two. If
+            // they are equal, one past the greatest is still above `value`.
             (Self::UInt(value), Self::MaxPlusOne) => {
                 Some(value.partial_cmp(&T::greatest())?.then(Ordering::Less))
             }
@@ -48,7 +49,7 @@ impl<T: UInt> PartialOrd for UIntPlusOne<T> {
     }
 }
 
-// To `num_traits` they are integers: exact, and never negative.
+// To `num_traits`, these are integers: exact and never negative.
 impl<T: UInt> Number for UIntPlusOne<T> {
     ghost exact = { ⊤ };
 
@@ -73,7 +74,7 @@ impl<T: UInt> Number for UIntPlusOne<T> {
     ghost nonzero_law = { λ z _ _. ((λ h. h), (λ h. h)) };
 }
 
-// A sum up to one past the greatest may be formed, and is exact.
+// A sum of at most one past the greatest is allowed, and is exact.
 impl<T: UInt> Add for UIntPlusOne<T> {
     type Output = Self;
 
@@ -95,7 +96,7 @@ impl<T: UInt> Add for UIntPlusOne<T> {
     }
 }
 
-// `+=` is `+`.
+// `+=` has the contract of `+`.
 impl<T: UInt> AddAssign for UIntPlusOne<T> {
     ghost can_add_assign = { λ a b.
         number_of T.number T.limit a + number_of T.number T.limit b ≤ T.limit + 1 };
@@ -108,7 +109,7 @@ impl<T: UInt> AddAssign for UIntPlusOne<T> {
     }
 }
 
-// A difference from 0 on may be formed, and is exact.
+// A difference of at least 0 is allowed, and is exact.
 impl<T: UInt> SubAssign for UIntPlusOne<T> {
     ghost can_sub_assign = { λ a b.
         number_of T.number T.limit b ≤ number_of T.number T.limit a };
@@ -127,7 +128,8 @@ impl<T: UInt> SubAssign for UIntPlusOne<T> {
                 Self::UInt(value.checked_difference(less).unwrap())
             }
             (Self::UInt(value), Self::MaxPlusOne) => {
-                // That `value` is at most the greatest is known from here on.
+                // The contract of this call states that `value` is at most the greatest, which
+                // rules this case out.
                 value.checked_difference(value);
                 unreachable!()
             }
@@ -135,7 +137,7 @@ impl<T: UInt> SubAssign for UIntPlusOne<T> {
     }
 }
 
-// A product up to one past the greatest may be formed, and is exact.
+// A product of at most one past the greatest is allowed, and is exact.
 impl<T: UInt> Mul for UIntPlusOne<T> {
     type Output = Self;
 
@@ -245,8 +247,8 @@ impl<T: UInt> SafeLength for UIntPlusOne<T> {
     ghost lengths = { plus_one_at-number T.number T.limit T.value_at T.numbers };
 }
 
-/// A number that `T` has is written as `T` writes it, and the one past them as `one_past_text`
-/// says. (The Rust crate writes `(u128::MAX + 1)` at every `T`.)
+/// Writes a number of `T` as `T` does, and the number one past the greatest as `one_past_text`.
+/// (range-set-blaze writes `(u128::MAX + 1)` for every `T`.)
 impl<T: UInt> Display for UIntPlusOne<T> {
     ghost output = { text_of T.output T.past_text };
 

@@ -1,5 +1,5 @@
--- A range that one call of `next` of std's adapters over a stream gives comes before what may come
--- after it.
+-- If `next` of a std adapter over a stream returns a range, the call fits what the adapter may
+-- give. That is, the range might come before whatever may come after the call.
 use Rattle.std.proofs.Common.{◌≡◌, ℕ, zero, suc, ◌+◌, Bool, true, false, List, [], ◌∷◌, ◌++◌, take, drop, length, refl, sym, ap, ◌∙◌, subst, inl, inr, arith}
 use Rattle.std.proofs.lemmas.List.{length-map}
 use Rattle.std.proofs.Math.Seq.{drop-append_seam}
@@ -29,7 +29,7 @@ module _ {S T : Type 0} (rank : T → ℕ) (P : S → Outcomes)
     (steps : S → Option (RangeInclusive T) → S → Type 0)
     (gives : (s t : S) (range : RangeInclusive T) → steps s (Some range) t
     → Answers rank P s (Some range) t) where
-  -- what calls gave comes before what may still come
+  -- What calls returned, followed by what may still come, might come before the calls.
   pub passed : (ranges : List (RangeInclusive T)) (s t : S) (rest : List Interval)
       → Yields steps s ranges t → P t rest → P s (intervals_of rank ranges ++ rest)
   passed [] s t rest all may = subst (λ each. P each rest) (sym all) may
@@ -37,7 +37,7 @@ module _ {S T : Type 0} (rank : T → ℕ) (P : S → Outcomes)
       gives s all.0 range all.1 (intervals_of rank ranges ++ rest)
       (passed ranges all.0 t rest all.2 may)
 
-  -- so do ranges that were passed over, and one more
+  -- So might ranges that were passed over, followed by one more.
   passed-then : (ranges : List (RangeInclusive T)) (s t : S) (range : RangeInclusive T)
       (rest : List Interval) → YieldsThen steps s ranges (Some range) t → P t rest
       → P s (intervals_of rank ranges ++ interval_of rank range ∷ rest)
@@ -46,7 +46,7 @@ module _ {S T : Type 0} (rank : T → ℕ) (P : S → Outcomes)
       (gives call.0 t range call.2 rest may)
 
   module _ {F : Type 0} (call : Mut F (Bor (RangeInclusive T) × Unit {0}) Bool) where
-    -- a range that a filter gives
+    -- A call of `Filter` that returns a range fits what it may give.
     pub filter-gives : (s t : Filter S F) (range : RangeInclusive T)
         → filter_steps steps call s (Some range) t
         → Answers rank (filter_may_give P) s (Some range) t
@@ -57,14 +57,15 @@ module _ {S T : Type 0} (rank : T → ℕ) (P : S → Outcomes)
         (passed-then call.0 (filter_source s) (filter_source t) range given call.2 at)
         (sublist-after before (run ∷ rest) (run ∷ given) (inr (rest, refl, sub))))
 
-    -- a `TakeWhile` that gives a range asked its stream, and is not done
+    -- What follows if a `TakeWhile` returns a range: it is not done, before or after the call, and
+    -- its stream gave the range.
     pub record TakesRange (s : TakeWhile S F) (range : RangeInclusive T) (t : TakeWhile S F) : Type
         0 where
       pub before : take_while_done s ≡ false
       pub after : take_while_done t ≡ false
       pub source : steps (take_while_source s) (Some range) (take_while_source t)
 
-    -- by what the closure answered
+    -- The cases are what the closure returned.
     takes-passed : (s t : TakeWhile S F) (range each : RangeInclusive T) (passes : Bool)
         → take_while_done s ≡ false
         → steps (take_while_source s) (Some each) (take_while_source t)
@@ -79,7 +80,7 @@ module _ {S T : Type 0} (rank : T → ℕ) (P : S → Outcomes)
     }
     takes-passed s t range each false before step answer = let no = answer.0 in absurd (cc)
 
-    -- and by what the stream gave
+    -- The cases are what the stream returned, and whether the `TakeWhile` was done.
     takes-asked : (s t : TakeWhile S F) (range : RangeInclusive T)
         (asked : Option (RangeInclusive T)) → take_while_done s ≡ false
         → steps (take_while_source s) asked (take_while_source t)
@@ -104,7 +105,7 @@ module _ {S T : Type 0} (rank : T → ℕ) (P : S → Outcomes)
     takes-by s t range true is answer = let no = answer.0 in absurd (cc)
     takes-by s t range false is answer = takes-asked s t range answer.0 is answer.1 answer.2
 
-    -- a range that a `TakeWhile` gives
+    -- A call of `TakeWhile` that returns a range fits what it may give.
     pub take_while-gives : (s t : TakeWhile S F) (range : RangeInclusive T)
         → take_while_steps steps call s (Some range) t
         → Answers rank (take_while_may_give P) s (Some range) t
@@ -123,7 +124,8 @@ module _ {S T : Type 0} (rank : T → ℕ) (P : S → Outcomes)
         (subst (λ done. MatchBool done (run ∷ rest ≡ []) (IsPrefix (run ∷ rest) (run ∷ given)))
         (sym takes.before) longer))
 
-    -- a `SkipWhile` that gives a range passed over some before it, and passes over no more
+    -- What follows if a `SkipWhile` returns a range: it passed over ranges before it, none if it
+    -- had stopped skipping, and it skips no more.
     pub record SkipsTo (s : SkipWhile S F) (range : RangeInclusive T) (t : SkipWhile S F) : Type
         0 where
       pub passed : List (RangeInclusive T)
@@ -153,7 +155,8 @@ module _ {S T : Type 0} (rank : T → ℕ) (P : S → Outcomes)
       none = λ started. absurd (cc);
     }
 
-    -- a range that a `SkipWhile` gives, by whether it had passed over some before
+    -- A call of `SkipWhile` that returns a range fits what it may give. The cases are whether it
+    -- had stopped skipping before the call.
     skip_while-by : (started after : Bool) (ranges : List (RangeInclusive T)) (s t : S)
         (range : RangeInclusive T) (rest given : List Interval) → after ≡ true
         → (started ≡ true → ranges ≡ [])
@@ -182,7 +185,7 @@ module _ {S T : Type 0} (rank : T → ℕ) (P : S → Outcomes)
         (skip_while-by (skip_while_done_skipping s) (skip_while_done_skipping t) skips.passed
         (skip_while_source s) (skip_while_source t) range rest given skips.after skips.none part))
 
-  -- one more of the first ranges
+  -- With one range put before a list, its first ranges are one more.
   take-one_more : (run : Interval) (count more : ℕ) (rest given : List Interval)
       → count + 1 ≡ more → rest ≡ take count given → run ∷ rest ≡ take more (run ∷ given)
   take-one_more run count zero rest given is part = absurd (omega (arith, is))
@@ -190,7 +193,7 @@ module _ {S T : Type 0} (rank : T → ℕ) (P : S → Outcomes)
       let same : count ≡ more = omega (arith, is) in
       rw (sym same) (ap (λ runs. run ∷ runs) part)
 
-  -- a range that a `Take` gives
+  -- A call of `Take` that returns a range fits what it may give.
   pub take-gives : (s t : Take S) (range : RangeInclusive T) → take_steps steps s (Some range) t
       → Answers rank (take_may_give P) s (Some range) t
   take-gives s t range call rest may = λ nothing. may (λ given at part.
@@ -198,7 +201,7 @@ module _ {S T : Type 0} (rank : T → ℕ) (P : S → Outcomes)
       nothing (run ∷ given) (gives (take_source s) (take_source t) range call.0 given at)
       (take-one_more run (take_count t) (take_count s) rest given call.1 part))
 
-  -- what is left once nothing is to be skipped
+  -- If nothing more is to be skipped, everything is left.
   skipped-none : (s : S) (count : ℕ) (rest given : List Interval) → count ≡ 0
       → IsSkipped steps s count rest given → rest ≡ given
   skipped-none s zero rest given none part = elim part [
@@ -207,14 +210,14 @@ module _ {S T : Type 0} (rank : T → ℕ) (P : S → Outcomes)
   ]
   skipped-none s (suc count) rest given none part = absurd (omega (arith, none))
 
-  -- what is left of a list after a front of so many
+  -- Dropping as many ranges as were passed leaves the rest.
   drop-passed : (ranges : List (RangeInclusive T)) (count : ℕ) (runs : List Interval)
       → length ranges ≡ count → drop count (intervals_of rank ranges ++ runs) ≡ runs
   drop-passed ranges count runs is =
       subst (λ each. drop each (intervals_of rank ranges ++ runs) ≡ runs)
       (length-map ranges (interval_of rank) ∙ is) (drop-append_seam (intervals_of rank ranges) runs)
 
-  -- a range that a `Skip` gives
+  -- A call of `Skip` that returns a range fits what it may give.
   pub skip-gives : (s t : Skip S) (range : RangeInclusive T) → skip_steps steps s (Some range) t
       → Answers rank (skip_may_give steps P) s (Some range) t
   skip-gives s t range call rest may = λ nothing. may (λ given at part.
@@ -226,7 +229,8 @@ module _ {S T : Type 0} (rank : T → ℕ) (P : S → Outcomes)
       (passed-then passed (skip_source s) (skip_source t) range given call.1.1 at)
       (inl (ap (λ runs. run ∷ runs) left ∙ sym dropped)))
 
-  -- a range that a `Fuse` gives, by whether it had ended
+  -- A call of `Fuse` that returns a range fits what it may give. The cases are whether it had
+  -- ended.
   fuse-by : (done after : Bool) (s t : S) (range : RangeInclusive T) (rest : List Interval)
       → MatchBool done (Some range ≡ None) (steps s (Some range) t) → after ≡ false
       → unless after (P t) rest → unless done (P s) (interval_of rank range ∷ rest)

@@ -34,20 +34,20 @@ module _ {S T N : Type 0} (integer : Elements T N) (stream : Stream S T N)
     (sorted : IsSorted integer stream) (drawn : NextIsDraw stream next) where
   open integer use {rank, value_count as n}
 
-  -- a range that the stream gives by its `next`
+  -- A call of `next` of the stream that returns a range fits what the stream may give.
   gives : (s t : S) (range : RangeInclusive T) → next.next_gives s (Some range) t
       → Answers rank stream.may_give s (Some range) t
   gives s t range call = answers s t (Some range) (drawn.gives s t range call)
 
-  -- something may come where it may be called
+  -- A stream that may be called may give something.
   some : (s : S) → next.can_next s → HasOutcome (stream.may_give s)
   some s can = (sorted s (drawn.drawable s can)).some
 
-  -- and it ends
+  -- A ready stream ends.
   finite : (s : S) → stream.can_draw s → IsFinite (next.remaining s)
   finite s can = subst IsFinite (sym (drawn.counts s)) (sorted s can).ends
 
-  -- the `next` of an adapter is its `draw`
+  -- The `next` of an adapter is its `draw`.
   adapted-drawn : {A : Type 0} (own : Iteration A (RangeInclusive T)) (Source Closure : A → Type 0)
       (may_give : A → Outcomes)
       → ((s : A) → own.can_next s → Source s × Closure s)
@@ -67,7 +67,7 @@ module _ {S T N : Type 0} (integer : Elements T N) (stream : Stream S T N)
   }
 
   module _ {F : Type 0} (call : Mut F (Bor (RangeInclusive T) × Unit {0}) Bool) where
-    -- the `next` of a filter
+    -- The `next` of a `Filter`.
     abbrev filters : Iteration (Filter S F) (RangeInclusive T)
     filters = record {
       can_next = λ s. next.can_next (filter_source s) × IsFinite (next.remaining (filter_source s))
@@ -76,7 +76,7 @@ module _ {S T N : Type 0} (integer : Elements T N) (stream : Stream S T N)
       remaining = λ s. next.remaining (filter_source s);
     }
 
-    -- it is its `draw`
+    -- This `next` is the `draw` of a `Filter`.
     pub filter-drawn : NextIsDraw (filter_draws integer stream next call filters) filters
     filter-drawn = adapted-drawn filters _ _ _
         (λ s can. (drawn.drawable (filter_source s) can.0, can.2))
@@ -89,20 +89,20 @@ module _ {S T N : Type 0} (integer : Elements T N) (stream : Stream S T N)
         (λ s t can each nothing. some (filter_source s) can.0 (λ given at.
         nothing given at (sublist-none given)))
 
-    -- what it may give comes by starts, there is some of it, and it ends
+    -- A ready `Filter` may give something, it is sorted by start, and it ends.
     pub filter-sorted : IsSorted integer (filter_draws integer stream next call filters)
     filter-sorted s ready =
         let source = filter_source s in
         part-keeps n sublist-is_part (stream.may_give source) (stream.draws_left source)
         (next.remaining source) (finite source ready.source) (sorted source ready.source)
 
-    -- a `TakeWhile` that ended
+    -- A `TakeWhile` may give the empty list, whether it is done or not.
     take_while-none : (done : Bool) (given : List Interval)
         → MatchBool done (◌≡◌ {A = List Interval} [] []) (IsPrefix [] given)
     take_while-none true given = refl
     take_while-none false given = record { rest = given; parts = refl }
 
-    -- the `next` of a `TakeWhile`
+    -- The `next` of a `TakeWhile`.
     abbrev takes_while : Iteration (TakeWhile S F) (RangeInclusive T)
     takes_while = record {
       can_next = λ s. next.can_next (take_while_source s)
@@ -111,7 +111,7 @@ module _ {S T N : Type 0} (integer : Elements T N) (stream : Stream S T N)
       remaining = λ s. next.remaining (take_while_source s);
     }
 
-    -- it is its `draw`
+    -- This `next` is the `draw` of a `TakeWhile`.
     pub take_while-drawn : NextIsDraw (take_while_draws integer stream next call takes_while)
         takes_while
     take_while-drawn = adapted-drawn takes_while _ _ _
@@ -121,7 +121,7 @@ module _ {S T N : Type 0} (integer : Elements T N) (stream : Stream S T N)
         (λ s t can each nothing. some (take_while_source s) can.0 (λ given at.
         nothing given at (take_while-none (take_while_done s) given)))
 
-    -- what it may give comes by starts, there is some of it, and it ends
+    -- A ready `TakeWhile` may give something, it is sorted by start, and it ends.
     pub take_while-sorted : IsSorted integer (take_while_draws integer stream next call takes_while)
     take_while-sorted s ready =
         let source = take_while_source s in
@@ -129,7 +129,8 @@ module _ {S T N : Type 0} (integer : Elements T N) (stream : Stream S T N)
         (stream.draws_left source) (next.remaining source) (finite source ready.source)
         (sorted source ready.source)
 
-    -- a `SkipWhile` that ended, by whether it passed over no more
+    -- If a `SkipWhile` returns `None`, it may give the empty list. The cases are whether it has
+    -- stopped skipping.
     skip_while-none : (started : Bool) (s t : S) → next.can_next s
         → MatchBool started (next.next_gives s None t) (Unit {0})
         → part_of (stream.may_give s) (λ runs given. MatchBool started (runs ≡ given) (IsSuffix runs given))
@@ -150,7 +151,7 @@ module _ {S T N : Type 0} (integer : Elements T N) (stream : Stream S T N)
     skip_while-end s t true each = each.0
     skip_while-end s t false each = tt
 
-    -- the `next` of a `SkipWhile`
+    -- The `next` of a `SkipWhile`.
     abbrev skips_while : Iteration (SkipWhile S F) (RangeInclusive T)
     skips_while = record {
       can_next = λ s. next.can_next (skip_while_source s)
@@ -161,7 +162,7 @@ module _ {S T N : Type 0} (integer : Elements T N) (stream : Stream S T N)
       remaining = λ s. next.remaining (skip_while_source s);
     }
 
-    -- it is its `draw`
+    -- This `next` is the `draw` of a `SkipWhile`.
     pub skip_while-drawn : NextIsDraw (skip_while_draws integer stream next call skips_while)
         skips_while
     skip_while-drawn = adapted-drawn skips_while _ _ _
@@ -175,7 +176,7 @@ module _ {S T N : Type 0} (integer : Elements T N) (stream : Stream S T N)
         (λ s t can each. skip_while-none (skip_while_done_skipping s) (skip_while_source s)
         (skip_while_source t) can.0 (skip_while-end s t (skip_while_done_skipping s) each))
 
-    -- what it may give comes by starts, there is some of it, and it ends
+    -- A ready `SkipWhile` may give something, it is sorted by start, and it ends.
     pub skip_while-sorted : IsSorted integer (skip_while_draws integer stream next call skips_while)
     skip_while-sorted s ready =
         let source = skip_while_source s in
@@ -183,14 +184,15 @@ module _ {S T N : Type 0} (integer : Elements T N) (stream : Stream S T N)
         (stream.draws_left source) (next.remaining source) (finite source ready.source)
         (sorted source ready.source)
 
-  -- a `Take` that ended, by how many more it gives
+  -- If a `Take` returns `None`, it may give the empty list. The cases are how many ranges it still
+  -- gives.
   take-none : (count : ℕ) (s t : S) → next.can_next s → (0 < count → next.next_gives s None t)
       → part_of (stream.may_give s) (λ runs given. runs ≡ take count given) []
   take-none zero s t can each = λ nothing. some s can (λ given at. nothing given at refl)
   take-none (suc count) s t can each = λ nothing.
       nothing [] (answers s t None (drawn.ends s t can (each (omega arith)))) refl
 
-  -- the `next` of a `Take`
+  -- The `next` of a `Take`.
   abbrev takes : Iteration (Take S) (RangeInclusive T)
   takes = record {
     can_next = λ s. next.can_next (take_source s);
@@ -198,7 +200,7 @@ module _ {S T N : Type 0} (integer : Elements T N) (stream : Stream S T N)
     remaining = λ s. count_min (at_most (take_count s)) (next.remaining (take_source s));
   }
 
-  -- it is its `draw`
+  -- This `next` is the `draw` of a `Take`.
   pub take-drawn : NextIsDraw (take_draws integer stream next takes) takes
   take-drawn = adapted-drawn takes _ _ _
       (λ s can. (drawn.drawable (take_source s) can, tt))
@@ -206,14 +208,15 @@ module _ {S T N : Type 0} (integer : Elements T N) (stream : Stream S T N)
       (take-gives rank stream.may_give next.next_gives gives)
       (λ s t. take-none (take_count s) (take_source s) (take_source t))
 
-  -- what it may give comes by starts, there is some of it, and it ends
+  -- A ready `Take` may give something, it is sorted by start, and it ends.
   pub take-sorted : IsSorted integer (take_draws integer stream next takes)
   take-sorted s ready =
       let source = take_source s in
       part-keeps n (take-is_part (take_count s)) (stream.may_give source)
       (stream.draws_left source) (takes.remaining s) tt (sorted source ready.source)
 
-  -- a `Skip` that ended, by how many it still skips
+  -- If a `Skip` returns `None`, it may give the empty list. The cases are how many ranges it still
+  -- skips.
   skip-none : (count : ℕ) (s t : S) (ranges : List (RangeInclusive T)) → next.can_next s
       → YieldsThen next.next_gives s ranges None t → length ranges ≤ count
       → part_of (stream.may_give s) (IsSkipped next.next_gives s count) []
@@ -224,7 +227,7 @@ module _ {S T N : Type 0} (integer : Elements T N) (stream : Stream S T N)
   skip-none (suc count) s t ranges can each most = λ nothing. some s can (λ given at.
       nothing given at (inr (omega arith, refl, (ranges, t, each, most))))
 
-  -- the `next` of a `Skip`
+  -- The `next` of a `Skip`.
   abbrev skips : Iteration (Skip S) (RangeInclusive T)
   skips = record {
     can_next = λ s. next.can_next (skip_source s);
@@ -232,7 +235,7 @@ module _ {S T N : Type 0} (integer : Elements T N) (stream : Stream S T N)
     remaining = λ s. count_map (λ left. left - skip_count s) (next.remaining (skip_source s));
   }
 
-  -- it is its `draw`
+  -- This `next` is the `draw` of a `Skip`.
   pub skip-drawn : NextIsDraw (skip_draws integer stream next skips) skips
   skip-drawn = adapted-drawn skips _ _ _
       (λ s can. (drawn.drawable (skip_source s) can, tt))
@@ -241,7 +244,7 @@ module _ {S T N : Type 0} (integer : Elements T N) (stream : Stream S T N)
       (λ s t can each. skip-none (skip_count s) (skip_source s) (skip_source t) each.1.0 can
       each.1.1 each.1.2)
 
-  -- what it may give comes by starts, there is some of it, and it ends
+  -- A ready `Skip` may give something, it is sorted by start, and it ends.
   pub skip-sorted : IsSorted integer (skip_draws integer stream next skips)
   skip-sorted s ready =
       let source = skip_source s in
@@ -249,13 +252,14 @@ module _ {S T N : Type 0} (integer : Elements T N) (stream : Stream S T N)
       (stream.draws_left source) (skips.remaining s) (finite source ready.source)
       (sorted source ready.source)
 
-  -- a `Fuse` that answered `None`, by whether it had ended before
+  -- If a `Fuse` returns `None`, it may give the empty list. The cases are whether it had ended
+  -- before.
   fuse-none : (done : Bool) (s t : S) → (done ≡ false → next.can_next s)
       → MatchBool done (◌≡◌ {A = Option (RangeInclusive T)} None None) (next.next_gives s None t) → unless done (stream.may_give s) []
   fuse-none true s t can each = refl
   fuse-none false s t can each = answers s t None (drawn.ends s t (can refl) each)
 
-  -- the `next` of a `Fuse`
+  -- The `next` of a `Fuse`.
   abbrev fuses : Iteration (Fuse S) (RangeInclusive T)
   fuses = record {
     can_next = fuse_can_next next.can_next;
@@ -263,7 +267,7 @@ module _ {S T N : Type 0} (integer : Elements T N) (stream : Stream S T N)
     remaining = fuse_remaining next.remaining;
   }
 
-  -- it is its `draw`
+  -- This `next` is the `draw` of a `Fuse`.
   pub fuse-drawn : NextIsDraw (fuse_draws integer stream next fuses) fuses
   fuse-drawn = adapted-drawn fuses _ _ _
       (λ s can. ((λ undone. drawn.drawable (fuse_source s) (can undone)), tt))
@@ -271,7 +275,7 @@ module _ {S T N : Type 0} (integer : Elements T N) (stream : Stream S T N)
       (fuse-gives rank stream.may_give next.next_gives gives)
       (λ s t can each. fuse-none (fuse_done s) (fuse_source s) (fuse_source t) can each.0)
 
-  -- what it may give comes by starts, there is some of it, and it ends
+  -- A ready `Fuse` may give something, it is sorted by start, and it ends.
   pub fuse-sorted : IsSorted integer (fuse_draws integer stream next fuses)
   fuse-sorted s ready = fuse-keeps {N = N} (record {
     can_draw = stream.can_draw;

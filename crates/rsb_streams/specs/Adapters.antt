@@ -1,4 +1,4 @@
--- What std's adapters over a stream may give: some ranges of what their stream may give.
+-- What the adapters of std over a stream may give: some of the ranges that the stream may give.
 use Rattle.std.proofs.Common.{◌≡◌, ◌⊎◌, ℕ, ◌<◌, ◌≤◌, Bool, true, false, List, [], take, drop, length}
 use Rattle.std.specs.Prelude.{Option, None, MatchBool}
 use Rattle.std.specs.Iterator.{CallableOnAllAt, CallableWhileAt, YieldsThen}
@@ -23,71 +23,72 @@ use denote.Ref.{Bor}
 
 -- ---- what they may give
 
--- what stands in the relation to a list that may be given
+-- The lists in the relation `Part` to a list that may be given.
 abbrev pub part_of : Outcomes → (List Interval → List Interval → Type 0) → Outcomes
 part_of P Part runs = SomeOutcome P (λ given. Part runs given)
 
--- some of what its stream may give, in their order: a closure decides
+-- Some of the ranges that the stream may give, in their order. A closure decides which.
 abbrev pub filter_may_give : {S F : Type 0} → (S → Outcomes) → Filter S F → Outcomes
 filter_may_give may_give s = part_of (may_give (filter_source s)) IsSublist
 
--- a front of it, and nothing once an item was refused
+-- A prefix of what the stream may give, or nothing once a range has failed the test.
 abbrev pub take_while_may_give : {S F : Type 0} → (S → Outcomes) → TakeWhile S F → Outcomes
 take_while_may_give may_give s = part_of (may_give (take_while_source s))
     (λ runs given. MatchBool (take_while_done s) (runs ≡ []) (IsPrefix runs given))
 
--- what is left of it after some first ranges, and all of it once an item was refused
+-- A suffix of what the stream may give, or all of it once a range has failed the test.
 abbrev pub skip_while_may_give : {S F : Type 0} → (S → Outcomes) → SkipWhile S F → Outcomes
 skip_while_may_give may_give s = part_of (may_give (skip_while_source s))
     (λ runs given. MatchBool (skip_while_done_skipping s) (runs ≡ given) (IsSuffix runs given))
 
--- its first ranges, as many as are asked for
+-- The given number of first ranges of what the stream may give.
 abbrev pub take_may_give : {S : Type 0} → (S → Outcomes) → Take S → Outcomes
 take_may_give may_give s =
     part_of (may_give (take_source s)) (λ runs given. runs ≡ take (take_count s) given)
 
--- calls end within so many ranges
+-- Whether calls can end within the given number of ranges.
 abbrev pub EndsWithin : {S A : Type 0} → (S → Option A → S → Type 0) → S → ℕ → Type 0
 EndsWithin {S} {A} steps s count =
     (items : List A) × (t : S) × YieldsThen steps s items None t × (length items ≤ count)
 
--- what is left of a list after so many ranges, or nothing where the calls may end before
+-- Whether `runs` is `given` without the given number of first ranges, or is empty because the calls
+-- may end before them.
 abbrev pub IsSkipped : {S A : Type 0} → (S → Option A → S → Type 0) → S → ℕ
     → List Interval → List Interval → Type 0
 IsSkipped steps s count runs given = (runs ≡ drop count given)
     ⊎ ((0 < count) × (runs ≡ []) × EndsWithin steps s count)
 
--- what is left of it after as many first ranges as are skipped
+-- What the stream may give, without as many first ranges as are skipped.
 abbrev pub skip_may_give : {S A : Type 0} → (S → Option A → S → Type 0) → (S → Outcomes)
     → Skip S → Outcomes
 skip_may_give steps may_give s =
     part_of (may_give (skip_source s)) (IsSkipped steps (skip_source s) (skip_count s))
 
--- ---- when they may be drawn from, and what a draw answers
+-- ---- when they are ready, and what a draw returns
 
--- a draw is a call of `next`, and answers what may come before what may come after it
+-- Whether a draw is a call of `next` that fits what may be given.
 pub record IsCall {S T : Type 0} (rank : T → ℕ)
     (next_gives : S → Option (RangeInclusive T) → S → Type 0) (may_give : S → Outcomes)
     (s : S) (item : Option (RangeInclusive T)) (t : S) : Type 0 where
   pub call : next_gives s item t
   pub answers : Answers rank may_give s item t
 
--- the stream inside may be drawn from, its `next` is its `draw`, and the closure may be called at
--- what may come
+-- Whether an adapter is ready: its stream is ready, the `next` of that stream is its `draw`, and
+-- the closure may be called on what may come.
 pub record MayDraw (Source Closure Drawn : Type 0) : Type 0 where
   pub source : Source
   pub closure : Closure
   pub drawn : Drawn
 
--- the `next` of a stream is its `draw`
+-- Whether the `next` of a stream is its `draw`.
 abbrev pub NextIsDraw : {S T N : Type 0} → Stream S T N → Iteration S (RangeInclusive T) → Type 0
 NextIsDraw stream next = IsDrawn stream.can_draw stream.draw_gives stream.draws_left
     next.can_next next.next_gives next.remaining
 
 module _ {S T N : Type 0} (integer : Elements T N) (stream : Stream S T N)
     (next : Iteration S (RangeInclusive T)) where
-  -- an adapter by its own `next`: when its stream may be drawn from, when its closure may be called,
-  -- and what it may give
+  -- An adapter as a stream, from its own `next`. `Source` states that its stream is ready, and
+  -- `Closure` that its closure may be called.
   abbrev pub adapted : {A : Type 0} → Iteration A (RangeInclusive T) → (A → Type 0) → (A → Type 0)
       → (A → Outcomes) → Stream A T N
   adapted own Source Closure may_give = record {
@@ -97,36 +98,36 @@ module _ {S T N : Type 0} (integer : Elements T N) (stream : Stream S T N)
     may_give = may_give;
   }
 
-  -- a `Take`: the first ranges of its stream
+  -- `Take` as a stream: the first ranges of its stream.
   abbrev pub take_draws : Iteration (Take S) (RangeInclusive T) → Stream (Take S) T N
   take_draws own = adapted own (λ s. stream.can_draw (take_source s)) (λ s. Unit {0})
       (take_may_give stream.may_give)
 
-  -- a `Skip`: what is left after some
+  -- `Skip` as a stream: the ranges after the first ones.
   abbrev pub skip_draws : Iteration (Skip S) (RangeInclusive T) → Stream (Skip S) T N
   skip_draws own = adapted own (λ s. stream.can_draw (skip_source s)) (λ s. Unit {0})
       (skip_may_give next.next_gives stream.may_give)
 
-  -- a `Fuse`: all of it, and nothing after its end
+  -- `Fuse` as a stream: all ranges, and nothing after the end.
   abbrev pub fuse_draws : Iteration (Fuse S) (RangeInclusive T) → Stream (Fuse S) T N
   fuse_draws own = adapted own (fuse_can_next stream.can_draw) (λ s. Unit {0})
       (fuse_may_give stream.may_give)
 
   module _ {F : Type 0} (call : Mut F (Bor (RangeInclusive T) × Unit {0}) Bool) where
-    -- a `Filter`: those that its closure lets pass
+    -- `Filter` as a stream: the ranges that pass the test of its closure.
     abbrev pub filter_draws : Iteration (Filter S F) (RangeInclusive T) → Stream (Filter S F) T N
     filter_draws own = adapted own (λ s. stream.can_draw (filter_source s))
         (λ s. CallableOnAllAt next.next_gives call (filter_source s) (filter_callee s))
         (filter_may_give stream.may_give)
 
-    -- a `TakeWhile`: those before the first that fails
+    -- `TakeWhile` as a stream: the ranges before the first that fails the test.
     abbrev pub take_while_draws : Iteration (TakeWhile S F) (RangeInclusive T)
         → Stream (TakeWhile S F) T N
     take_while_draws own = adapted own (λ s. stream.can_draw (take_while_source s))
         (λ s. CallableWhileAt next.next_gives call true (take_while_source s) (take_while_callee s))
         (take_while_may_give stream.may_give)
 
-    -- a `SkipWhile`: those from the first on that fails
+    -- `SkipWhile` as a stream: the ranges starting at the first that fails the test.
     abbrev pub skip_while_draws : Iteration (SkipWhile S F) (RangeInclusive T)
         → Stream (SkipWhile S F) T N
     skip_while_draws own = adapted own (λ s. stream.can_draw (skip_while_source s))

@@ -1,4 +1,4 @@
--- Streams known by one law of one call: where the range lies, and where the next one may start.
+-- Streams known by one law of one call: where the range is, and where the next one may start.
 use Rattle.std.specs.Prelude.{ℕ, ◌+◌, ◌<◌, ◌≤◌}
 use Rattle.std.specs.Iterator.{Count, IsNearerEnd}
 use Rattle.std.specs.declared.ops.RangeInclusive.{RangeInclusive}
@@ -6,8 +6,8 @@ use Rattle.rsb_integer.specs.Rank.{interval_of}
 
 module _ {S T : Type 0} (rank : T → ℕ) (n : ℕ) (can_next : S → Type 0) (remaining : S → Count)
     (low : S → ℕ) where
-  -- the range of a call from s is non-empty, lies in the type, and from `low s` on; what comes
-  -- after it starts more than one rank past its end; and fewer are left
+  -- Whether the range of a call from `s` is non-empty, within the type, and starts at `low s` or
+  -- later. Whatever comes after it leaves a gap, and fewer ranges are left.
   pub record Ascends (s : S) (range : RangeInclusive T) (t : S) : Type 0 where
     pub from_low : low s ≤ (interval_of rank range).first
     pub in_order : (interval_of rank range).first ≤ (interval_of rank range).last
@@ -15,7 +15,7 @@ module _ {S T : Type 0} (rank : T → ℕ) (n : ℕ) (can_next : S → Type 0) (
     pub apart : (interval_of rank range).last + 2 ≤ low t
     pub nearer : IsNearerEnd can_next remaining s t
 
-  -- the same, where what comes after it starts past its end, and may touch it
+  -- The same, except that what comes after the range may touch it.
   pub record AscendsTouching (s : S) (range : RangeInclusive T) (t : S) : Type 0 where
     pub from_low : low s ≤ (interval_of rank range).first
     pub in_order : (interval_of rank range).first ≤ (interval_of rank range).last

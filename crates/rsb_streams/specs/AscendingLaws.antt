@@ -1,4 +1,4 @@
--- The laws of streams known by one law of one call: they are canonical, or may touch.
+-- The laws of streams known by one law of one call: they are canonical, or ascend and may touch.
 use Rattle.std.proofs.Common.{ℕ, ◌+◌, ◌<◌, ◌≤◌, List, [], ◌∷◌, subst, sym, arith}
 use Rattle.std.proofs.lemmas.List.Elements.{All-cons, All-nil}
 use Rattle.std.specs.Prelude.{Option, Some}
@@ -16,7 +16,7 @@ module _ {S T : Type 0} (rank : T → ℕ) (n : ℕ) (can_next : S → Type 0)
     (steps : S → Option (RangeInclusive T) → S → Type 0) (remaining : S → Count) (low : S → ℕ)
     (ascends : (s t : S) (range : RangeInclusive T) → can_next s → steps s (Some range) t
     → Ascends rank n can_next remaining low s range t) where
-  -- what calls give is canonical from each rank on that is at most `low`
+  -- What calls give is canonical from each rank that is at most `low`.
   ascending-from : (ranges : List (RangeInclusive T)) (s t : S) (from : ℕ) → can_next s
       → from ≤ low s
       → Yields steps s ranges t
@@ -31,7 +31,7 @@ module _ {S T : Type 0} (rank : T → ℕ) (n : ℕ) (can_next : S → Type 0)
             rest.1,
       )
 
-  -- all that its calls may give is canonical, there is some of it, and it ends
+  -- The stream may give something, all that it may give is canonical, and it ends.
   pub ascending-keeps : (s : S) → can_next s → IsFinite (remaining s)
       → Keeps (IsCanonicalIn n) (gives_by rank steps s) (remaining s)
   ascending-keeps s can finite = record {
@@ -49,7 +49,7 @@ module _ {S T : Type 0} (rank : T → ℕ) (n : ℕ) (can_next : S → Type 0)
     (steps : S → Option (RangeInclusive T) → S → Type 0) (remaining : S → Count) (low : S → ℕ)
     (ascends : (s t : S) (range : RangeInclusive T) → can_next s → steps s (Some range) t
     → AscendsTouching rank n can_next remaining low s range t) where
-  -- what calls give may touch, from each rank on that is at most `low`
+  -- What calls give ascends from each rank that is at most `low`, and may touch.
   touching-from : (ranges : List (RangeInclusive T)) (s t : S) (from : ℕ) → can_next s
       → from ≤ low s
       → Yields steps s ranges t
@@ -64,7 +64,7 @@ module _ {S T : Type 0} (rank : T → ℕ) (n : ℕ) (can_next : S → Type 0)
             rest.1,
       )
 
-  -- all that its calls may give may touch, there is some of it, and it ends
+  -- The stream may give something, all that it may give ascends and may touch, and it ends.
   pub touching-keeps : (s : S) → can_next s → IsFinite (remaining s)
       → Keeps (IsTouchingIn n) (gives_by rank steps s) (remaining s)
   touching-keeps s can finite = record {

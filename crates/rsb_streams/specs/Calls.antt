@@ -1,4 +1,4 @@
--- Streams of which nothing is known but what their calls give.
+-- Streams of which only the results of their calls are known.
 use Rattle.std.specs.Prelude.{◌≡◌, ◌⊎◌, ℕ, List, Option, Some, None, OnSome}
 use Rattle.std.specs.Iterator.{IsFinite, IsNearerEnd, Yields}
 use Rattle.std.specs.declared.iter.Iterator.{Ghosts as Iteration}
@@ -10,7 +10,8 @@ use Rattle.rsb_streams.specs.Stream.{Outcomes}
 use Rattle.rsb_streams.specs.declared.draw.Draw.{Ghosts as Stream}
 
 module _ {S T : Type 0} (rank : T → ℕ) (call : S → Option (RangeInclusive T) → S → Type 0) where
-  -- the calls from s may give these, and then `None`, or no range that a call answers
+  -- The lists that calls from `s` may give before they return `None`, or before no call can return
+  -- a range.
   abbrev pub gives_by : S → Outcomes
   gives_by s runs = (ranges : List (RangeInclusive T)) × (t : S) × (runs ≡ intervals_of rank ranges)
       × Yields call s ranges t
@@ -18,32 +19,33 @@ module _ {S T : Type 0} (rank : T → ℕ) (call : S → Option (RangeInclusive 
       ⊎ ((range : RangeInclusive T) (u : S) → ¬ (call t (Some range) u)))
 
 module _ {I T : Type 0} (rank : T → ℕ) (iterator : Iteration I (RangeInclusive T)) where
-  -- what the contract of `next` says of a call
+  -- What the contract of `next` states about a call.
   pub record Call (s : I) (item : Option (RangeInclusive T)) (t : I) : Type 0 where
     pub gives : iterator.next_gives s item t
     pub nearer : IsFinite (iterator.remaining s)
         → OnSome item (IsNearerEnd iterator.can_next iterator.remaining s t)
 
-  -- the lists that calls may give
+  -- The lists that calls may give.
   abbrev pub calls_give : I → Outcomes
   calls_give = gives_by rank Call
 
-  -- the iterator may be called, ends, and what its calls have given keeps the law at each point
+  -- Whether the iterator may be called, ends, and whatever its calls have given at any point
+  -- satisfies the law.
   pub record IsSource (law : List Interval → Type 0) (s : I) : Type 0 where
     pub callable : iterator.can_next s
     pub finite : IsFinite (iterator.remaining s)
     pub fronts : (ranges : List (RangeInclusive T)) (t : I) → Yields Call s ranges t
         → law (intervals_of rank ranges)
 
-  -- whatever a value becomes as an iterator is such a source
+  -- Whether every iterator that the value becomes is such a source.
   abbrev pub GivesOnly : {J : Type 0} → (J → I → Type 0) → (List Interval → Type 0) → J → Type 0
   GivesOnly becomes law value = (iter : I) → becomes value iter → IsSource law iter
 
-  -- what the iterator may give that a value becomes
+  -- What the iterator that the value becomes may give.
   abbrev pub gives_as : {J : Type 0} → (J → I → Type 0) → J → Outcomes
   gives_as becomes value runs = (iter : I) × becomes value iter × calls_give iter runs
 
--- an iterator whose calls give what keeps the law
+-- An iterator as a stream, if its calls give only what satisfies the law.
 abbrev pub calls : {I T N : Type 0} → Elements T N → Iteration I (RangeInclusive T)
     → (List Interval → Type 0) → Stream I T N
 calls integer iterator law = record {

@@ -1,4 +1,4 @@
--- The laws of streams of which nothing is known but what their calls give.
+-- The laws of streams of which only the results of their calls are known.
 use Rattle.std.proofs.Common.{ℕ, zero, suc, ◌<◌, ◌≤◌, List, [], ◌∷◌, refl, sym, ap, subst, inl, inr, arith}
 use Rattle.std.specs.Prelude.{Option, Some, None}
 use Rattle.std.specs.Iterator.{IsFinite, IsNearerEnd, Yields, size}
@@ -16,7 +16,7 @@ use Rattle.rsb_streams.specs.Stream.{Answers, HasOutcome, HasSortedStarts}
 use Rattle.rsb_streams.specs.Touching.{IsTouchingIn}
 
 module _ {S T : Type 0} (rank : T → ℕ) (call : S → Option (RangeInclusive T) → S → Type 0) where
-  -- what a call answered comes first, and then what the calls after it give
+  -- A call fits what may be given: what it returned comes first, followed by what later calls give.
   pub gives_by-answers : (s t : S) (item : Option (RangeInclusive T)) → call s item t
       → Answers rank (gives_by rank call) s item t
   gives_by-answers s t None this = ([], s, refl, refl, inl (t, this))
@@ -28,8 +28,8 @@ module _ {S T : Type 0} (rank : T → ℕ) (call : S → Option (RangeInclusive 
     at.4,
   )
 
-  -- where each range leaves fewer to come, calls give something: `more` is at least as many as are
-  -- left
+  -- If each range leaves fewer to come, calls give something. `more` is at least the number that is
+  -- left.
   pub gives_by-some : (can_next : S → Type 0) (left : S → ℕ)
       → ((s t : S) (range : RangeInclusive T) → can_next s → call s (Some range) t
       → can_next t × (left t < left s))
@@ -54,13 +54,14 @@ module _ {S T : Type 0} (rank : T → ℕ) (call : S → Option (RangeInclusive 
   )
 
 module _ {I T : Type 0} (rank : T → ℕ) (iterator : Iteration I (RangeInclusive T)) where
-  -- a call that gives a range leaves fewer
+  -- A call that returns a range leaves fewer.
   fewer : (s t : I) (range : RangeInclusive T) → IsFinite (iterator.remaining s)
       → Call rank iterator s (Some range) t
       → IsFinite (iterator.remaining t) × (size (iterator.remaining t) < size (iterator.remaining s))
   fewer s t range finite call = let near = call.nearer finite in (near.1, near.2)
 
-  -- the law is kept from one call to the next
+  -- If the law passes from a list to its tail, an iterator that satisfies it still does after a
+  -- call.
   pub source-after : (law : List Interval → Type 0)
       → ((run : Interval) (runs : List Interval) → law (run ∷ runs) → law runs)
       → (s t : I) (range : RangeInclusive T) → IsSource rank iterator law s
@@ -74,14 +75,14 @@ module _ {I T : Type 0} (rank : T → ℕ) (iterator : Iteration I (RangeInclusi
         (t, record { gives = call; nearer = λ finite. near }, all));
   }
 
-  -- what the contract of `next` says of calls, less how many are left
+  -- Calls, without the number of ranges that are left.
   pub calls-steps : (ranges : List (RangeInclusive T)) (s t : I) → Yields (Call rank iterator) s ranges t
       → Yields iterator.next_gives s ranges t
   calls-steps [] s t all = all
   calls-steps (range ∷ ranges) s t all = (all.0, all.1.gives, calls-steps ranges all.0 t all.2)
 
 module _ {I T N : Type 0} (integer : Elements T N) (iterator : Iteration I (RangeInclusive T)) where
-  -- all that its calls may give keeps the law, there is some of it, and it ends
+  -- An iterator may give something, all that its calls may give satisfies the law, and it ends.
   pub calls-keeps : (law : List Interval → Type 0) → KeepsLaw law (calls integer iterator law)
   calls-keeps law s source = record {
     some = gives_by-some integer.rank (Call integer.rank iterator)
@@ -92,13 +93,13 @@ module _ {I T N : Type 0} (integer : Elements T N) (iterator : Iteration I (Rang
     ends = source.finite;
   }
 
-  -- a call in a `Fuse` answers what may come
+  -- A call in a `Fuse` fits what may be given.
   pub known-answered : (law : List Interval → Type 0)
       → IsAnswered integer (fuse (calls integer iterator law))
   known-answered law = fuse-answered integer (calls integer iterator law)
       (gives_by-answers integer.rank (Call integer.rank iterator))
 
-  -- what is known to be canonical is so in a `Fuse`
+  -- What is known to be canonical is canonical in a `Fuse`.
   pub known-disjoint :
       IsDisjoint integer (fuse (calls integer iterator (IsCanonicalIn integer.value_count)))
   known-disjoint = fuse-keeps (calls integer iterator (IsCanonicalIn integer.value_count))
@@ -106,13 +107,13 @@ module _ {I T N : Type 0} (integer : Elements T N) (iterator : Iteration I (Rang
       (tt, All-nil (λ (run : Interval). run.last < integer.value_count))
       (calls-keeps (IsCanonicalIn integer.value_count))
 
-  -- and so is what is known to come by starts
+  -- What is known to be sorted by start is sorted by start in a `Fuse`.
   pub known-sorted :
       IsSorted integer (fuse (calls integer iterator (HasSortedStarts integer.value_count)))
   known-sorted = fuse-keeps (calls integer iterator (HasSortedStarts integer.value_count))
       (HasSortedStarts integer.value_count) tt (calls-keeps (HasSortedStarts integer.value_count))
 
-  -- and what is known to be ranges that may touch
+  -- What is known to ascend, and may touch, does so in a `Fuse`.
   pub known-touching :
       KeepsLaw (IsTouchingIn integer.value_count)
       (fuse (calls integer iterator (IsTouchingIn integer.value_count)))

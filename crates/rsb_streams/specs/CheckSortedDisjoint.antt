@@ -1,4 +1,4 @@
--- A stream that its maker knows to be canonical.
+-- A stream that is known to be canonical.
 use Rattle.std.specs.declared.iter.Iterator.{Ghosts as Iteration}
 use Rattle.std.specs.declared.ops.RangeInclusive.{RangeInclusive}
 use Rattle.rsb_integer.specs.Runs.{IsCanonicalIn}
@@ -9,7 +9,7 @@ use Rattle.rsb_streams.specs.Rows.{through}
 use Rattle.rsb_streams.specs.declared.check_sorted_disjoint.CheckSortedDisjoint.{CheckSortedDisjoint}
 use Rattle.rsb_streams.specs.declared.draw.Draw.{Ghosts as Stream}
 
--- what calls of the iterator may give, and nothing once it has ended
+-- What calls of the iterator may give, and nothing once it has ended.
 abbrev pub check_sorted_disjoint : {I T N : Type 0} → Elements T N → Iteration I (RangeInclusive T)
     → Stream (CheckSortedDisjoint T I) T N
 check_sorted_disjoint integer iterator = through (λ s. s.iter)

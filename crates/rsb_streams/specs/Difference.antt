@@ -1,4 +1,4 @@
--- What the left of two streams has and the right one lacks.
+-- The difference of two streams.
 use Rattle.rsb_integer.specs.declared.integer.Integer.{Ghosts as Elements}
 use Rattle.rsb_streams.specs.Merge.{merge}
 use Rattle.rsb_streams.specs.NotIter.{not_iter}
@@ -7,7 +7,7 @@ use Rattle.rsb_streams.specs.UnionIter.{union_iter}
 use Rattle.rsb_streams.specs.declared.draw.Draw.{Ghosts as Stream}
 use Rattle.rsb_streams.specs.declared.operation_results.difference.Difference.{Difference}
 
--- the gaps of what the left leaves out and what the right has
+-- The gaps of the union of the right stream and the gaps of the left one.
 abbrev pub difference : {T N L R : Type 0} → Elements T N → Stream L T N → Stream R T N
     → Stream (Difference T L R) T N
 difference integer left right = through (λ s. s.iter)

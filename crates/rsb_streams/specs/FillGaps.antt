@@ -1,26 +1,27 @@
--- The runs of a set and its gaps, in one list.
+-- The runs and gaps of a set, in one list.
 use Rattle.std.specs.Prelude.{ℕ, Bool, cond, ◌+◌, ◌≤◌, List, [], ◌∷◌}
 use Rattle.rsb_integer.specs.Runs.{Interval, AreRuns}
 use Rattle.rsb_integer.specs.Selection.{Selection, complement}
 
--- the intervals that are told as runs, in order
+-- The intervals marked `true`, as runs, in order.
 abbrev pub told_runs : List (Interval × Bool) → List Interval
 told_runs [] = []
 told_runs (pair ∷ pairs) = cond pair.1 (pair.0 ∷ told_runs pairs) (told_runs pairs)
 
--- the intervals that are told as gaps, in order
+-- The intervals marked `false`, as gaps, in order.
 abbrev pub told_gaps : List (Interval × Bool) → List Interval
 told_gaps [] = []
 told_gaps (pair ∷ pairs) = cond pair.1 (told_gaps pairs) (pair.0 ∷ told_gaps pairs)
 
--- the first interval starts at `low` or past it, and each other one past the start of the one before
+-- Whether the first interval starts at `low` or later, and each other one starts past the start of
+-- the one before.
 abbrev pub IsAscendingFrom : ℕ → List (Interval × Bool) → Type 0
 IsAscendingFrom low [] = Unit {0}
 IsAscendingFrom low (pair ∷ pairs) =
     (low ≤ pair.0.first) × IsAscendingFrom (pair.0.first + 1) pairs
 
--- the list has the runs of the set with true and those of its complement with false, all of them
--- and nothing else, and ascends, in a type of n values
+-- Whether the list ascends and has exactly the runs of the set with `true` and those of its
+-- complement with `false`, in a type of n values.
 pub record IsFilledList (n : ℕ) (selected : Selection) (pairs : List (Interval × Bool)) : Type
     0 where
   pub ascending : IsAscendingFrom 0 pairs

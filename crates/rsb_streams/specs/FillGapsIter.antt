@@ -13,44 +13,47 @@ use Rattle.rsb_streams.specs.Stream.{Outcomes, gaps_from, SomeOutcome}
 use Rattle.rsb_streams.specs.declared.draw.Draw.{Ghosts as Stream}
 use Rattle.rsb_streams.specs.declared.fill_gaps_iter.FillGapsIter.{FillGapsIter}
 
--- the lists of runs and gaps that may still come
+-- The lists of runs and gaps that may still come.
 abbrev pub FilledOutcomes : Type 1
 FilledOutcomes = List (Interval × Bool) → Type 0
 
--- the list has these runs and the gaps that they leave from a rank on, and ascends
+-- Whether the list ascends and has the given runs, and the gaps that they leave from the rank `low`
+-- onwards.
 pub record FillsFrom (n low : ℕ) (runs : List Interval) (pairs : List (Interval × Bool)) : Type
     0 where
   pub ascending : IsAscendingFrom low pairs
   pub all_runs : told_runs pairs ≡ runs
   pub gaps : AreRuns n (gaps_from low (members runs)) (told_gaps pairs)
 
--- what may come where the next run or gap starts at a value: nothing where there is none
+-- What may come if the next run or gap starts at the given value. If there is no such value,
+-- nothing comes.
 abbrev pub fills_after : {T : Type 0} → (T → ℕ) → ℕ → Option T → Outcomes → FilledOutcomes
 fills_after rank n None P pairs = pairs ≡ []
 fills_after rank n (Some start) P pairs =
     SomeOutcome P (λ given. FillsFrom n (rank start) given pairs)
 
--- how many values lie from the next start on
+-- The number of values from the next start onwards.
 abbrev pub values_from : {T : Type 0} → (T → ℕ) → ℕ → Option T → ℕ
 values_from rank n None = 0
 values_from rank n (Some start) = n - rank start
 
--- no more runs and gaps than values
+-- At most as many runs and gaps are left as values.
 abbrev pub fill_remaining : {T N I : Type 0} → Elements T N → FillGapsIter T I → Count
 fill_remaining integer s = at_most (values_from integer.rank integer.value_count s.start)
 
 module _ {T N I : Type 0} (integer : Elements T N) (stream : Stream I T N) where
-  -- the runs that are held and to come, and their gaps
+  -- The runs that are held and still to come, with their gaps.
   abbrev pub fill_may_give : FillGapsIter T I → FilledOutcomes
   fill_may_give s = fills_after integer.rank integer.value_count s.start
       ((put_back integer stream).may_give s.iter)
 
-  -- the greatest value was told, or the stream is ready for a gap from the next start on
+  -- Whether the iterator may be called: it reached the greatest value, or its stream is ready for a
+  -- gap from the next start onwards.
   abbrev pub fill_can_next : FillGapsIter T I → Type 0
   fill_can_next s = IfSome s.start (NotReady integer (put_back integer stream) s.iter)
 
-  -- what the call answered, and then what may come after it, might come before it, and after `None`
-  -- nothing comes
+  -- Whether a call fits what may be given. After `None`, the iterator may be called again, and
+  -- nothing comes.
   pub record FillSteps (s : FillGapsIter T I) (item : Option (RangeInclusive T × Bool))
       (t : FillGapsIter T I) : Type 0 where
     pub answers : MatchOption item (fill_may_give s [])
@@ -60,7 +63,7 @@ module _ {T N I : Type 0} (integer : Elements T N) (stream : Stream I T N) where
         (fill_can_next t × ((pairs : List (Interval × Bool)) → fill_may_give t pairs → pairs ≡ []))
         (λ _. Unit {0})
 
--- all that may be told is the filled list of what the stream may give
+-- Whether each list that may be given is the filled list of something that the stream may give.
 abbrev pub GivesFilled : ℕ → Outcomes → FilledOutcomes → Type 0
 GivesFilled n of told = (pairs : List (Interval × Bool)) → told pairs
     → SomeOutcome of (λ runs. IsFilledList n (members runs) pairs)

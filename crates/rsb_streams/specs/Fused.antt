@@ -1,4 +1,4 @@
--- Streams that are not asked again once they have ended: in a `Fuse` of std, or with a flag.
+-- Streams that are not called again after their end: in a `Fuse` of std, or with a flag.
 use Rattle.std.proofs.Common.{◌≡◌, Bool, true, false}
 use Rattle.std.specs.Prelude.{Option, None, MatchBool, MatchOption}
 use Rattle.std.specs.declared.iter.Fuse.{Fuse}
@@ -7,43 +7,45 @@ use Rattle.std.specs.Iterator.Adapters.{fuse_done, fuse_source, fuse_steps}
 use Rattle.rsb_streams.specs.Stream.{Outcomes, unless}
 use Rattle.rsb_streams.specs.declared.draw.Draw.{Ghosts as Stream}
 
--- what a stream in a `Fuse` may give: nothing once it has ended
+-- What a stream in a `Fuse` may give: nothing once it has ended.
 abbrev pub fuse_may_give : {S : Type 0} → (S → Outcomes) → Fuse S → Outcomes
 fuse_may_give may_give s = unless (fuse_done s) (may_give (fuse_source s))
 
--- it may be called where its stream may, or once that has ended
+-- Whether a `Fuse` may be called: its stream may be called, or has ended.
 abbrev pub fuse_can_next : {S : Type 0} → (S → Type 0) → Fuse S → Type 0
 fuse_can_next can_next s = fuse_done s ≡ false → can_next (fuse_source s)
 
--- as many as its stream has left, and none once that has ended
+-- The number of items left in a `Fuse`: as many as in its stream, and none once that has ended.
 abbrev pub fuse_remaining : {S : Type 0} → (S → Count) → Fuse S → Count
 fuse_remaining remaining s = count_unless (fuse_done s) (remaining (fuse_source s))
 
--- a stream, and whether it has ended
+-- A stream, with a flag for its end.
 pub record Fused (S : Type 0) : Type 0 where
   pub iter : S
   pub done : Bool
 
--- what such a stream may give: nothing once it has ended
+-- What a stream with a flag may give: nothing once it has ended.
 abbrev pub fused_may_give : {S : Type 0} → (S → Outcomes) → Fused S → Outcomes
 fused_may_give may_give s = unless s.done (may_give s.iter)
 
--- it may be drawn from where its stream may, or once that has ended
+-- Whether a stream with a flag is ready: the stream is ready, or has ended.
 abbrev pub fused_can : {S : Type 0} → (S → Type 0) → Fused S → Type 0
 fused_can can s = s.done ≡ false → can s.iter
 
--- as many as its stream has left, and none once that has ended
+-- The number of ranges left in a stream with a flag: as many as in the stream, and none once that
+-- has ended.
 abbrev pub fused_left : {S : Type 0} → (S → Count) → Fused S → Count
 fused_left left s = count_unless s.done (left s.iter)
 
--- a call is one of its stream, and `None` once that has ended
+-- Whether a call is one of the stream, or returns `None` because that has ended. The flag is set
+-- exactly if the call returns `None`.
 abbrev pub fused_steps : {S A : Type 0} → (S → Option A → S → Type 0) → Fused S → Option A
     → Fused S → Type 0
 fused_steps steps s item t = MatchBool s.done (item ≡ None) (steps s.iter item t.iter)
     × MatchOption item (t.done ≡ true) (λ _. t.done ≡ false)
 
 module _ {S T N : Type 0} (stream : Stream S T N) where
-  -- a stream in a `Fuse`, whose draws are its calls
+  -- A stream in a `Fuse`, whose draws are its calls.
   abbrev pub fuse : Stream (Fuse S) T N
   fuse = record {
     can_draw = fuse_can_next stream.can_draw;
@@ -52,7 +54,7 @@ module _ {S T N : Type 0} (stream : Stream S T N) where
     may_give = fuse_may_give stream.may_give;
   }
 
-  -- a stream with a flag
+  -- A stream with a flag, whose draws are its calls.
   abbrev pub fused : Stream (Fused S) T N
   fused = record {
     can_draw = fused_can stream.can_draw;

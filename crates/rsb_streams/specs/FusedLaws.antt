@@ -1,4 +1,4 @@
--- The laws of streams that are not asked again once they have ended.
+-- The laws of streams that are not called again after their end.
 use Rattle.std.proofs.Common.{◌≡◌, Bool, true, false, List, [], ◌∷◌, refl}
 use Rattle.std.specs.Iterator.{count_unless}
 use Rattle.std.specs.Iterator.Adapters.{fuse_done, fuse_source}
@@ -14,7 +14,8 @@ use Rattle.rsb_streams.specs.declared.draw.Draw.{Ghosts as Stream}
 
 module _ {S T N : Type 0} (integer : Elements T N) (stream : Stream S T N)
     (answers : IsAnswered integer stream) where
-  -- what a call answered comes before what may still come, by whether the stream had ended before
+  -- A call fits what may be given. The cases are whether the stream had ended before it, and after
+  -- it.
   answers-by : (done after : Bool) (s t : S) (item : Option (RangeInclusive T))
       → MatchBool done (item ≡ None) (stream.draw_gives s item t)
       → MatchOption item (after ≡ true) (λ _. after ≡ false)
@@ -27,18 +28,18 @@ module _ {S T N : Type 0} (integer : Elements T N) (stream : Stream S T N)
   answers-by false true s t (Some range) call end = absurd (cc)
   answers-by false false s t (Some range) call end = answers s t (Some range) call
 
-  -- what a call answered comes before what may still come
+  -- A call of a `Fuse` fits what may be given.
   pub fuse-answered : IsAnswered integer (fuse stream)
   fuse-answered s t item call =
       answers-by (fuse_done s) (fuse_done t) (fuse_source s) (fuse_source t) item call.0 call.1
 
-  -- the same with a flag
+  -- A call of a stream with a flag fits what may be given.
   pub fused-answered : IsAnswered integer (fused stream)
   fused-answered s t item call = answers-by s.done t.done s.iter t.iter item call.0 call.1
 
 module _ {S T N : Type 0} (stream : Stream S T N) (law : List Interval → Type 0) (none : law [])
     (keeps : KeepsLaw law stream) where
-  -- what it may give keeps the law, by whether the stream has ended
+  -- What may be given satisfies the law. The cases are whether the stream has ended.
   keeps-by : (done : Bool) (s : S) → (done ≡ false → stream.can_draw s)
       → Keeps law (unless done (stream.may_give s)) (count_unless done (stream.draws_left s))
   keeps-by true s can = record {
@@ -50,10 +51,10 @@ module _ {S T N : Type 0} (stream : Stream S T N) (law : List Interval → Type 
       let kept = keeps s (can refl) in
       record { some = kept.some; all = kept.all; ends = kept.ends }
 
-  -- what it may give keeps the law that its stream keeps, there is some of it, and it ends
+  -- A `Fuse` satisfies the law that its stream satisfies.
   pub fuse-keeps : KeepsLaw law (fuse stream)
   fuse-keeps s can = keeps-by (fuse_done s) (fuse_source s) can
 
-  -- the same with a flag
+  -- A stream with a flag satisfies the law that the stream satisfies.
   pub fused-keeps : KeepsLaw law (fused stream)
   fused-keeps s can = keeps-by s.done s.iter can

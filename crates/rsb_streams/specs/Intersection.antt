@@ -1,4 +1,4 @@
--- What two streams both have.
+-- The intersection of two streams.
 use Rattle.rsb_integer.specs.declared.integer.Integer.{Ghosts as Elements}
 use Rattle.rsb_streams.specs.Merge.{merge}
 use Rattle.rsb_streams.specs.NotIter.{not_iter}
@@ -7,7 +7,7 @@ use Rattle.rsb_streams.specs.UnionIter.{union_iter}
 use Rattle.rsb_streams.specs.declared.draw.Draw.{Ghosts as Stream}
 use Rattle.rsb_streams.specs.declared.operation_results.intersection.Intersection.{Intersection}
 
--- the gaps of what either leaves out
+-- The gaps of the union of the gaps of both streams.
 abbrev pub intersection : {T N L R : Type 0} → Elements T N → Stream L T N → Stream R T N
     → Stream (Intersection T L R) T N
 intersection integer left right = through (λ s. s.iter) (not_iter integer

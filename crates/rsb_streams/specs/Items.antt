@@ -1,21 +1,21 @@
--- What becomes an iterator, by the items that its calls give.
+-- Values that become iterators, by the items that their calls give.
 use Rattle.std.specs.Prelude.{List, Option}
 use Rattle.std.specs.Iterator.{Count, Drains, IsFinite}
 use Rattle.std.specs.Iterator.Runs.{WholeRun}
 
--- whatever the value becomes as an iterator may be called, and ends
+-- Whether every iterator that the value becomes may be called, and ends.
 abbrev pub IsEnding : {J I : Type 0} → (J → I → Type 0) → (I → Type 0) → (I → Count) → J → Type 0
 IsEnding {I = I} becomes can_next remaining value = (iter : I) → becomes value iter
     → can_next iter × IsFinite (remaining iter)
 
--- the fact holds of all items that the value gave as an iterator
+-- Whether the fact holds of all items that the value gave as an iterator.
 abbrev pub GaveAll : {J I X : Type 0} → (J → I → Type 0) → (I → Option X → I → Type 0) → J
     → (List X → Type 0) → Type 0
 GaveAll {I = I} {X} becomes steps value Fact = (iter : I) × (items : List X) × becomes value iter
     × Drains steps iter items × Fact items
 
--- the same, by a run of its calls: in this form a search finds what a caller says of a list or a
--- slice that it handed in
+-- The same, stated with `WholeRun`. In this form, a proof search finds what a caller knows about a
+-- list or slice that it passed.
 abbrev pub GaveRun : {J I X : Type 0} → (J → I → Type 0) → (I → Option X → I → Type 0) → J
     → (List X → Type 0) → Type 0
 GaveRun {I = I} becomes steps value Fact = (iter : I) × becomes value iter

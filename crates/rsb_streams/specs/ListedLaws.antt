@@ -9,14 +9,14 @@ use Rattle.rsb_streams.specs.Listed.{listed_may_give}
 use Rattle.rsb_streams.specs.Stream.{Answers, Keeps}
 
 module _ {S T : Type 0} (rank : T → ℕ) (left : S → List (RangeInclusive T)) where
-  -- what a call answers comes first in the list, and then what is left after it
+  -- A call fits what may be given: it returns the first range of the list, and leaves the others.
   pub listed-answers : (s t : S) (item : Option (RangeInclusive T)) → YieldsFirst left s item t
       → Answers rank (listed_may_give rank left) s item t
   listed-answers s t None call = ap (intervals_of rank) (sym call.0)
   listed-answers s t (Some range) call = λ rest at.
       ap (λ runs. interval_of rank range ∷ runs) at ∙ ap (intervals_of rank) (sym call)
 
-  -- where the list that is left is canonical, so is all that may be given, and it ends
+  -- If the list that is left is canonical, so is all that may be given, and the stream ends.
   pub listed-keeps : (n : ℕ) (s : S) → IsCanonicalIn n (intervals_of rank (left s))
       → Keeps (IsCanonicalIn n) (listed_may_give rank left s) (item_count left s)
   listed-keeps n s canonical = record {

@@ -10,18 +10,18 @@ use Rattle.rsb_streams.specs.declared.merge.Merge.{Merge}
 
 module _ {T N L R : Type 0} (integer : Elements T N) (lefts : Stream L T N)
     (rights : Stream R T N) where
-  -- both streams may be drawn from
+  -- Whether both streams are ready.
   pub record MergeReady (s : Merge T L R) : Type 0 where
     pub left : (put_back integer lefts).can_draw s.left
     pub right : (put_back integer rights).can_draw s.right
 
-  -- both streams, as inputs
+  -- Both streams, as inputs.
   abbrev pub merge_inputs : Merge T L R → Side → Input
   merge_inputs s Left = input_of integer lefts s.left
   merge_inputs s Right = input_of integer rights s.right
 
-  -- the merge: what is held and still to come of both, by starts; a draw takes one range of one of
-  -- them; as many are left as both have, with those held
+  -- The merge: what is held and still to come of both streams, sorted by start. A draw takes one
+  -- range of one stream. As many are left as in both streams together, with those held.
   abbrev pub merge : Stream (Merge T L R) T N
   merge = asking integer (AsksOne integer.rank merge_inputs) MergeReady
       (λ s. count_add ((put_back integer lefts).draws_left s.left)
@@ -29,7 +29,7 @@ module _ {T N L R : Type 0} (integer : Elements T N) (lefts : Stream L T N)
       (λ s. merges integer.value_count ((put_back integer lefts).may_give s.left)
       ((put_back integer rights).may_give s.right))
 
-  -- nothing is drawn of two streams, which are merged
+  -- Whether nothing has been drawn yet from the two streams that are merged.
   abbrev pub MergesUndrawn : L → R → Merge T L R → Type 0
   MergesUndrawn left right s =
       AreUndrawn (at_side (lefts.may_give left) (rights.may_give right)) (merge_inputs s)

@@ -1,4 +1,4 @@
--- The law of a merge: it comes by starts.
+-- The law of a merge: it is sorted by start.
 use Rattle.std.proofs.Common.{ℕ, zero, suc, ◌+◌, ◌≤◌, List, [], ◌∷◌, length, refl, inl, inr, arith}
 use Rattle.std.proofs.lemmas.Bool.{cases_lt}
 use Rattle.std.specs.Iterator.{Count, IsFinite, count_add}
@@ -13,9 +13,9 @@ use Rattle.rsb_streams.specs.Rows.{IsSorted}
 use Rattle.rsb_streams.specs.Stream.{Outcomes, merges, HasSortedStarts, HasSortedStartsFrom, IsMergeOf, Keeps}
 use Rattle.rsb_streams.specs.declared.draw.Draw.{Ghosts as Stream}
 
--- ---- lists by starts
+-- ---- lists sorted by start
 
--- the merge of two lists starts no earlier than both
+-- If two lists start at `low` or later, so does their merge.
 pub merge-starts : (n low : ℕ) (left right runs : List Interval) → HasSortedStartsFrom n low left
     → HasSortedStartsFrom n low right → HasSortedStarts n runs → IsMergeOf left right runs
     → HasSortedStartsFrom n low runs
@@ -27,7 +27,7 @@ merge-starts n low left right (run ∷ runs) first second sorted merged =
     ] in
     (starts, sorted.1, sorted.2, sorted.3)
 
--- two lists by starts have a merge: `size` is at least their lengths together
+-- Two lists sorted by start have a merge. `size` is at least the sum of their lengths.
 merge-from : (n size low : ℕ) (left right : List Interval) → length left + length right ≤ size
     → HasSortedStartsFrom n low left → HasSortedStartsFrom n low right
     → (runs : List Interval) × HasSortedStartsFrom n low runs × IsMergeOf left right runs
@@ -54,14 +54,14 @@ merge-from n (suc size) low (run ∷ left) (other ∷ right) within first second
           (other ∷ rest.0, (second.0, second.1, second.2, rest.1), inr (right, refl, rest.2))
     ]
 
--- two lists by starts have a merge
+-- Two lists sorted by start have a merge.
 pub merge-exists : (n : ℕ) (left right : List Interval) → HasSortedStarts n left
     → HasSortedStarts n right
     → (runs : List Interval) × HasSortedStarts n runs × IsMergeOf left right runs
 merge-exists n left right first second =
     merge-from n (length left + length right) 0 left right (omega arith) first second
 
--- two counts that end have a sum that ends
+-- The sum of two counts that end ends.
 pub both-finite : (left right : Count) → IsFinite left → IsFinite right
     → IsFinite (count_add left right)
 both-finite left right first second = elim (true_or_false left.bounded) [
@@ -69,7 +69,8 @@ both-finite left right first second = elim (true_or_false left.bounded) [
   | inr endless ↦ absurd (rw endless at first)
 ]
 
--- the merge of what two may give is by starts, there is some of it, and it ends
+-- If two streams are sorted by start, their merge may give something, it is sorted by start, and it
+-- ends.
 pub merges-keeps : (n : ℕ) (P Q : Outcomes) (left right : Count) → Keeps (HasSortedStarts n) P left
     → Keeps (HasSortedStarts n) Q right
     → Keeps (HasSortedStarts n) (merges n P Q) (count_add left right)
@@ -81,7 +82,7 @@ merges-keeps n P Q left right first second = record {
   ends = both-finite left right first.ends second.ends;
 }
 
--- the ranges come by their starts, there are some lists of them, and they end
+-- The merge of two streams sorted by start is sorted by start.
 pub merge-sorted : {T N L R : Type 0} (integer : Elements T N) (left : Stream L T N)
     (right : Stream R T N) → IsSorted integer left → IsSorted integer right
     → IsSorted integer (merge integer left right)

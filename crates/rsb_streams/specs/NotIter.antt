@@ -10,30 +10,31 @@ use Rattle.rsb_streams.specs.Stream.{Outcomes, ◌⊆◌, gaps_from, runs_by}
 use Rattle.rsb_streams.specs.declared.draw.Draw.{Ghosts as Stream}
 use Rattle.rsb_streams.specs.declared.not_iter.NotIter.{NotIter}
 
--- what a complement may give whose next gap would start at `start`: nothing where there is none
+-- What a complement may give if its next gap would start at the given value. If there is no such
+-- value, it gives nothing.
 abbrev pub gaps_after : {T : Type 0} → (T → ℕ) → ℕ → Option T → Outcomes → Outcomes
 gaps_after rank n None P runs = runs ≡ []
 gaps_after rank n (Some start) P runs = runs_by n (gaps_from (rank start)) P runs
 
 module _ {T N I : Type 0} (integer : Elements T N) (stream : Stream I T N) where
-  -- the input may be drawn from, a gap may start at a value, and no range to come starts before
-  -- that
+  -- Whether the input is ready, a gap may start at the value, and no range to come starts before
+  -- it.
   pub record NotReady (iter : I) (start : T) : Type 0 where
     pub callable : stream.can_draw iter
     pub value : integer.rank start < integer.value_count
     pub ahead : stream.may_give iter ⊆ IsCanonicalFrom (integer.rank start)
 
-  -- what draws of the input gave is used, and nothing is held; once the last gap is given, one more
-  -- draw may have given nothing
+  -- Whether all that was drawn from the input is used, and nothing is held. After the last gap, one
+  -- more draw may have returned `None`.
   pub record PassesOver (s : NotIter T I) (item : Option (RangeInclusive T)) (t : NotIter T I) : Type
       0 where
     pub used : List (RangeInclusive T)
     pub draws : Yields stream.draw_gives s.iter used t.iter
         ⊎ (YieldsThen stream.draw_gives s.iter used None t.iter × (t.start ≡ None))
 
-  -- the runs of what the input leaves out, from where the next gap would start: it has given its
-  -- last gap, or the input is ready for the next one; one gap more is left than the input has
-  -- ranges, and none once the last gap was given
+  -- The gaps of the input, from where the next gap would start. The stream is ready if it has given
+  -- its last gap, or if the input is ready for the next one. It has one gap more left than the
+  -- input has ranges, and none after the last gap.
   abbrev pub not_iter : Stream (NotIter T I) T N
   not_iter = asking integer PassesOver
       (λ s. IfSome s.start (NotReady s.iter))

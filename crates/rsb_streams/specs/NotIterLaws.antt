@@ -15,7 +15,8 @@ use Rattle.rsb_streams.specs.declared.draw.Draw.{Ghosts as Stream}
 module _ {T N I : Type 0} (integer : Elements T N) (stream : Stream I T N) where
   open integer use {rank, value_count as n}
 
-  -- the gaps are canonical, there are some lists of them, and they end, by where the next may start
+  -- The complement may give something, its gaps are canonical, and it ends. The cases are whether
+  -- there is a value for the next gap to start at.
   keeps-by : IsSorted integer stream → (start : Option T) (iter : I)
       → IfSome start (λ each. NotReady integer stream iter each)
       → Keeps (IsCanonicalIn n) (gaps_after rank n start (stream.may_give iter))
@@ -36,6 +37,6 @@ module _ {T N I : Type 0} (integer : Elements T N) (stream : Stream I T N) where
         ends = input.ends;
       }
 
-  -- the gaps are canonical, there are some lists of them, and they end
+  -- The complement of a stream sorted by start is canonical.
   pub not_iter-disjoint : IsSorted integer stream → IsDisjoint integer (not_iter integer stream)
   not_iter-disjoint sorted s ready = keeps-by sorted s.start s.iter ready

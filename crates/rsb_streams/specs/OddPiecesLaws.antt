@@ -1,4 +1,4 @@
--- The law of pieces: they come by starts.
+-- The law of pieces: they are sorted by start.
 use Rattle.std.proofs.Common.{◌≡◌, ◌+◌, Bool, true, false, [], ◌++◌, length, refl}
 use Rattle.std.specs.Iterator.{count_map, count_unless}
 use Rattle.rsb_integer.specs.declared.integer.Integer.{Ghosts as Elements}
@@ -14,8 +14,8 @@ module _ {T N I : Type 0} (integer : Elements T N) (stream : Stream I T N)
     (sorted : IsSorted integer stream) where
   open integer use {rank, value_count as n}
 
-  -- the pieces come by their starts, there are some lists of them, and they end, by whether all
-  -- was told
+  -- There may be pieces, they are sorted by start, and they end. The cases are whether all was
+  -- given.
   keeps-by : (done : Bool) (s : OddPieces T I) → (done ≡ false → IsGoing integer stream s)
       → Keeps (HasSortedStarts n) (unless done (pieces_of n (pending rank s) (stream.may_give s.iter)))
       (count_unless done (count_map (λ left. left + length (ends_of s.end)) (stream.draws_left s.iter)))
@@ -40,6 +40,6 @@ module _ {T N I : Type 0} (integer : Elements T N) (stream : Stream I T N)
         ends = kept.ends;
       }
 
-  -- the pieces come by their starts, there are some lists of them, and they end
+  -- The pieces of a source are sorted by start.
   pub odd_pieces-sorted : IsSorted integer (odd_pieces integer stream)
   odd_pieces-sorted s ready = keeps-by s.done s ready

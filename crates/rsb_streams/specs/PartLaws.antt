@@ -1,4 +1,4 @@
--- Parts of what a stream may give keep its laws.
+-- Parts of what a stream may give satisfy its laws.
 use Rattle.std.proofs.Common.{◌≡◌, ℕ, ◌<◌, Bool, true, false, List, [], take, drop, refl, inl, inr}
 use Rattle.std.proofs.lemmas.List.Elements.{All-nil}
 use Rattle.std.specs.Prelude.{Option, MatchBool}
@@ -14,19 +14,19 @@ use Rattle.rsb_streams.specs.Stream.{Outcomes, ◌⊆◌, HasSortedStarts, Keeps
 use Rattle.rsb_streams.specs.Sublists.{IsSublist}
 use Rattle.rsb_streams.specs.SublistsLaws.{sublist-after, sublist-all, sublist-canonical, sublist-drop, sublist-front, sublist-none, sublist-sorted, sublist-take}
 
--- a part of each list that may be given is a sublist of it, and there is one
+-- Whether each part of a list is a sublist of it, and each list has a part.
 pub record IsPart (Part : List Interval → List Interval → Type 0) : Type 0 where
   pub within : (runs given : List Interval) → Part runs given → IsSublist runs given
   pub some : (given : List Interval) → (runs : List Interval) × Part runs given
 
--- some of what was given is
+-- Sublists are such parts.
 pub sublist-is_part : IsPart IsSublist
 sublist-is_part = record {
   within = λ runs given part. part;
   some = λ given. (given, sublist-all given);
 }
 
--- a front is, or nothing
+-- Prefixes are such parts, and so is the empty list.
 pub front-is_part : (done : Bool)
     → IsPart (λ runs given. MatchBool done (runs ≡ []) (IsPrefix runs given))
 front-is_part true = record {
@@ -38,7 +38,7 @@ front-is_part false = record {
   some = λ given. ([], record { rest = given; parts = refl });
 }
 
--- what is left is, or all
+-- Suffixes are such parts, and so is the whole list.
 pub rest-is_part : (started : Bool)
     → IsPart (λ runs given. MatchBool started (runs ≡ given) (IsSuffix runs given))
 rest-is_part true = record {
@@ -51,14 +51,14 @@ rest-is_part false = record {
   some = λ given. (given, record { passed = []; parts = refl });
 }
 
--- so many first ones are
+-- The given number of first intervals is such a part.
 pub take-is_part : (count : ℕ) → IsPart (λ runs given. runs ≡ take count given)
 take-is_part count = record {
   within = λ runs given part. rw part (sublist-take count given);
   some = λ given. (take count given, refl);
 }
 
--- and what is left after so many
+-- The rest after the given number of first intervals is such a part.
 pub skip-is_part : {S A : Type 0} (steps : S → Option A → S → Type 0) (s : S) (count : ℕ)
     → IsPart (IsSkipped steps s count)
 skip-is_part steps s count = record {
@@ -71,12 +71,12 @@ skip-is_part steps s count = record {
 
 module _ (n : ℕ) {Part : List Interval → List Interval → Type 0} (part : IsPart Part)
     (P : Outcomes) where
-  -- parts of canonical lists are canonical
+  -- Parts of canonical lists are canonical.
   pub part-canonical : P ⊆ IsCanonicalIn n → part_of P Part ⊆ IsCanonicalIn n
   part-canonical canonical runs may = settled_canonical_in n runs (λ fails. may (λ given at is.
       fails (sublist-canonical n runs given (canonical given at) (part.within runs given is))))
 
-  -- parts of lists by starts are such lists, there is one, and the calls end
+  -- If lists are sorted by start, so are their parts; there is a part, and the calls end.
   pub part-keeps : (left more : Count) → IsFinite more → Keeps (HasSortedStarts n) P left
       → Keeps (HasSortedStarts n) (part_of P Part) more
   part-keeps left more ends kept = record {
@@ -87,7 +87,7 @@ module _ (n : ℕ) {Part : List Interval → List Interval → Type 0} (part : I
     ends = ends;
   }
 
--- so is nothing once a `Fuse` has ended
+-- A `Fuse` over a canonical stream is canonical. The cases are whether it has ended.
 fuse-canonical_by : (n : ℕ) (done : Bool) (P : Outcomes) → (done ≡ false → P ⊆ IsCanonicalIn n)
     → unless done P ⊆ IsCanonicalIn n
 fuse-canonical_by n true P canonical runs may =

@@ -1,4 +1,4 @@
--- A stream of which one range may be put back.
+-- A stream to which one range may be put back.
 use Rattle.std.proofs.Common.{◌≡◌, ℕ, ◌+◌, false, List, [], ◌∷◌}
 use Rattle.std.specs.Prelude.{Option, Some, None, MatchOption}
 use Rattle.std.specs.declared.ops.RangeInclusive.{RangeInclusive}
@@ -13,32 +13,32 @@ use Rattle.rsb_streams.specs.Stream.{◌⊆◌, after, HasSortedStarts, Outcomes
 use Rattle.rsb_streams.specs.declared.draw.Draw.{Ghosts as Stream}
 use Rattle.rsb_streams.specs.declared.put_back.PutBack.{PutBack}
 
--- the stream, and whether it has ended
+-- The stream, with the flag for its end.
 abbrev pub fused_of : {T I : Type 0} → PutBack T I → Fused I
 fused_of s = record { iter = s.iter; done = s.done }
 
--- nothing is held
+-- Whether no range is held.
 abbrev pub HasRoom : {T I : Type 0} → PutBack T I → Type 0
 HasRoom s = s.held ≡ None
 
--- what is held, as a list
+-- The held range, as a list.
 abbrev pub held_list : {T : Type 0} → (T → ℕ) → Option (RangeInclusive T) → List Interval
 held_list rank None = []
 held_list rank (Some range) = interval_of rank range ∷ []
 
--- nothing is drawn of the stream yet
+-- Whether nothing has been drawn from the stream yet.
 pub record IsFresh {T I : Type 0} (iter : I) (s : PutBack T I) : Type 0 where
   pub room : HasRoom s
   pub source : s.iter ≡ iter
   pub undone : s.done ≡ false
 
--- the range was put before what the old state gives
+-- Whether the range was put before what the old state gives.
 pub record IsPutBack {T I : Type 0} (range : RangeInclusive T) (old new : PutBack T I) : Type
     0 where
   pub held : new.held ≡ Some range
   pub iter : fused_of new ≡ fused_of old
 
--- what is held comes first, and else what the stream gives
+-- Whether a draw returns the held range, or else what the stream gives. Afterwards, none is held.
 pub record PutBackSteps {T I : Type 0} (steps : I → Option (RangeInclusive T) → I → Type 0)
     (s : PutBack T I) (item : Option (RangeInclusive T)) (t : PutBack T I) : Type 0 where
   pub room : HasRoom t
@@ -46,17 +46,17 @@ pub record PutBackSteps {T I : Type 0} (steps : I → Option (RangeInclusive T) 
       (λ range. (item ≡ Some range) × (fused_of t ≡ fused_of s))
 
 module _ {T N I : Type 0} (integer : Elements T N) (stream : Stream I T N) where
-  -- what is held, if a range is, and then what its stream may give
+  -- The held range, if there is one, followed by what the stream may give.
   abbrev pub put_back_may_give : PutBack T I → Outcomes
   put_back_may_give s = after integer.rank s.held ((fused stream).may_give (fused_of s))
 
-  -- the stream may be drawn from, and no start falls of what is held and still to come
+  -- Whether the stream is ready, and what is held and still to come is sorted by start.
   pub record PutBackReady (s : PutBack T I) : Type 0 where
     pub callable : (fused stream).can_draw (fused_of s)
     pub sorted : put_back_may_give s ⊆ HasSortedStarts integer.value_count
 
-  -- the stream, of which a range may be put back: as many are left as it has, and one more where a
-  -- range is held
+  -- The stream to which a range may be put back. As many ranges are left as in the stream, and one
+  -- more if one is held.
   abbrev pub put_back : Stream (PutBack T I) T N
   put_back = record {
     can_draw = PutBackReady;
@@ -66,7 +66,7 @@ module _ {T N I : Type 0} (integer : Elements T N) (stream : Stream I T N) where
     may_give = put_back_may_give;
   }
 
-  -- the stream as an input of another
+  -- The stream, as an input of another.
   abbrev pub input_of : PutBack T I → Input
   input_of s = record {
     held = held_list integer.rank s.held;

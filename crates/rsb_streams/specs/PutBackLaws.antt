@@ -1,4 +1,4 @@
--- The laws of a stream of which one range may be put back.
+-- The laws of a stream to which one range may be put back.
 use Rattle.std.proofs.Common.{◌≡◌, List, [], ◌∷◌, refl, ap, subst}
 use Rattle.std.specs.Prelude.{Option, Some, None, MatchOption}
 use Rattle.std.specs.declared.ops.RangeInclusive.{RangeInclusive}
@@ -16,7 +16,7 @@ module _ {T N I : Type 0} (integer : Elements T N) (stream : Stream I T N) where
   open integer use {rank, value_count as n}
 
   module _ (answers : IsAnswered integer stream) where
-    -- what a call answered comes before what may still come, by whether a range was held
+    -- A call fits what may be given. The cases are whether a range was held.
     answers-by : (held : Option (RangeInclusive T)) (s t : Fused I)
         (item : Option (RangeInclusive T))
         → MatchOption held ((fused stream).draw_gives s item t)
@@ -36,7 +36,7 @@ module _ {T N I : Type 0} (integer : Elements T N) (stream : Stream I T N) where
           ap (λ each. interval_of rank each ∷ rest) same,
         )
 
-    -- what a call answered comes before what may still come
+    -- A call fits what may be given.
     pub put_back-answered : IsAnswered integer (put_back integer stream)
     put_back-answered s t None call =
         answers-by s.held (fused_of s) (fused_of t) None call.call
@@ -45,7 +45,7 @@ module _ {T N I : Type 0} (integer : Elements T N) (stream : Stream I T N) where
         (subst (λ held. after rank held ((fused stream).may_give (fused_of t)) rest) call.room may)
 
   module _ (sorted : IsSorted integer stream) where
-    -- something may be given, whether a range is held or not
+    -- Something may be given, whether a range is held or not.
     some-by : (held : Option (RangeInclusive T)) (s : Fused I)
         → HasOutcome ((fused stream).may_give s)
         → HasOutcome (after rank held ((fused stream).may_give s))
@@ -53,7 +53,7 @@ module _ {T N I : Type 0} (integer : Elements T N) (stream : Stream I T N) where
     some-by (Some range) s some =
         λ never. some (λ runs may. never (interval_of rank range ∷ runs) (runs, may, refl))
 
-    -- the ranges come by their starts, there are some lists of them, and they end
+    -- The stream is sorted by start.
     pub put_back-sorted : IsSorted integer (put_back integer stream)
     put_back-sorted s ready =
         let kept = fused-keeps stream (HasSortedStarts n) tt sorted (fused_of s) ready.callable in

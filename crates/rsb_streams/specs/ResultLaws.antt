@@ -1,4 +1,4 @@
--- The laws of what operations on streams make: each is canonical.
+-- The laws of the results of operations on streams: each is canonical.
 use Rattle.rsb_integer.specs.declared.integer.Integer.{Ghosts as Elements}
 use Rattle.rsb_streams.specs.Difference.{difference}
 use Rattle.rsb_streams.specs.Intersection.{intersection}
@@ -16,7 +16,7 @@ use Rattle.rsb_streams.specs.UnionIter.{union_iter}
 use Rattle.rsb_streams.specs.UnionIterLaws.{union_iter-disjoint}
 use Rattle.rsb_streams.specs.declared.draw.Draw.{Ghosts as Stream}
 
--- what a complement may give comes by starts
+-- The complement of a stream is sorted by start.
 not_iter-sorted : {T N S : Type 0} (integer : Elements T N) (stream : Stream S T N)
     → IsSorted integer stream → IsSorted integer (not_iter integer stream)
 not_iter-sorted integer stream sorted = disjoint-sorted integer (not_iter integer stream)
@@ -24,22 +24,22 @@ not_iter-sorted integer stream sorted = disjoint-sorted integer (not_iter intege
 
 module _ {T N L R : Type 0} (integer : Elements T N) (left : Stream L T N) (right : Stream R T N)
     (left_sorted : IsSorted integer left) (right_sorted : IsSorted integer right) where
-  -- a merge of two, joined
+  -- The joined merge of two streams is canonical.
   joined-disjoint : IsDisjoint integer (union_iter integer (merge integer left right))
   joined-disjoint = union_iter-disjoint integer (merge integer left right)
       (merge-sorted integer left right left_sorted right_sorted)
 
-  -- and its gaps
+  -- So are its gaps.
   gaps-disjoint : IsDisjoint integer (not_iter integer (union_iter integer (merge integer left right)))
   gaps-disjoint =
       let both = union_iter integer (merge integer left right) in
       not_iter-disjoint integer both (disjoint-sorted integer both joined-disjoint)
 
-  -- the union of two
+  -- The union of two streams is canonical.
   pub union-disjoint : IsDisjoint integer (union integer left right)
   union-disjoint s = joined-disjoint s.iter
 
-  -- what lies in one of them alone
+  -- The symmetric difference of two streams is canonical.
   pub sym_diff-disjoint : IsDisjoint integer (sym_diff integer left right)
   sym_diff-disjoint s =
       let both = merge integer left right in
@@ -48,12 +48,12 @@ module _ {T N L R : Type 0} (integer : Elements T N) (left : Stream L T N) (righ
 
 module _ {T N L R : Type 0} (integer : Elements T N) (left : Stream L T N) (right : Stream R T N)
     (left_sorted : IsSorted integer left) (right_sorted : IsSorted integer right) where
-  -- what the left has and the right lacks
+  -- The difference of two streams is canonical.
   pub difference-disjoint : IsDisjoint integer (difference integer left right)
   difference-disjoint s = gaps-disjoint integer (not_iter integer left) right
       (not_iter-sorted integer left left_sorted) right_sorted s.iter
 
-  -- what both have
+  -- The intersection of two streams is canonical.
   pub intersection-disjoint : IsDisjoint integer (intersection integer left right)
   intersection-disjoint s = gaps-disjoint integer (not_iter integer left) (not_iter integer right)
       (not_iter-sorted integer left left_sorted) (not_iter-sorted integer right right_sorted) s.iter

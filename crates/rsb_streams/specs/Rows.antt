@@ -1,5 +1,5 @@
--- Streams by the members of `Draw`: a row says when a stream may be drawn from, what a draw answers
--- and leaves, how many ranges are left, and what may still come.
+-- Streams as rows, which are the members of `Draw`. A row states when a stream is ready, what a
+-- draw returns and leaves, how many ranges are left, and what may still come.
 use Rattle.std.specs.Iterator.{Count}
 use Rattle.std.specs.Prelude.{List, Option}
 use Rattle.std.specs.declared.ops.RangeInclusive.{RangeInclusive}
@@ -8,26 +8,26 @@ use Rattle.rsb_integer.specs.Runs.{Interval, IsCanonicalIn}
 use Rattle.rsb_streams.specs.Stream.{Outcomes, Answers, AnswersAndAsks, AnswersAndRests, HasSortedStarts, Keeps}
 use Rattle.rsb_streams.specs.declared.draw.Draw.{Ghosts as Stream}
 
--- a draw answers what may come, and leaves what may come after that
+-- Whether each draw fits what may be given: it returns what may come next, and leaves what may come
+-- after it.
 abbrev pub IsAnswered : {S T N : Type 0} → Elements T N → Stream S T N → Type 0
 IsAnswered {S} {T} integer stream = (s t : S) (item : Option (RangeInclusive T))
     → stream.draw_gives s item t → Answers integer.rank stream.may_give s item t
 
--- what may come of a stream that may be drawn from keeps the law, there is some of it, and it ends
+-- Whether a ready stream may give something, all that it may give satisfies the law, and it ends.
 abbrev pub KeepsLaw : {S T N : Type 0} → (List Interval → Type 0) → Stream S T N → Type 0
 KeepsLaw {S = S} law stream = (s : S) → stream.can_draw s
     → Keeps law (stream.may_give s) (stream.draws_left s)
 
--- it comes by starts
+-- Whether a ready stream is sorted by start.
 abbrev pub IsSorted : {S T N : Type 0} → Elements T N → Stream S T N → Type 0
 IsSorted integer stream = KeepsLaw (HasSortedStarts integer.value_count) stream
 
--- it is canonical
+-- Whether a ready stream is canonical.
 abbrev pub IsDisjoint : {S T N : Type 0} → Elements T N → Stream S T N → Type 0
 IsDisjoint integer stream = KeepsLaw (IsCanonicalIn integer.value_count) stream
 
--- a stream whose draws answer what may come, and after `None` it may be drawn from, and nothing
--- comes
+-- A stream whose draws fit what may be given. After `None`, it is ready, and nothing comes.
 abbrev pub answering : {S T N : Type 0} → Elements T N → (S → Type 0) → (S → Count)
     → (S → Outcomes) → Stream S T N
 answering integer can_draw draws_left may_give = record {
@@ -37,7 +37,8 @@ answering integer can_draw draws_left may_give = record {
   may_give = may_give;
 }
 
--- such a stream, whose draws ask this of the streams below
+-- Such a stream, whose draws also satisfy `asks`: what they ask of the streams that it is built
+-- from.
 abbrev pub asking : {S T N : Type 0} → Elements T N → (S → Option (RangeInclusive T) → S → Type 0)
     → (S → Type 0) → (S → Count) → (S → Outcomes) → Stream S T N
 asking integer asks can_draw draws_left may_give = record {
@@ -47,7 +48,7 @@ asking integer asks can_draw draws_left may_give = record {
   may_give = may_give;
 }
 
--- a stream that is held as a part
+-- The stream whose draws are those of a part of its state.
 abbrev pub through : {S P T N : Type 0} → (S → P) → Stream P T N → Stream S T N
 through part stream = record {
   can_draw = λ s. stream.can_draw (part s);

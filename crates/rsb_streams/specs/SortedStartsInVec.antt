@@ -5,7 +5,8 @@ use Rattle.rsb_integer.specs.Rank.{intervals_of}
 use Rattle.rsb_integer.specs.Runs.{members, AreRuns}
 use Rattle.rsb_streams.specs.Stream.{Outcomes, ◌⊆◌}
 
--- a stream made of ranges gives nothing but the runs of what these have, and that ends in the type
+-- Whether a stream built from ranges gives only the runs of their members, all of which are in the
+-- type.
 pub record GivesRunsOf {T : Type 0} (rank : T → ℕ) (n : ℕ) (given : Outcomes)
     (ranges : List (RangeInclusive T)) : Type 0 where
   pub runs : given ⊆ AreRuns n (members (intervals_of rank ranges))

@@ -8,20 +8,20 @@ use Rattle.rsb_integer.specs.Selection.{Selection, complement, difference, inter
 
 -- ---- lists of intervals
 
--- the intervals are non-empty and lie in a type of n values, the first starts at `low` or past it,
--- and no start falls
+-- Whether the intervals are non-empty, within a type of n values and sorted by start, and the first
+-- starts at `low` or later.
 abbrev pub HasSortedStartsFrom : ℕ → ℕ → List Interval → Type 0
 HasSortedStartsFrom n low [] = Unit {0}
 HasSortedStartsFrom n low (run ∷ runs) =
     (low ≤ run.first) × (run.first ≤ run.last) × (run.last < n)
     × HasSortedStartsFrom n run.first runs
 
--- the intervals are non-empty and lie in a type of n values, and no start falls
+-- Whether the intervals are non-empty, within a type of n values and sorted by start.
 abbrev pub HasSortedStarts : ℕ → List Interval → Type 0
 HasSortedStarts n runs = HasSortedStartsFrom n 0 runs
 
--- the last list has the intervals of both others, each as often as it stands there, and in their
--- orders
+-- Whether the last list has the intervals of both others, each as often as they do together, in the
+-- order of each.
 abbrev pub IsMergeOf : List Interval → List Interval → List Interval → Type 0
 IsMergeOf left right [] = (left ≡ []) × (right ≡ [])
 IsMergeOf left right (run ∷ runs) =
@@ -30,92 +30,94 @@ IsMergeOf left right (run ∷ runs) =
 
 -- ---- outcomes
 
--- the lists that a stream may still give: several where a closure in it may answer either way
+-- The lists that a stream may still give. There are several if a closure in it may return either
+-- value.
 abbrev pub Outcomes : Type 1
 Outcomes = List Interval → Type 0
 
--- what the one may give, the other may give
+-- Whether `Q` has every list that `P` has.
 infix 40 ◌⊆◌
 abbrev pub ◌⊆◌ : Outcomes → Outcomes → Type 0
 P ⊆ Q = (runs : List Interval) → P runs → Q runs
 
--- this list alone may be given
+-- Only the given list.
 abbrev pub just : List Interval → Outcomes
 just runs others = others ≡ runs
 
--- something may be given. (Nothing shows that a closure answers when it is called, so no list is at
--- hand: it is not so that there is none.)
+-- Whether there is a list that may be given. A closure might not return, so this names no list: it
+-- only excludes that there is none.
 abbrev pub HasOutcome : Outcomes → Type 0
 HasOutcome P = ¬ ((runs : List Interval) → ¬ (P runs))
 
--- the fact holds of a list that may be given
+-- Whether the fact holds of some list that may be given. This names no list either.
 abbrev pub SomeOutcome : Outcomes → (List Interval → Type 0) → Type 0
 SomeOutcome P Fact = ¬ ((runs : List Interval) → P runs → ¬ (Fact runs))
 
--- the fact holds of two lists, one that each may give
+-- Whether the fact holds of some two lists, one that each stream may give.
 abbrev pub SomeOutcomes : Outcomes → Outcomes → (List Interval → List Interval → Type 0) → Type 0
 SomeOutcomes P Q Fact = ¬ ((left right : List Interval) → P left → Q right → ¬ (Fact left right))
 
--- ---- outcomes made of others, in a type of n values
+-- ---- outcomes built from others, in a type of n values
 
--- the runs of what was given
+-- The runs of the members of what was given.
 abbrev pub joined : ℕ → Outcomes → Outcomes
 joined n P runs = SomeOutcome P (λ given. AreRuns n (members given) runs)
 
--- the runs of a set made of what was given
+-- The runs of a set built from what was given.
 abbrev pub runs_by : ℕ → (Selection → Selection) → Outcomes → Outcomes
 runs_by n operation P runs = SomeOutcome P (λ given. AreRuns n (operation (members given)) runs)
 
--- the runs of a set made of what two gave
+-- The runs of a set built from what two streams gave.
 abbrev pub runs_by_two : ℕ → (Selection → Selection → Selection) → Outcomes → Outcomes → Outcomes
 runs_by_two n operation P Q runs =
     SomeOutcomes P Q (λ left right. AreRuns n (operation (members left) (members right)) runs)
 
--- what two gave, merged by starts
+-- The merges of what two streams gave, sorted by start.
 abbrev pub merges : ℕ → Outcomes → Outcomes → Outcomes
 merges n P Q runs =
     SomeOutcomes P Q (λ left right. HasSortedStarts n runs × IsMergeOf left right runs)
 
--- the interval alone, where it has a rank
+-- The list of only this interval, or the empty list if the interval is empty.
 abbrev pub run_if_any : Interval → List Interval
 run_if_any run = cond (nat_le run.first run.last) (run ∷ []) []
 
--- nothing once it is done
+-- The outcomes, or only the empty list if the stream is done.
 abbrev pub unless : Bool → Outcomes → Outcomes
 unless done P runs = MatchBool done (runs ≡ []) (P runs)
 
--- the range that is held, if there is one, and then what else may be given
+-- The held range, if there is one, followed by what else may be given.
 abbrev pub after : {T : Type 0} → (T → ℕ) → Option (RangeInclusive T) → Outcomes → Outcomes
 after rank None P runs = P runs
 after rank (Some range) P runs = (rest : List Interval) × P rest
     × (runs ≡ interval_of rank range ∷ rest)
 
--- the ranks from `first` on that the set leaves out
+-- The ranks from `first` onwards that are not in the set.
 abbrev pub gaps_from : ℕ → Selection → Selection
 gaps_from first selected rank = nat_le first rank && not (selected rank)
 
 -- ---- calls of `next`
 
--- what the call answered, and then what may come after it, might come before it
+-- Whether a call fits what may be given: the returned range, followed by whatever may come after
+-- the call, might come before it. If the call returns `None`, the empty list might come before it.
 abbrev pub Answers : {S T : Type 0} → (T → ℕ) → (S → Outcomes)
     → S → Option (RangeInclusive T) → S → Type 0
 Answers rank may_give s item t = MatchOption item (may_give s [])
     (λ range. (rest : List Interval) → may_give t rest → may_give s (interval_of rank range ∷ rest))
 
--- after `None` the stream may be called again, and nothing comes
+-- Whether, after `None`, the stream may be called again and nothing comes.
 abbrev pub Rests : {S T : Type 0} → (S → Type 0) → (S → Outcomes)
     → Option (RangeInclusive T) → S → Type 0
 Rests can_next may_give item t = MatchOption item (can_next t × (may_give t ⊆ just []))
     (λ _. Unit {0})
 
--- both: all that is known of a call of a stream of ours
+-- Both of these: all that is known of a call of a stream of this crate.
 pub record AnswersAndRests {S T : Type 0} (rank : T → ℕ) (can_next : S → Type 0)
     (may_give : S → Outcomes)
     (s : S) (item : Option (RangeInclusive T)) (t : S) : Type 0 where
   pub answers : Answers rank may_give s item t
   pub rests : Rests can_next may_give item t
 
--- and this is what the call asked of the streams below
+-- Both of these, and what the call asked of the streams that the stream is built from.
 pub record AnswersAndAsks {S T : Type 0} (rank : T → ℕ) (can_next : S → Type 0)
     (may_give : S → Outcomes) (Asks : S → Option (RangeInclusive T) → S → Type 0)
     (s : S) (item : Option (RangeInclusive T)) (t : S) : Type 0 where
@@ -123,7 +125,7 @@ pub record AnswersAndAsks {S T : Type 0} (rank : T → ℕ) (can_next : S → Ty
   pub rests : Rests can_next may_give item t
   pub asks : Asks s item t
 
--- something may be given, all that may be given keeps the law, and the calls end
+-- Whether something may be given, all that may be given satisfies the law, and the calls end.
 pub record Keeps (law : List Interval → Type 0) (P : Outcomes) (remaining : Count) : Type 0 where
   pub some : HasOutcome P
   pub all : P ⊆ law
@@ -131,33 +133,34 @@ pub record Keeps (law : List Interval → Type 0) (P : Outcomes) (remaining : Co
 
 -- ---- results
 
--- a stream made of another gives nothing but runs of its complement
+-- Whether a stream built from another gives only the runs of its complement.
 abbrev pub GivesComplement : ℕ → Outcomes → Outcomes → Type 0
 GivesComplement n of given = given ⊆ runs_by n complement of
 
--- a stream made of two others gives nothing but runs of their union
+-- Whether a stream built from two others gives only the runs of their union.
 abbrev pub GivesUnion : ℕ → Outcomes → Outcomes → Outcomes → Type 0
 GivesUnion n left right given = given ⊆ runs_by_two n union left right
 
--- a stream made of two others gives nothing but runs of what both have
+-- Whether a stream built from two others gives only the runs of their intersection.
 abbrev pub GivesIntersection : ℕ → Outcomes → Outcomes → Outcomes → Type 0
 GivesIntersection n left right given = given ⊆ runs_by_two n intersection left right
 
--- a stream made of two others gives nothing but runs of what the left has and the right lacks
+-- Whether a stream built from two others gives only the runs of their difference.
 abbrev pub GivesDifference : ℕ → Outcomes → Outcomes → Outcomes → Type 0
 GivesDifference n left right given = given ⊆ runs_by_two n difference left right
 
--- a stream made of two others gives nothing but runs of what lies in one of them alone
+-- Whether a stream built from two others gives only the runs of their symmetric difference.
 abbrev pub GivesSymmetricDifference : ℕ → Outcomes → Outcomes → Outcomes → Type 0
 GivesSymmetricDifference n left right given =
     given ⊆ runs_by_two n symmetric_difference left right
 
--- a stream may be called, and the fact holds of what it gives
+-- Whether a stream is ready, and the fact about what it gives holds.
 pub record IsReadyAnd {S : Type 0} (can_next : S → Type 0) (s : S) (Gives : Type 0) : Type 0 where
   pub ready : can_next s
   pub gives : Gives
 
--- a stream may be called, the fact holds of what it gives, and nothing is drawn yet of others
+-- Whether a stream is ready, the fact about what it gives holds, and nothing has been drawn yet
+-- from others.
 pub record IsMade {S : Type 0} (can_next : S → Type 0) (s : S) (Gives New : Type 0) : Type 0 where
   pub ready : can_next s
   pub gives : Gives
@@ -165,9 +168,9 @@ pub record IsMade {S : Type 0} (can_next : S → Type 0) (s : S) (Gives New : Ty
 
 -- ---- `next` and `draw`
 
--- `next` may be called exactly where `draw` may, does what it does, and counts as many to come. (At
--- the end that is said of calls that may be made alone: a closure in a stream can end it where
--- nothing else is known.)
+-- Whether `next` is `draw`: it may be called exactly when `draw` may, does what `draw` does, and
+-- has as many ranges to come. For a call that returns `None`, this is stated only if the call is
+-- allowed. A closure in a stream can end it when nothing else is known.
 pub record IsDrawn {S T : Type 0} (can_draw : S → Type 0)
     (draw_gives : S → Option (RangeInclusive T) → S → Type 0) (draws_left : S → Count)
     (can_next : S → Type 0) (next_gives : S → Option (RangeInclusive T) → S → Type 0)

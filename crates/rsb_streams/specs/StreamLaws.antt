@@ -16,23 +16,23 @@ use Rattle.rsb_streams.specs.Rows.{IsDisjoint, IsSorted}
 use Rattle.rsb_streams.specs.Stream.{Outcomes, HasSortedStartsFrom, HasSortedStarts, IsDrawn, Keeps}
 use Rattle.rsb_streams.specs.declared.draw.Draw.{Ghosts as Stream}
 
--- ---- what is decided holds where it does not fail
+-- ---- a decidable fact holds if its failure is excluded
 
--- a number is at most another where that does not fail
+-- A number is at most another if the contrary is excluded.
 pub settled_le : (a b : ℕ) → ¬ (¬ (a ≤ b)) → a ≤ b
 settled_le a b holds = elim (cases_lt b a) [
   | inl less ↦ absurd (holds (λ most. omega (arith, less, most)))
   | inr most ↦ most
 ]
 
--- a number is less than another where that does not fail
+-- A number is less than another if the contrary is excluded.
 pub settled_lt : (a b : ℕ) → ¬ (¬ (a < b)) → a < b
 settled_lt a b holds = elim (cases_lt a b) [
   | inl less ↦ less
   | inr most ↦ absurd (holds (λ less. omega (arith, less, most)))
 ]
 
--- a list is canonical from a rank on where that does not fail
+-- A list is canonical from a rank if the contrary is excluded.
 pub settled_canonical : (low : ℕ) (runs : List Interval) → ¬ (¬ (IsCanonicalFrom low runs))
     → IsCanonicalFrom low runs
 settled_canonical low [] holds = tt
@@ -42,7 +42,7 @@ settled_canonical low (run ∷ runs) holds = (
   settled_canonical (run.last + 2) runs (λ fails. holds (λ all. fails all.2)),
 )
 
--- every interval of a list ends below n where that does not fail
+-- Every interval of a list ends below n if the contrary is excluded.
 pub settled_below : (n : ℕ) (runs : List Interval) → ¬ (¬ (AllEndBelow n runs)) → AllEndBelow n runs
 settled_below n [] holds = All-nil (λ (run : Interval). run.last < n)
 settled_below n (run ∷ runs) holds =
@@ -51,7 +51,7 @@ settled_below n (run ∷ runs) holds =
     (λ fails. holds (λ all. fails (All-head P run runs all))))
     (settled_below n runs (λ fails. holds (λ all. fails (All-tail P run runs all))))
 
--- a list is canonical in a type of n values where that does not fail
+-- A list is canonical in a type of n values if the contrary is excluded.
 pub settled_canonical_in : (n : ℕ) (runs : List Interval) → ¬ (¬ (IsCanonicalIn n runs))
     → IsCanonicalIn n runs
 settled_canonical_in n runs holds = (
@@ -59,7 +59,7 @@ settled_canonical_in n runs holds = (
   settled_below n runs (λ fails. holds (λ all. fails all.1)),
 )
 
--- a list has sorted starts where that does not fail
+-- A list is sorted by start if the contrary is excluded.
 pub settled_sorted : (n low : ℕ) (runs : List Interval) → ¬ (¬ (HasSortedStartsFrom n low runs))
     → HasSortedStartsFrom n low runs
 settled_sorted n low [] holds = tt
@@ -70,16 +70,16 @@ settled_sorted n low (run ∷ runs) holds = (
   settled_sorted n run.first runs (λ fails. holds (λ all. fails all.3)),
 )
 
--- ---- sorted starts
+-- ---- lists sorted by start
 
--- a list with sorted starts may be asked to start earlier
+-- A list sorted by start from `low` is also one from any lower rank.
 pub sorted-lower : (n low lower : ℕ) (runs : List Interval) → lower ≤ low
     → HasSortedStartsFrom n low runs → HasSortedStartsFrom n lower runs
 sorted-lower n low lower [] less sorted = tt
 sorted-lower n low lower (run ∷ runs) less sorted =
     let starts = sorted.0 in (omega arith, sorted.1, sorted.2, sorted.3)
 
--- a canonical list has sorted starts
+-- A canonical list is sorted by start.
 pub canonical-sorted : (n low : ℕ) (runs : List Interval) → IsCanonicalFrom low runs
     → AllEndBelow n runs
     → HasSortedStartsFrom n low runs
@@ -94,7 +94,7 @@ canonical-sorted n low (run ∷ runs) canonical below =
           (canonical-sorted n (run.last + 2) runs canonical.2 (All-tail P run runs below)),
     )
 
--- so have the lists that a stream of canonical ones gives
+-- If a stream may give only canonical lists, they are sorted by start.
 pub canonical_stream-starts : (n : ℕ) (P : Outcomes) (remaining : Count)
     → Keeps (IsCanonicalIn n) P remaining
     → Keeps (HasSortedStarts n) P remaining
@@ -106,13 +106,13 @@ canonical_stream-starts n P remaining kept = record {
   ends = kept.ends;
 }
 
--- so does a stream that is canonical
+-- A canonical stream is sorted by start.
 pub disjoint-sorted : {S T N : Type 0} (integer : Elements T N) (stream : Stream S T N)
     → IsDisjoint integer stream → IsSorted integer stream
 disjoint-sorted integer stream disjoint s can =
     canonical_stream-starts integer.value_count _ _ (disjoint s can)
 
--- every interval of a sorted list ends below n
+-- Every interval of a list sorted by start ends below n.
 pub sorted-below : (n low : ℕ) (runs : List Interval) → HasSortedStartsFrom n low runs
     → AllEndBelow n runs
 sorted-below n low [] sorted = All-nil (λ (run : Interval). run.last < n)
@@ -120,7 +120,7 @@ sorted-below n low (run ∷ runs) sorted =
     All-cons (λ (each : Interval). each.last < n) run runs sorted.2
     (sorted-below n run.first runs sorted.3)
 
--- no member lies below the start of a sorted list
+-- No member is below the start of a list sorted by start.
 pub sorted-members : (n low : ℕ) (runs : List Interval) (rank : ℕ) → HasSortedStartsFrom n low runs
     → members runs rank ≡ true → low ≤ rank
 sorted-members n low [] rank sorted member = absurd (cc)
@@ -134,15 +134,15 @@ sorted-members n low (run ∷ runs) rank sorted member =
           omega arith
     ]
 
--- ---- a set has runs
+-- ---- every set has runs
 
--- the canonical list with the members of the set from a rank on
+-- Whether the list is canonical and has the members of the set from the rank `low` onwards.
 record AreRunsFrom (n : ℕ) (selected : Selection) (low : ℕ) (runs : List Interval) : Type 0 where
   pub canonical : IsCanonicalFrom low runs
   pub below : AllEndBelow n runs
   pub same : (rank : ℕ) → low ≤ rank → rank < n → members runs rank ≡ selected rank
 
--- a rank that is not selected comes before
+-- If the rank before is not selected, the runs stay the same.
 runs-gap : (n : ℕ) (selected : Selection) (low : ℕ) (runs : List Interval) → selected low ≡ false
     → AreRunsFrom n selected (low + 1) runs → AreRunsFrom n selected low runs
 runs-gap n selected low runs gap all = record {
@@ -156,7 +156,7 @@ runs-gap n selected low runs gap all = record {
   ];
 }
 
--- a rank that is selected comes before, apart from the first run
+-- If the rank before is selected and apart from the first run, it is a new run.
 runs-new : (n : ℕ) (selected : Selection) (low : ℕ) (runs : List Interval) → selected low ≡ true
     → low < n → IsCanonicalFrom (low + 2) runs → AreRunsFrom n selected (low + 1) runs
     → AreRunsFrom n selected low (record { first = low; last = low } ∷ runs)
@@ -173,7 +173,7 @@ runs-new n selected low runs here below apart all =
       ];
     }
 
--- a rank that is selected comes before the first run, which it makes longer
+-- If the rank before is selected and touches the first run, it makes that run longer.
 runs-longer : (n : ℕ) (selected : Selection) (low : ℕ) (run : Interval) (runs : List Interval)
     → selected low ≡ true → run.first ≡ low + 1 → AreRunsFrom n selected (low + 1) (run ∷ runs)
     → AreRunsFrom n selected low (record { first = low; last = run.last } ∷ runs)
@@ -202,7 +202,7 @@ runs-longer n selected low run runs here touching all =
       ];
     }
 
--- a rank that is selected comes before, whether the first run touches it or not
+-- If the rank before is selected, there are runs with it, whether it touches the first run or not.
 runs-before : (n : ℕ) (selected : Selection) (low : ℕ) (runs : List Interval) → selected low ≡ true
     → low < n → AreRunsFrom n selected (low + 1) runs → (others : List Interval)
     × AreRunsFrom n selected low others
@@ -222,7 +222,7 @@ runs-before n selected low (run ∷ runs) here below all =
       )
     ]
 
--- a set has runs from a rank on: the type has `more` ranks from there
+-- A set has runs from the rank `low` onwards. The type has `more` ranks from there.
 runs-exist_from : (n : ℕ) (selected : Selection) (more low : ℕ) → low + more ≡ n
     → (runs : List Interval) × AreRunsFrom n selected low runs
 runs-exist_from n selected zero low is = (
@@ -240,7 +240,7 @@ runs-exist_from n selected (suc more) low is =
       | inr gap ↦ (rest.0, runs-gap n selected low rest.0 gap rest.1)
     ]
 
--- every set has runs
+-- Every set has runs.
 pub runs-exist : (n : ℕ) (selected : Selection) → (runs : List Interval) × AreRuns n selected runs
 runs-exist n selected =
     let found = runs-exist_from n selected n 0 (omega arith) in (
@@ -251,7 +251,7 @@ runs-exist n selected =
 
 -- ---- `next` and `draw`
 
--- `next` is `draw` where both are given alike
+-- `next` is `draw` if both have the same members.
 pub drawn-itself : {S T : Type 0} {can_next : S → Type 0}
     {next_gives : S → Option (RangeInclusive T) → S → Type 0} {remaining : S → Count}
     → IsDrawn can_next next_gives remaining can_next next_gives remaining

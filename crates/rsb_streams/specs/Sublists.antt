@@ -1,7 +1,7 @@
--- Some items of a list, in their order.
+-- Lists of some items of another, in its order.
 use Rattle.std.specs.Prelude.{◌≡◌, ◌⊎◌, List, [], ◌∷◌}
 
--- the first list has items of the second, in their order, and no others
+-- Whether the first list consists of items of the second, in its order.
 abbrev pub IsSublist : {X : Type 0} → List X → List X → Type 0
 IsSublist items [] = items ≡ []
 IsSublist {X} items (first ∷ others) = IsSublist items others

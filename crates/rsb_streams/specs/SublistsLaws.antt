@@ -1,4 +1,4 @@
--- Some intervals of a list, in their order, keep the laws that the list keeps.
+-- A sublist of intervals satisfies the laws that the list satisfies.
 use Rattle.std.proofs.Common.{ℕ, zero, suc, ◌+◌, ◌<◌, List, [], ◌∷◌, ◌++◌, take, drop, refl, inl, inr, arith}
 use Rattle.std.proofs.lemmas.List.Elements.{All-cons, All-head, All-nil, All-tail}
 use Rattle.rsb_integer.specs.Runs.{Interval, AllEndBelow, IsCanonicalFrom, IsCanonicalIn}
@@ -8,41 +8,41 @@ use Rattle.rsb_streams.specs.Stream.{HasSortedStarts, HasSortedStartsFrom}
 use Rattle.rsb_streams.specs.Sublists.{IsSublist}
 
 module _ {X : Type 0} where
-  -- no items are
+  -- The empty list is a sublist of every list.
   pub sublist-none : (all : List X) → IsSublist [] all
   sublist-none [] = refl
   sublist-none (first ∷ others) = inl (sublist-none others)
 
-  -- all items are
+  -- Every list is a sublist of itself.
   pub sublist-all : (all : List X) → IsSublist all all
   sublist-all [] = refl
   sublist-all (first ∷ others) = inr (others, refl, sublist-all others)
 
-  -- those of what comes after others are
+  -- A sublist of a list is a sublist of that list with others before it.
   pub sublist-after : (others items all : List X) → IsSublist items all
       → IsSublist items (others ++ all)
   sublist-after [] items all sub = sub
   sublist-after (first ∷ others) items all sub = inl (sublist-after others items all sub)
 
-  -- a front is
+  -- A prefix is a sublist.
   pub sublist-front : (items rest : List X) → IsSublist items (items ++ rest)
   sublist-front [] rest = sublist-none rest
   sublist-front (first ∷ items) rest = inr (items, refl, sublist-front items rest)
 
-  -- so many first ones are
+  -- The given number of first items is a sublist.
   pub sublist-take : (count : ℕ) (all : List X) → IsSublist (take count all) all
   sublist-take zero all = sublist-none all
   sublist-take (suc count) [] = refl
   sublist-take (suc count) (first ∷ others) =
       inr (take count others, refl, sublist-take count others)
 
-  -- and what is left after so many
+  -- The rest after the given number of first items is a sublist.
   pub sublist-drop : (count : ℕ) (all : List X) → IsSublist (drop count all) all
   sublist-drop zero all = sublist-all all
   sublist-drop (suc count) [] = refl
   sublist-drop (suc count) (first ∷ others) = inl (sublist-drop count others)
 
--- the starts of some intervals do not fall where those of all do not
+-- A sublist of a list sorted by start is sorted by start.
 sublist-sorted_from : (n low : ℕ) (kept all : List Interval) → HasSortedStartsFrom n low all
     → IsSublist kept all → HasSortedStartsFrom n low kept
 sublist-sorted_from n low kept [] sorted sub = rw sub tt
@@ -61,7 +61,7 @@ pub sublist-sorted : (n : ℕ) (kept all : List Interval) → HasSortedStarts n 
     → IsSublist kept all → HasSortedStarts n kept
 sublist-sorted n = sublist-sorted_from n 0
 
--- some runs of a canonical list are canonical
+-- A sublist of a canonical list is canonical.
 sublist-canonical_from : (low : ℕ) (kept all : List Interval) → IsCanonicalFrom low all
     → IsSublist kept all → IsCanonicalFrom low kept
 sublist-canonical_from low kept [] canonical sub = rw sub tt
@@ -78,7 +78,7 @@ sublist-canonical_from low kept (run ∷ all) canonical sub = elim sub [
   )
 ]
 
--- and end as they do
+-- If all intervals of a list end below n, so do those of a sublist.
 sublist-below : (n : ℕ) (kept all : List Interval) → AllEndBelow n all → IsSublist kept all
     → AllEndBelow n kept
 sublist-below n kept [] below sub = rw sub (All-nil (λ (run : Interval). run.last < n))

@@ -1,4 +1,4 @@
--- What lies in one of two streams alone.
+-- The symmetric difference of two streams.
 use Rattle.std.proofs.Common.{List}
 use Rattle.rsb_integer.specs.declared.integer.Integer.{Ghosts as Elements}
 use Rattle.rsb_streams.specs.Merge.{merge}
@@ -8,11 +8,11 @@ use Rattle.rsb_streams.specs.UnionIter.{union_iter}
 use Rattle.rsb_streams.specs.declared.draw.Draw.{Ghosts as Stream}
 use Rattle.rsb_streams.specs.declared.sym_diff_iter.SymDiffIter.{SymDiffIter}
 
--- the ends of the ranges that have begun and not ended
+-- The ends of the ranges that have begun and not ended.
 abbrev pub ends_held : {T L R : Type 0} → SymDiffIter T L R → List T
 ends_held s = ends_of s.iter.iter.iter.end
 
--- the pieces that an odd number of the ranges of both has, joined
+-- The joined pieces of the ranks in an odd number of the ranges of both streams.
 abbrev pub sym_diff : {T N L R : Type 0} → Elements T N → Stream L T N → Stream R T N
     → Stream (SymDiffIter T L R) T N
 sym_diff integer left right = through (λ s. s.iter)

@@ -1,4 +1,4 @@
--- The laws of lists that may touch.
+-- The laws of lists whose intervals may touch.
 use Rattle.std.proofs.Common.{ℕ, ◌+◌, ◌<◌, ◌≤◌, List, [], ◌∷◌, arith}
 use Rattle.std.proofs.lemmas.List.Elements.{All-head, All-tail}
 use Rattle.std.specs.Iterator.{Count}
@@ -7,14 +7,14 @@ use Rattle.rsb_streams.specs.Stream.{HasSortedStarts, HasSortedStartsFrom, Keeps
 use Rattle.rsb_streams.specs.StreamLaws.{settled_below, settled_le, sorted-lower}
 use Rattle.rsb_streams.specs.Touching.{IsTouchingFrom, IsTouchingIn}
 
--- a list whose intervals may touch may be asked to start earlier
+-- A list whose intervals may touch, from `low`, is also one from any lower rank.
 pub touching-lower : (low lower : ℕ) (runs : List Interval) → lower ≤ low → IsTouchingFrom low runs
     → IsTouchingFrom lower runs
 touching-lower low lower [] less touching = tt
 touching-lower low lower (run ∷ runs) less touching =
     let starts = touching.0 in (omega arith, touching.1, touching.2)
 
--- in a canonical list no two intervals touch or overlap, so none overlap
+-- A canonical list is one whose intervals may touch: none of them overlap.
 pub touching-canonical : (low : ℕ) (runs : List Interval) → IsCanonicalFrom low runs
     → IsTouchingFrom low runs
 touching-canonical low [] canonical = tt
@@ -25,11 +25,11 @@ touching-canonical low (run ∷ runs) canonical = (
       (touching-canonical (run.last + 2) runs canonical.2),
 )
 
--- so a canonical list is one whose intervals may touch
+-- The same holds within a type of n values.
 pub touching-canonical_in : (n : ℕ) (runs : List Interval) → IsCanonicalIn n runs → IsTouchingIn n runs
 touching-canonical_in n runs canonical = (touching-canonical 0 runs canonical.0, canonical.1)
 
--- the intervals of a list may touch where that does not fail
+-- The intervals of a list ascend and may touch if the contrary is excluded.
 settled_touching : (low : ℕ) (runs : List Interval) → ¬ (¬ (IsTouchingFrom low runs))
     → IsTouchingFrom low runs
 settled_touching low [] holds = tt
@@ -39,7 +39,7 @@ settled_touching low (run ∷ runs) holds = (
   settled_touching (run.last + 1) runs (λ fails. holds (λ all. fails all.2)),
 )
 
--- also in a type of n values
+-- The same holds within a type of n values.
 pub settled_touching_in : (n : ℕ) (runs : List Interval) → ¬ (¬ (IsTouchingIn n runs))
     → IsTouchingIn n runs
 settled_touching_in n runs holds = (
@@ -47,7 +47,7 @@ settled_touching_in n runs holds = (
   settled_below n runs (λ fails. holds (λ all. fails all.1)),
 )
 
--- a list whose intervals may touch has sorted starts
+-- A list whose intervals may touch is sorted by start.
 pub touching-sorted : (n low : ℕ) (runs : List Interval) → IsTouchingFrom low runs
     → AllEndBelow n runs → HasSortedStartsFrom n low runs
 touching-sorted n low [] touching below = tt
@@ -61,7 +61,7 @@ touching-sorted n low (run ∷ runs) touching below =
           (touching-sorted n (run.last + 1) runs touching.2 (All-tail P run runs below)),
     )
 
--- so have the lists that a stream of such ones gives
+-- If a stream may give only such lists, they are sorted by start.
 pub touching-starts : (n : ℕ) (P : Outcomes) (remaining : Count)
     → Keeps (IsTouchingIn n) P remaining
     → Keeps (HasSortedStarts n) P remaining

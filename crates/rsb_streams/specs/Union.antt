@@ -11,11 +11,11 @@ use Rattle.rsb_streams.specs.declared.union_iter.UnionIter.{UnionIter}
 
 module _ {T N L R : Type 0} (integer : Elements T N) (left : Stream L T N)
     (right : Stream R T N) where
-  -- a merge of two, joined
+  -- The joined merge of two streams.
   abbrev pub joined_merge : Stream (UnionIter T (Merge T L R)) T N
   joined_merge = union_iter integer (merge integer left right)
 
-  -- the union: a draw looks ahead of each stream by one range at most
+  -- The union: a draw looks at most one range ahead in each stream.
   abbrev pub union : Stream (Union T L R) T N
   union = asking integer
       (λ s item t. AsksAhead same_side integer (merge_inputs integer left right) s.iter item t.iter)
@@ -23,11 +23,11 @@ module _ {T N L R : Type 0} (integer : Elements T N) (left : Stream L T N)
       (λ s. joined_merge.draws_left s.iter)
       (λ s. joined_merge.may_give s.iter)
 
-  -- its inputs, where the range that it holds came of one side
+  -- The inputs of the union, if the range that it holds came from the given side.
   abbrev pub union_inputs : Side → Union T L R → Side → Input
   union_inputs from s = joined_inputs same_side integer (merge_inputs integer left right) from s.iter
 
-  -- nothing is drawn of two streams, which a union of a merge has
+  -- Whether nothing has been drawn yet from the two streams of a joined merge.
   abbrev pub UnitesUndrawn : L → R → UnionIter T (Merge T L R) → Type 0
   UnitesUndrawn one other s = JoinsUndrawn same_side integer (merge_inputs integer left right)
       (at_side (left.may_give one) (right.may_give other)) s

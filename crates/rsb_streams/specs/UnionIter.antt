@@ -1,4 +1,4 @@
--- The union of a stream whose starts do not fall.
+-- The union of the ranges of a stream that is sorted by start.
 use Rattle.std.proofs.Common.{Bool, true, false, ◌+◌, List, [], ◌++◌}
 use Rattle.std.specs.Iterator.{YieldsThen}
 use Rattle.std.specs.Prelude.{Option, None, MatchOption}
@@ -16,8 +16,8 @@ use Rattle.rsb_streams.specs.declared.union_iter.UnionIter.{UnionIter}
 module _ {T N S : Type 0} (integer : Elements T N) (stream : Stream S T N) where
   open integer use {rank}
 
-  -- what was held before and what draws gave lies within the answer; one more draw gave what is
-  -- held now, which starts past the end of the answer with a gap between
+  -- Whether all that was held before and then drawn lies within the returned range. One more draw
+  -- gave what is held now, which starts past the end of that range, with a gap between.
   pub record Joins (s : UnionIter T S) (answer : RangeInclusive T) (t : UnionIter T S) : Type 0
     where
       pub drawn : List (RangeInclusive T)
@@ -27,18 +27,18 @@ module _ {T N S : Type 0} (integer : Elements T N) (stream : Stream S T N) where
           (held_list rank s.iter.held ++ intervals_of rank drawn)
       pub ahead : IsOneFrom ((interval_of rank answer).last + 2) (held_list rank t.iter.held)
 
-  -- nothing was held, the only draw gave nothing, and nothing is held
+  -- Whether nothing is held, before or after, and the only draw returned `None`.
   pub record JoinsNothing (s t : UnionIter T S) : Type 0 where
     pub held : HasRoom s.iter
     pub room : HasRoom t.iter
     pub draw : (fused stream).draw_gives (fused_of s.iter) None (fused_of t.iter)
 
-  -- what a draw of the union asks of the stream
+  -- What a draw of the union asks of the stream.
   abbrev pub AsksToJoin : UnionIter T S → Option (RangeInclusive T) → UnionIter T S → Type 0
   AsksToJoin s item t = MatchOption item (JoinsNothing s t) (λ answer. Joins s answer t)
 
-  -- the runs of what is held and still to come; as many are left as its stream has, with one that
-  -- is held
+  -- The runs of what is held and still to come. As many are left as in the stream, and one more if
+  -- a range is held.
   abbrev pub union_iter : Stream (UnionIter T S) T N
   union_iter = asking integer AsksToJoin
       (λ s. (put_back integer stream).can_draw s.iter)
@@ -47,27 +47,29 @@ module _ {T N S : Type 0} (integer : Elements T N) (stream : Stream S T N) where
 
 -- ---- the union of a stream that has inputs itself
 
--- an input of a stream, and nothing of it once the stream has ended, which is not asked again
+-- An input of a stream, or an ended one if the stream has ended, because that is not drawn from
+-- again.
 abbrev pub unless_ended : Bool → Input → Input
 unless_ended true input = undrawn (just [])
 unless_ended false input = input
 
 module _ {Place S T N : Type 0} (same : Sameness Place) (integer : Elements T N)
     (inputs : S → Place → Input) where
-  -- the inputs of its union, where the range that the union holds came of one place
+  -- The inputs of the union of a stream, if the range that the union holds came from the given
+  -- place.
   abbrev pub joined_inputs : Place → UnionIter T S → Place → Input
   joined_inputs from s place = holding
       (if_same (same place from) (held_list integer.rank s.iter.held))
       (unless_ended s.iter.done (inputs s.iter.iter place))
 
-  -- a draw of the union looks ahead of each input by one range at most, wherever the range came
-  -- from that it held; at the end they end
+  -- Whether a draw of the union looks at most one range ahead in each input, wherever the range
+  -- that it held came from. If it returns `None`, all inputs end.
   abbrev pub AsksAhead : UnionIter T S → Option (RangeInclusive T) → UnionIter T S → Type 0
   AsksAhead s item t = (from : Place) → MatchOption item
       ((place : Place) → Ends (joined_inputs from s place) (joined_inputs from t place))
       (λ answer. (now_from : Place) × LooksAheadOfAll (interval_of integer.rank answer)
       (joined_inputs from s) (joined_inputs now_from t))
 
-  -- nothing is drawn yet of any of these streams, which are its inputs
+  -- Whether nothing has been drawn yet from the streams that are the inputs of the union.
   abbrev pub JoinsUndrawn : (Place → Outcomes) → UnionIter T S → Type 0
   JoinsUndrawn may_give s = (from : Place) → AreUndrawn may_give (joined_inputs from s)

@@ -12,7 +12,7 @@ use Rattle.rsb_streams.specs.Stream.{Outcomes, joined, HasSortedStarts, Keeps}
 use Rattle.rsb_streams.specs.UnionIter.{union_iter}
 use Rattle.rsb_streams.specs.declared.draw.Draw.{Ghosts as Stream}
 
--- the runs of what may be given are canonical, and there are some where something may be given
+-- If something may be given, it has runs, and these are canonical.
 pub joined-keeps : (n : ℕ) (law : List Interval → Type 0) (P : Outcomes) (remaining : Count)
     → Keeps law P remaining
     → Keeps (IsCanonicalIn n) (joined n P) remaining
@@ -25,7 +25,7 @@ joined-keeps n law P remaining kept = record {
   ends = kept.ends;
 }
 
--- the runs are canonical, there are some lists of them, and they end
+-- The union of a stream sorted by start is canonical.
 pub union_iter-disjoint : {T N S : Type 0} (integer : Elements T N) (stream : Stream S T N)
     → IsSorted integer stream → IsDisjoint integer (union_iter integer stream)
 union_iter-disjoint integer stream sorted s ready =

@@ -17,38 +17,38 @@ use Rattle.rsb_streams.specs.declared.unsorted_disjoint.UnsortedDisjoint.{Unsort
 
 -- ---- pieces and their spans
 
--- the intervals that have a rank, in order
+-- The non-empty intervals, in order.
 abbrev pub non_empty : List Interval → List Interval
 non_empty items = filter (λ item. nat_le item.first item.last) items
 
--- two intervals overlap or touch
+-- Whether two intervals overlap or touch.
 abbrev pub Meet : Interval → Interval → Type 0
 Meet one other = (one.first ≤ other.last + 1) × (other.first ≤ one.last + 1)
 
--- the interval from the least start of the items to their greatest end
+-- Whether `span` is the interval from the least start of the items to their greatest end.
 pub record IsSpan (items : List Interval) (span : Interval) : Type 0 where
   pub starts : (item : Interval) × Contains items item × (item.first ≡ span.first)
   pub ends : (item : Interval) × Contains items item × (item.last ≡ span.last)
   pub least : All (λ (item : Interval). span.first ≤ item.first) items
   pub greatest : All (λ (item : Interval). item.last ≤ span.last) items
 
--- each item of a piece but the first overlaps or touches the span of those before it
+-- Whether each item of a piece after the first overlaps or touches the span of those before it.
 abbrev pub HoldsTogether : List Interval → Type 0
 HoldsTogether piece = (before after : List Interval) (item span : Interval)
     → piece ≡ before ++ item ∷ after → IsSpan before span → Meet span item
 
--- the first item of the next piece neither overlaps nor touches the span of a piece
+-- Whether the first item of the next piece neither overlaps nor touches the span of the piece.
 abbrev pub IsApart : List Interval → List Interval → Type 0
 IsApart piece next = (item : Interval) (others : List Interval) (span : Interval)
     → next ≡ item ∷ others → IsSpan piece span → ¬ (Meet span item)
 
--- the items of pieces, one piece after the other
+-- The items of all pieces, one piece after the other.
 abbrev pub items_of : List (List Interval) → List Interval
 items_of [] = []
 items_of (piece ∷ pieces) = piece ++ items_of pieces
 
--- the items are cut into pieces that hold together, each apart from the one before, and these are
--- their spans
+-- Whether the items can be split into pieces that hold together, each apart from the one before,
+-- and `spans` are the spans of these.
 pub record AreSpans (items spans : List Interval) : Type 0 where
   pub pieces : List (List Interval)
   pub whole : items_of pieces ≡ items
@@ -57,8 +57,8 @@ pub record AreSpans (items spans : List Interval) : Type 0 where
       → pieces ≡ before ++ piece ∷ next ∷ after → IsApart piece next
   pub spanned : AllZip IsSpan pieces spans
 
--- what the calls of a stream drain to are the spans of what those of an iterator drain to, the empty
--- ones left out
+-- Whether the ranges that a stream gives to its end are the spans of those that an iterator gives
+-- to its end, without the empty ones.
 abbrev pub GivesSpans : {I S T : Type 0} → (T → ℕ) → (I → Option (RangeInclusive T) → I → Type 0)
     → I → (S → Option (RangeInclusive T) → S → Type 0) → S → Type 0
 GivesSpans {T = T} rank input iter steps stream = (answers : List (RangeInclusive T))
@@ -68,45 +68,45 @@ GivesSpans {T = T} rank input iter steps stream = (answers : List (RangeInclusiv
 
 -- ---- one call
 
--- whether the value after the end of a range, if there is one, is less than the start of another
+-- Whether a start is past the value after the end of another range, if there is such a value.
 abbrev pub starts_past : {T : Type 0} → (T → T → Option Ordering) → Option T → T → Bool
 starts_past partial_cmp None start = false
 starts_past partial_cmp (Some next) start = partial_lt partial_cmp next start
 
--- a piece so far: items that hold together, and their span
+-- Whether the items of a piece so far hold together, and `span` is their span.
 pub record IsPiece (items : List Interval) (span : Interval) : Type 0 where
   pub spans : IsSpan items span
   pub together : HoldsTogether items
 
--- as many as the iterator has left, and one more where a range is held
+-- As many ranges as the iterator has left, and one more if one is held.
 abbrev pub unsorted_remaining : {T I : Type 0} → (I → Count) → UnsortedDisjoint T I → Count
 unsorted_remaining remaining s =
     count_map (λ left. left + option_len s.gathered) (fuse_remaining remaining s.iter)
 
 module _ {T : Type 0} (rank : T → ℕ) (n : ℕ) where
-  -- the range has a member, and lies in the type
+  -- Whether the range is non-empty and within the type.
   pub record IsProper (range : RangeInclusive T) : Type 0 where
     pub in_order : (interval_of rank range).first ≤ (interval_of rank range).last
     pub in_type : (interval_of rank range).last < n
 
-  -- the range is the span of a piece so far, and there is none before the first item
+  -- Whether the held range is the span of the piece so far. Before the first item, none is held.
   abbrev pub IsGathered : List Interval → Option (RangeInclusive T) → Type 0
   IsGathered items held = MatchOption held (items ≡ []) (λ range. IsPiece items (interval_of rank range))
 
-  -- the range begins a new piece, after one of this span
+  -- Whether the range begins a new piece, after one with the returned span.
   pub record BeginsAfter (answer : Option (RangeInclusive T)) (range : RangeInclusive T) : Type 0 where
     pub proper : IsProper range
     pub apart : IsSomeAnd answer (λ span. ¬ (Meet (interval_of rank span) (interval_of rank range)))
 
-  -- the iterator may be called and ends, or has ended, and a range that is held is proper
+  -- Whether the iterator may be called and ends, or has ended, and a held range is proper.
   pub record UnsortedReady {I : Type 0} (can_next : I → Type 0) (remaining : I → Count)
       (s : UnsortedDisjoint T I) : Type 0 where
     pub callable : fuse_can_next can_next s.iter
     pub finite : IsFinite (fuse_remaining remaining s.iter)
     pub proper : IfSome s.gathered IsProper
 
-  -- a call answers the span of the piece that was begun and of the items drawn, up to one that
-  -- begins a new piece and is held, or to the end
+  -- Whether a call returns the span of the piece that was begun and of the items that it draws. It
+  -- draws up to an item that begins a new piece, which is then held, or to the end.
   pub record UnsortedSteps {I : Type 0} (steps : I → Option (RangeInclusive T) → I → Type 0)
       (s : UnsortedDisjoint T I) (answer : Option (RangeInclusive T)) (t : UnsortedDisjoint T I)
       : Type 0 where
@@ -119,7 +119,7 @@ module _ {T : Type 0} (rank : T → ℕ) (n : ℕ) where
     pub stops : fuse_steps steps between t.gathered t.iter
     pub begins : IfSome t.gathered (BeginsAfter answer)
 
--- the iterator that joins the ranges of another
+-- The iterator that joins the ranges of another.
 abbrev pub unsorted_disjoint : {T N I : Type 0} → Elements T N → Iteration I (RangeInclusive T)
     → Iteration (UnsortedDisjoint T I) (RangeInclusive T)
 unsorted_disjoint integer iterator = record {

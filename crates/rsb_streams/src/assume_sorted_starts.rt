@@ -1,4 +1,4 @@
-//! Streams of ranges whose starts are known not to fall.
+//! Streams of ranges that are known to be sorted by start.
 
 ghost use Rattle.rsb_streams.specs.Calls.{gives_as, GivesOnly};
 ghost use Rattle.rsb_streams.specs.CallsLaws.{known-answered, known-sorted};
@@ -13,8 +13,8 @@ use std::iter::{Fuse, FusedIterator};
 use std::marker::PhantomData;
 use std::ops::RangeInclusive;
 
-/// The items of an iterator whose starts its maker knows not to fall. (`AssumeSortedStarts` of the
-/// Rust crate.)
+/// The ranges of an iterator that are known to be sorted by start. (`AssumeSortedStarts` in
+/// range-set-blaze.)
 #[derive(Clone, Debug, Drop)]
 pub struct AssumeSortedStarts<T, I> {
     iter: Fuse<I>,
@@ -22,8 +22,9 @@ pub struct AssumeSortedStarts<T, I> {
 }
 
 impl<T: Integer, I: Iterator> AssumeSortedStarts<T, I> {
-    /// The items of what becomes an iterator that may be called and gives finitely many ranges, which
-    /// are non-empty, and by their starts. It takes no memory. (`AssumeSortedStarts::new`.)
+    /// Returns the ranges of `iter` as a stream. Requires that `iter` becomes an iterator that may
+    /// be called and gives finitely many ranges. The ranges must be non-empty and sorted by start.
+    /// Does not allocate. (`AssumeSortedStarts::new`.)
     pub fn new<J: IntoIterator<Item = RangeInclusive<T>, IntoIter = I>>(iter: J) -> Self
         requires { GivesOnly T.rank ⟦<I as Iterator>⟧ J.into_iter_gives (HasSortedStarts T.value_count)
             iter }

@@ -22,8 +22,8 @@ use std::marker::PhantomData;
 use std::ops::RangeInclusive;
 use std::vec::IntoIter;
 
-/// The items of an iterator that its maker knows to be canonical. (`CheckSortedDisjoint` of the
-/// Rust crate, which tests them as they come.)
+/// The ranges of an iterator that are known to be canonical. (`CheckSortedDisjoint` in
+/// range-set-blaze, which tests them as they come.)
 #[derive(Clone, Debug, Drop)]
 pub struct CheckSortedDisjoint<T, I> {
     iter: Fuse<I>,
@@ -31,8 +31,9 @@ pub struct CheckSortedDisjoint<T, I> {
 }
 
 impl<T: Integer, I: Iterator> CheckSortedDisjoint<T, I> {
-    /// The items of what becomes an iterator that may be called and gives finitely many ranges,
-    /// which are canonical. It takes no memory. (`CheckSortedDisjoint::new`.)
+    /// Returns the ranges of `iter` as a stream. Requires that `iter` becomes an iterator that may
+    /// be called and gives finitely many ranges, which are canonical. Does not allocate.
+    /// (`CheckSortedDisjoint::new`.)
     pub fn new<J: IntoIterator<Item = RangeInclusive<T>, IntoIter = I>>(iter: J) -> Self
         requires { GivesOnly T.rank ⟦<I as Iterator>⟧ J.into_iter_gives (IsCanonicalIn T.value_count)
             iter }
@@ -48,8 +49,8 @@ impl<T: Integer, I: Iterator> CheckSortedDisjoint<T, I> {
 }
 
 impl<T: Integer, A: Allocator> CheckSortedDisjoint<T, IntoIter<RangeInclusive<T>, A>> {
-    /// The ranges of a list, or its first bad position where it is not canonical, and the list. It
-    /// takes no memory. (Own: the Rust crate panics.)
+    /// Returns the ranges of a list as a stream. If the list is not canonical, returns its first
+    /// bad position and the list. Does not allocate. Not in range-set-blaze, which panics.
     pub fn try_new(ranges: Vec<RangeInclusive<T>, A>) -> Result<Self, NotSortedDisjoint<T, A>>
         ensures ok { IsOk result ↔ IsCanonicalIn T.value_count (intervals_of T.rank ranges.items) }
         ensures ready { IfOk result
@@ -61,7 +62,7 @@ impl<T: Integer, A: Allocator> CheckSortedDisjoint<T, IntoIter<RangeInclusive<T>
         ensures position { IfErr result (λ refused. IsFirstBad (IsCanonicalIn T.value_count)
             (intervals_of T.rank ranges.items) refused.position) }
 
-        // Every range up to there ends in the type, so it is the order that breaks.
+        // All ranges up to that position end in the type, so only the order is wrong.
         ensures value { IfErr result (λ refused. AllEndBelow T.value_count
             (take (refused.position + 1) (intervals_of T.rank ranges.items))) }
     {
@@ -77,7 +78,7 @@ impl<T: Integer> Default for CheckSortedDisjoint<T, RangeOnce<T>> {
         IsReadyAnd ⟦<CheckSortedDisjoint<T, RangeOnce<T>> as Draw<T>>⟧.can_draw result
         (⟦<CheckSortedDisjoint<T, RangeOnce<T>> as Draw<T>>⟧.may_give result ⊆ just []) };
 
-    /// No items. It takes no memory.
+    /// Returns a stream of no ranges. Does not allocate.
     fn default() -> Self {
         CheckSortedDisjoint {
             iter: RangeOnce::from(T::exhausted_range()).fuse(),

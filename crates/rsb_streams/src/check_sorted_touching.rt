@@ -24,8 +24,8 @@ use std::marker::PhantomData;
 use std::ops::RangeInclusive;
 use std::vec::IntoIter;
 
-/// The items of an iterator that its maker knows to ascend, of which no two overlap: they may touch.
-/// (Own.)
+/// The ranges of an iterator that are known to ascend and not to overlap, but may touch. Not in
+/// range-set-blaze.
 #[derive(Clone, Debug, Drop)]
 pub struct CheckSortedTouching<T, I> {
     iter: Fuse<I>,
@@ -33,9 +33,9 @@ pub struct CheckSortedTouching<T, I> {
 }
 
 impl<T: Integer, I: Iterator> CheckSortedTouching<T, I> {
-    /// The items of what becomes an iterator that may be called and gives finitely many ranges,
-    /// which are non-empty, and each starts past the end of the one before. It takes no memory.
-    /// (Own.)
+    /// Returns the ranges of `iter` as a stream. Requires that `iter` becomes an iterator that may
+    /// be called and gives finitely many ranges. Each range must be non-empty and start past the
+    /// end of the one before. Does not allocate. Not in range-set-blaze.
     pub fn new<J: IntoIterator<Item = RangeInclusive<T>, IntoIter = I>>(iter: J) -> Self
         requires { GivesOnly T.rank ⟦<I as Iterator>⟧ J.into_iter_gives (IsTouchingIn T.value_count)
             iter }
@@ -51,8 +51,9 @@ impl<T: Integer, I: Iterator> CheckSortedTouching<T, I> {
 }
 
 impl<T: Integer, A: Allocator> CheckSortedTouching<T, IntoIter<RangeInclusive<T>, A>> {
-    /// The ranges of a list, or the first position where one is empty or does not start past the end
-    /// of the one before, and the list. It takes no memory. (Own.)
+    /// Returns the ranges of a list as a stream. If a range is empty, or does not start past the
+    /// end of the one before, returns the first such position and the list. Does not allocate. Not
+    /// in range-set-blaze.
     pub fn try_new(ranges: Vec<RangeInclusive<T>, A>) -> Result<Self, NotSortedTouching<T, A>>
         ensures ok { IsOk result ↔ IsTouchingIn T.value_count (intervals_of T.rank ranges.items) }
         ensures ready { IfOk result
@@ -64,7 +65,7 @@ impl<T: Integer, A: Allocator> CheckSortedTouching<T, IntoIter<RangeInclusive<T>
         ensures position { IfErr result (λ refused. IsFirstBad (IsTouchingIn T.value_count)
             (intervals_of T.rank ranges.items) refused.position) }
 
-        // Every range up to there ends in the type, so it is the order that breaks.
+        // All ranges up to that position end in the type, so only the order is wrong.
         ensures value { IfErr result (λ refused. AllEndBelow T.value_count
             (take (refused.position + 1) (intervals_of T.rank ranges.items))) }
     {

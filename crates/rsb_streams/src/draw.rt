@@ -1,4 +1,4 @@
-//! What streams made of streams ask of these.
+//! What a stream requires of the streams that it is built from.
 
 ghost use Rattle.std.specs.Prelude.{Option};
 ghost use Rattle.std.specs.Iterator.{Count, MakesProgress};
@@ -8,35 +8,36 @@ ghost use Rattle.rsb_streams.specs.Stream.{Answers, HasSortedStarts, Keeps, Outc
 use rsb_integer::Integer;
 use std::ops::RangeInclusive;
 
-/// A source of non-empty ranges whose starts do not fall, which ends. (Own: every `SortedStarts` is
-/// one, and its `next` is `draw`.)
+/// A finite source of non-empty ranges, sorted by start. Not in range-set-blaze; every
+/// `SortedStarts` is one, and its `draw` is its `next`.
 ///
-/// A stream made of other streams asks this alone of them. It has no supertrait with members, so
-/// what is passed for a nest of streams grows by one with each level.
+/// A stream that is built from other streams requires only this of them. The trait has no
+/// supertrait with members, so each level of nesting adds only one dictionary to those that a call
+/// passes. A source is ready if a range may be drawn from it (`can_draw`).
 pub trait Draw<T: Integer>: Drop {
-    // Whether a range may be drawn.
+    // Whether the source is ready, that is, a range may be drawn from it.
     ghost can_draw: { Self → Type 0 };
 
-    // What a draw answers, and what it leaves.
+    // What a draw returns, and the state that it leaves.
     ghost draw_gives: { Self → Option (RangeInclusive T) → Self → Type 0 };
 
-    // How many ranges are left at most.
+    // The greatest number of ranges that may be left.
     ghost draws_left: { Self → Count };
 
     // The lists that may still come, as intervals of ranks.
     ghost may_give: { Self → Outcomes };
 
-    /// The next range of a stream that may be drawn from, or `None` at the end.
+    /// Returns the next range of a ready stream, or `None` at the end.
     fn draw(&mut self) -> Option<RangeInclusive<T>>
         requires { can_draw self.old }
         ensures steps { draw_gives self.old result self.new }
         ensures goes { MakesProgress can_draw draws_left self.old result self.new };
 
-    // A draw answers what may come, and leaves what may come after that.
+    // A draw returns what may come next, and leaves what may come after it.
     ghost answers: { (s t : Self) (item : Option (RangeInclusive T))
         → draw_gives s item t → Answers T.rank may_give s item t };
 
-    // A source that may be drawn from gives something, ends, and no start falls.
+    // A ready source may give something, it is sorted by start, and it ends.
     ghost sorted: { (s : Self) → can_draw s
         → Keeps (HasSortedStarts T.value_count) (may_give s) (draws_left s) };
 }

@@ -1,4 +1,4 @@
-//! The runs of a stream and its gaps, in one.
+//! The runs of a stream and its gaps, in one iterator.
 
 ghost use Rattle.std.specs.Prelude.{◌≡◌, Some};
 ghost use Rattle.rsb_streams.specs.FillGapsIter.{fill_can_next, fill_remaining, FillSteps};
@@ -10,17 +10,17 @@ use rsb_integer::Integer;
 use std::iter::FusedIterator;
 use std::ops::RangeInclusive;
 
-/// All runs of a stream with true, and all its gaps with false, from the least value to the
-/// greatest. (`FillGapsIter` of the Rust crate.)
+/// All runs of a stream with `true` and all its gaps with `false`, from the least value to the
+/// greatest. (`FillGapsIter` in range-set-blaze.)
 #[derive(Clone, Debug, Drop)]
 pub struct FillGapsIter<T, I> {
     iter: PutBack<T, I>,
-    // Where the next run or gap starts: `None` once one reached the greatest value.
+    // The start of the next run or gap, or `None` after one that reached the greatest value.
     start: Option<T>,
 }
 
 impl<T, I> FillGapsIter<T, I> {
-    /// The runs and gaps of a stream from a value on, of which nothing is drawn yet.
+    /// Returns the runs and gaps of a stream, starting at a value. Draws nothing yet.
     pub(crate) fn over(iter: I, start: T) -> Self
         ensures iter { IsFresh iter result.iter }
         ensures start { result.start ≡ Some start }

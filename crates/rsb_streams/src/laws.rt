@@ -1,4 +1,4 @@
-//! Laws that callers rely on. The clause of each function is the law; the function does nothing.
+//! Laws that callers rely on. Each function has a law as its clause, and does nothing.
 
 ghost use Rattle.std.specs.Prelude.{◌≡◌, Bool, List};
 ghost use Rattle.rsb_integer.specs.Runs.{Interval};
@@ -7,7 +7,7 @@ ghost use Rattle.rsb_streams.specs.FillGaps.{IsFilledList};
 
 use rsb_integer::Integer;
 
-/// There is one list of the runs and gaps of a set. (Own.)
+/// A set has only one list of its runs and gaps. Not in range-set-blaze.
 pub fn one_filled_list<T: Integer>()
     ensures { (selected : Selection) (pairs others : List (Interval × Bool))
         → IsFilledList T.value_count selected pairs → IsFilledList T.value_count selected others

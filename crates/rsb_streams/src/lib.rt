@@ -1,4 +1,4 @@
-//! Lazy streams of ranges, whose law every implementation proves.
+//! Lazy streams of ranges. Every implementation of a stream proves the laws of its traits.
 #![tactic(auto)]
 
 pub mod assume_sorted_starts;

@@ -1,4 +1,4 @@
-//! The merge of two streams.
+//! The merge of two streams by their starts.
 
 ghost use Rattle.rsb_streams.specs.Merge.{merge, MergesUndrawn};
 ghost use Rattle.rsb_streams.specs.MergeLaws.{merge-sorted};
@@ -13,9 +13,9 @@ use rsb_integer::Integer;
 use std::iter::FusedIterator;
 use std::ops::RangeInclusive;
 
-/// The ranges of two streams, by their starts. Which comes first of two that start alike is left
-/// open. It draws a range of a stream only where the one that it held was given, and one more is
-/// asked for. (`Merge` of the Rust crate.)
+/// The ranges of two streams, sorted by start. The order of two ranges with the same start is
+/// unspecified. It draws a range from a stream only when it is asked for one more and has given the
+/// one that it held. (`Merge` in range-set-blaze.)
 #[derive(Clone, Debug, Drop)]
 pub struct Merge<T, L, R> {
     left: PutBack<T, L>,
@@ -23,7 +23,7 @@ pub struct Merge<T, L, R> {
 }
 
 impl<T, L, R> Merge<T, L, R> {
-    /// The merge of what two iterators give, of which nothing is drawn yet.
+    /// Returns the merge of two iterators. Draws nothing yet.
     pub(crate) fn of(left: L, right: R) -> Self
         ensures left { IsFresh left result.left }
         ensures right { IsFresh right result.right }
@@ -36,7 +36,7 @@ impl<T, L, R> Merge<T, L, R> {
 }
 
 impl<T: Integer, L: Draw<T>, R: Draw<T>> Merge<T, L, R> {
-    /// The merge of two sources that may be drawn from; nothing is drawn yet. (`Merge::new`.)
+    /// Returns the merge of two ready sources. Draws nothing yet. (`Merge::new`.)
     pub fn new(left: L, right: R) -> Self
         requires left { L.can_draw left }
         requires right { R.can_draw right }

@@ -11,17 +11,17 @@ use rsb_integer::Integer;
 use std::iter::FusedIterator;
 use std::ops::RangeInclusive;
 
-/// The gaps of a stream, to both ends of the type. It holds no range of the stream. (`NotIter` of the
-/// Rust crate.)
+/// The gaps of a stream, to both ends of the type. It holds no range of the stream. (`NotIter` in
+/// range-set-blaze.)
 #[derive(Clone, Debug, Drop)]
 pub struct NotIter<T, I> {
     iter: I,
-    // Where the next gap would start: `None` once a range or a gap reached the greatest value.
+    // Where the next gap would start, or `None` after a range or a gap reached the greatest value.
     start: Option<T>,
 }
 
 impl<T: Integer, I: DrawDisjoint<T>> NotIter<T, I> {
-    /// The complement of a stream that may be drawn from; nothing is drawn yet. (`NotIter::new`.)
+    /// Returns the complement of a ready stream. Draws nothing yet. (`NotIter::new`.)
     pub fn new(iter: I) -> Self
         requires { I.can_draw iter }
         ensures { MakesComplement T.Integer.own I.Draw ⟦<NotIter<T, I> as Draw<T>>⟧ iter result }
@@ -31,7 +31,7 @@ impl<T: Integer, I: DrawDisjoint<T>> NotIter<T, I> {
 }
 
 impl<T: Integer, I: DrawDisjoint<T>> From<I> for NotIter<T, I> {
-    // The complement of a stream that may be drawn from, of which nothing is drawn yet.
+    // From a ready stream, this makes its complement. Nothing is drawn yet.
     ghost from_gives = { λ iter result. I.can_draw iter
         → MakesComplement T.Integer.own I.Draw ⟦<NotIter<T, I> as Draw<T>>⟧ iter result };
 

@@ -1,18 +1,18 @@
-//! The refusal of a list of ranges that is not canonical.
+//! The error for a list of ranges that is not canonical.
 
 use std::alloc::{Allocator, Global};
 use std::error::Error;
 use std::fmt;
 use std::ops::RangeInclusive;
 
-/// A list of ranges that is not canonical, and its first bad position, counted from 0: there stands
-/// an empty range, or one that does not start more than one past the end of the range before. (Own:
-/// the Rust crate panics.)
+/// A list of ranges that is not canonical, with its first bad position, counted from 0. The range
+/// there is empty, or does not start more than one past the end of the range before. Not in
+/// range-set-blaze, which panics.
 #[derive(Debug, Drop, PartialEq, Eq)]
 pub struct NotSortedDisjoint<T, A: Allocator = Global> {
-    /// The first bad position.
+    /// The first bad position, counted from 0.
     pub position: usize,
-    /// The list.
+    /// The list, as it was passed.
     pub ranges: Vec<RangeInclusive<T>, A>,
 }
 

@@ -1,17 +1,17 @@
-//! The refusal of a list of ranges that may touch, but does not ascend.
+//! The error for a list of ranges that does not ascend, though ranges may touch.
 
 use std::alloc::{Allocator, Global};
 use std::error::Error;
 use std::fmt;
 use std::ops::RangeInclusive;
 
-/// A list of ranges of which some is empty or does not start past the end of the range before: the
-/// first such position, counted from 0, and the list. (Own.)
+/// A list of ranges with an empty range, or with one that does not start past the end of the range
+/// before. It has the first such position, counted from 0. Not in range-set-blaze.
 #[derive(Debug, Drop, PartialEq, Eq)]
 pub struct NotSortedTouching<T, A: Allocator = Global> {
-    /// The first bad position.
+    /// The first bad position, counted from 0.
     pub position: usize,
-    /// The list.
+    /// The list, as it was passed.
     pub ranges: Vec<RangeInclusive<T>, A>,
 }
 

@@ -1,4 +1,4 @@
-//! What lies in one of the ranges of a source alone, where no value lies in more than two.
+//! The values in exactly one range of a source, if no value is in more than two of its ranges.
 
 ghost use Rattle.std.specs.Iterator.{MakesProgress};
 ghost use Rattle.std.specs.Prelude.{
@@ -31,21 +31,21 @@ use arrayvec::ArrayVec;
 use rsb_integer::Integer;
 use std::ops::RangeInclusive;
 
-/// What lies in one of the ranges of a source alone, as pieces that may touch. No value may lie in
-/// more than two of the ranges, so no more than two have begun and not ended.
+/// The values in exactly one range of a source, as pieces that may touch. No value may be in more
+/// than two of the ranges, so at most two ranges have begun and not ended.
 #[derive(Clone, Debug, Drop)]
 pub(crate) struct OddPieces<T, I> {
     iter: I,
-    // The source has ended, and all was told.
+    // Whether the source has ended and all pieces were given.
     done: bool,
-    // Up to where the range was told that has begun and not ended.
+    // Where the next piece of the range that has begun and not ended starts.
     start: T,
-    // Its end, between two calls. While a call runs, the pending ends lie in a vector.
+    // The end of that range, between two calls. During a call, the pending ends are in a vector.
     end: Option<T>,
 }
 
 impl<T, I> OddPieces<T, I> {
-    /// The pieces of a source, of which nothing is drawn yet. Any value will do as `start`.
+    /// Returns the pieces of a source. Draws nothing yet. `start` may be any value.
     pub(crate) fn over(iter: I, start: T) -> Self
         ensures source { result.iter ≡ iter }
         ensures undone { result.done ≡ false }
@@ -59,7 +59,7 @@ impl<T, I> OddPieces<T, I> {
         }
     }
 
-    /// How many ends are pending.
+    /// Returns the number of pending ends.
     pub(crate) fn pending_ends(&self) -> usize
         ensures ends { result ≡ length (ends_of self.now.end) }
         ensures bound { result ≤ 1 }
@@ -68,7 +68,7 @@ impl<T, I> OddPieces<T, I> {
     }
 }
 
-/// A vector of the end that is pending, if there is one.
+/// Returns a vector of the pending end, if there is one.
 fn ends_with<T: Copy>(end: Option<T>) -> ArrayVec<Option<T>, 2>
     ensures { result.items ≡ ends_in end }
 {
@@ -79,15 +79,15 @@ fn ends_with<T: Copy>(end: Option<T>) -> ArrayVec<Option<T>, 2>
     ends
 }
 
-/// The first of the ends that are pending.
+/// Returns the first of the pending ends, if there is one.
 fn first_end<T: Copy>(ends: &ArrayVec<Option<T>, 2>) -> Option<T>
     ensures { result ≡ first_end ends.now.items }
 {
     *ends.first()?
 }
 
-/// Takes the lesser of two pending ends out, or both where they are one: what both ranges have is
-/// left out. What lies past it starts at `start`.
+/// Removes the lesser of two pending ends, or both if they are equal, so that what both ranges have
+/// is left out. If an end is left, `start` becomes the value after the removed one.
 fn pass_lesser<T: Integer>(start: &mut T, ends: &mut ArrayVec<Option<T>, 2>, end: T, next_end: T)
     requires end { T.rank end < T.value_count }
     requires next_end { T.rank next_end < T.value_count }
@@ -108,8 +108,8 @@ fn pass_lesser<T: Integer>(start: &mut T, ends: &mut ArrayVec<Option<T>, 2>, end
 }
 
 impl<T: Integer, I: Draw<T>> OddPieces<T, I> {
-    /// The next piece. The pending ends lie in a vector: one at most before a range is drawn, and
-    /// with its end two, so a third never comes.
+    /// Returns the next piece. The pending ends are in a vector: at most one before a range is
+    /// drawn, and two with the end of that range. So there is never a third.
     fn next_piece(&mut self, ends: &mut ArrayVec<Option<T>, 2>) -> Option<RangeInclusive<T>>
         requires undone { self.old.done ≡ false }
         requires ready { (odd_pieces T.Integer.own I.Draw).can_draw

@@ -9,6 +9,6 @@ pub use difference::Difference;
 pub use intersection::Intersection;
 pub use union::Union;
 
-/// What lies in one of two streams alone. (`SymmetricDifference` of the Rust crate, and here the
-/// name of what it is made by.)
+/// The values in exactly one of two streams. (`SymmetricDifference` in range-set-blaze; here it is
+/// another name for `SymDiffIter`.)
 pub type SymmetricDifference<T, L, R> = SymDiffIter<T, L, R>;

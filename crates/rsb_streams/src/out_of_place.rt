@@ -1,4 +1,4 @@
-//! The first place where a list of ranges does not ascend, with a gap between or without.
+//! The first position at which a list of ranges does not ascend, with or without gaps between.
 
 ghost use Rattle.std.specs.Prelude.{◌≡◌, ◌↔◌, ◌+◌, ◌<◌, ◌≤◌, [], ◌∷◌, take, IfSome, IsNone, IsTrue};
 ghost use Rattle.std.specs.Range.{range_inclusive_start};
@@ -9,7 +9,7 @@ ghost use Rattle.rsb_streams.specs.OutOfPlace.{start_after, IsFirstBad, IsPlaced
 use rsb_integer::Integer;
 use std::ops::RangeInclusive;
 
-// Whether a range is non-empty, and starts where it may after the end of the one before.
+// Returns whether a range is non-empty, and starts far enough past the end of the one before.
 fn follows<T: Integer>(may_touch: bool, previous: Option<T>, range: &RangeInclusive<T>) -> bool
     ensures value { (interval_of T.rank range.now).last < T.value_count }
     ensures found { IsTrue result ↔ IsPlacedFrom may_touch (start_after T.rank may_touch previous)
@@ -18,21 +18,21 @@ fn follows<T: Integer>(may_touch: bool, previous: Option<T>, range: &RangeInclus
     has_members(range) && may_start(may_touch, previous, *range.start())
 }
 
-// Whether a range is non-empty.
+// Returns whether a range is non-empty.
 fn has_members<T: Integer>(range: &RangeInclusive<T>) -> bool
     ensures value { (interval_of T.rank range.now).last < T.value_count }
     ensures found { IsTrue result ↔ HasRanks (interval_of T.rank range.now) }
     ensures start { IsTrue result → T.rank (range_inclusive_start range.now)
         ≡ (interval_of T.rank range.now).first }
 {
-    // Its ends are known for values from here on.
+    // After these calls, both ends are known to be values.
     range.start().checked_add_one();
     range.end().checked_add_one();
     !range.is_empty()
 }
 
-// Whether a value lies past the end of the range before it, if there is one: more than one past it
-// where the two may not touch.
+// Returns whether a value is past the end of the range before it, if there is one. If the two may
+// not touch, the value must be more than one past that end.
 fn may_start<T: Integer>(may_touch: bool, previous: Option<T>, start: T) -> bool
     requires { T.rank start < T.value_count }
     ensures { IsTrue result ↔ start_after T.rank may_touch previous ≤ T.rank start }
@@ -50,8 +50,8 @@ fn may_start<T: Integer>(may_touch: bool, previous: Option<T>, start: T) -> bool
     }
 }
 
-// The first position where a range of a list is empty, or starts where it may not after the one
-// before.
+// Returns the first position at which a range is empty, or does not start far enough past the end
+// of the one before. If there is none, returns `None`.
 pub(crate) fn first_bad<T: Integer>(may_touch: bool, ranges: &[RangeInclusive<T>]) -> Option<usize>
     ensures none { IsNone result
         ↔ IsPlacedIn may_touch T.value_count (intervals_of T.rank ranges.now) }

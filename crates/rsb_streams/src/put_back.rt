@@ -1,4 +1,4 @@
-//! A source of which one range may be put back.
+//! A source to which one range may be put back.
 
 ghost use Rattle.std.specs.Prelude.{◌≡◌};
 ghost use Rattle.rsb_streams.specs.PutBack.{put_back, HasRoom, IsFresh, IsPutBack};
@@ -8,17 +8,17 @@ use crate::draw::Draw;
 use rsb_integer::Integer;
 use std::ops::RangeInclusive;
 
-/// A source of which one range may be put back. It draws a range only where none is held.
+/// A source to which one range may be put back. It draws a range only if it holds none.
 #[derive(Clone, Debug, Drop)]
 pub(crate) struct PutBack<T, I> {
     held: Option<RangeInclusive<T>>,
     iter: I,
-    // Whether the source has ended: it is not asked again then.
+    // Whether the source has ended. After that, it is not drawn from again.
     done: bool,
 }
 
 impl<T, I> PutBack<T, I> {
-    /// The source, of which nothing is drawn yet.
+    /// Returns the source with no range put back. Draws nothing yet.
     pub(crate) fn new(iter: I) -> Self
         ensures { IsFresh iter result }
     {
@@ -29,7 +29,7 @@ impl<T, I> PutBack<T, I> {
         }
     }
 
-    /// What it draws from.
+    /// Returns the source that it draws from.
     pub(crate) fn source(&self) -> &I
         ensures { result.now ≡ self.now.iter }
     {
@@ -38,7 +38,8 @@ impl<T, I> PutBack<T, I> {
 }
 
 impl<T: Copy, I> PutBack<T, I> {
-    /// The range comes next, and then what was still to come.
+    /// Puts a range back, to be drawn before everything that is still to come. Requires that no
+    /// range is held.
     pub(crate) fn put_back(&mut self, range: RangeInclusive<T>)
         requires { HasRoom self.old }
         ensures { IsPutBack range self.old self.new }

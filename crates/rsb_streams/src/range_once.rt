@@ -15,8 +15,8 @@ use std::iter::FusedIterator;
 use std::marker::Model;
 use std::ops::RangeInclusive;
 
-/// One range as a stream, from both ends. Contracts see it as the list of the ranges still to come.
-/// (`RangeOnce` of the Rust crate.)
+/// One range as a stream that gives it from either end. Contracts see the stream as the list of the
+/// ranges still to come. (`RangeOnce` in range-set-blaze.)
 #[derive(Drop)]
 pub struct RangeOnce<T> {
     range: Option<RangeInclusive<T>>,
@@ -32,7 +32,8 @@ impl<T> Model for RangeOnce<T> {
 }
 
 impl<T: Integer> RangeOnce<T> {
-    /// The range if it is non-empty, else nothing. It takes no memory. (`RangeOnce::new`.)
+    /// Returns a stream of the range, or of no ranges if it is empty. Does not allocate.
+    /// (`RangeOnce::new`.)
     pub fn new(range: RangeInclusive<T>) -> Self
         ensures ready { ⟦<RangeOnce<T> as Draw<T>>⟧.can_draw result }
         ensures gives { ⟦<RangeOnce<T> as Draw<T>>⟧.may_give result
@@ -49,7 +50,7 @@ impl<T: Integer> From<RangeInclusive<T>> for RangeOnce<T> {
         ⊆ just (run_if_any (interval_of T.rank range))) };
 
     fn from(range: RangeInclusive<T>) -> Self {
-        // Its ends are known for values from here on.
+        // After these calls, both ends are known to be values.
         range.start().checked_add_one();
         range.end().checked_add_one();
         if range.is_empty() {

@@ -42,26 +42,28 @@ use rsb_integer::Integer;
 use std::iter::FusedIterator;
 use std::ops::RangeInclusive;
 
-/// A stream of non-empty ranges whose starts do not fall. (`SortedStarts` of the Rust crate.)
+/// A stream of non-empty ranges, sorted by start. (`SortedStarts` in range-set-blaze.)
 ///
-/// A stream of one's own says what it may give in its `Draw`, whose `draw` is its `next`, and gives
-/// `drawn-itself` here. After `None` the streams of this crate give `None` again; of others that is
-/// no law, so each is held in such a way that it is not asked again.
+/// Your own stream states what it may give in its `Draw`, whose `draw` is its `next`, and gives
+/// `drawn-itself` for the law here. After `None`, the streams of this crate return `None` again. No
+/// law says so for other streams, so this crate holds each stream in a way that never calls it
+/// again after its end.
 pub trait SortedStarts<T: Integer>: Iterator<Item = RangeInclusive<T>> + FusedIterator + Draw<T> {
-    /// Nothing: an implementation for a type with a closure in it has a function of its own. (Own.)
+    /// Does nothing. An implementation for a type that contains a closure needs a function of its
+    /// own, and this can be it. Not in range-set-blaze.
     fn mark_sorted(&self) {}
 
-    // `next` is `draw`.
+    // `next` does what `draw` does.
     ghost drawn: { IsDrawn Self.can_draw Self.draw_gives Self.draws_left
         Self.can_next Self.next_gives Self.remaining };
 }
 
-/// A source of ranges in ascending order that neither overlap nor touch, and the operations on it.
-/// (Own: every `SortedDisjoint` is one. What is passed for a call of an operation is what this asks,
-/// so it has no supertrait but `Draw`.)
+/// A source of ranges in ascending order that neither overlap nor touch, with the operations on it.
+/// Not in range-set-blaze; every `SortedDisjoint` is one. A call of an operation passes the
+/// dictionaries of all its bounds, so the only supertrait is `Draw`.
 pub trait DrawDisjoint<T: Integer>: Draw<T> {
-    /// The gaps of a stream that may be drawn from, to both ends of the type: at most one more than
-    /// it has runs. It takes no memory. Nothing is drawn yet. (`SortedDisjoint::complement`.)
+    /// Returns the gaps of a ready stream, to both ends of the type: at most one more than it has
+    /// runs. Does not allocate, and draws nothing yet. (`SortedDisjoint::complement`.)
     final fn complement(self) -> NotIter<T, Self>
     where
         Self: Sized,
@@ -73,9 +75,9 @@ pub trait DrawDisjoint<T: Integer>: Draw<T> {
         NotIter::new(self)
     }
 
-    /// What lies in either of two streams that may be drawn from. It has at most as many runs as
-    /// both together, looks ahead of each by one range at most, and takes no memory. Nothing is
-    /// drawn yet. (`SortedDisjoint::union`.)
+    /// Returns the union of two ready streams. It has at most as many runs as both together, and
+    /// looks at most one range ahead in each. Does not allocate, and draws nothing yet.
+    /// (`SortedDisjoint::union`.)
     final fn union<R: DrawDisjoint<T>>(self, other: R) -> Union<T, Self, R>
     where
         Self: Sized,
@@ -89,8 +91,9 @@ pub trait DrawDisjoint<T: Integer>: Draw<T> {
         Union::from((self, other))
     }
 
-    /// What two streams that may be drawn from both have. It has no run where one of them has none,
-    /// and else fewer than both together. It takes no memory. (`SortedDisjoint::intersection`.)
+    /// Returns the intersection of two ready streams. If either has no runs, the result has none;
+    /// otherwise it has fewer runs than both together. Does not allocate.
+    /// (`SortedDisjoint::intersection`.)
     final fn intersection<R: DrawDisjoint<T>>(self, other: R) -> Intersection<T, Self, R>
     where
         Self: Sized,
@@ -104,8 +107,9 @@ pub trait DrawDisjoint<T: Integer>: Draw<T> {
         Intersection::from((self, other))
     }
 
-    /// What one of two streams that may be drawn from has and the other lacks. It has at most as
-    /// many runs as both together, and takes no memory. (`SortedDisjoint::difference`.)
+    /// Returns the difference of two ready streams: the values in `self` that are not in `other`.
+    /// It has at most as many runs as both together. Does not allocate.
+    /// (`SortedDisjoint::difference`.)
     final fn difference<R: DrawDisjoint<T>>(self, other: R) -> Difference<T, Self, R>
     where
         Self: Sized,
@@ -119,8 +123,9 @@ pub trait DrawDisjoint<T: Integer>: Draw<T> {
         Difference::from((self, other))
     }
 
-    /// What lies in one of two streams alone, both of which may be drawn from. It has at most as
-    /// many runs as both together, and takes no memory. (`SortedDisjoint::symmetric_difference`.)
+    /// Returns the symmetric difference of two ready streams: the values in exactly one of them. It
+    /// has at most as many runs as both together. Does not allocate.
+    /// (`SortedDisjoint::symmetric_difference`.)
     final fn symmetric_difference<R: DrawDisjoint<T>>(
         self,
         other: R,
@@ -137,8 +142,8 @@ pub trait DrawDisjoint<T: Integer>: Draw<T> {
         SymmetricDifference::from((self, other))
     }
 
-    /// All runs of a stream that may be drawn from with true, and all gaps with false, from the
-    /// least value to the greatest. It takes no memory. (`SortedDisjoint::fill_gaps`.)
+    /// Returns all runs of a ready stream with `true` and all its gaps with `false`, from the least
+    /// value to the greatest. Does not allocate. (`SortedDisjoint::fill_gaps`.)
     final fn fill_gaps(self) -> FillGapsIter<T, Self>
     where
         Self: Sized,
@@ -150,8 +155,9 @@ pub trait DrawDisjoint<T: Integer>: Draw<T> {
         FillGapsIter::over(self, T::min_value())
     }
 
-    /// How many members a stream that may be drawn from has: those of a list that it may give. It
-    /// draws to the end, and takes no memory. (Own: `len` and `count` are taken, by iterators.)
+    /// Returns the number of members of a ready stream, from one of the lists that it may give.
+    /// Draws to the end, and does not allocate. Not in range-set-blaze: iterators already have
+    /// `len` and `count`.
     final fn members_len(self) -> T::SafeLen
     where
         Self: Sized,
@@ -167,8 +173,8 @@ pub trait DrawDisjoint<T: Integer>: Draw<T> {
         length
     }
 
-    /// Whether a stream that may be drawn from has no member. It draws one range, and takes no
-    /// memory. (`SortedDisjoint::is_empty`.)
+    /// Returns whether a ready stream has no members. Draws at most one range, and does not
+    /// allocate. (`SortedDisjoint::is_empty`.)
     final fn is_empty(self) -> bool
     where
         Self: Sized,
@@ -180,8 +186,8 @@ pub trait DrawDisjoint<T: Integer>: Draw<T> {
         stream.draw().is_none()
     }
 
-    /// Whether every value is a member of a stream that may be drawn from. It draws one range, and
-    /// takes no memory. (`SortedDisjoint::is_universal`.)
+    /// Returns whether every value is a member of a ready stream. Draws at most one range, and does
+    /// not allocate. (`SortedDisjoint::is_universal`.)
     final fn is_universal(self) -> bool
     where
         Self: Sized,
@@ -200,9 +206,8 @@ pub trait DrawDisjoint<T: Integer>: Draw<T> {
         T::max_value() <= end
     }
 
-    /// Whether two streams that may be drawn from have the same members. It draws from both in
-    /// turn, up to the first range that is not the other's or to both ends, and takes no memory.
-    /// (`SortedDisjoint::equal`.)
+    /// Returns whether two ready streams have the same members. Draws from both alternately, up to
+    /// the first range that differs or to both ends. Does not allocate. (`SortedDisjoint::equal`.)
     final fn equal<R: DrawDisjoint<T>>(self, other: R) -> bool
     where
         Self: Sized,
@@ -224,9 +229,10 @@ pub trait DrawDisjoint<T: Integer>: Draw<T> {
         right.draw().is_none()
     }
 
-    /// Whether each member of a stream that may be drawn from is one of another. Where some are not,
-    /// it draws from both no further than to the second run of those, and one range more of each;
-    /// else to both ends. It takes no memory. (`SortedDisjoint::is_subset`.)
+    /// Returns whether each member of `self` is a member of `other`. Both must be ready. If some
+    /// are not, it draws from both at most as far as the second run of those members, and one more
+    /// range from each. Otherwise it draws to both ends. Does not allocate.
+    /// (`SortedDisjoint::is_subset`.)
     final fn is_subset<R: DrawDisjoint<T>>(self, other: R) -> bool
     where
         Self: Sized,
@@ -238,8 +244,8 @@ pub trait DrawDisjoint<T: Integer>: Draw<T> {
         self.difference(other).is_empty()
     }
 
-    /// Whether each member of another stream is one of this one, both of which may be drawn from. It
-    /// draws as `is_subset` of the other does. (`SortedDisjoint::is_superset`.)
+    /// Returns whether each member of `other` is a member of `self`. Both must be ready. Draws as
+    /// `other.is_subset(self)` does. (`SortedDisjoint::is_superset`.)
     final fn is_superset<R: DrawDisjoint<T>>(self, other: R) -> bool
     where
         Self: Sized,
@@ -251,9 +257,9 @@ pub trait DrawDisjoint<T: Integer>: Draw<T> {
         other.is_subset(self)
     }
 
-    /// Whether two streams that may be drawn from have no member in common. Where they have some, it
-    /// draws from both no further than to the second run of those, and one range more of each; else
-    /// to both ends. It takes no memory. (`SortedDisjoint::is_disjoint`.)
+    /// Returns whether two ready streams have no member in common. If they have some, it draws from
+    /// both at most as far as the second run of those members, and one more range from each.
+    /// Otherwise it draws to both ends. Does not allocate. (`SortedDisjoint::is_disjoint`.)
     final fn is_disjoint<R: DrawDisjoint<T>>(self, other: R) -> bool
     where
         Self: Sized,
@@ -265,19 +271,20 @@ pub trait DrawDisjoint<T: Integer>: Draw<T> {
         self.intersection(other).is_empty()
     }
 
-    /// Nothing: an implementation for a type with a closure in it has a function of its own. (Own.)
+    /// Does nothing. An implementation for a type that contains a closure needs a function of its
+    /// own, and this can be it. Not in range-set-blaze.
     fn mark_disjoint(&self) {}
 
-    // What may come of a stream that may be drawn from is canonical.
+    // Whatever a ready stream may give is canonical.
     ghost canonical: { (s : Self) → Self.can_draw s
         → Self.may_give s ⊆ IsCanonicalIn T.value_count };
 }
 
-/// A stream of ranges in ascending order that neither overlap nor touch. (`SortedDisjoint` of the
-/// Rust crate, whose operations stand in `DrawDisjoint`.)
+/// A stream of ranges in ascending order that neither overlap nor touch. (`SortedDisjoint` in
+/// range-set-blaze, whose operations are in `DrawDisjoint` here.)
 pub trait SortedDisjoint<T: Integer>: SortedStarts<T> + DrawDisjoint<T> {}
 
-/// Any stream of ranges: nothing is said of them. (`AnythingGoes` of the Rust crate.)
+/// A stream of any ranges in any order. (`AnythingGoes` in range-set-blaze.)
 pub trait AnythingGoes<T: Integer>: Iterator<Item = RangeInclusive<T>> + FusedIterator {}
 
 impl<T: Integer, I: Iterator<Item = RangeInclusive<T>> + FusedIterator> AnythingGoes<T> for I {}

@@ -13,14 +13,16 @@ use std::alloc::{AllocError, Allocator, Global};
 use std::ops::RangeInclusive;
 use std::vec::IntoIter;
 
-/// The ranges of a list whose maker knows that no start falls. (`SortedStartsInVec` of the Rust
-/// crate.)
+/// The ranges of a list that are known to be sorted by start. (`SortedStartsInVec` in
+/// range-set-blaze.)
 pub type SortedStartsInVec<T, A = Global> = AssumeSortedStarts<T, IntoIter<RangeInclusive<T>, A>>;
 
 impl<T: Integer, A: Allocator> UnionIter<T, SortedStartsInVec<T, A>> {
-    /// The union of ranges in any order, of which some may be empty. It keeps them, joined as
-    /// `UnsortedDisjoint` does, so what comes nearly in order takes little memory, and sorts them
-    /// once in place. Without memory nothing is made. (`FromIterator` of `UnionIter`.)
+    /// Returns the union of ranges in any order, some of which may be empty. Requires an iterator
+    /// that may be called and ends. It collects the ranges, joined as `UnsortedDisjoint` joins
+    /// them, so ranges that are nearly in order need little memory. Then it sorts them once, in
+    /// place. If allocation fails, it returns the error and builds nothing. (`FromIterator` of
+    /// `UnionIter`.)
     pub fn from_iter<J: IntoIterator<Item = RangeInclusive<T>>>(
         alloc: A,
         ranges: J,

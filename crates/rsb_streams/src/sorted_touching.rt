@@ -9,13 +9,14 @@ use crate::sorted_disjoint::SortedStarts;
 use crate::union_iter::UnionIter;
 use rsb_integer::Integer;
 
-/// A stream of ranges in ascending order that do not overlap: they may touch. (Own.)
+/// A stream of ranges in ascending order that do not overlap, but may touch. Not in
+/// range-set-blaze.
 ///
-/// A stream of one's own says in `touching` that each range which may come starts past the end of the
-/// one before.
+/// Your own stream states in `touching` that each range it may give starts past the end of the one
+/// before.
 pub trait SortedTouching<T: Integer>: SortedStarts<T> {
-    /// The ranges of a stream that may be drawn from, joined where they touch. It takes no memory.
-    /// Nothing is drawn yet. (Own.)
+    /// Returns the ranges of a ready stream, joined if they touch. Does not allocate, and draws
+    /// nothing yet. Not in range-set-blaze.
     final fn joined(self) -> UnionIter<T, Self>
     where
         Self: Sized,
@@ -28,9 +29,10 @@ pub trait SortedTouching<T: Integer>: SortedStarts<T> {
         UnionIter::new(self)
     }
 
-    /// Nothing: an implementation for a type with a closure in it has a function of its own. (Own.)
+    /// Does nothing. An implementation for a type that contains a closure needs a function of its
+    /// own, and this can be it. Not in range-set-blaze.
     fn mark_touching(&self) {}
 
-    // What may come of a stream that may be drawn from ascends, and no two ranges of it overlap.
+    // Whatever a ready stream may give ascends, and no two ranges of it overlap.
     ghost touching: { (s : Self) → Self.can_draw s → Self.may_give s ⊆ IsTouchingIn T.value_count };
 }

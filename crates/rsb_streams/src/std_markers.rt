@@ -1,5 +1,5 @@
-//! Std's adapters over a stream are streams: a part of what a stream may give keeps its laws,
-//! whatever a closure answers.
+//! The adapters of std over a stream are streams. Whatever a closure returns, they give a part of
+//! what the stream may give, and each part satisfies the same laws.
 
 mod filter;
 mod fuse;

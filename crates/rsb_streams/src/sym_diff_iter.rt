@@ -1,4 +1,4 @@
-//! What lies in one of two streams alone.
+//! The symmetric difference of two streams.
 
 ghost use Rattle.std.specs.Iterator.{MakesProgress};
 ghost use Rattle.std.specs.Prelude.{◌≡◌, ◌≤◌, length};
@@ -16,17 +16,17 @@ use rsb_integer::Integer;
 use std::iter::FusedIterator;
 use std::ops::RangeInclusive;
 
-/// What lies in one of two streams alone: of their merge, what an odd number of ranges has. Two
-/// ranges at most have begun and not ended at any moment. (`SymDiffIter` of the Rust crate.)
+/// The values in exactly one of two streams: those in an odd number of the ranges of their merge.
+/// At any time, at most two ranges have begun and not ended. (`SymDiffIter` in range-set-blaze.)
 #[derive(Clone, Debug, Drop)]
 pub struct SymDiffIter<T, L, R> {
     iter: UnionIter<T, OddPieces<T, Merge<T, L, R>>>,
 }
 
 impl<T, L, R> SymDiffIter<T, L, R> {
-    /// How many ends it holds of ranges that have begun and not ended: one at most. While a call
-    /// runs, that of the range which it has drawn lies beside it, in a vector of two that is never
-    /// asked to hold a third. (Own.)
+    /// Returns the number of ends that it holds of ranges that have begun and not ended: at most
+    /// one. During a call, the end of the range just drawn is beside it, in a vector of two that
+    /// never has to hold a third. Not in range-set-blaze.
     pub fn pending_ends(&self) -> usize
         ensures ends { result ≡ length (ends_held self.now) }
         ensures bound { result ≤ 1 }
@@ -36,7 +36,7 @@ impl<T, L, R> SymDiffIter<T, L, R> {
 }
 
 impl<T: Integer, L: DrawDisjoint<T>, R: DrawDisjoint<T>> From<(L, R)> for SymDiffIter<T, L, R> {
-    // Of two streams that may be drawn from, of which nothing is drawn yet.
+    // From two ready streams, this makes their symmetric difference.
     ghost from_gives = { λ streams result. L.can_draw streams.0 → R.can_draw streams.1
         → MakesSymmetricDifference T.Integer.own L.Draw R.Draw ⟦<SymDiffIter<T, L, R> as Draw<T>>⟧
         streams.0 streams.1 result };
@@ -59,7 +59,7 @@ impl<T: Integer, L: Draw<T>, R: Draw<T>> Iterator for SymDiffIter<T, L, R> {
 
     ghost remaining = { (sym_diff T.Integer.own L.Draw R.Draw).draws_left };
 
-    // One end at most is left pending. While the call runs, they lie in a vector of two.
+    // At most one end is left pending. During the call, the pending ends are in a vector of two.
     fn next(&mut self) -> Option<RangeInclusive<T>>
         requires { (sym_diff T.Integer.own L.Draw R.Draw).can_draw self.old }
         ensures steps { (sym_diff T.Integer.own L.Draw R.Draw).draw_gives self.old result self.new }

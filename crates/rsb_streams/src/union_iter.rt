@@ -1,4 +1,4 @@
-//! The union of ranges that come by their starts.
+//! The union of ranges that are sorted by start.
 
 ghost use Rattle.std.specs.Prelude.{◌≡◌};
 ghost use Rattle.rsb_streams.specs.PutBack.{IsFresh};
@@ -16,16 +16,17 @@ use rsb_integer::Integer;
 use std::iter::FusedIterator;
 use std::ops::RangeInclusive;
 
-/// The ranges of a stream whose starts do not fall, joined where they overlap or touch. What it has
-/// drawn lies within its answers, but for one range that it holds at most, which starts past the last
-/// of them with a gap between. (`UnionIter` of the Rust crate.)
+/// The ranges of a stream that is sorted by start, joined if they overlap or touch. What it has
+/// drawn lies within the ranges that it has returned, except for at most one range that it holds.
+/// That one starts past the last returned range, with a gap between. (`UnionIter` in
+/// range-set-blaze.)
 #[derive(Clone, Debug, Drop)]
 pub struct UnionIter<T, SS> {
     iter: PutBack<T, SS>,
 }
 
 impl<T, SS> UnionIter<T, SS> {
-    /// The union of what an iterator gives, of which nothing is drawn yet.
+    /// Returns the union of the ranges of an iterator. Draws nothing yet.
     pub(crate) fn over(iter: SS) -> Self
         ensures { IsFresh iter result.iter }
     {
@@ -34,7 +35,7 @@ impl<T, SS> UnionIter<T, SS> {
         }
     }
 
-    /// What it draws from.
+    /// Returns the source that it draws from.
     pub(crate) fn source(&self) -> &SS
         ensures { result.now ≡ self.now.iter.iter }
     {
@@ -43,8 +44,7 @@ impl<T, SS> UnionIter<T, SS> {
 }
 
 impl<T: Integer, SS: Draw<T>> UnionIter<T, SS> {
-    /// The union of the ranges of a source that may be drawn from; nothing is drawn yet.
-    /// (`UnionIter::new`.)
+    /// Returns the union of the ranges of a ready source. Draws nothing yet. (`UnionIter::new`.)
     pub fn new(iter: SS) -> Self
         requires { SS.can_draw iter }
         ensures ready { ⟦<UnionIter<T, SS> as Draw<T>>⟧.can_draw result }
@@ -57,7 +57,7 @@ impl<T: Integer, SS: Draw<T>> UnionIter<T, SS> {
 }
 
 impl<T: Integer, L: Draw<T>, R: Draw<T>> From<(L, R)> for UnionIter<T, Merge<T, L, R>> {
-    // The union of two streams that may be drawn from, of which nothing is drawn yet. (Own.)
+    // From two ready streams, this makes their union. Nothing is drawn yet. Not in range-set-blaze.
     ghost from_gives = { λ streams result. L.can_draw streams.0 → R.can_draw streams.1
         → MakesUnionIter T.Integer.own L.Draw R.Draw ⟦<UnionIter<T, Merge<T, L, R>> as Draw<T>>⟧
         streams.0 streams.1 result };

@@ -1,4 +1,4 @@
-//! Ranges in any order, joined where one follows another that it overlaps or touches.
+//! Ranges in any order, each joined with the one before if the two overlap or touch.
 
 ghost use Rattle.std.specs.Prelude.{◌≡◌, false};
 ghost use Rattle.std.specs.Iterator.{IsFinite};
@@ -18,10 +18,11 @@ use rsb_integer::Integer;
 use std::iter::{Fuse, FusedIterator};
 use std::ops::RangeInclusive;
 
-/// The ranges of an iterator in their order, each joined with the range gathered so far where the
-/// two overlap or touch; else that one is given, and the range begins anew. So what comes nearly in
-/// order, or in clusters, becomes few ranges. Empty ranges are skipped. It holds one range at most.
-/// (`UnsortedDisjoint` of the Rust crate, where it is private.)
+/// The ranges of an iterator, in its order, joined one after the other. If a range overlaps or
+/// touches the range gathered so far, it is joined to it. Otherwise the gathered range is given,
+/// and the new one takes its place. So ranges that are nearly in order, or in clusters, become few.
+/// Empty ranges are skipped. It holds at most one range. (`UnsortedDisjoint` in range-set-blaze,
+/// where it is private.)
 #[derive(Drop)]
 pub struct UnsortedDisjoint<T, I> {
     iter: Fuse<I>,
@@ -30,8 +31,8 @@ pub struct UnsortedDisjoint<T, I> {
 }
 
 impl<T: Integer, I: Iterator<Item = RangeInclusive<T>>> UnsortedDisjoint<T, I> {
-    /// The joined ranges of an iterator that may be called and ends; nothing is drawn yet. It takes
-    /// no memory. (`UnsortedDisjoint::new`.)
+    /// Returns the joined ranges of an iterator that may be called and ends. Does not allocate, and
+    /// draws nothing yet. (`UnsortedDisjoint::new`.)
     pub fn new(iter: I) -> Self
         requires callable { I.can_next iter }
         requires finite { IsFinite (I.remaining iter) }
@@ -57,7 +58,7 @@ impl<T: Integer, I: Iterator<Item = RangeInclusive<T>>> Iterator for UnsortedDis
 
     fn next(&mut self) -> Option<RangeInclusive<T>> {
         while let Some(range) = self.iter.next() {
-            // Its ends are known for values from here on.
+            // After these calls, both ends are known to be values.
             range.start().checked_add_one();
             let after = range.end().checked_add_one();
             if range.is_empty() {
@@ -82,7 +83,8 @@ impl<T: Integer, I: Iterator<Item = RangeInclusive<T>>> Iterator for UnsortedDis
 impl<T: Integer, I: Iterator<Item = RangeInclusive<T>> + FusedIterator> FusedIterator
     for UnsortedDisjoint<T, I> {}
 
-// Whether a start lies past the value after the end of another range, if there is one.
+// Returns whether a start is past the value after the end of another range, if there is such a
+// value.
 fn is_past<T: PartialOrd + Copy>(after: Option<T>, start: &T) -> bool
     ensures { result ≡ starts_past T.partial_cmp after start.now }
 {
@@ -92,7 +94,7 @@ fn is_past<T: PartialOrd + Copy>(after: Option<T>, start: &T) -> bool
     }
 }
 
-// The range from the lesser start of two to the greater end.
+// Returns the range from the lesser of two starts to the greater of two ends.
 fn joined<T: Ord + Copy>(one: &RangeInclusive<T>, other: &RangeInclusive<T>) -> RangeInclusive<T>
     ensures start { range_inclusive_start result
         ≡ ord_min T.cmp (range_inclusive_start one.now) (range_inclusive_start other.now) }

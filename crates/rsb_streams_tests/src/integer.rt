@@ -1,4 +1,4 @@
-//! Element types.
+//! Tests of element types.
 
 mod characters;
 mod ends;

@@ -1,4 +1,4 @@
-//! Lengths.
+//! Tests of lengths.
 
 mod safe_length;
 mod uint;

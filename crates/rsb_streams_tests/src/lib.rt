@@ -1,4 +1,4 @@
-//! Tests of lengths, of element types and of streams, over the public names of the libraries.
+//! Tests of lengths, element types and streams, through the public names of the libraries.
 #![tactic(auto)]
 
 #[cfg(test)]

@@ -1,4 +1,4 @@
-//! Streams.
+//! Tests of streams.
 
 mod a_million;
 mod anything_goes;

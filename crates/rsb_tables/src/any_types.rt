@@ -1,4 +1,4 @@
-//! Streams of unlike types, made one by the macros.
+//! Operations on streams of different types, built by the macros.
 
 ghost use Rattle.std.specs.Prelude.{IfOk};
 
@@ -10,7 +10,7 @@ use rsb_many::{
 use rsb_streams::{Draw, DrawDisjoint};
 use std::alloc::{AllocError, Allocator};
 
-/// What lies in some of two streams, whatever their types.
+/// Returns the union of two streams of any types.
 pub fn some_of_two<T: Integer, I: DrawDisjoint<T>, J: DrawDisjoint<T>, A: Allocator + Copy>(
     alloc: A,
     streams: (I, J),
@@ -21,7 +21,8 @@ pub fn some_of_two<T: Integer, I: DrawDisjoint<T>, J: DrawDisjoint<T>, A: Alloca
     union_dyn!(alloc, streams.0, streams.1)
 }
 
-/// What lies in an odd number of three streams, whatever their types.
+/// Returns the symmetric difference of three streams of any types: the values in an odd number of
+/// them.
 pub fn odd_of_three<
     T: Integer,
     I: DrawDisjoint<T>,

@@ -1,9 +1,9 @@
-//! An allocator that counts its calls, and that can fail from a given call on.
+//! An allocator that counts its calls, and that can fail from a given call onwards.
 
 use std::alloc::{AllocError, Allocator};
 use std::cell::Cell;
 
-/// What an allocator was asked for, and how many allocations it still grants.
+/// What an allocator was asked for, and how many more allocations it grants.
 #[derive(Drop)]
 struct Counts {
     allocations: Cell<usize>,
@@ -25,14 +25,14 @@ fn is_refused(counts: &Counts, size: usize) -> bool {
     left == 0
 }
 
-/// Counts a block that is given back.
+/// Counts a freed block.
 fn note_free(counts: &Counts, size: usize) {
     counts.frees.set(counts.frees.get().saturating_add(1));
     counts.bytes.set(counts.bytes.get().wrapping_sub(size));
 }
 
-/// An allocator over another one. The inner allocator should never fail: `bytes` counts what it
-/// refuses.
+/// An allocator on top of another one. The inner allocator should never fail, because `bytes`
+/// includes what it refuses.
 #[derive(Drop)]
 pub struct Counting<B: Allocator> {
     inner: B,
@@ -40,7 +40,7 @@ pub struct Counting<B: Allocator> {
 }
 
 impl<B: Allocator> Counting<B> {
-    /// Starts at zero, and grants every allocation.
+    /// Returns an allocator that has counted nothing, and grants every allocation.
     pub fn new(inner: B) -> Counting<B> {
         let counts = Counts {
             allocations: Cell::new(0),
@@ -51,22 +51,22 @@ impl<B: Allocator> Counting<B> {
         Counting { inner, counts }
     }
 
-    /// The number of allocations asked for, those that failed included.
+    /// Returns the number of requested allocations, including those that failed.
     pub fn allocations(&self) -> usize {
         self.counts.allocations.get()
     }
 
-    /// The number of calls: allocations and frees.
+    /// Returns the number of calls: allocations and frees.
     pub fn calls(&self) -> usize {
         self.allocations().saturating_add(self.counts.frees.get())
     }
 
-    /// The number of bytes that are allocated now.
+    /// Returns the number of bytes that are allocated now.
     pub fn bytes(&self) -> usize {
         self.counts.bytes.get()
     }
 
-    /// Grants the given number of further allocations, and fails each one after them.
+    /// Grants the given number of further allocations, and fails all later ones.
     pub fn fail_after(&self, allocations: usize) {
         self.counts.left.set(allocations);
     }

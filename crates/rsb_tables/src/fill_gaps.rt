@@ -1,9 +1,10 @@
-//! The runs and the gaps of a stream against a table.
+//! Comparison of the runs and gaps of a stream with a table.
 
 use rsb_integer::Integer;
 use rsb_streams::DrawDisjoint;
 
-/// Whether the runs and gaps of a stream have these ends, told as runs or not, and then end.
+/// Returns whether a stream has exactly these runs and gaps, each given by its ends and whether it
+/// is a run.
 pub fn fills<T: Integer, I: DrawDisjoint<T>>(stream: I, wanted: &[(T, T, bool)]) -> bool
     requires { I.can_draw stream }
 {

@@ -1,4 +1,5 @@
-//! What lies in some, in all, in an odd number and in at least so many of any number of streams or sets.
+//! The operations on any number of streams or sets. They give the values in at least one, in all,
+//! in an odd number, or in at least a given number of them.
 
 ghost use Rattle.std.specs.Prelude.{All, IfOk};
 
@@ -13,7 +14,7 @@ use std::alloc::{AllocError, Allocator, Global};
 /// The ends of ranges.
 pub type Ranges = &'static [(u8, u8)];
 
-/// The streams of tables.
+/// Returns the streams of the given tables.
 pub fn streams_of(alloc: Global, tables: &[Ranges]) -> Result<Vec<Listed<'static>>, AllocError>
     ensures { IfOk result (λ streams. All ⟦<Listed<'static> as Draw<u8>>⟧.can_draw streams.items) }
 {
@@ -24,20 +25,20 @@ pub fn streams_of(alloc: Global, tables: &[Ranges]) -> Result<Vec<Listed<'static
     Ok(streams)
 }
 
-/// What is made of many streams or sets.
+/// An operation on any number of streams or sets.
 #[derive(Clone, Copy)]
 pub enum Form {
-    /// What lies in some of them.
+    /// The values in at least one of them.
     Some,
-    /// What lies in all.
+    /// The values in all of them.
     All,
-    /// What lies in an odd number.
+    /// The values in an odd number of them.
     Odd,
-    /// What lies in at least so many.
+    /// The values in at least the given number of them.
     AtLeast(usize),
 }
 
-/// Whether a form of lawful streams gives the ranges with these ends.
+/// Returns whether an operation on ready streams gives exactly the ranges with these ends.
 pub fn form_gives<T: Integer, I: DrawDisjoint<T>, A: Allocator + Copy>(
     alloc: A,
     form: Form,
@@ -54,10 +55,10 @@ pub fn form_gives<T: Integer, I: DrawDisjoint<T>, A: Allocator + Copy>(
     }
 }
 
-/// A set in ample memory.
+/// A set whose allocations all succeed.
 type Set = RangeSetBlaze<i32>;
 
-/// The set that a form of sets makes, which are given up.
+/// Returns the result of an operation on sets that are passed by value.
 pub fn of_sets<A: Allocator + Copy>(
     alloc: A,
     form: Form,
@@ -71,7 +72,7 @@ pub fn of_sets<A: Allocator + Copy>(
     }
 }
 
-/// The set that a form of sets makes, which are lent.
+/// Returns the result of an operation on sets that are passed by reference.
 pub fn of_lent<A: Allocator + Copy>(
     alloc: A,
     form: Form,

@@ -1,5 +1,5 @@
-//! What the tests of the libraries share: ranges written as tables of their ends, and what a stream or
-//! a set of them is asked.
+//! What the tests of the libraries share: ranges written as tables of their ends, and comparisons
+//! of streams and sets with such tables.
 #![tactic(auto)]
 
 pub mod any_types;

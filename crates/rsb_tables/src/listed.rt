@@ -1,4 +1,4 @@
-//! The ranges of a table as a stream, and as a list.
+//! The ranges of a table, as a stream and as a list.
 
 ghost use Rattle.std.specs.Prelude.{◌+◌, ◌≤◌, ◌<◌, MatchOption, length};
 ghost use Rattle.std.specs.Iterator.{at_most};
@@ -15,19 +15,20 @@ use std::alloc::{AllocError, Global};
 use std::iter::FusedIterator;
 use std::ops::RangeInclusive;
 
-/// The ranges of a table, up to one that is empty or does not lie past the one before it with a gap.
+/// A stream of the ranges of a table. It ends before the first range that is empty, or that does
+/// not leave a gap after the one before.
 #[derive(Clone, Debug, Drop)]
 pub struct Listed<'a> {
     /// The ends of the ranges that are left.
     ends: &'a [(u8, u8)],
-    /// The least value that the next range may have.
+    /// The least value that the next range may contain.
     low: u16,
 }
 
 impl<'a> Iterator for Listed<'a> {
     type Item = RangeInclusive<u8>;
 
-    // A range lies from the least value on, and the next one past its end with a gap.
+    // A range starts at the least value or later, and the next one leaves a gap after it.
     ghost next_gives = { λ s item t. MatchOption item (Unit {0}) (λ range.
         (s.low ≤ (interval_of ⟦<u8 as Integer>⟧.rank range).first)
         × ((interval_of ⟦<u8 as Integer>⟧.rank range).first
@@ -59,7 +60,7 @@ impl<'a> Draw<u8> for Listed<'a> {
 
     ghost draws_left = { ⟦<Listed<'a> as Iterator>⟧.remaining };
 
-    // What its calls give.
+    // The lists that its calls may give.
     ghost may_give = { gives_by ⟦<u8 as Integer>⟧.rank ⟦<Listed<'a> as Iterator>⟧.next_gives };
 
     fn draw(&mut self) -> Option<RangeInclusive<u8>> {
@@ -91,21 +92,21 @@ impl<'a> DrawDisjoint<u8> for Listed<'a> {
 
 impl<'a> SortedDisjoint<u8> for Listed<'a> {}
 
-/// The ranges of a table.
+/// Returns a stream of the ranges of a table.
 pub fn stream_of<'a>(ends: &'a [(u8, u8)]) -> Listed<'a>
     ensures { ⟦<Listed<'a> as Draw<u8>>⟧.can_draw result }
 {
     Listed { ends, low: 0 }
 }
 
-/// The values 0, 10 and 20.
+/// Returns a stream of the values 0, 10 and 20.
 pub fn three_tens() -> Listed<'static>
     ensures { ⟦<Listed<'static> as Draw<u8>>⟧.can_draw result }
 {
     stream_of(&[(0, 0), (10, 10), (20, 20)])
 }
 
-/// The ranges of a table as a list, in whatever order they stand.
+/// Returns the ranges of a table as a list, in the order of the table.
 pub fn list_of<T: Integer>(
     alloc: Global,
     ends: &[(T, T)],

@@ -1,4 +1,4 @@
-//! A stream of one's own, of ranges that may touch: those of a table.
+//! A user-defined stream of ranges that may touch: the ranges of a table.
 
 ghost use Rattle.std.specs.Prelude.{◌+◌, ◌≤◌, ◌<◌, MatchOption, length};
 ghost use Rattle.std.specs.Iterator.{at_most};
@@ -15,19 +15,20 @@ use rsb_streams::{Draw, SortedStarts, SortedTouching};
 use std::iter::FusedIterator;
 use std::ops::RangeInclusive;
 
-/// The ranges of a table, up to one that is empty or does not lie past the one before it.
+/// A stream of the ranges of a table. It ends before the first range that is empty, or that does
+/// not start past the end of the one before.
 #[derive(Drop)]
 pub struct Neighbors<'a> {
     /// The ends of the ranges that are left.
     ends: &'a [(u8, u8)],
-    /// The least value that the next range may have.
+    /// The least value that the next range may contain.
     low: u16,
 }
 
 impl<'a> Iterator for Neighbors<'a> {
     type Item = RangeInclusive<u8>;
 
-    // A range lies from the least value on, and the next one past its end.
+    // A range starts at the least value or later, and the next one starts past its end.
     ghost next_gives = { λ s item t. MatchOption item (Unit {0}) (λ range.
         (s.low ≤ (interval_of ⟦<u8 as Integer>⟧.rank range).first)
         × ((interval_of ⟦<u8 as Integer>⟧.rank range).first
@@ -59,7 +60,7 @@ impl<'a> Draw<u8> for Neighbors<'a> {
 
     ghost draws_left = { ⟦<Neighbors<'a> as Iterator>⟧.remaining };
 
-    // What its calls give.
+    // The lists that its calls may give.
     ghost may_give = { gives_by ⟦<u8 as Integer>⟧.rank ⟦<Neighbors<'a> as Iterator>⟧.next_gives };
 
     fn draw(&mut self) -> Option<RangeInclusive<u8>> {
@@ -89,7 +90,7 @@ impl<'a> SortedTouching<u8> for Neighbors<'a> {
         (λ s t range can call. Prim.search (rules, arith)) s can tt).all };
 }
 
-/// The ranges of a table, of which neighbors may touch.
+/// Returns a stream of the ranges of a table, which may touch.
 pub fn neighbors_of<'a>(ends: &'a [(u8, u8)]) -> Neighbors<'a>
     ensures { ⟦<Neighbors<'a> as Draw<u8>>⟧.can_draw result }
 {

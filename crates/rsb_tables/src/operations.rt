@@ -7,15 +7,15 @@ use rsb_streams::DrawDisjoint;
 /// An operation on streams.
 #[derive(Clone, Copy, Debug, PartialEq)]
 pub enum Operation {
-    /// What lies in one of two streams or in both.
+    /// The values in either of two streams or in both.
     Union,
-    /// What both have.
+    /// The values in both streams.
     Intersection,
-    /// What the left has and the right lacks.
+    /// The values in the left stream that are not in the right one.
     Difference,
-    /// What lies in one of them alone.
+    /// The values in exactly one of the streams.
     SymmetricDifference,
-    /// What the left leaves out.
+    /// The values that are not in the left stream.
     Complement,
 }
 
@@ -28,7 +28,7 @@ pub const OPERATIONS: [Operation; 5] = [
     Operation::Complement,
 ];
 
-/// Whether an operation on two lawful streams gives the ranges with these ends.
+/// Returns whether an operation on two ready streams gives exactly the ranges with these ends.
 pub fn operation_gives<T: Integer, L: DrawDisjoint<T>, R: DrawDisjoint<T>>(
     operation: Operation,
     left: L,

@@ -1,4 +1,4 @@
-//! Tables of ranges, each by its two ends: what tests write, and compare with.
+//! Tables of ranges, each given by its two ends. Tests write them and compare with them.
 
 ghost use Rattle.std.specs.Prelude.{◌≡◌};
 
@@ -9,10 +9,10 @@ use rsb_streams::Draw;
 use std::alloc::{AllocError, Allocator, Global};
 use std::ops::RangeInclusive;
 
-/// Pairs of ends.
+/// The ends of ranges.
 pub type Table<'a> = &'a [(i32, i32)];
 
-/// The set of the ranges of a table.
+/// Returns the set of the ranges of a table.
 pub fn set_of(alloc: Global, ranges: &[(i32, i32)]) -> Result<RangeSetBlaze<i32>, AllocError> {
     ranges
         .iter()
@@ -20,7 +20,7 @@ pub fn set_of(alloc: Global, ranges: &[(i32, i32)]) -> Result<RangeSetBlaze<i32>
         .collect(alloc)
 }
 
-/// The runs of a set as a table.
+/// Returns the runs of a set as a table.
 pub fn runs_of<A: Allocator + Copy>(
     alloc: Global,
     set: &RangeSetBlaze<i32, A>,
@@ -32,8 +32,8 @@ pub fn runs_of<A: Allocator + Copy>(
     Ok(runs)
 }
 
-/// Whether a stream gives the ranges with these ends, and then nothing. It asks the least that a
-/// stream has, so a nest of streams costs little to pass.
+/// Returns whether a stream gives exactly the ranges with these ends. It requires only `Draw` of
+/// the stream, so that a nest of streams costs little to pass.
 pub fn gives<T: Integer, I: Draw<T>>(stream: I, wanted: &[(T, T)]) -> bool
     requires { I.can_draw stream }
 {
@@ -49,7 +49,7 @@ pub fn gives<T: Integer, I: Draw<T>>(stream: I, wanted: &[(T, T)]) -> bool
     stream.draw().is_none()
 }
 
-/// Whether a stream and a copy of it give the ranges with these ends, and then nothing.
+/// Returns whether a stream and a clone of it each give exactly the ranges with these ends.
 pub fn both_give<T: Integer, I: Draw<T> + Clone>(
     stream: I,
     wanted: &[(T, T)],
@@ -61,18 +61,18 @@ pub fn both_give<T: Integer, I: Draw<T> + Clone>(
     Ok(gives(stream, wanted) && gives(copy, wanted))
 }
 
-/// The slot of a number, the last of the day where there is none.
+/// Returns the slot with a number, or the last slot of the day if there is none.
 pub fn slot(number: u8) -> Slot {
     Slot::new(number).unwrap_or(Slot::max_value())
 }
 
-/// The slots from one number to another.
+/// Returns the slots from one number to another.
 pub fn slots(first: u8, last: u8) -> RangeInclusive<Slot> {
     slot(first)..=slot(last)
 }
 
-/// Seventy thousand runs that start at a value and each fifth from it on, and end so many values
-/// later.
+/// Returns a set of 70,000 runs. The runs start at `first` and at every fifth value after it, and
+/// each ends the given number of values after its start.
 pub fn every_fifth(alloc: Global, first: i32, more: i32) -> Result<RangeSetBlaze<i32>, AllocError> {
     let runs = (0..70_000i32).map(|place| {
         let start = first.saturating_add(place.saturating_mul(5));

@@ -1,9 +1,9 @@
-//! Texts for those who debug. What they are is left open.
+//! Debug texts. Their content is unspecified.
 
 use std::alloc::Global;
 use std::fmt::Debug;
 
-/// Whether a stream or an iterator has a text.
+/// Returns whether the debug text of a stream or an iterator is not empty.
 pub fn is_shown<I: Debug + Drop>(alloc: Global, stream: I) -> bool {
     match format!(in alloc; "{stream:?}") {
         Ok(text) => !text.is_empty(),

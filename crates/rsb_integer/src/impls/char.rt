@@ -9,7 +9,7 @@ ghost use Rattle.rsb_integer.specs.Room.{have_room};
 use crate::integer::Integer;
 use std::ops::RangeInclusive;
 
-// The codes from this one to the next are no characters.
+// The codes from this one to `SURROGATE_END` are not characters.
 const SURROGATE_START: u32 = 0xD800;
 
 const SURROGATE_END: u32 = 0xDFFF;

@@ -48,7 +48,7 @@ impl Integer for i128 {
     fn inclusive_end_from_start(self, b: UIntPlusOne<u128>) -> i128 {
         match b {
             UIntPlusOne::UInt(length) => self.checked_add_unsigned(length - 1).unwrap(),
-            // The whole type.
+            // Only the whole type has this length.
             UIntPlusOne::MaxPlusOne => i128::MAX,
         }
     }
@@ -56,7 +56,7 @@ impl Integer for i128 {
     fn start_from_inclusive_end(self, b: UIntPlusOne<u128>) -> i128 {
         match b {
             UIntPlusOne::UInt(length) => self.checked_sub_unsigned(length - 1).unwrap(),
-            // The whole type.
+            // Only the whole type has this length.
             UIntPlusOne::MaxPlusOne => i128::MIN,
         }
     }

@@ -45,7 +45,7 @@ impl Integer for u128 {
     fn inclusive_end_from_start(self, b: UIntPlusOne<u128>) -> u128 {
         match b {
             UIntPlusOne::UInt(length) => self + (length - 1),
-            // The whole type.
+            // Only the whole type has this length.
             UIntPlusOne::MaxPlusOne => u128::MAX,
         }
     }
@@ -53,7 +53,7 @@ impl Integer for u128 {
     fn start_from_inclusive_end(self, b: UIntPlusOne<u128>) -> u128 {
         match b {
             UIntPlusOne::UInt(length) => self - (length - 1),
-            // The whole type.
+            // Only the whole type has this length.
             UIntPlusOne::MaxPlusOne => u128::MIN,
         }
     }

@@ -1,4 +1,4 @@
--- The first place where a list of ranges does not ascend, with a gap between or without.
+-- The first position at which a list of ranges does not ascend, with or without gaps between.
 use Rattle.std.proofs.Common.{◌≡◌, ℕ, suc, Bool, ◌+◌, ◌<◌, ◌≤◌, true, false, nat_lt, List, [], ◌∷◌, ◌++◌, length, take, drop, get_or, refl, sym, ap, ◌∙◌, subst, arith}
 use Rattle.std.proofs.lemmas.List.{length-map, take-append-drop, take_all}
 use Rattle.std.proofs.lemmas.List.Elements.{All-nil, All-push}

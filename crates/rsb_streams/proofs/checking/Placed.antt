@@ -1,4 +1,4 @@
--- Lists of ranges that ascend, with a gap between or without: their parts.
+-- The parts of lists of ranges that ascend, with or without gaps between.
 use Rattle.std.proofs.Common.{◌≡◌, ℕ, Bool, true, false, ◌+◌, ◌<◌, ◌≤◌, List, [], ◌∷◌, ◌++◌, refl, ap, subst, arith}
 use Rattle.std.proofs.lemmas.List.Elements.{All-tail}
 use Rattle.rsb_integer.specs.Runs.{Interval, AllEndBelow, IsCanonicalFrom, IsCanonicalIn}

@@ -1,4 +1,4 @@
--- How a source goes on of which a range may be put back.
+-- What is still to come from a source to which a range may be put back.
 use Rattle.std.proofs.Common.{◌≡◌, ◌+◌, ◌<◌, Bool, true, false, ◌∷◌, refl, sym, ap, subst, arith}
 use Rattle.std.specs.Iterator.{Count, IsFinite, MakesProgress, count_map, count_unless, size}
 use Rattle.std.specs.Option.{option_len}

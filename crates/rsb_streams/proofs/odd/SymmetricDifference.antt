@@ -1,4 +1,4 @@
--- What an odd number of the ranges of two streams has, and the symmetric difference of both.
+-- The ranks in an odd number of the ranges of two streams, and the symmetric difference of both.
 use Rattle.std.proofs.Common.{◌≡◌, ℕ, Bool, true, false, cond, not, ◌+◌, ◌<◌, ◌≤◌, List, [], ◌∷◌, refl, sym, ap, ◌∙◌, inl, inr, arith}
 use Rattle.rsb_integer.specs.Runs.{Interval, IsCanonicalFrom, cover, covers, members}
 use Rattle.rsb_integer.specs.Selection.{exclusive_or, symmetric_difference}

@@ -1,4 +1,4 @@
--- The turns of a loop that counts the members of a stream.
+-- The iterations of a loop that counts the members of a stream.
 use Rattle.std.proofs.Common.{◌≡◌, ℕ, ◌+◌, ◌≤◌, List, [], ◌∷◌, ◌++◌, ◌∙◌, append_assoc, append-nil, sym, subst, arith}
 use Rattle.std.proofs.lemmas.List.Sums.{sum_by-append}
 use Rattle.std.specs.List.{sum_by}

@@ -1,4 +1,4 @@
--- Two streams drawn from in turn, as long as they answer the same ranges.
+-- Two streams that are drawn from alternately, while they return the same ranges.
 use Rattle.rsb_integer.specs.declared.integer.Integer.{Ghosts as Elements}
 use Rattle.rsb_streams.specs.declared.draw.Draw.{Ghosts as Stream}
 use Rattle.std.proofs.Common.{◌≡◌, ◌↔◌, ℕ, Bool, true, false, not, List, [], ◌∷◌, ◌++◌, refl, sym, subst, append_assoc}

@@ -1,4 +1,4 @@
--- What a loop over a stream took of it, by calls of `next`.
+-- What a loop over a stream took from it, by calls of `next`.
 use Rattle.std.proofs.Common.{List, [], ◌∷◌, sym, subst}
 use Rattle.std.specs.Prelude.{Option, Some, None}
 use Rattle.std.specs.Iterator.{Count, Yields}

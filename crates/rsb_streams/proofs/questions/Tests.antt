@@ -1,4 +1,4 @@
--- What tests between two streams tell.
+-- What the results of tests between two streams mean.
 use Rattle.std.proofs.Common.{◌↔◌, ℕ, ◌<◌, Bool, refl, sym, ◌∙◌, inl, inr}
 use Rattle.std.proofs.lemmas.Bool.{cases_lt}
 use Rattle.std.specs.Prelude.{IsTrue, IsFalse}

@@ -1,4 +1,4 @@
--- A stream that a proof knows by its laws alone.
+-- A stream of which a proof knows only the laws.
 use Rattle.std.proofs.Common.{◌≡◌, ℕ, ◌+◌, ◌≤◌, Bool, true, false, List, [], ◌∷◌, sym, ap, subst, arith}
 use Rattle.std.specs.Prelude.{Option, Some, None, MatchOption}
 use Rattle.std.specs.Iterator.{Count, MakesProgress, size}

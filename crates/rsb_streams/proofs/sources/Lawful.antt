@@ -1,4 +1,4 @@
--- Streams that keep a law, as sources of streams whose maker knows the law.
+-- Streams that satisfy a law, as sources of streams that are known to satisfy it.
 use Rattle.rsb_integer.specs.declared.integer.Integer.{Ghosts as Elements}
 use Rattle.rsb_streams.specs.declared.draw.Draw.{Ghosts as Stream}
 use Rattle.std.proofs.Common.{ℕ, List, [], ◌∷◌, ◌++◌, sym, subst}

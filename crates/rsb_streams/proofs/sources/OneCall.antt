@@ -1,4 +1,4 @@
--- One call of a stream whose maker knows the law of its items.
+-- One call of a stream whose items are known to satisfy a law.
 use Rattle.std.proofs.Common.{◌≡◌, ℕ, Bool, true, false, List, ◌∷◌, refl, arith}
 use Rattle.std.specs.Prelude.{Option, Some, None, MatchBool}
 use Rattle.std.specs.declared.iter.Fuse.{Fuse}

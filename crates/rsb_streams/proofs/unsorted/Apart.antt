@@ -1,4 +1,4 @@
--- What is told of two ranges by comparisons of their ends.
+-- What comparisons of their ends determine about two ranges.
 use Rattle.std.proofs.Common.{◌≡◌, ◌⊎◌, ℕ, ◌+◌, ◌<◌, ◌≤◌, Bool, true, false, cond, max, min, nat_le, not, refl, sym, ap, ◌∙◌, subst, inl, inr, arith}
 use Rattle.std.specs.Prelude.{◌↔◌, Option, Some, None, IfSome, IsNone, IsTrue, MatchBool}
 use Rattle.std.specs.Ordering.{ord_max, ord_min, partial_le}

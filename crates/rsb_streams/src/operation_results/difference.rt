@@ -1,4 +1,4 @@
-//! What the one of two streams has and the other lacks.
+//! The difference of two streams.
 
 ghost use Rattle.rsb_streams.specs.Difference.{difference};
 ghost use Rattle.rsb_streams.specs.ResultLaws.{difference-disjoint};
@@ -14,15 +14,16 @@ use rsb_integer::Integer;
 use std::iter::FusedIterator;
 use std::ops::RangeInclusive;
 
-/// What the left of two streams has and the right one lacks. (`Difference` of the Rust crate.)
+/// The values in the left of two streams that are not in the right one. (`Difference` in
+/// range-set-blaze.)
 #[derive(Clone, Debug, Drop)]
 pub struct Difference<T, L, R> {
-    // What is neither left out by the left nor in the right.
+    // The values that are neither outside the left stream nor in the right one.
     iter: NotIter<T, UnionIter<T, Merge<T, NotIter<T, L>, R>>>,
 }
 
 impl<T: Integer, L: DrawDisjoint<T>, R: DrawDisjoint<T>> From<(L, R)> for Difference<T, L, R> {
-    // What the one of two streams that may be drawn from has and the other lacks; nothing is drawn yet.
+    // From two ready streams, this makes their difference. Nothing is drawn yet.
     ghost from_gives = { λ streams result. L.can_draw streams.0 → R.can_draw streams.1
         → MakesDifference T.Integer.own L.Draw R.Draw ⟦<Difference<T, L, R> as Draw<T>>⟧
         streams.0 streams.1 result };

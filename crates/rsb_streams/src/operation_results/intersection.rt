@@ -1,4 +1,4 @@
-//! What two streams both have.
+//! The intersection of two streams.
 
 ghost use Rattle.rsb_streams.specs.Intersection.{intersection};
 ghost use Rattle.rsb_streams.specs.ResultLaws.{intersection-disjoint};
@@ -14,15 +14,15 @@ use rsb_integer::Integer;
 use std::iter::FusedIterator;
 use std::ops::RangeInclusive;
 
-/// What two streams both have. (`Intersection` of the Rust crate.)
+/// The values in both of two streams. (`Intersection` in range-set-blaze.)
 #[derive(Clone, Debug, Drop)]
 pub struct Intersection<T, L, R> {
-    // What neither leaves out.
+    // The values that are outside neither stream.
     iter: NotIter<T, UnionIter<T, Merge<T, NotIter<T, L>, NotIter<T, R>>>>,
 }
 
 impl<T: Integer, L: DrawDisjoint<T>, R: DrawDisjoint<T>> From<(L, R)> for Intersection<T, L, R> {
-    // What two streams that may be drawn from both have; nothing is drawn yet.
+    // From two ready streams, this makes their intersection. Nothing is drawn yet.
     ghost from_gives = { λ streams result. L.can_draw streams.0 → R.can_draw streams.1
         → MakesIntersection T.Integer.own L.Draw R.Draw ⟦<Intersection<T, L, R> as Draw<T>>⟧
         streams.0 streams.1 result };

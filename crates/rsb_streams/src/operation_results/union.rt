@@ -1,4 +1,4 @@
-//! What lies in either of two streams.
+//! The union of two streams.
 
 ghost use Rattle.rsb_streams.specs.Results.{MakesUnion};
 ghost use Rattle.rsb_streams.specs.ResultLaws.{union-disjoint};
@@ -13,16 +13,16 @@ use rsb_integer::Integer;
 use std::iter::FusedIterator;
 use std::ops::RangeInclusive;
 
-/// What lies in either of two streams. It looks ahead of each by one range at most: what it has drawn
-/// lies within its answers, but for one that starts past the last of them with a gap between.
-/// (`Union` of the Rust crate.)
+/// The values in either of two streams. It looks at most one range ahead in each stream. All other
+/// ranges that it has drawn lie within those that it has returned. The one ahead starts past the
+/// last returned range, with a gap between. (`Union` in range-set-blaze.)
 #[derive(Clone, Debug, Drop)]
 pub struct Union<T, L, R> {
     iter: UnionIter<T, Merge<T, L, R>>,
 }
 
 impl<T: Integer, L: DrawDisjoint<T>, R: DrawDisjoint<T>> From<(L, R)> for Union<T, L, R> {
-    // The union of two streams that may be drawn from, of which nothing is drawn yet.
+    // From two ready streams, this makes their union. Nothing is drawn yet.
     ghost from_gives = { λ streams result. L.can_draw streams.0 → R.can_draw streams.1
         → MakesUnion T.Integer.own L.Draw R.Draw ⟦<Union<T, L, R> as Draw<T>>⟧
         streams.0 streams.1 result };

@@ -1,4 +1,4 @@
-//! The operator `&` on streams: what two both have.
+//! The operator `&` on streams: the intersection of two.
 
 ghost use Rattle.rsb_streams.specs.Results.{CanDrawBoth, MakesIntersection};
 

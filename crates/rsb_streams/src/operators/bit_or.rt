@@ -1,4 +1,4 @@
-//! The operator `|` on streams: what lies in either of two.
+//! The operator `|` on streams: the union of two.
 
 ghost use Rattle.rsb_streams.specs.Results.{CanDrawBoth, MakesUnion};
 

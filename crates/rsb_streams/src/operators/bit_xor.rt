@@ -1,4 +1,4 @@
-//! The operator `^` on streams: what one of two has alone.
+//! The operator `^` on streams: the symmetric difference of two.
 
 ghost use Rattle.rsb_streams.specs.Results.{CanDrawBoth, MakesSymmetricDifference};
 

@@ -1,4 +1,4 @@
-//! The operator `!` on streams: what a stream leaves out.
+//! The operator `!` on streams: the complement of one.
 
 ghost use Rattle.rsb_streams.specs.Results.{MakesComplement};
 

@@ -1,4 +1,4 @@
-//! The operator `-` on streams: what the left one has and the right one lacks.
+//! The operator `-` on streams: the values in the left one that are not in the right one.
 
 ghost use Rattle.rsb_streams.specs.Results.{CanDrawBoth, MakesDifference};
 

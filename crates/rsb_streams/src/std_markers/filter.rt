@@ -1,4 +1,4 @@
-//! The ranges of a stream that pass a test are a stream.
+//! `Filter` over a stream is a stream: it gives the ranges that pass a test.
 
 ghost use Rattle.std.specs.Iterator.Adapters.{filter_source};
 ghost use Rattle.rsb_streams.specs.AdapterLaws.{filter-drawn, filter-sorted};

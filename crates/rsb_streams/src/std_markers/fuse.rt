@@ -1,4 +1,4 @@
-//! A stream that is not asked again after its end is a stream.
+//! `Fuse` over a stream is a stream: it does not call the stream again after its end.
 
 ghost use Rattle.rsb_streams.specs.AdapterLaws.{fuse-drawn, fuse-sorted};
 ghost use Rattle.rsb_streams.specs.Adapters.{fuse_draws};

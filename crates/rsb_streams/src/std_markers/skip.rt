@@ -1,4 +1,4 @@
-//! The ranges of a stream after so many are a stream.
+//! `Skip` over a stream is a stream: it gives the ranges after the given number of first ones.
 
 ghost use Rattle.std.specs.Iterator.Adapters.{skip_count, skip_source};
 ghost use Rattle.rsb_streams.specs.AdapterLaws.{skip-drawn, skip-sorted};

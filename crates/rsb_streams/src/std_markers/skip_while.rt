@@ -1,4 +1,5 @@
-//! The ranges of a stream from the first on that fails a test are a stream.
+//! `SkipWhile` over a stream is a stream: it gives the ranges starting at the first that fails a
+//! test.
 
 ghost use Rattle.std.specs.Iterator.Adapters.{skip_while_done_skipping, skip_while_source};
 ghost use Rattle.rsb_streams.specs.AdapterLaws.{skip_while-drawn, skip_while-sorted};

@@ -1,4 +1,5 @@
-//! So many first ranges of a stream are a stream.
+//! `Take` over a stream is a stream: it gives the given number of first ranges, if there are as
+//! many.
 
 ghost use Rattle.std.specs.Iterator.Adapters.{take_count, take_source};
 ghost use Rattle.rsb_streams.specs.AdapterLaws.{take-drawn, take-sorted};

@@ -1,4 +1,4 @@
-//! The ranges of a stream before the first that fails a test are a stream.
+//! `TakeWhile` over a stream is a stream: it gives the ranges before the first that fails a test.
 
 ghost use Rattle.std.specs.Iterator.Adapters.{take_while_done, take_while_source};
 ghost use Rattle.rsb_streams.specs.AdapterLaws.{take_while-drawn, take_while-sorted};

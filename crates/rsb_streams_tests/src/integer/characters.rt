@@ -1,8 +1,9 @@
-//! Characters, whose codes leave out the surrogates.
+//! Characters: their codes leave out the surrogates.
 
 use crate::integer::ends::{are_neighbors, leads_across};
 
-/// Whether a character is the one at this place, from 1 on, and follows another.
+/// Returns whether a character is the one at the given position, counted from 1, and follows
+/// `before`.
 fn is_at(count: u32, c: char, before: Option<char>) -> bool {
     let others = 1_112_065_u32.saturating_sub(count);
     leads_across('\0', c, count)

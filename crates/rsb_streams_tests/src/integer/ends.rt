@@ -6,7 +6,7 @@ use rsb_commands::outside::{Side, Slot};
 use rsb_integer::Integer;
 use rsb_length::UIntPlusOne;
 
-/// Whether all four steps lead from a value to another and back.
+/// Returns whether the four calls that step by one lead from one value to the other and back.
 pub(crate) fn are_neighbors<T: Integer>(before: T, after: T) -> bool {
     if before.checked_add_one() != Some(after) {
         return false;
@@ -16,18 +16,19 @@ pub(crate) fn are_neighbors<T: Integer>(before: T, after: T) -> bool {
     before.add_one() == after && after.sub_one() == before && stepped == before
 }
 
-/// Whether two values are in order, which is then known of their ranks.
+/// Returns whether two values are in order. If they are, their ranks are known to be too.
 fn are_in_order<T: Integer>(first: T, last: T) -> bool
     ensures order { IsTrue result → T.rank first ≤ T.rank last }
     ensures bound { T.rank last < T.value_count }
 {
-    // Called for what these say of the ranks.
+    // The contracts of these calls state that the ranks are in the type.
     first.checked_add_one();
     last.checked_add_one();
     first <= last
 }
 
-/// Whether a range has this length, which leads from each of its ends to the other.
+/// Returns whether a range has the given length, and that length leads from each of its ends to the
+/// other.
 pub(crate) fn leads_across<T: Integer>(first: T, last: T, length: T::SafeLen) -> bool {
     if !are_in_order(first, last) {
         return false;
@@ -38,7 +39,8 @@ pub(crate) fn leads_across<T: Integer>(first: T, last: T, length: T::SafeLen) ->
         && last.start_from_inclusive_end(found) == first
 }
 
-/// Whether the range of one value gives it from the front, and then nothing from either end.
+/// Returns whether the range of one value gives it from the front, and then nothing from either
+/// end.
 fn comes_from_the_front<T: Integer>(value: T) -> bool {
     let mut range = value..=value;
     T::range_next(&mut range) == Some(value)
@@ -46,7 +48,7 @@ fn comes_from_the_front<T: Integer>(value: T) -> bool {
         && T::range_next_back(&mut range).is_none()
 }
 
-/// Whether the range of one value gives it from the back, and then nothing from either end.
+/// Returns whether the range of one value gives it from the back, and then nothing from either end.
 fn comes_from_the_back<T: Integer>(value: T) -> bool {
     let mut range = value..=value;
     T::range_next_back(&mut range) == Some(value)
@@ -54,13 +56,14 @@ fn comes_from_the_back<T: Integer>(value: T) -> bool {
         && T::range_next(&mut range).is_none()
 }
 
-/// Whether a range gives its last value from the back and then its first from the front.
+/// Returns whether a range gives its last value from the back and then its first from the front.
 fn comes_from_both_ends<T: Integer>(first: T, last: T) -> bool {
     let mut range = first..=last;
     T::range_next_back(&mut range) == Some(last) && T::range_next(&mut range) == Some(first)
 }
 
-/// Whether the range with no member leads from the greatest value to the least, and gives nothing.
+/// Returns whether the exhausted range goes from the greatest value to the least, and gives
+/// nothing.
 fn exhausted_gives_nothing<T: Integer>() -> bool {
     let mut range = T::exhausted_range();
     *range.start() == T::max_value()
@@ -69,7 +72,8 @@ fn exhausted_gives_nothing<T: Integer>() -> bool {
         && T::range_next_back(&mut range).is_none()
 }
 
-/// Whether all calls end well at both ends of a type, of which these are two lengths.
+/// Returns whether every call gives the right result at both ends of a type. `two` is the length of
+/// two values, and `whole` that of the type.
 fn calls_end_well<T: Integer>(two: T::SafeLen, whole: T::SafeLen) -> bool {
     let least = T::min_value();
     let greatest = T::max_value();

@@ -1,4 +1,4 @@
-//! Lengths of ranges.
+//! The lengths of ranges.
 
 use rsb_integer::Integer;
 use rsb_length::UIntPlusOne;

@@ -4,7 +4,7 @@ ghost use Rattle.std.specs.Prelude.{◌≡◌};
 
 use rsb_length::{SafeLength, UIntPlusOne};
 
-/// The greatest length, left by one and reached again.
+/// Returns the greatest length, after a step down from it and back up.
 fn greatest_again<L: SafeLength>() -> L
     ensures { L.number result ≡ L.limit }
 {

@@ -2,10 +2,10 @@
 
 use rsb_length::UInt;
 
-/// Two numbers, and their sum, difference and product where the type has these.
+/// Two numbers, and their sum, difference and product, as far as the type has them.
 type Row<T> = (T, T, Option<T>, Option<T>, Option<T>);
 
-/// Whether what takes two numbers answers as a row says.
+/// Returns whether the checked calls on two numbers return what the row has.
 fn calls_answer<T: UInt>(row: &Row<T>) -> bool {
     let (a, b, sum, rest, product) = row;
     a.checked_sum(*b) == *sum
@@ -13,7 +13,7 @@ fn calls_answer<T: UInt>(row: &Row<T>) -> bool {
         && a.checked_product(*b) == *product
 }
 
-/// Rows of bytes.
+/// Rows for `u8`.
 static CHECKED: [Row<u8>; 12] = [
     (0, 0, Some(0), Some(0), Some(0)),
     (255, 0, Some(255), Some(255), Some(0)),
@@ -29,10 +29,10 @@ static CHECKED: [Row<u8>; 12] = [
     (255, 255, None, Some(0), None),
 ];
 
-/// Half of the numbers of the widest type.
+/// Half the number of values of `u128`.
 const HALF: u128 = 1 << 127;
 
-/// Rows of the widest type.
+/// Rows for `u128`.
 static WIDE: [Row<u128>; 7] = [
     (u128::MAX, 0, Some(u128::MAX), Some(u128::MAX), Some(0)),
     (u128::MAX, 1, None, Some(u128::MAX - 1), Some(u128::MAX)),

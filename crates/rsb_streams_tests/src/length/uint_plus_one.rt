@@ -1,5 +1,5 @@
-//! `UIntPlusOne<u8>` added, multiplied, subtracted and ordered as the numbers from 0 to 256 are, and
-//! the ends, copies and texts of two lengths.
+//! `UIntPlusOne<u8>` adds, multiplies, subtracts and compares like the numbers from 0 to 256. Two
+//! such types have the right greatest lengths, clones and texts.
 
 ghost use Rattle.std.specs.Prelude.{◌≡◌, ◌≤◌};
 ghost use Rattle.rsb_length.specs.UIntPlusOne.{number_of};
@@ -9,7 +9,7 @@ use rsb_length::UIntPlusOne;
 use rsb_tables::fed_by;
 use std::test::Fail;
 
-/// The length of this number.
+/// Returns the length with the given number.
 fn from_number(number: u32) -> UIntPlusOne<u8>
     requires { number ≤ 256 }
     ensures { number_of (λ a. a) 255 result ≡ number }
@@ -20,7 +20,7 @@ fn from_number(number: u32) -> UIntPlusOne<u8>
     }
 }
 
-/// The number of this length.
+/// Returns the number of a length.
 fn to_number(length: UIntPlusOne<u8>) -> u32 {
     match length {
         UIntPlusOne::UInt(value) => u32::from(value),

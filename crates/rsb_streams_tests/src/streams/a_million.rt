@@ -1,4 +1,4 @@
-//! Streams of more than a million ranges: no loop gives up at a size.
+//! Streams of more than a million ranges: no loop stops at a certain size.
 
 use rsb_integer::Integer;
 use rsb_streams::{CheckSortedDisjoint, DrawDisjoint, UnionIter};
@@ -7,10 +7,10 @@ use std::alloc::{AllocError, Global};
 use std::ops::RangeInclusive;
 use std::test::Fail;
 
-/// More than a million.
+/// A number above a million.
 const MANY: i32 = 1_000_100;
 
-/// More than a million values, each second one from a first one on, as ranges.
+/// Returns `MANY` ranges of one value each: `first` and every second value after it.
 fn each_second(alloc: Global, first: i32) -> Result<Vec<RangeInclusive<i32>>, AllocError> {
     let ranges = (0..MANY).map(|place| {
         let value = first.saturating_add(place.saturating_mul(2));
@@ -19,14 +19,14 @@ fn each_second(alloc: Global, first: i32) -> Result<Vec<RangeInclusive<i32>>, Al
     Vec::from_iter(alloc, ranges)
 }
 
-/// Whether a stream has this many members.
+/// Returns whether a stream has the given number of members.
 fn has_members<T: Integer, I: DrawDisjoint<T>>(stream: I, wanted: T::SafeLen) -> bool
     requires { I.can_draw stream }
 {
     stream.members_len() == wanted
 }
 
-/// Whether two streams are equal, and each is a subset of the other.
+/// Returns whether two streams are equal.
 fn are_equal<T: Integer, I: DrawDisjoint<T>>(left: I, right: I) -> bool
     requires left { I.can_draw left }
     requires right { I.can_draw right }
@@ -34,7 +34,7 @@ fn are_equal<T: Integer, I: DrawDisjoint<T>>(left: I, right: I) -> bool
     left.equal(right)
 }
 
-/// Whether a list is refused at its last position, where a range touches the one before.
+/// Returns whether a list is refused at its last position, where a range touches the one before.
 fn is_refused_at_the_end(alloc: Global) -> Result<bool, AllocError> {
     let mut ranges = each_second(alloc, 0)?;
     ranges.push(2_000_199..=2_000_199)?;
@@ -44,7 +44,7 @@ fn is_refused_at_the_end(alloc: Global) -> Result<bool, AllocError> {
     }
 }
 
-/// Whether a list is accepted, and has as many members as ranges.
+/// Returns whether a list is accepted, and has as many members as ranges.
 fn is_accepted(alloc: Global) -> Result<bool, AllocError> {
     match CheckSortedDisjoint::try_new(each_second(alloc, 0)?) {
         Ok(stream) => Ok(has_members(stream, 1_000_100)),
@@ -52,7 +52,7 @@ fn is_accepted(alloc: Global) -> Result<bool, AllocError> {
     }
 }
 
-/// Whether the complement of a list has the other values.
+/// Returns whether the complement of a list has the right number of members.
 fn is_complemented(alloc: Global) -> Result<bool, AllocError> {
     match CheckSortedDisjoint::try_new(each_second(alloc, 0)?) {
         Ok(stream) => Ok(has_members(stream.complement(), 4_293_967_196)),
@@ -60,7 +60,8 @@ fn is_complemented(alloc: Global) -> Result<bool, AllocError> {
     }
 }
 
-/// Whether an operation on the even values and on those from another one on gives these ranges.
+/// Returns whether an operation gives exactly these ranges. Its operands are every second value
+/// starting at 0, and every second value starting at `first`.
 fn makes(
     alloc: Global,
     operation: Operation,
@@ -75,7 +76,7 @@ fn makes(
     }
 }
 
-/// Whether two lists of the same ranges are equal.
+/// Returns whether two lists of the same ranges are equal.
 fn equals_itself(alloc: Global) -> Result<bool, AllocError> {
     let one = CheckSortedDisjoint::try_new(each_second(alloc, 0)?);
     let other = CheckSortedDisjoint::try_new(each_second(alloc, 0)?);
@@ -99,7 +100,7 @@ fn a_million_ranges_have_a_complement_and_equal_themselves(rt: HostRuntime) -> R
     Ok(())
 }
 
-// Its only answer takes in all ranges of both streams.
+// The only range of the result contains all ranges of both streams.
 #[test]
 fn a_union_joins_a_million_ranges_of_each_stream(rt: HostRuntime) -> Result<(), Fail> {
     assert!(rt; makes(rt.alloc(), Operation::Union, 1, &[(0, 2_000_199)])?);

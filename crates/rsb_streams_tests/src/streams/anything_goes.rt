@@ -1,11 +1,11 @@
-//! Any stream of ranges, by the trait that asks nothing more.
+//! `AnythingGoes`, the trait of streams that may give any ranges.
 
 use rsb_commands::outside::OrdinalWeekends;
 use rsb_integer::Integer;
 use rsb_streams::{AnythingGoes, Merge, RangeOnce};
 use std::ops::RangeInclusive;
 
-/// The first range of any stream of ranges.
+/// Returns the first range of any stream of ranges.
 fn first<T: Integer, I: AnythingGoes<T>>(stream: I) -> Option<RangeInclusive<T>>
     requires { I.can_next stream }
 {

@@ -1,4 +1,5 @@
-//! Arrays of ranges that are known to be sorted, to touch at most, or to be canonical.
+//! Arrays of ranges as streams, if they are known to be sorted by start, to ascend and perhaps
+//! touch, or to be canonical.
 
 use rsb_streams::{AssumeSortedStarts, CheckSortedDisjoint, CheckSortedTouching, UnionIter};
 use rsb_tables::gives;

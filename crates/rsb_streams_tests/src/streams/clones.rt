@@ -1,4 +1,4 @@
-//! Clones of streams from which something was drawn: each equals the stream, and goes on as it does.
+//! Clones of streams that were drawn from: each gives what the original still gives.
 
 ghost use Rattle.std.specs.Prelude.{◌≡◌};
 
@@ -8,20 +8,20 @@ use rsb_tables::{Listed, both_give, stream_of, three_tens};
 use std::alloc::AllocError;
 use std::test::Fail;
 
-/// The values from 5 to 25, five apart.
+/// The values from 5 to 25 in steps of five.
 const FIVE: [(u8, u8); 5] = [(5, 5), (10, 10), (15, 15), (20, 20), (25, 25)];
 
-/// The last two of three tens.
+/// The last two ranges of `three_tens`.
 const TWO: [(u8, u8); 2] = [(10, 10), (20, 20)];
 
-/// The values 5, 15 and 25.
+/// Returns a stream of the values 5, 15 and 25.
 fn fives() -> Listed<'static>
     ensures { ⟦<Listed<'static> as Draw<u8>>⟧.can_draw result }
 {
     stream_of(&[(5, 5), (15, 15), (25, 25)])
 }
 
-/// Whether a stream gives a range with these ends, and both it and a copy of it then give others.
+/// Returns whether a stream first gives `first`, and then both it and a clone of it give `others`.
 fn goes_on<I: Draw<u8> + Clone>(
     stream: I,
     first: (u8, u8),
@@ -46,7 +46,7 @@ fn clones_of_merges_of_joined_streams_and_of_complements_go_on(
     Ok(())
 }
 
-// A union has a merge and what joins it, and an intersection has complements.
+// A union contains a merge and what joins it; an intersection contains complements.
 #[test]
 fn clones_of_unions_and_of_intersections_go_on(rt: HostRuntime) -> Result<(), Fail> {
     assert!(rt; goes_on(three_tens().union(fives()), (0, 0), &FIVE)?);

@@ -1,4 +1,4 @@
-//! A nest of eight operations of all five kinds, of one type, over any lawful streams.
+//! A nest of eight operations of all five kinds, generic over ready streams of one element type.
 
 use crate::streams::deep_nests::range;
 use rsb_commands::outside::{Side, Slot};
@@ -8,10 +8,10 @@ use rsb_streams::{
 };
 use rsb_tables::{gives, slot};
 
-/// What neither of two streams has.
+/// The values in neither of two streams.
 type Two<T, S, I> = NotIter<T, Union<T, S, I>>;
 
-/// Two operations of two kinds on any stream.
+/// Returns the result of two operations of two kinds on any streams.
 fn two<T: Integer, S: DrawDisjoint<T>, I: DrawDisjoint<T>>(stream: S, other: I) -> Two<T, S, I>
     requires stream { S.can_draw stream }
     requires other { I.can_draw other }
@@ -20,10 +20,11 @@ fn two<T: Integer, S: DrawDisjoint<T>, I: DrawDisjoint<T>>(stream: S, other: I) 
     !stream.union(other)
 }
 
-/// What a stream and another both have and a third lacks, against a fourth.
+/// The values in both of two streams but not in a third, combined with a fourth by symmetric
+/// difference.
 type Three<T, S, I> = SymmetricDifference<T, Difference<T, Intersection<T, S, I>, I>, I>;
 
-/// Three operations of the three other kinds on any stream.
+/// Returns the result of three operations of the other three kinds on any streams.
 fn three<T: Integer, S: DrawDisjoint<T>, I: DrawDisjoint<T>>(
     stream: S,
     others: (I, I, I),
@@ -35,7 +36,7 @@ fn three<T: Integer, S: DrawDisjoint<T>, I: DrawDisjoint<T>>(
     stream.intersection(others.0) - others.1 ^ others.2
 }
 
-/// Eight operations on any stream.
+/// Returns the result of eight operations on any streams.
 fn eight<T: Integer, S: DrawDisjoint<T>, I: DrawDisjoint<T>>(
     stream: S,
     first: I,
@@ -51,7 +52,7 @@ fn eight<T: Integer, S: DrawDisjoint<T>, I: DrawDisjoint<T>>(
     three(three(two(stream, first), some), others)
 }
 
-/// Whether eight operations on the ranges with these ends give those with others.
+/// Returns whether eight operations on ranges with these ends give exactly the wanted ranges.
 fn eight_gives<T: Integer>(ends: &[(T, T); 8], wanted: &[(T, T)]) -> bool {
     let [stream, first, a, b, c, d, e, f] = *ends;
     let some = (range(a), range(b), range(c));
@@ -61,8 +62,8 @@ fn eight_gives<T: Integer>(ends: &[(T, T); 8], wanted: &[(T, T)]) -> bool {
 
 #[test]
 fn eight_operations_of_five_kinds(rt: HostRuntime) {
-    // The first five make 5..=9, 13..=19, 81..=89 and 100..=200 of 0..=19 and 81..=255, and the others
-    // the gaps of 7..=9, 13..=19, 81..=89 and 100..=119.
+    // The first two operations give 0..=19 and 81..=255, and the next three 5..=9, 13..=19, 81..=89
+    // and 100..=200. The last three give the gaps of 7..=9, 13..=19, 81..=89 and 100..=119.
     let ends = [
         (20u8, 29),
         (25, 80),
@@ -78,21 +79,21 @@ fn eight_operations_of_five_kinds(rt: HostRuntime) {
 
 #[test]
 fn eight_operations_on_two_values(rt: HostRuntime) {
-    // The first five make the lower side of the upper one.
+    // The first two operations give the upper side, and the next three the lower one.
     let (all, low) = ((Side::Lo, Side::Hi), (Side::Lo, Side::Lo));
     let (none, high) = ((Side::Hi, Side::Lo), (Side::Hi, Side::Hi));
     assert!(rt; eight_gives(&[low, none, all, low, all, low, none, high], &[all]));
 }
 
-/// Two slots.
+/// Returns the slots with two numbers.
 fn two_slots(first: u8, last: u8) -> (Slot, Slot) {
     (slot(first), slot(last))
 }
 
 #[test]
 fn eight_operations_on_slots(rt: HostRuntime) {
-    // The first five make 5..=9, 13..=19, 81..=84 and 88..=90 of 0..=19 and 81..=95, and the others the
-    // gaps of 7..=9, 13..=19 and 81..=81.
+    // The first two operations give 0..=19 and 81..=95, and the next three 5..=9, 13..=19, 81..=84
+    // and 88..=90. The last three give the gaps of 7..=9, 13..=19 and 81..=81.
     let ends = [
         two_slots(20, 29),
         two_slots(25, 80),

@@ -7,21 +7,21 @@ use rsb_tables::gives;
 /// The ends of four ranges.
 type Ends = [(u8, u8); 4];
 
-/// The range with these ends.
+/// Returns a stream of the range with these ends.
 pub(crate) fn range<T: Integer>(ends: (T, T)) -> RangeOnce<T>
     ensures { ⟦<RangeOnce<T> as Draw<T>>⟧.can_draw result }
 {
     RangeOnce::new(ends.0..=ends.1)
 }
 
-/// A stream against two ranges.
+/// The symmetric difference of a stream and two ranges.
 type TwoSymmetricDifferences<S> = SymmetricDifference<
     u8,
     SymmetricDifference<u8, S, RangeOnce<u8>>,
     RangeOnce<u8>,
 >;
 
-/// What lies in an odd number of a stream and four ranges.
+/// Returns the values in an odd number of a stream and four ranges.
 fn four_symmetric_differences<S: DrawDisjoint<u8>>(
     stream: S,
     ends: Ends,

@@ -1,9 +1,9 @@
-//! Runs and gaps in one.
+//! The runs and gaps of streams, in one iterator.
 
 use rsb_streams::{DrawDisjoint, RangeOnce};
 use rsb_tables::{fills, stream_of};
 
-/// A stream of runs, and its runs and gaps.
+/// The runs of a stream, and its runs and gaps.
 static FILLED: [(&[(u8, u8)], &[(u8, u8, bool)]); 5] = [
     (&[], &[(0, 255, false)]),
     (&[(0, 255)], &[(0, 255, true)]),

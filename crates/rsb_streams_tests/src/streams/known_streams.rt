@@ -1,4 +1,4 @@
-//! Streams that are known to be sorted or canonical, taken as they are.
+//! Streams that are known to be sorted by start or canonical, and are used without a check.
 
 use crate::streams::nested::{joined_again, known};
 use rsb_streams::{CheckSortedDisjoint, Merge, RangeOnce};

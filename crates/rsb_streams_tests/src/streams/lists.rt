@@ -1,4 +1,4 @@
-//! Lists of ranges as streams, accepted where they are canonical.
+//! Lists of ranges as streams, which are accepted if they are canonical.
 
 ghost use Rattle.std.specs.Prelude.{IfSome};
 ghost use Rattle.rsb_integer.specs.Rank.{intervals_of};
@@ -12,8 +12,8 @@ use std::alloc::Global;
 use std::ops::RangeInclusive;
 use std::test::Fail;
 
-/// Whether a list is refused at a position, and then given back, or accepted, and then gives its
-/// ranges.
+/// Returns whether a list is refused at the wanted position and given back. If none is wanted,
+/// returns whether the list is accepted and gives its ranges.
 fn is_refused_at<T: Integer>(
     alloc: Global,
     ranges: &[(T, T)],
@@ -27,7 +27,7 @@ fn is_refused_at<T: Integer>(
     }
 }
 
-/// The first position where a list is out of order, whatever values its type has.
+/// Returns the first position at which a list is out of order, for any element type.
 fn first_out_of_order<T: Integer>(ranges: Vec<RangeInclusive<T>>) -> Option<usize>
     ensures { IfSome result (IsFirstBad IsCanonical (intervals_of T.rank ranges.items)) }
 {
@@ -56,7 +56,7 @@ fn the_empty_list_is_accepted(rt: HostRuntime) -> Result<(), Fail> {
     Ok(())
 }
 
-/// Ranges, and the first position that is out of place, if any is.
+/// Ranges, and the first position that is out of place, if there is one.
 static LISTS: [(&[(u8, u8)], Option<usize>); 13] = [
     (&[(1, 2), (9, 8), (9, 9)], Some(1)),
     (&[(1, 0)], Some(0)),

@@ -1,4 +1,4 @@
-//! How many ranges of its inputs a stream has drawn, call by call.
+//! How many ranges a stream has drawn from its inputs after each call.
 
 ghost use Rattle.std.specs.Prelude.{IfSome};
 ghost use Rattle.rsb_integer.specs.Rank.{interval_of};
@@ -15,11 +15,11 @@ use std::ops::RangeInclusive;
 /// Three ranges.
 const LEFT: &[(u8, u8)] = &[(0, 9), (20, 29), (40, 49)];
 
-/// Two, of which the first lies over a gap.
+/// Two ranges. The first covers a gap of `LEFT`.
 const RIGHT: &[(u8, u8)] = &[(5, 24), (60, 69)];
 
-/// Whether a stream that was just made has drawn nothing, and gives ranges with these ends and then
-/// nothing, and has drawn as many ranges of its inputs after each as stand beside it.
+/// Returns whether a new stream has drawn nothing, and then gives exactly the listed ranges. Beside
+/// each range is the number of ranges that the stream has drawn from each input after it.
 fn draws<I: Draw<u8>>(
     stream: I,
     lefts: &Cell<usize>,
@@ -40,8 +40,8 @@ fn draws<I: Draw<u8>>(
     before_the_end == drawn && stream.draw().is_none() && (lefts.get(), rights.get()) == drawn
 }
 
-/// The first range of a union of two streams, and the union after it: of the left stream as many
-/// ranges are drawn as lie within that range, and one more at most.
+/// Returns the first range of a union of two streams, and the union after it. From the left stream,
+/// at most one range more was drawn than lie within that range.
 fn first_of_both<T: Integer, L: DrawDisjoint<T>, R: DrawDisjoint<T>>(
     left: L,
     right: R,

@@ -1,4 +1,4 @@
-//! The merge of two streams.
+//! The merge of two streams by their starts.
 
 use rsb_streams::Merge;
 use rsb_tables::{gives, stream_of};

@@ -1,4 +1,4 @@
-//! Results of results, from public contracts alone.
+//! Operations on results of operations, proved only from public contracts.
 
 ghost use Rattle.rsb_integer.specs.Selection.{complement, union};
 ghost use Rattle.rsb_streams.specs.Stream.{◌⊆◌, joined, runs_by, runs_by_two};
@@ -10,7 +10,7 @@ use rsb_streams::{
 };
 use rsb_tables::{gives, neighbors_of, three_tens};
 
-/// The complement of the complement has the members of the stream.
+/// Returns the complement of the complement, which has the members of the stream.
 pub(crate) fn complement_twice<T: Integer, I: SortedDisjoint<T>>(
     stream: I,
 ) -> NotIter<T, NotIter<T, I>>
@@ -22,7 +22,7 @@ pub(crate) fn complement_twice<T: Integer, I: SortedDisjoint<T>>(
     !stream.complement()
 }
 
-/// What lies in the first stream, or outside the second.
+/// Returns the values that are in the first stream or not in the second.
 pub(crate) fn union_with_complement<T: Integer, L: SortedDisjoint<T>, R: SortedDisjoint<T>>(
     left: L,
     right: R,
@@ -37,7 +37,7 @@ pub(crate) fn union_with_complement<T: Integer, L: SortedDisjoint<T>, R: SortedD
     left.union(right.complement())
 }
 
-/// The ranges of a stream once more, since their starts are known not to fall, and joined.
+/// Returns the ranges of a stream again, joined. They are known to be sorted by start.
 pub(crate) fn joined_again<T: Integer, I: SortedStarts<T>>(
     stream: I,
 ) -> UnionIter<T, AssumeSortedStarts<T, I>>
@@ -47,7 +47,7 @@ pub(crate) fn joined_again<T: Integer, I: SortedStarts<T>>(
     UnionIter::new(sorted(stream))
 }
 
-/// The ranges of a stream once more, since their starts are known not to fall.
+/// Returns the ranges of a stream again. They are known to be sorted by start.
 pub(crate) fn sorted<T: Integer, I: SortedStarts<T>>(stream: I) -> AssumeSortedStarts<T, I>
     requires { I.can_draw stream }
     ensures { ⟦<AssumeSortedStarts<T, I> as Draw<T>>⟧.can_draw result }
@@ -55,7 +55,7 @@ pub(crate) fn sorted<T: Integer, I: SortedStarts<T>>(stream: I) -> AssumeSortedS
     AssumeSortedStarts::new(stream)
 }
 
-/// The ranges of a stream once more, since they are known to be canonical.
+/// Returns the ranges of a stream again. They are known to be canonical.
 pub(crate) fn known<T: Integer, I: SortedDisjoint<T>>(stream: I) -> CheckSortedDisjoint<T, I>
     requires { I.can_draw stream }
     ensures { ⟦<CheckSortedDisjoint<T, I> as Draw<T>>⟧.can_draw result }
@@ -63,7 +63,7 @@ pub(crate) fn known<T: Integer, I: SortedDisjoint<T>>(stream: I) -> CheckSortedD
     CheckSortedDisjoint::new(stream)
 }
 
-/// The ranges of a stream once more, since no two of them overlap.
+/// Returns the ranges of a stream again. No two of them overlap.
 pub(crate) fn touching<T: Integer, I: SortedDisjoint<T>>(stream: I) -> CheckSortedTouching<T, I>
     requires { I.can_draw stream }
     ensures { ⟦<CheckSortedTouching<T, I> as Draw<T>>⟧.can_draw result }
@@ -71,7 +71,7 @@ pub(crate) fn touching<T: Integer, I: SortedDisjoint<T>>(stream: I) -> CheckSort
     CheckSortedTouching::new(stream)
 }
 
-/// The ranges of a stream whose ranges may touch, once more.
+/// Returns the ranges of a stream again, which may touch.
 pub(crate) fn touching_again<T: Integer, I: SortedTouching<T>>(
     stream: I,
 ) -> CheckSortedTouching<T, I>

@@ -1,27 +1,27 @@
-//! What each operation makes of streams, in rows worked by hand.
+//! What each operation on two streams gives, in rows worked out by hand.
 
 use rsb_tables::Operation;
 
 /// The ends of ranges.
 type Ranges = &'static [(u8, u8)];
 
-/// Two streams, and what each operation makes of them.
+/// Two streams, and what each operation on them gives.
 #[derive(Drop)]
 pub(crate) struct Row {
     /// The ranges of the first stream.
     pub(crate) left: Ranges,
-    /// The ranges of the second.
+    /// The ranges of the second stream.
     pub(crate) right: Ranges,
     union: Ranges,
     intersection: Ranges,
     difference: Ranges,
     symmetric_difference: Ranges,
-    /// What the first leaves out.
+    /// The complement of the first stream.
     complement: Ranges,
 }
 
 impl Row {
-    /// What an operation makes of the two streams.
+    /// Returns what an operation on the two streams gives.
     pub(crate) fn wanted(&self, operation: Operation) -> Ranges {
         match operation {
             Operation::Union => self.union,
@@ -33,7 +33,7 @@ impl Row {
     }
 }
 
-/// Single ranges that overlap, touch and lie apart.
+/// Single ranges that overlap, touch or leave a gap.
 pub(crate) static RANGES: [Row; 14] = [
     // Ranges that touch.
     Row {
@@ -55,7 +55,7 @@ pub(crate) static RANGES: [Row; 14] = [
         symmetric_difference: &[(0, 4), (6, 9)],
         complement: &[(6, 255)],
     },
-    // Ranges that lie apart.
+    // Ranges with a gap between them.
     Row {
         left: &[(0, 9)],
         right: &[(200, 255)],
@@ -168,7 +168,7 @@ pub(crate) static RANGES: [Row; 14] = [
     },
 ];
 
-/// Streams with a gap.
+/// Streams with gaps.
 pub(crate) static GAPS: [Row; 10] = [
     // Runs on both sides of a gap.
     Row {
@@ -180,7 +180,7 @@ pub(crate) static GAPS: [Row; 10] = [
         symmetric_difference: &[(1, 1), (3, 4), (7, 100)],
         complement: &[(0, 0), (3, 4), (101, 255)],
     },
-    // The other way round.
+    // The same streams, exchanged.
     Row {
         left: &[(2, 6)],
         right: &[(1, 2), (5, 100)],
@@ -190,7 +190,7 @@ pub(crate) static GAPS: [Row; 10] = [
         symmetric_difference: &[(1, 1), (3, 4), (7, 100)],
         complement: &[(0, 1), (7, 255)],
     },
-    // A range within a gap, and one that fills it.
+    // A range that lies within a gap, and one that fills it.
     Row {
         left: &[(1, 3), (6, 9)],
         right: &[(4, 4)],
@@ -218,7 +218,7 @@ pub(crate) static GAPS: [Row; 10] = [
         symmetric_difference: &[(0, 255)],
         complement: &[(10, 19)],
     },
-    // A range over a gap.
+    // A range that covers a gap.
     Row {
         left: &[(1, 2), (8, 9)],
         right: &[(2, 8)],
@@ -255,7 +255,7 @@ pub(crate) static GAPS: [Row; 10] = [
         symmetric_difference: &[(0, 4), (10, 199), (221, 255)],
         complement: &[(10, 199)],
     },
-    // A run that both have.
+    // A run that both streams have.
     Row {
         left: &[(0, 9), (200, 255)],
         right: &[(0, 9)],

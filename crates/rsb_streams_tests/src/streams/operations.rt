@@ -1,10 +1,10 @@
-//! The five operations, by their methods.
+//! The five operations, called as methods.
 
 use crate::streams::operation_rows::{ENDS, GAPS, RANGES, Row};
 use rsb_streams::{Difference, DrawDisjoint, Intersection, RangeOnce, Union};
 use rsb_tables::{OPERATIONS, Operation, gives, operation_gives, stream_of};
 
-/// The first operation that does not give what a row has for it.
+/// Returns the first operation whose result is not the one in the row.
 fn wrong_operation(row: &Row) -> Option<Operation> {
     for operation in OPERATIONS {
         let (left, right) = (stream_of(row.left), stream_of(row.right));
@@ -15,7 +15,7 @@ fn wrong_operation(row: &Row) -> Option<Operation> {
     None
 }
 
-/// The place of the first row of which an operation does not give what it has, and that operation.
+/// Returns the position of the first row in which an operation fails, and that operation.
 fn first_wrong(rows: &[Row]) -> Option<(usize, Operation)> {
     for place in 0..rows.len() {
         if let Some(operation) = wrong_operation(&rows[place]) {
@@ -43,7 +43,7 @@ fn operations_at_the_ends_of_the_type(rt: HostRuntime) {
     assert!(rt; wrong.is_none(), "{wrong:?}");
 }
 
-/// Whether an operation on the ranges of two tables gives these.
+/// Returns whether an operation on the ranges of two tables gives exactly the wanted ranges.
 fn operation_of(
     operation: Operation,
     left: &[(u8, u8)],

@@ -1,17 +1,18 @@
-//! The operators of each stream type: on 20..=29, made in every way, and on 25..=40.
+//! The operators of each stream type. The left operand is 20..=29, built in every way, and the
+//! right one is 25..=40.
 
 use crate::streams::nested::known;
 use rsb_streams::{Draw, RangeOnce, UnionIter};
 use rsb_tables::{OPERATIONS, Operation, gives};
 
-/// The range with these ends.
+/// Returns a stream of the range with these ends.
 fn range(start: u8, end: u8) -> RangeOnce<u8>
     ensures { ⟦<RangeOnce<u8> as Draw<u8>>⟧.can_draw result }
 {
     RangeOnce::new(start..=end)
 }
 
-/// What an operator makes of 20..=29 and 25..=40.
+/// Returns what an operator gives for 20..=29 and 25..=40.
 fn wanted(operation: Operation) -> &'static [(u8, u8)] {
     match operation {
         Operation::Union => &[(20, 40)],
@@ -22,7 +23,7 @@ fn wanted(operation: Operation) -> &'static [(u8, u8)] {
     }
 }
 
-/// Whether an operator of a range gives what is wanted.
+/// Returns whether an operator on a `RangeOnce` gives what is wanted.
 fn of_a_range(operation: Operation) -> bool {
     let stream = range(20, 29);
     let (other, runs) = (range(25, 40), wanted(operation));
@@ -35,7 +36,7 @@ fn of_a_range(operation: Operation) -> bool {
     }
 }
 
-/// Whether an operator of a stream that is joined gives what is wanted.
+/// Returns whether an operator on a joined stream gives what is wanted.
 fn of_a_joined_stream(operation: Operation) -> bool {
     let stream = UnionIter::new(range(20, 29));
     let (other, runs) = (range(25, 40), wanted(operation));
@@ -48,7 +49,7 @@ fn of_a_joined_stream(operation: Operation) -> bool {
     }
 }
 
-/// Whether an operator of a stream that is known to be canonical gives what is wanted.
+/// Returns whether an operator on a stream that is known to be canonical gives what is wanted.
 fn of_a_known_stream(operation: Operation) -> bool {
     let stream = known(range(20, 29));
     let (other, runs) = (range(25, 40), wanted(operation));
@@ -61,7 +62,7 @@ fn of_a_known_stream(operation: Operation) -> bool {
     }
 }
 
-/// Whether an operator of a complement gives what is wanted.
+/// Returns whether an operator on a complement gives what is wanted.
 fn of_a_complement(operation: Operation) -> bool {
     let stream = !!range(20, 29);
     let (other, runs) = (range(25, 40), wanted(operation));
@@ -74,7 +75,7 @@ fn of_a_complement(operation: Operation) -> bool {
     }
 }
 
-/// Whether an operator of a union gives what is wanted.
+/// Returns whether an operator on a union gives what is wanted.
 fn of_a_union(operation: Operation) -> bool {
     let stream = range(20, 24) | range(23, 29);
     let (other, runs) = (range(25, 40), wanted(operation));
@@ -87,7 +88,7 @@ fn of_a_union(operation: Operation) -> bool {
     }
 }
 
-/// Whether an operator of an intersection gives what is wanted.
+/// Returns whether an operator on an intersection gives what is wanted.
 fn of_an_intersection(operation: Operation) -> bool {
     let stream = range(20, 99) & range(0, 29);
     let (other, runs) = (range(25, 40), wanted(operation));
@@ -100,7 +101,7 @@ fn of_an_intersection(operation: Operation) -> bool {
     }
 }
 
-/// Whether an operator of a difference gives what is wanted.
+/// Returns whether an operator on a difference gives what is wanted.
 fn of_a_difference(operation: Operation) -> bool {
     let stream = range(20, 99) - range(30, 255);
     let (other, runs) = (range(25, 40), wanted(operation));
@@ -113,7 +114,7 @@ fn of_a_difference(operation: Operation) -> bool {
     }
 }
 
-/// Whether an operator of a symmetric difference gives what is wanted.
+/// Returns whether an operator on a symmetric difference gives what is wanted.
 fn of_a_symmetric_difference(operation: Operation) -> bool {
     let stream = range(20, 50) ^ range(30, 50);
     let (other, runs) = (range(25, 40), wanted(operation));

@@ -1,5 +1,5 @@
-//! What is told of one stream and of two: how many members they have, and whether they are empty,
-//! everything, equal, parts of one another, or disjoint.
+//! Questions about one or two streams: how many members they have, and whether they are empty,
+//! universal, equal, subsets of one another, or disjoint.
 
 use rsb_commands::outside::Counted;
 use rsb_streams::DrawDisjoint;
@@ -9,7 +9,7 @@ use std::cell::Cell;
 /// The ends of ranges.
 type Ranges = &'static [(u8, u8)];
 
-/// A stream, how many members it has, whether it is empty, and whether it is everything.
+/// A stream, its number of members, whether it is empty, and whether it is universal.
 static ALONE: [(Ranges, u16, bool, bool); 7] = [
     (&[], 0, true, false),
     (&[(0, 0)], 1, false, false),
@@ -30,7 +30,7 @@ fn questions_of_one_stream(rt: HostRuntime) {
     }
 }
 
-/// What is told of two streams.
+/// The results of the questions about two streams.
 #[derive(Clone, Copy, Debug, Drop, PartialEq)]
 struct Told {
     equal: bool,
@@ -39,7 +39,7 @@ struct Told {
     is_disjoint: bool,
 }
 
-/// What is told of the ranges of two tables.
+/// Returns the results for the ranges of two tables.
 fn told_of(left: Ranges, right: Ranges) -> Told {
     Told {
         equal: stream_of(left).equal(stream_of(right)),
@@ -49,7 +49,7 @@ fn told_of(left: Ranges, right: Ranges) -> Told {
     }
 }
 
-/// Of nothing and nothing.
+/// Both streams are empty.
 const BOTH_EMPTY: Told = Told {
     equal: true,
     is_subset: true,
@@ -57,7 +57,7 @@ const BOTH_EMPTY: Told = Told {
     is_disjoint: true,
 };
 
-/// Of a stream and itself.
+/// Both streams have the same members.
 const SAME: Told = Told {
     equal: true,
     is_subset: true,
@@ -65,7 +65,7 @@ const SAME: Told = Told {
     is_disjoint: false,
 };
 
-/// Of nothing and some.
+/// Only the left stream is empty.
 const NOTHING_OF: Told = Told {
     equal: false,
     is_subset: true,
@@ -73,7 +73,7 @@ const NOTHING_OF: Told = Told {
     is_disjoint: true,
 };
 
-/// Of some and nothing.
+/// Only the right stream is empty.
 const OF_NOTHING: Told = Told {
     equal: false,
     is_subset: false,
@@ -81,7 +81,7 @@ const OF_NOTHING: Told = Told {
     is_disjoint: true,
 };
 
-/// Of a part and its whole.
+/// The left stream is a proper part of the right one.
 const PART: Told = Told {
     equal: false,
     is_subset: true,
@@ -89,7 +89,7 @@ const PART: Told = Told {
     is_disjoint: false,
 };
 
-/// Of a whole and its part.
+/// The right stream is a proper part of the left one.
 const WHOLE: Told = Told {
     equal: false,
     is_subset: false,
@@ -97,7 +97,7 @@ const WHOLE: Told = Told {
     is_disjoint: false,
 };
 
-/// Of streams with no member in common.
+/// The streams have no member in common.
 const APART: Told = Told {
     equal: false,
     is_subset: false,
@@ -105,7 +105,7 @@ const APART: Told = Told {
     is_disjoint: true,
 };
 
-/// Of streams with some members in common.
+/// The streams have some members in common.
 const MEETING: Told = Told {
     equal: false,
     is_subset: false,
@@ -113,7 +113,7 @@ const MEETING: Told = Told {
     is_disjoint: false,
 };
 
-/// Pairs of streams, and what is told of them.
+/// Pairs of streams, and the results for them.
 static PAIRS: [(Ranges, Ranges, Told); 24] = [
     (&[], &[], BOTH_EMPTY),
     (&[(0, 255)], &[(0, 255)], SAME),
@@ -152,7 +152,7 @@ fn questions_of_two_streams(rt: HostRuntime) {
     }
 }
 
-/// A question about one stream or two.
+/// A question about one or two streams.
 #[derive(Clone, Copy, Debug)]
 enum Question {
     IsEmpty,
@@ -163,7 +163,7 @@ enum Question {
     IsDisjoint,
 }
 
-/// How many ranges a question draws of the streams of two tables.
+/// Returns how many ranges a question draws from the streams of two tables.
 fn drawn_by(question: Question, left: Ranges, right: Ranges) -> (usize, usize) {
     let (lefts, rights) = (Cell::new(0), Cell::new(0));
     let left = Counted::new(stream_of(left), &lefts);
@@ -192,7 +192,7 @@ const LEFT: Ranges = &[
     (140, 149),
 ];
 
-/// One that differs from it in the second range and the third.
+/// A stream that differs from `LEFT` in the second and the third range.
 const RIGHT: Ranges = &[
     (0, 1),
     (11, 12),
@@ -205,7 +205,7 @@ const RIGHT: Ranges = &[
     (140, 149),
 ];
 
-/// A question, two streams, and how many ranges are drawn of each.
+/// A question, two streams, and how many ranges are drawn from each.
 static DRAWN: [(Question, Ranges, Ranges, (usize, usize)); 6] = [
     (Question::IsEmpty, LEFT, RIGHT, (1, 0)),
     (Question::IsUniversal, LEFT, RIGHT, (1, 0)),

@@ -3,7 +3,7 @@
 use rsb_tables::{OPERATIONS, Operation, operation_gives, set_of};
 use std::test::Fail;
 
-/// What an operation makes of {1..=2, 5..=100} and {2..=6}.
+/// Returns what an operation on {1..=2, 5..=100} and {2..=6} gives.
 fn wanted(operation: Operation) -> &'static [(i32, i32)] {
     match operation {
         Operation::Union => &[(1, 100)],

@@ -1,10 +1,10 @@
-//! The refusal of a list: when two are equal, and its texts.
+//! The error for a refused list: when two errors are equal, and their texts.
 
 use rsb_streams::NotSortedDisjoint;
 use std::alloc::{AllocError, Global};
 use std::test::Fail;
 
-/// A refusal of the ranges 1..=2 and 3..=`end`, by this position.
+/// Returns an error for the ranges 1..=2 and 3..=`end`, with the given position.
 fn refusal(alloc: Global, position: usize, end: u8) -> Result<NotSortedDisjoint<u8>, AllocError> {
     let ranges = vec![in alloc; 1..=2, 3..=end]?;
     Ok(NotSortedDisjoint { position, ranges })
@@ -29,7 +29,7 @@ fn a_refusal_tells_the_position(rt: HostRuntime) -> Result<(), Fail> {
     Ok(())
 }
 
-// What the text for those who debug is is left open.
+// The content of the debug text is unspecified.
 #[test]
 fn unlike_refusals_have_unlike_texts_for_debugging(rt: HostRuntime) -> Result<(), Fail> {
     let text = format!(in rt.alloc(); "{:?}", refusal(rt.alloc(), 1, 4)?)?;

@@ -1,4 +1,4 @@
-//! How many runs a nest of operations makes, proved of public contracts alone.
+//! How many runs a nest of operations gives, proved only from public contracts.
 
 ghost use Rattle.std.specs.Prelude.{ℕ, ◌+◌};
 ghost use Rattle.rsb_streams.specs.RunCount.{HasAtMost};
@@ -7,7 +7,7 @@ use rsb_integer::Integer;
 use rsb_streams::{Difference, Draw, DrawDisjoint, RangeOnce, Union};
 use rsb_tables::gives;
 
-/// What lies in either of two streams and not in a third.
+/// Returns the values in either of two streams but not in a third.
 fn either_without<T: Integer, A: DrawDisjoint<T>, B: DrawDisjoint<T>, C: DrawDisjoint<T>>(
     first: A,
     second: B,

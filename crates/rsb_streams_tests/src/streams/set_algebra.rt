@@ -1,4 +1,4 @@
-//! Laws of sets as results of results, on any lawful streams, proved of public contracts alone.
+//! Laws of sets as nested operations on any ready streams, proved only from public contracts.
 
 ghost use Rattle.std.specs.Prelude.{IsTrue, List};
 ghost use Rattle.rsb_integer.specs.Runs.{Interval};
@@ -9,8 +9,8 @@ use rsb_integer::Integer;
 use rsb_streams::{Difference, Draw, DrawDisjoint, Intersection, NotIter, RangeOnce, Union};
 use rsb_tables::gives;
 
-/// What the first stream has in common with the second, and what it has and the second lacks: where
-/// both pairs give the same two lists, that has the members of the first list.
+/// Returns the union of the intersection and the difference of two streams. If both pairs give the
+/// same two lists, the result has the members of the first list.
 fn parts_joined<T: Integer, A: DrawDisjoint<T>, B: DrawDisjoint<T>>(
     some: (A, B),
     again: (A, B),
@@ -30,7 +30,7 @@ fn parts_joined<T: Integer, A: DrawDisjoint<T>, B: DrawDisjoint<T>>(
     common.union(rest)
 }
 
-/// What is in neither of two streams, by the complement of their union.
+/// Returns the values in neither of two streams, as the complement of their union.
 fn outside_union<T: Integer, L: DrawDisjoint<T>, R: DrawDisjoint<T>>(
     left: L,
     right: R,
@@ -46,7 +46,7 @@ fn outside_union<T: Integer, L: DrawDisjoint<T>, R: DrawDisjoint<T>>(
     either.complement()
 }
 
-/// What is in neither of two streams, by the intersection of their complements.
+/// Returns the values in neither of two streams, as the intersection of their complements.
 fn inside_complements<T: Integer, L: DrawDisjoint<T>, R: DrawDisjoint<T>>(
     left: L,
     right: R,
@@ -63,8 +63,8 @@ fn inside_complements<T: Integer, L: DrawDisjoint<T>, R: DrawDisjoint<T>>(
     gaps.intersection(others)
 }
 
-/// Whether two streams are equal: so it is where both give the runs of one operation on the same
-/// two lists.
+/// Returns whether two streams are equal. They are if both give the runs of one operation on the
+/// same two lists.
 pub(crate) fn are_the_same<T: Integer, L: DrawDisjoint<T>, R: DrawDisjoint<T>>(
     left: L,
     right: R,
@@ -79,8 +79,8 @@ pub(crate) fn are_the_same<T: Integer, L: DrawDisjoint<T>, R: DrawDisjoint<T>>(
     left.equal(right)
 }
 
-/// Whether both ways to what is in neither of two streams give the same list: so it is where both
-/// pairs give the same two lists.
+/// Returns whether both ways to the values in neither of two streams give the same list. They do if
+/// both pairs give the same two lists.
 fn neither_is_the_same<T: Integer, L: DrawDisjoint<T>, R: DrawDisjoint<T>>(
     some: (L, R),
     again: (L, R),
@@ -97,7 +97,7 @@ fn neither_is_the_same<T: Integer, L: DrawDisjoint<T>, R: DrawDisjoint<T>>(
     are_the_same(outside, inside)
 }
 
-/// The ranges 3..=5 and 5..=9.
+/// Returns streams of the ranges 3..=5 and 5..=9.
 pub(crate) fn three_to_nine() -> (RangeOnce<u8>, RangeOnce<u8>)
     ensures low { ⟦<RangeOnce<u8> as Draw<u8>>⟧.can_draw result.0 }
     ensures high { ⟦<RangeOnce<u8> as Draw<u8>>⟧.can_draw result.1 }

@@ -1,4 +1,4 @@
-//! Six operations on any lawful streams, proved of their public contracts alone.
+//! Six operations on any ready streams, proved only from public contracts.
 
 ghost use Rattle.rsb_integer.specs.Selection.{complement, intersection};
 ghost use Rattle.rsb_streams.specs.Stream.{◌⊆◌, runs_by, runs_by_two};
@@ -7,7 +7,7 @@ use rsb_integer::Integer;
 use rsb_streams::{Draw, DrawDisjoint, NotIter, RangeOnce, Union};
 use rsb_tables::gives;
 
-/// What one of two streams leaves out: the gaps of what both have.
+/// Returns the values that at least one of two streams leaves out: the gaps of their intersection.
 fn left_out_of_two<T: Integer, A: DrawDisjoint<T>, B: DrawDisjoint<T>>(
     first: A,
     second: B,
@@ -24,10 +24,10 @@ fn left_out_of_two<T: Integer, A: DrawDisjoint<T>, B: DrawDisjoint<T>>(
     gaps.union(others)
 }
 
-/// What one or two of three streams leave out.
+/// The values that at least one of three streams leaves out.
 type LeftOut<T, A, B, C> = Union<T, Union<T, NotIter<T, A>, NotIter<T, B>>, NotIter<T, C>>;
 
-/// What lies in all of three streams: no gap of one of them.
+/// Returns the intersection of three streams: the values that none of them leaves out.
 fn in_all_three<T: Integer, A: DrawDisjoint<T>, B: DrawDisjoint<T>, C: DrawDisjoint<T>>(
     first: A,
     second: B,

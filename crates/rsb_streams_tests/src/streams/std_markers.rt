@@ -1,4 +1,4 @@
-//! Std's adapters over streams.
+//! The adapters of std over streams.
 
 use rsb_integer::Integer;
 use rsb_streams::{CheckSortedDisjoint, Draw, DrawDisjoint, NotIter, RangeOnce, SortedDisjoint};
@@ -6,7 +6,7 @@ use rsb_tables::{Listed, gives, stream_of};
 use std::iter::{Filter, Fuse, Skip, SkipWhile, TakeWhile};
 use std::ops::RangeInclusive;
 
-/// The ranges 3..=5 and 7..=9.
+/// Returns a stream of the ranges 3..=5 and 7..=9.
 fn two_ranges() -> Listed<'static>
     ensures { ⟦<Listed<'static> as Draw<u8>>⟧.can_draw result }
 {
@@ -16,10 +16,10 @@ fn two_ranges() -> Listed<'static>
 /// The ends of ranges.
 type Ranges = &'static [(u8, u8)];
 
-/// Both of them.
+/// The ends of these two ranges.
 const BOTH: Ranges = &[(3, 5), (7, 9)];
 
-/// How many ranges come first, these, and the others.
+/// The number of first ranges, those ranges, and the others.
 static BY_NUMBER: [(usize, Ranges, Ranges); 4] = [
     (0, &[], BOTH),
     (1, &[(3, 5)], &[(7, 9)]),
@@ -43,7 +43,7 @@ static BY_LIMIT: [(u8, Ranges, Ranges); 3] = [
     (10, BOTH, &[]),
 ];
 
-/// Whether the ranges before the first that does not end below a limit are these.
+/// Returns whether the ranges before the first that does not end below a limit are the wanted ones.
 fn come_before(limit: u8, wanted: Ranges) -> bool {
     gives(
         two_ranges().take_while(move |range| *range.end() < limit),
@@ -51,7 +51,7 @@ fn come_before(limit: u8, wanted: Ranges) -> bool {
     )
 }
 
-/// Whether the ranges from that one on are these.
+/// Returns whether the ranges starting at that one are the wanted ones.
 fn come_from(limit: u8, wanted: Ranges) -> bool {
     gives(
         two_ranges().skip_while(move |range| *range.end() < limit),
@@ -69,7 +69,7 @@ fn ranges_come_up_to_one_that_fails_and_from_it_on(rt: HostRuntime) {
     }
 }
 
-/// The gaps that are left where only the ranges that pass a test are kept.
+/// Returns the gaps that are left if only the ranges that pass a test are kept.
 fn outside_of_kept<T: Integer, I: SortedDisjoint<T>, P: FnMut(&RangeInclusive<T>) -> bool>(
     stream: I,
     passes: P,
@@ -88,7 +88,7 @@ fn gaps_of_the_ranges_that_pass_a_test(rt: HostRuntime) {
     assert!(rt; gives(gaps, &[(0, 3), (6, 6), (9, 255)]));
 }
 
-/// The ranges from the first on that fails a test.
+/// Returns the ranges starting at the first that fails a test.
 fn from_failing<T: Integer, I: SortedDisjoint<T>, P: FnMut(&RangeInclusive<T>) -> bool>(
     stream: I,
     passes: P,
@@ -100,7 +100,7 @@ fn from_failing<T: Integer, I: SortedDisjoint<T>, P: FnMut(&RangeInclusive<T>) -
     stream.skip_while(passes)
 }
 
-/// The ranges before the first that fails a test.
+/// Returns the ranges before the first that fails a test.
 fn before_failing<T: Integer, I: SortedDisjoint<T>, P: FnMut(&RangeInclusive<T>) -> bool>(
     stream: I,
     passes: P,
@@ -112,7 +112,7 @@ fn before_failing<T: Integer, I: SortedDisjoint<T>, P: FnMut(&RangeInclusive<T>)
     stream.take_while(passes)
 }
 
-/// The ranges that pass a test.
+/// Returns the ranges that pass a test.
 fn passing<T: Integer, I: SortedDisjoint<T>, P: FnMut(&RangeInclusive<T>) -> bool>(
     stream: I,
     passes: P,
@@ -124,7 +124,8 @@ fn passing<T: Integer, I: SortedDisjoint<T>, P: FnMut(&RangeInclusive<T>) -> boo
     stream.filter(passes)
 }
 
-/// The ranges after so many, of a stream that is not asked again after its end.
+/// Returns the ranges after the given number of first ones, from a stream that is not called again
+/// after its end.
 fn fused_after<T: Integer, I: SortedDisjoint<T>>(stream: I, count: usize) -> Skip<Fuse<I>>
     requires { I.can_draw stream }
     ensures { ⟦<Skip<Fuse<I>> as Draw<T>>⟧.can_draw result }
@@ -132,7 +133,7 @@ fn fused_after<T: Integer, I: SortedDisjoint<T>>(stream: I, count: usize) -> Ski
     stream.fuse().skip(count)
 }
 
-/// Whether an empty stream, joined with another that is fused and filtered, is 10..=20.
+/// Returns whether the union of an empty stream with a fused and filtered one gives only 10..=20.
 fn passing_are_ten_to_twenty<I: SortedDisjoint<u64>>(stream: I) -> bool
     requires { I.can_draw stream }
 {
@@ -140,7 +141,7 @@ fn passing_are_ten_to_twenty<I: SortedDisjoint<u64>>(stream: I) -> bool
     gives(CheckSortedDisjoint::default().union(kept), &[(10, 20)])
 }
 
-/// Whether it is so of the ranges of a stream before the first that fails a test.
+/// Returns the same for the ranges of a stream before the first that fails a test.
 fn before_are_ten_to_twenty<I: SortedDisjoint<u64>>(stream: I) -> bool
     requires { I.can_draw stream }
 {

@@ -1,4 +1,4 @@
-//! What lies in one of two streams alone, by two ways, on any lawful streams.
+//! The symmetric difference of two streams in two ways, on any ready streams.
 
 ghost use Rattle.std.specs.Prelude.{IsTrue, List};
 ghost use Rattle.rsb_integer.specs.Runs.{Interval};
@@ -9,11 +9,11 @@ use crate::streams::set_algebra::{are_the_same, three_to_nine};
 use rsb_integer::Integer;
 use rsb_streams::{Difference, Draw, DrawDisjoint, Intersection, Union};
 
-/// What two streams have and do not share.
+/// The values in either of two streams but not in both.
 type Unshared<T, L, R> = Difference<T, Union<T, L, R>, Intersection<T, L, R>>;
 
-/// What lies in one of two streams alone, as what either has, less what both have: where both pairs
-/// give the same two lists, it gives the runs of their symmetric difference.
+/// Returns the union of two streams minus their intersection. If both pairs give the same two
+/// lists, the result gives the runs of their symmetric difference.
 fn unshared<T: Integer, L: DrawDisjoint<T>, R: DrawDisjoint<T>>(
     some: (L, R),
     again: (L, R),
@@ -32,8 +32,8 @@ fn unshared<T: Integer, L: DrawDisjoint<T>, R: DrawDisjoint<T>>(
     either.difference(common)
 }
 
-/// Whether both ways to what lies in one of two streams alone give the same list: so it is where
-/// the three pairs give the same two lists.
+/// Returns whether both ways to the symmetric difference of two streams give the same list. They do
+/// if the three pairs give the same two lists.
 fn alone_is_the_same<T: Integer, L: DrawDisjoint<T>, R: DrawDisjoint<T>>(
     first: (L, R),
     some: (L, R),

@@ -1,4 +1,4 @@
-//! What a symmetric difference holds between two answers.
+//! What a symmetric difference holds between two calls.
 
 use rsb_streams::{DrawDisjoint, RangeOnce, SymDiffIter};
 use rsb_tables::{gives, stream_of};

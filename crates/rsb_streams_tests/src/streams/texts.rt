@@ -1,4 +1,4 @@
-//! Texts for those who debug. What they are is left open.
+//! Debug texts. Their content is unspecified.
 
 use crate::streams::nested::{joined_again, known, sorted, touching};
 use rsb_streams::{DrawDisjoint, Merge, UnionIter};

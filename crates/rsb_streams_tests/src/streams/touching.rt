@@ -1,12 +1,12 @@
-//! Ranges that may touch: lists of them, accepted and refused, and what they are joined to.
+//! Ranges that may touch: lists of them that are accepted or refused, and what they are joined to.
 
 use rsb_streams::{CheckSortedTouching, NotSortedTouching, SortedTouching};
 use rsb_tables::{gives, list_of, neighbors_of};
 use std::alloc::{AllocError, Global};
 use std::test::Fail;
 
-/// Whether a list is refused at a position, and then given back, or accepted, and then gives its
-/// ranges.
+/// Returns whether a list is refused at the wanted position and given back. If none is wanted,
+/// returns whether the list is accepted and gives its ranges.
 fn is_refused_at(alloc: Global, ranges: &[(u8, u8)], wanted: Option<usize>) -> Result<bool, Fail> {
     match CheckSortedTouching::try_new(list_of(alloc, ranges)?) {
         Ok(stream) => Ok(wanted.is_none() && gives(stream, ranges)),
@@ -16,7 +16,7 @@ fn is_refused_at(alloc: Global, ranges: &[(u8, u8)], wanted: Option<usize>) -> R
     }
 }
 
-/// Ranges, and the first position that is out of place, if any is.
+/// Ranges, and the first position that is out of place, if there is one.
 static LISTS: [(&[(u8, u8)], Option<usize>); 9] = [
     (&[(1, 2), (3, 4), (4, 5)], Some(2)),
     (&[(5, 6), (1, 2)], Some(1)),
@@ -39,7 +39,7 @@ fn lists_that_overlap_are_refused_and_those_that_touch_are_not(
     Ok(())
 }
 
-/// Whether a list is accepted, and is joined to these ranges.
+/// Returns whether a list is accepted and joined to exactly these ranges.
 fn is_joined_to(
     alloc: Global,
     ranges: &[(u8, u8)],

@@ -1,4 +1,4 @@
-//! Ranges in any order: joined as they come, and sorted into a union.
+//! Ranges in any order: joined as they come, or sorted into a union.
 
 use rsb_streams::{UnionIter, UnsortedDisjoint};
 use rsb_tables::{gives, list_of};
@@ -6,10 +6,10 @@ use std::alloc::Global;
 use std::ops::RangeInclusive;
 use std::test::Fail;
 
-/// The ends of ranges, and of those that they make.
+/// The ends of ranges, and of the ranges that result from them.
 type Row = (&'static [(u8, u8)], &'static [(u8, u8)]);
 
-/// Whether ranges are joined to these as they come.
+/// Returns whether ranges are joined to exactly these as they come.
 fn joins(
     alloc: Global,
     ranges: Vec<RangeInclusive<u8>>,

@@ -1,4 +1,4 @@
-//! A stream of a user's own: the weekends of a year.
+//! A user-defined stream: the weekends of a year.
 
 use rsb_commands::outside::OrdinalWeekends;
 use rsb_streams::{CheckSortedDisjoint, DrawDisjoint};
@@ -6,7 +6,7 @@ use rsb_tables::gives;
 use std::alloc::{AllocError, Global};
 use std::test::Fail;
 
-/// The first Sunday, and then the Saturday and the Sunday at the end of each week.
+/// Returns the ends of the first Sunday, and of the Saturday and Sunday at the end of each week.
 fn table(alloc: Global) -> Result<Vec<(i32, i32)>, AllocError> {
     let mut table = Vec::from_array(alloc, [(1, 1)])?;
     for week in 1..=52i32 {
