@@ -186,8 +186,7 @@ impl<T: Integer, A: Allocator> Heads<T, A> {
         Some(self.list.heads[0])
     }
 
-    // If the place at the top is open, moves the last head there, and then down to where it
-    // belongs.
+    // Puts the last head in the place at the top, if that is open, and moves it to where it belongs.
     fn close(&mut self)
         ensures kept { IsPermutation self.old.heads self.new.heads }
         ensures closed { IsFalse self.new.is_open }
