@@ -186,7 +186,7 @@ impl<T: Integer, A: Allocator> Heads<T, A> {
         Some(self.list.heads[0])
     }
 
-    // Puts the last head in the place at the top, if that is open, and moves it to where it belongs.
+    // Moves the last head to the top, if the place there is open, and down to where it belongs.
     fn close(&mut self)
         ensures kept { IsPermutation self.old.heads self.new.heads }
         ensures closed { IsFalse self.new.is_open }

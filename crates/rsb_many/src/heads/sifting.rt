@@ -58,8 +58,8 @@ impl<T: Integer, A: Allocator> ComparedHeads<T, A> {
         }
     }
 
-    /// Moves the first head down to where it belongs, among heads that are a heap except for it. It is
-    /// written to the list only once its place is found.
+    /// Moves the first head down to where it belongs, among heads that are a heap except for it. It
+    /// is written to the list only once its place is found.
     pub(super) fn sift_down(&mut self)
         requires values { All (HasValues T.rank T.value_count) self.old.heads.items }
         requires order { IsHeapButFirst T.rank self.old.heads.items }
