@@ -1,4 +1,5 @@
--- What operations on any number of streams make, of a merge of which the first ranges are drawn.
+-- The results of operations on any number of streams, built from a merge that has drawn the first
+-- range of each.
 use Rattle.std.proofs.Common.{◌≡◌, ◌⊎◌, inl, inr, ℕ, zero, suc, ◌+◌, ◌<◌, Bool, true, false, List, [], ◌∷◌, ◌++◌, length, refl, sym, subst, arith}
 use Rattle.std.specs.Iterator.{Yields, YieldsThen}
 use Rattle.std.specs.Prelude.{Option, None}

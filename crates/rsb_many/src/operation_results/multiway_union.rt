@@ -15,10 +15,10 @@ use std::iter::FusedIterator;
 use std::ops::RangeInclusive;
 
 /// What lies in at least one of the given streams: nothing if there are none. It draws the first
-/// range of each stream when it is built, and then looks ahead by at most one range of each. Every
-/// range it has drawn lies within a range it has returned, except one that starts past the last of
-/// these with a gap between. It allocates only when it is built. (`MultiwayUnion` of the Rust
-/// crate.)
+/// range of each stream when it is built, and then looks ahead by at most one range of each. Once
+/// it has returned a range, what it has drawn from a stream lies within its ranges, except for at
+/// most one range. That one starts past the last range returned, with a gap between. It allocates
+/// only when it is built. (`MultiwayUnion` of the Rust crate.)
 #[derive(Debug, Drop)]
 pub struct MultiwayUnion<T: Integer, I, A: Allocator = Global> {
     iter: UnionIter<T, KMerge<T, I, A>>,
