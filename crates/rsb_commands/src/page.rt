@@ -1,4 +1,4 @@
-//! A buffer of text in front of a writer.
+//! Text that is buffered before it is written.
 
 ghost use Rattle.std.specs.Prelude.{◌≡◌, ◌+◌, ◌≤◌, [], length, OnOk};
 ghost use Rattle.rsb_commands.specs.Page.{Lays, Waits, waiting};

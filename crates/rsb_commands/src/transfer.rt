@@ -6,8 +6,8 @@ use rsb_parser::Fault;
 use std::io::{ErrorKind, Write};
 
 /// Writes all of the text and returns the patience that is left: how many more interruptions make
-/// the writer fail. Returns `Io` if a call fails, if it writes no byte of a text that is not empty,
-/// or if it is interrupted with a patience of 1 or 0.
+/// the writer fail. Returns `Io` if a call fails or takes no byte. An interruption at a patience of
+/// 1 or 0 is a failure.
 pub(crate) fn write_all<W: Write>(output: &mut W, text: &[u8], patience: u64) -> Result<u64, Fault>
     ensures { Writes (W.contents output.old) (W.contents output.new) result text.now }
 {

@@ -6,9 +6,9 @@ use Rattle.rsb_integer.specs.Runs.{Interval}
 use Rattle.rsb_many.specs.Keys.{comes_before, Key}
 use Rattle.rsb_many.specs.declared.heads.Head.{Head}
 
--- What contracts see of a heap of heads: the heads in no particular order, whether the place at the
--- top is open, the number of heads it has room for, and the number of comparisons of keys made so
--- far.
+-- What contracts see of a heap of heads: the heads, in no particular order, and whether the place
+-- at the top is open. `room` is the number of heads it has room for, and `comparisons` counts the
+-- comparisons of keys made so far.
 pub record Kept (T : Type 0) : Type 0 where
   pub heads : List (Head T)
   pub is_open : Bool

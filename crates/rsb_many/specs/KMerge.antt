@@ -27,8 +27,8 @@ module _ {T N I A : Type 0} (integer : Elements T N) (stream : Stream I T N) whe
   abbrev pub kmerge_inputs : KMerge T I A N → ℕ → Input
   kmerge_inputs s place = input_at integer stream (inputs_of s.inputs) place
 
-  -- Whether a draw takes one range from one of the streams. It makes few comparisons, and their
-  -- count never falls.
+  -- Whether a draw takes one range from one of the streams, or finds that all have ended. It makes
+  -- few comparisons, and their count never falls.
   pub record AsksInOrder (s : KMerge T I A N) (item : Option (RangeInclusive T))
       (t : KMerge T I A N) : Type 0 where
     pub takes : AsksOne integer.rank kmerge_inputs s item t

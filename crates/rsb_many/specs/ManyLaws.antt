@@ -6,14 +6,14 @@ use Rattle.rsb_streams.specs.Stream.{◌⊆◌, merges, HasOutcome, HasSortedSta
 use Rattle.rsb_streams.specs.StreamLaws.{settled_sorted}
 use Rattle.rsb_many.specs.Many.{merges_all}
 
--- If two streams come in the order of their starts, from `low` on, so does their merge.
+-- If two streams come in the order of their starts, none before `low`, so does their merge.
 pub merges-starts : (n low : ℕ) (P Q : Outcomes) → P ⊆ HasSortedStartsFrom n low
     → Q ⊆ HasSortedStartsFrom n low → merges n P Q ⊆ HasSortedStartsFrom n low
 merges-starts n low P Q first second runs may = settled_sorted n low runs (λ fails.
     may (λ left right at also all. fails
     (merge-starts n low left right runs (first left at) (second right also) all.0 all.1)))
 
--- If many streams come in the order of their starts, from `low` on, so does their merge.
+-- If many streams come in the order of their starts, none before `low`, so does their merge.
 pub merges_all-starts : (n low count : ℕ) (may_give : ℕ → Outcomes)
     → ((place : ℕ) → place < count → may_give place ⊆ HasSortedStartsFrom n low)
     → merges_all n count may_give ⊆ HasSortedStartsFrom n low

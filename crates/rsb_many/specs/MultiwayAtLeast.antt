@@ -16,8 +16,8 @@ use Rattle.rsb_many.specs.SweepPieces.{PassesSome, Telling}
 use Rattle.rsb_many.specs.declared.deep_pieces.DeepPieces.{DeepPieces}
 use Rattle.rsb_many.specs.declared.multiway_at_least.MultiwayAtLeast.{MultiwayAtLeast}
 
--- Whether only runs may come of what lies in at least `least` of the lists that the streams give,
--- and at most as many runs as these lists have together. Proof search does not unfold this word.
+-- Whether only runs of what lies in at least `least` of the lists of the streams may come, and at
+-- most as many as these lists have together. Proof search does not unfold this word.
 unfoldable pub GivesRunsOfAllAtMost : {S : Type 0} → ℕ → ℕ → (S → Outcomes) → List S → Outcomes
     → Type 0
 GivesRunsOfAllAtMost least n may_give streams given = given ⊆ (λ runs.

@@ -28,8 +28,8 @@ module _ {T N I A : Type 0} (integer : Elements T N) (stream : Stream I T N) whe
   multiway_intersection_inputs from s =
       multiway_union_inputs integer (not_iter integer stream) from s.iter.iter
 
-  -- Whether a draw passes over some answers of the union. If at most one range of each input was
-  -- held, that is still so, and each range used of it lies within one of these answers.
+  -- Whether a draw passes over some ranges of the union. If at most one range of each input was
+  -- held, that is still so, and each range used of it lies within one of these.
   pub record AsksOfAll (s : MultiwayIntersection T I A N) (item : Option (RangeInclusive T))
       (t : MultiwayIntersection T I A N) : Type 0 where
     pub passes : PassesOver integer left_out s.iter item t.iter

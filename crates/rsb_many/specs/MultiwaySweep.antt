@@ -111,9 +111,9 @@ module _ {T N I A : Type 0} (integer : Elements T N) (stream : Stream I T N) whe
         ≤ s.inputs.heads.comparisons + comparison_bound (stream_count s)
     pub counted : s.inputs.heads.comparisons ≤ t.inputs.heads.comparisons
 
-  -- Whether `s` is a sweep just made of these streams, whose ranges do not overlap within a stream.
-  -- It is ready, and only the events of lists that the streams may give may come. The first range
-  -- of each is drawn.
+  -- Whether `s` is a sweep just built from these streams, whose ranges do not overlap within a
+  -- stream. It is ready, and only the events of lists that the streams may give may come. The first
+  -- range of each is drawn.
   pub record SweepsOver (streams : List I) (s : MultiwaySweep T I A N) : Type 0 where
     pub touching : (place : ℕ)
         → may_give_at stream.may_give streams place ⊆ IsTouchingIn integer.value_count

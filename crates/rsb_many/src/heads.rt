@@ -21,9 +21,10 @@ use std::alloc::{AllocError, Allocator, Global};
 use std::marker::Model;
 use std::ops::RangeInclusive;
 
-/// A range that was drawn from an input and is not used up. The fields `start` and `end` are not
-/// adjacent. If they were, one load would read both just after two stores wrote them, and the
-/// processor would have to wait for the stores.
+/// A range that was drawn from an input and is not used up. A sweep reports its start and later its
+/// end; a merge reports the whole range. The fields `start` and `end` are not adjacent. If they
+/// were, one load would read both just after two stores wrote them, and the processor would have to
+/// wait for the stores.
 #[derive(Clone, Copy, Debug, Drop)]
 pub(crate) struct Head<T> {
     // The value that orders the head: the start of the range, or its end once the start was

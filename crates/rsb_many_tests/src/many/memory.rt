@@ -257,8 +257,8 @@ fn no_next_of_what_is_built_from_many_calls_the_allocator(rt: HostRuntime) -> Re
     Ok(())
 }
 
-/// Whether each failed allocation leaves nothing in the allocator. Each allocation is made to fail
-/// in turn, until the call succeeds.
+/// Whether a failed allocation leaves nothing in the allocator. The first allocation fails, then
+/// the second, and so on, until the call succeeds.
 fn failures_leave_nothing(alloc: Global, built: Built, sets: &[Set; 3]) -> bool {
     let heap = Counting::new(alloc);
     for passed in 0..100usize {
