@@ -1,5 +1,5 @@
--- What the walks of `Unboxed` share: its row, and what it is of a box at the same types, in which it
--- owns what the box owns.
+-- What the proofs about `Unboxed` share: its row, and its value as a box of the same types, which
+-- owns the same memory.
 use denote.RattleType.{RattleType}
 use Rattle.std.proofs.BoxSteps.Form.{Bx, D, R, P}
 use Rattle.range_set_c.specs.contracts.unboxed.Unboxed as Unboxed

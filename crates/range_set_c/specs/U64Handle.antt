@@ -9,12 +9,12 @@ use Rattle.std.specs.contracts.impls.GlobalAllocator.TheImpl.{ghosts}
 use Rattle.rsb_integer.specs.Runs.{Interval}
 use Rattle.range_set_c.specs.contracts.u64_sets.kept.Kept.{the_row}
 
--- how a handle's ghost field stores the set
+-- How the ghost field of a handle stores the set.
 abbrev pub kept_coded : Coded the_row.Denot
 kept_coded = the_row.coded
 
--- a boxed set and the right to free its memory; the empty set, and no memory, where the pointer is
--- null
+-- A boxed set and the right to free its memory. If the pointer is null, the set is empty and there
+-- is no memory.
 abbrev pub handle_owns : Global → Ptr → the_row.Denot → Fml
 handle_owns alloc (block_ptr b o) kept =
     box_owns (ghosts.dealloc_token alloc) the_row (block_ptr b o) kept

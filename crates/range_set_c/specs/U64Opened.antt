@@ -1,20 +1,20 @@
--- What a handle to a set of `u64` is once the borrow of its set is over.
+-- What a handle to a set of `u64` is after the borrow of its set.
 use mathlib.Core.Option.{none}
 use Rattle.std.specs.Borrow.{Fml, LendsIf, MutBor, follows_so}
 use Rattle.std.specs.Prelude.{◌≡◌, Option, ⊤}
 use Rattle.range_set_c.specs.contracts.u64_sets.handle.Handle.{the_row as handle_row}
 use Rattle.range_set_c.specs.contracts.u64_sets.kept.Kept.{the_row as kept_row}
 
--- the handle with another set behind it
+-- The handle with another set behind it.
 abbrev pub with_kept : handle_row.Denot → kept_row.Denot → handle_row.Denot
 with_kept handle now = record handle { kept = now }
 
--- the handle ends with the last set behind the borrow, or as it was where it is null
+-- Whether the handle ends with the last set behind the borrow, or, if it is null, as it was.
 abbrev pub EndsWithKept : MutBor handle_row.Denot → Option (MutBor kept_row.Denot) → Fml
 EndsWithKept handle kept =
     LendsIf handle_row kept_row handle kept (with_kept handle.now) handle.now
 
--- the handle ends with the set that it had
+-- Whether the handle ends with the set that it had.
 abbrev pub EndsAsItWas : MutBor handle_row.Denot → Fml
 EndsAsItWas handle = follows_so handle_row handle_row handle.ghost_name none (λ _ _. ⊤)
     (λ now. now.kept.set ≡ handle.now.kept.set)

@@ -1,7 +1,8 @@
-//! Sets of `u64` and of `u32` for C and for what calls C.
+//! Sets of `u64` and of `u32` for C and for languages that call C.
 //!
-//! `include/range_set.h` declares the exports, and says what a caller owes that no proof can check.
-//! Each export's clauses speak of the set that a handle leads to, `kept.set`: the list of its runs.
+//! `include/range_set.h` declares the exports, and lists the duties of a caller that no proof can
+//! check. The clauses of an export are about `kept.set`, the set that a handle points to, as the
+//! list of its runs.
 #![tactic(auto)]
 
 mod status;

@@ -1,10 +1,10 @@
-//! What a call that changes a set answers.
+//! What a call that changes a set returns.
 
-/// The set was as asked before the call, and is as it was.
+/// The set was already as asked, and is unchanged.
 pub const UNCHANGED: u32 = 0;
 
-/// The set is as asked now, and was not before; or a handle has the set that was asked for.
+/// The set is now as asked, and was not before; or `out` is now the set that was asked for.
 pub const CHANGED: u32 = 1;
 
-/// Memory was refused, and every set is as it was.
+/// An allocation failed, and every set is unchanged.
 pub const NO_MEMORY: u32 = 2;

@@ -1,4 +1,4 @@
-//! A boxed value as the pointer to it, for a handle that crosses to C.
+//! A boxed value as a pointer, for a handle that crosses to C.
 
 ghost use Rattle.std.specs.Prelude.{◌≡◌};
 ghost use Rattle.std.specs.Box.Ownership.{box_owns};
@@ -19,7 +19,7 @@ impl<T, A: Allocator> Model for Unboxed<T, A> {
 }
 
 impl<T, A: Allocator> Unboxed<T, A> {
-    /// Takes a box apart.
+    /// Takes a box apart into its pointer and its allocator.
     pub(crate) fn of(boxed: Box<T, A>) -> Self
     where
         T: Drop,
@@ -29,7 +29,7 @@ impl<T, A: Allocator> Unboxed<T, A> {
         Unboxed { at, alloc }
     }
 
-    /// Puts the box together again.
+    /// Puts a box together again.
     pub(crate) fn into_box(self) -> Box<T, A>
         ensures { result.value ≡ self.value }
     {

@@ -10,25 +10,26 @@ use Rattle.rsb_commands.specs.Interpreter.{AreReplies, Content, MayTakeMemory}
 use Rattle.rsb_commands.specs.Text.{text}
 use Rattle.rsb_commands.specs.Transfer.{CutsShort}
 
--- the replies to commands over sets of numbers of 32 bits
+-- Whether these are the replies to the commands, on sets of 32-bit signed numbers.
 abbrev pub AreNumberReplies : List (Command ℤ) → List (Content ℤ) → Type 0
 AreNumberReplies commands replies = AreReplies (signed_rank w32) (2 ^ 32) commands replies
 
--- the text of the replies to the commands was written, and nothing else
+-- Whether the text of the replies to the commands was written, and nothing else.
 pub record Replies (commands : List (Command ℤ)) (old new : Option (List ℕ)) : Type 0 where
   pub replies : List (Content ℤ)
   pub replied : AreNumberReplies commands replies
   pub written : Appends old new (text replies)
 
--- memory ran out: the text of the replies before one command that may take some was written, and
--- nothing else, or nothing was
+-- Whether an allocation failed: the text of the replies before a command that may allocate was
+-- written, and nothing else. If it failed before the first command, nothing was written.
 pub record StopsForMemory (commands : List (Command ℤ)) (replies : List (Content ℤ))
     (old new : Option (List ℕ)) : Type 0 where
   pub at : ℕ
   pub took_memory : (at ≡ 0) ⊎ IsSomeAnd (slice_get commands at) MayTakeMemory
   pub written : Appends old new (text (take at replies))
 
--- the text of the replies to the commands that the input spells was written, and nothing else
+-- Whether the text of the replies to the commands that the input spells was written, and nothing
+-- else.
 pub record Answers (input : List ℕ) (old new : Option (List ℕ)) : Type 0 where
   pub commands : List (Command ℤ)
   pub spelled : AreCommands input commands
@@ -36,24 +37,24 @@ pub record Answers (input : List ℕ) (old new : Option (List ℕ)) : Type 0 whe
   pub replied : AreNumberReplies commands replies
   pub written : Appends old new (text replies)
 
--- it is so of the commands that the known input spells, and of their replies
+-- Whether the fact holds of the commands that the known input spells, and of their replies.
 abbrev pub IfAnswered : Option (List ℕ)
     → (List (Command ℤ) → List (Content ℤ) → Type 0) → Type 0
 IfAnswered known Fact = IfSome known (λ input.
     (commands : List (Command ℤ)) (replies : List (Content ℤ))
     → AreCommands input commands → AreNumberReplies commands replies → Fact commands replies)
 
--- the text of the replies before a command that may take memory was written, or nothing was
+-- Whether the text of the replies before a command that may allocate was written, or nothing was.
 abbrev pub WroteFirstReplies : Option (List ℕ) → Option (List ℕ) → Option (List ℕ) → Type 0
 WroteFirstReplies known old new =
     IfAnswered known (λ commands replies. StopsForMemory commands replies old new)
 
--- less than the text of the replies was written, or nothing of an empty text
+-- Whether less than the text of the replies was written, or nothing if that text is empty.
 abbrev pub WrotePartOfReplies : Option (List ℕ) → Option (List ℕ) → Option (List ℕ) → Type 0
 WrotePartOfReplies known old new =
     IfAnswered known (λ commands replies. CutsShort old new (text replies))
 
--- where the known input spells no list of commands, nothing was written
+-- Whether nothing was written, in case the known input does not spell a list of commands.
 abbrev pub KeepsWithoutCommands : Option (List ℕ) → Option (List ℕ) → Option (List ℕ) → Type 0
 KeepsWithoutCommands known old new = IfSome known (λ input.
     ((commands : List (Command ℤ)) → ¬ AreCommands input commands) → Keeps old new)

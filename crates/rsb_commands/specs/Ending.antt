@@ -1,4 +1,4 @@
--- What the program leaves, by its outcome: the exit status, the line of a fault, and the replies.
+-- What the program leaves for each outcome: the exit status, the line of a fault, and the replies.
 use Rattle.std.specs.Prelude.{◌≡◌, ℕ, List, ◌++◌, IfSome, MatchResult, Option, Result, Ok, Err, codes}
 use Rattle.std.specs.Io.KnownBytes.{IsAtEnd, Keeps}
 use Rattle.rsb_parser.specs.declared.fault.Fault.{Fault}
@@ -9,28 +9,29 @@ use Rattle.rsb_parser.specs.Spelling.{IsFirstBadLine}
 use Rattle.rsb_commands.specs.Answer.{Answers, KeepsWithoutCommands, WroteFirstReplies, WrotePartOfReplies}
 use Rattle.rsb_commands.specs.Transfer.{AppendsPrefixOf}
 
--- what the input still has, and what was written to the output and to the errors, where it is known
+-- What is left of the input, and what was written to the output and to the errors, if it is known.
 pub record Channels : Type 0 where
   pub input : Option (List ℕ)
   pub output : Option (List ℕ)
   pub errors : Option (List ℕ)
 
--- the same, of each of the three
+-- The channels with these contents.
 abbrev pub channels : Option (List ℕ) → Option (List ℕ) → Option (List ℕ) → Channels
 channels input output errors = record { input = input; output = output; errors = errors }
 
--- the exit status
+-- The exit status of an outcome.
 abbrev pub status_after : Result (Unit {0}) Fault → ℕ
 status_after (Ok done) = 0
 status_after (Err fault) = status_of fault
 
--- the line of a fault was written, or what its writer took of it, and for no fault nothing
+-- Whether the line of a fault was written, or the prefix that its writer took. For no fault,
+-- nothing was written.
 abbrev pub TellsFault : Option (List ℕ) → Option (List ℕ) → Result (Unit {0}) Fault → Type 0
 TellsFault old new outcome = MatchResult outcome
     (λ _. Keeps old new)
     (λ fault. AppendsPrefixOf old new (fault_line fault ++ codes "\n"))
 
--- what was read and written where the program ends so
+-- What was read and written if the program ends with this outcome.
 abbrev pub Leaves : Channels → Channels → Result (Unit {0}) Fault → Type 0
 Leaves before after (Ok done) =
     IsAtEnd after.input × IfSome before.input (λ bytes. Answers bytes before.output after.output)
@@ -40,7 +41,8 @@ Leaves before after (Err NoMemory) =
     HasBytes before.input × WroteFirstReplies before.input before.output after.output
 Leaves before after (Err Io) = WrotePartOfReplies before.input before.output after.output
 
--- the program ended with this status, and left what belongs to one outcome
+-- Whether the program ended with this status, and read and wrote what belongs to one outcome with
+-- that status.
 pub record Ends (before after : Channels) (status : ℕ) : Type 0 where
   pub outcome : Result (Unit {0}) Fault
   pub status_is : status ≡ status_after outcome

@@ -14,7 +14,7 @@ use Rattle.rsb_commands.specs.declared.interpreter.Reply.TheVariants as replies
 
 -- ---- replies
 
--- what a reply says, wherever it is kept
+-- What a reply says, without how it is stored.
 pub data Content (T : Type 0) : Type 0 where
   flag : Bool → Content T
   piece : T → T → Bool → Content T
@@ -23,7 +23,7 @@ pub data Content (T : Type 0) : Type 0 where
   runs : ℕ → Content T
   order : Ordering → Content T
 
--- what a reply of the program says, its length as a number
+-- What a reply of the program says, with its length as a number.
 abbrev pub content_of : {T A L : Type 0} → (L → ℕ) → Reply T A L → Content T
 content_of number_of (replies.Flag is) = flag is
 content_of number_of (replies.Piece first last present) = piece first last present
@@ -32,40 +32,40 @@ content_of number_of (replies.Ranges all) = ranges all.items
 content_of number_of (replies.Runs many) = runs many
 content_of number_of (replies.Order is) = order is
 
--- what each reply of a list says
+-- What each reply of a list says.
 abbrev pub contents_of : {T A L : Type 0} → (L → ℕ) → List (Reply T A L) → List (Content T)
 contents_of number_of all = map (content_of number_of) all
 
 -- ---- sets
 
--- the ten sets, by their slots
+-- The ten sets, by their slots.
 abbrev pub Sets : Type 0
 Sets = ℕ → Selection
 
--- sets that are all empty
+-- The sets before the first command, which are all empty.
 abbrev pub no_members : Sets
 no_members slot rank = false
 
--- sets that are kept as their runs
+-- The sets of a list that stores each as its runs.
 abbrev pub sets_of : List (List Interval) → Sets
 sets_of kept slot = members (slice_index_or kept slot [])
 
--- the sets with another one in a slot
+-- The sets, with another set in a slot.
 unfoldable pub put : Sets → ℕ → Selection → Sets
 put sets slot set at = if at == slot then set else sets at
 
--- the one set, where it is so, and else the other
+-- The one set if the flag is true, and otherwise the other.
 abbrev pub whichever : Bool → Selection → Selection → Selection
 whichever is set other rank = if is then set rank else other rank
 
--- what lies in at least two of three sets, where a set that stands there twice counts twice
+-- What lies in at least two of three sets. A set that is listed twice counts twice.
 abbrev pub most_of : Selection → Selection → Selection → Selection
 most_of a b c = at_least 2 (a ∷ b ∷ c ∷ [])
 
 -- ---- commands
 
 module _ {T : Type 0} (rank : T → ℕ) (value_count : ℕ) where
-  -- the values that the command names are values of the type
+  -- Whether the values that the command names are values of the type.
   abbrev pub NamesValues : Command T → Type 0
   NamesValues (Add slot first last) = (rank first < value_count) × (rank last < value_count)
   NamesValues (Del slot value) = rank value < value_count
@@ -73,7 +73,7 @@ module _ {T : Type 0} (rank : T → ℕ) (value_count : ℕ) where
   NamesValues (Gap slot value) = rank value < value_count
   NamesValues _ = ⊤
 
-  -- the sets after a command
+  -- The sets after a command.
   abbrev pub sets_after : Sets → Command T → Sets
   sets_after sets (Add slot first last) =
       put sets slot (union (sets slot) (covers (from_to (rank first) (rank last))))
@@ -92,31 +92,31 @@ module _ {T : Type 0} (rank : T → ℕ) (value_count : ℕ) where
   sets_after sets (Most target a b c) = put sets target (most_of (sets a) (sets b) (sets c))
   sets_after sets _ = sets
 
-  -- the values are the ends of the run that has the rank, where it is present, and else of the gap
-  -- that it lies in
+  -- Whether `first` and `last` are the ends of the run that has the rank `at`, if `present` is
+  -- true, and otherwise of the gap that it lies in.
   pub record IsPieceAround (set : Selection) (at : ℕ) (first last : T) (present : Bool)
       : Type 0 where
     pub found : present ≡ set at
     pub around : IsRunAround value_count (whichever present set (complement set)) at
         (from_to (rank first) (rank last))
 
-  -- the reply tells the run or the gap that the rank lies in
+  -- Whether the reply gives the run or the gap that the rank lies in.
   abbrev pub IsPieceReply : Selection → ℕ → Content T → Type 0
   IsPieceReply set at (piece first last present) = IsPieceAround set at first last present
   IsPieceReply set at _ = ⊥
 
-  -- so many runs has the set
+  -- Whether the set has `many` runs.
   pub record HasRuns (set : Selection) (many : ℕ) : Type 0 where
     pub all : List Interval
     pub are : AreRuns value_count set all
     pub counted : many ≡ length all
 
-  -- the reply tells how many runs the set has
+  -- Whether the reply gives the number of runs of the set.
   abbrev pub IsRunsReply : Selection → Content T → Type 0
   IsRunsReply set (runs many) = HasRuns set many
   IsRunsReply set _ = ⊥
 
-  -- the command, given to these sets, replies this
+  -- Whether a command on these sets has this reply.
   abbrev pub IsReply : Sets → Command T → Content T → Type 0
   IsReply sets (Add slot first last) (flag added) =
       IsTrue added ↔ LacksSome (sets slot) (covers (from_to (rank first) (rank last)))
@@ -138,18 +138,18 @@ module _ {T : Type 0} (rank : T → ℕ) (value_count : ℕ) where
   IsReply sets (Compare left right) (order is) = HasOrder value_count (sets left) (sets right) is
   IsReply sets _ _ = ⊥
 
-  -- the commands, given to these sets one after the other, reply these
+  -- Whether the commands have these replies, run one after the other on these sets.
   abbrev pub AreRepliesFrom : Sets → List (Command T) → List (Content T) → Type 0
   AreRepliesFrom sets [] [] = ⊤
   AreRepliesFrom sets (command ∷ commands) (reply ∷ replies) =
       IsReply sets command reply × AreRepliesFrom (sets_after sets command) commands replies
   AreRepliesFrom sets _ _ = ⊥
 
-  -- the commands reply these over sets that are empty at first
+  -- Whether the commands have these replies on sets that are empty at first.
   abbrev pub AreReplies : List (Command T) → List (Content T) → Type 0
   AreReplies commands replies = AreRepliesFrom no_members commands replies
 
--- the command may take memory
+-- Whether the command may allocate.
 abbrev pub MayTakeMemory : {T : Type 0} → Command T → Type 0
 MayTakeMemory (Has slot value) = ⊥
 MayTakeMemory (Gap slot value) = ⊥

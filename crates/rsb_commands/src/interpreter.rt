@@ -1,4 +1,4 @@
-//! Commands run over ten sets, and their replies.
+//! Runs commands on ten sets and returns their replies.
 
 ghost use Rattle.std.specs.Prelude.{◌≡◌, ◌<◌, ◌⊎◌, [], IfErr, IfOk, IfSome, List, OnErr, OnOk, length, slice_get, slice_index_or, take, vec_len};
 ghost use Rattle.rsb_integer.specs.Rank.{intervals_of};
@@ -14,37 +14,38 @@ use std::alloc::{AllocError, Allocator, Global};
 use std::cmp::Ordering;
 use std::ops::RangeInclusive;
 
-/// What a command replies.
+/// The reply to a command.
 #[derive(Drop)]
 #[derive_where(Debug, PartialEq; T, T::SafeLen)]
 pub enum Reply<T: Integer, A: Allocator = Global> {
-    /// Whether something was so.
+    /// Whether a value was new, was removed, or is a member.
     Flag(bool),
-    /// The first and the last value of a run, with true, or of a gap, with false.
+    /// The first and last value of a run (`present` is true) or of a gap (`present` is false).
     Piece { first: T, last: T, present: bool },
-    /// How many values the set has.
+    /// The number of values in the set.
     Count(T::SafeLen),
-    /// The ranges of the set, ascending.
+    /// The runs of the set, ascending.
     Ranges(Vec<RangeInclusive<T>, A>),
-    /// How many runs the set has that was made.
+    /// The number of runs of the set that was made.
     Runs(usize),
-    /// How two sets compare.
+    /// The order of two sets.
     Order(Ordering),
 }
 
-/// Commands that were stopped for want of memory.
+/// What is left when an allocation fails while commands run.
 #[derive(Drop)]
 #[derive_where(Debug, PartialEq; T, T::SafeLen)]
 pub struct Stopped<T: Integer, A: Allocator = Global> {
-    /// The replies to the commands before the one that found no memory.
+    /// The replies to the commands before the one that failed.
     pub replies: Vec<Reply<T, A>, A>,
-    /// The place of that command, from 0. It is 0 too where there was no room to begin.
+    /// The place of that command, from 0. It is also 0 if an allocation failed before the first
+    /// command.
     pub at: usize,
 }
 
-/// Runs the commands in order, over ten sets that are empty at first. Room for all replies is made
-/// first, and for no commands none. `Stopped` is answered where a growth was refused: it keeps the
-/// replies to the commands before.
+/// Runs the commands in order on ten sets, which are empty at first, and returns the replies. It
+/// first allocates room for all replies, and does not allocate if there are no commands. If an
+/// allocation fails, `Stopped` keeps the replies to the commands before.
 pub fn run_commands<T: Integer, A: Allocator + Copy>(
     alloc: A,
     commands: &[Command<T>],
@@ -55,7 +56,7 @@ pub fn run_commands<T: Integer, A: Allocator + Copy>(
         → AreReplies T.rank T.value_count commands.now others
         → others ≡ contents_of T.SafeLen.number replies.items) }
 
-    // The command `at` found no memory, or, where `at` is 0, there was no room to begin.
+    // An allocation failed in the command `at`, or, if `at` is 0, perhaps before it.
     ensures stopped { IfErr result (λ stopped. AreReplies T.rank T.value_count
         (take stopped.at commands.now) (contents_of T.SafeLen.number stopped.replies.items)) }
     ensures at { IfErr result (λ stopped. stopped.at < length commands.now) }
@@ -83,7 +84,7 @@ pub fn run_commands<T: Integer, A: Allocator + Copy>(
     Ok(replies)
 }
 
-/// Ten sets with no members.
+/// Returns ten empty sets.
 pub(crate) fn empty_sets<T: Integer, A: Allocator + Copy>(
     alloc: A,
 ) -> Result<Vec<RangeSetBlaze<T, A>, A>, AllocError>
@@ -97,7 +98,7 @@ pub(crate) fn empty_sets<T: Integer, A: Allocator + Copy>(
     Ok(sets)
 }
 
-/// Runs one command, and gives its reply.
+/// Runs one command on the ten sets and returns its reply.
 pub(crate) fn run_command<T: Integer, A: Allocator + Copy>(
     alloc: A,
     sets: &mut Vec<RangeSetBlaze<T, A>, A>,
@@ -171,7 +172,7 @@ pub(crate) fn run_command<T: Integer, A: Allocator + Copy>(
     }
 }
 
-// The set in a slot.
+// Returns the set in a slot.
 fn set_at<T: Integer, A: Allocator>(
     sets: &Vec<RangeSetBlaze<T, A>, A>,
     slot: SetNo,
@@ -182,7 +183,8 @@ fn set_at<T: Integer, A: Allocator>(
     &sets[slot.index()]
 }
 
-// What lies in at least two of the sets in three slots. One that is named twice counts twice.
+// Returns what lies in at least two of the sets in three slots. A set that is named twice counts
+// twice.
 fn most_of<T: Integer, A: Allocator + Copy>(
     alloc: A,
     sets: &Vec<RangeSetBlaze<T, A>, A>,
@@ -198,7 +200,7 @@ fn most_of<T: Integer, A: Allocator + Copy>(
     MultiwayRangeSetBlazeRef::at_least(three, alloc, 2)
 }
 
-// Puts a set in a slot, and replies how many runs it has.
+// Puts a set in a slot, and returns the reply with the number of its runs.
 fn put_set<T: Integer, A: Allocator>(
     sets: &mut Vec<RangeSetBlaze<T, A>, A>,
     slot: SetNo,
@@ -216,7 +218,7 @@ fn put_set<T: Integer, A: Allocator>(
     Reply::Runs(runs)
 }
 
-// The run or the gap that a value lies in.
+// Returns the reply with the run or the gap that a value lies in.
 fn piece_at<T: Integer, A: Allocator>(set: &RangeSetBlaze<T, A>, value: T) -> Reply<T, A>
     ensures { IsPieceReply T.rank T.value_count (members set.now) (T.rank value)
         (content_of T.SafeLen.number result) }
@@ -230,7 +232,7 @@ fn piece_at<T: Integer, A: Allocator>(set: &RangeSetBlaze<T, A>, value: T) -> Re
     }
 }
 
-// The ranges of a set.
+// Returns the runs of a set in a list.
 fn ranges_of<T: Integer, A: Allocator>(
     alloc: A,
     set: &RangeSetBlaze<T, A>,

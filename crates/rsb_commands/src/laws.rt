@@ -8,7 +8,7 @@ ghost use Rattle.rsb_commands.specs.Interpreter.{AreReplies, Content, NamesValue
 
 use rsb_integer::Integer;
 
-/// Commands that name values of the type have a list of replies.
+/// Commands have a list of replies if the values they name are values of the type.
 pub fn replies_exist<T: Integer>()
     ensures { (commands : List (Command T)) → All (NamesValues T.rank T.value_count) commands
         → (replies : List (Content T)) × AreReplies T.rank T.value_count commands replies }
@@ -20,14 +20,14 @@ pub fn spelled_commands_have_replies()
         → (replies : List (Content ℤ)) × AreNumberReplies commands replies }
 {}
 
-/// Commands have one list of replies.
+/// Commands have at most one list of replies.
 pub fn replies_are_unique<T: Integer>()
     ensures { (commands : List (Command T)) (replies others : List (Content T))
         → AreReplies T.rank T.value_count commands replies
         → AreReplies T.rank T.value_count commands others → replies ≡ others }
 {}
 
-/// The first commands have the first replies.
+/// The first `n` commands have the first `n` replies.
 pub fn first_commands_first_replies<T: Integer>()
     ensures { (commands : List (Command T)) (replies : List (Content T)) (n : ℕ)
         → AreReplies T.rank T.value_count commands replies

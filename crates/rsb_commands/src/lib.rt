@@ -1,4 +1,4 @@
-//! Commands to ten sets run, from the lines that spell them to the text of their replies.
+//! A program on ten sets, from the lines that spell its commands to the text of their replies.
 #![tactic(auto)]
 
 pub mod interpreter;

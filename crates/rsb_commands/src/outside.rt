@@ -1,4 +1,4 @@
-//! What a user of `range_set_blaze` writes of their own, by its public names alone.
+//! Examples of what a user of `range_set_blaze` might write, with only its public names.
 
 pub mod counted;
 pub mod ordinal_weekends;

@@ -1,4 +1,4 @@
-//! Text that waits to be written.
+//! Text that is buffered before it is written.
 
 ghost use Rattle.std.specs.Prelude.{◌≡◌, ◌+◌, ◌≤◌, [], length, OnOk};
 ghost use Rattle.rsb_commands.specs.Page.{Lays, Waits, waiting};
@@ -8,23 +8,25 @@ use arrayvec::ArrayVec;
 use rsb_parser::Fault;
 use std::io::Write;
 
-/// How many bytes a page holds.
+/// The number of bytes that a page holds.
 pub(crate) const PAGE: usize = 65_536;
 
-/// How many bytes a page has room for after `make_room`.
+/// The number of bytes that a page has room for after `make_room`.
 pub(crate) const ROOM: usize = 32;
 
-/// A writer, and text that waits for it in a space of fixed size. It takes no memory.
+/// A writer, and the text that waits to be written, in a buffer of fixed size. It does not
+/// allocate.
 #[derive(Drop)]
 pub(crate) struct Page<'a, W: Write> {
     output: &'a mut W,
     text: ArrayVec<u8, PAGE>,
-    // How many interruptions of the writer are one too many.
+    // The writer fails once it was interrupted this many more times.
     patience: u64,
 }
 
 impl<'a, W: Write> Page<'a, W> {
-    /// An empty page. A writer that is interrupted 2^64 - 1 times over all of its pages has failed.
+    /// Returns an empty page for a writer. The writer fails once it was interrupted 2^64 - 1 times
+    /// over all of its pages.
     pub(crate) fn new(output: &'a mut W) -> Page<'a, W>
         ensures output { result.output ≡ output.entry }
         ensures empty { waiting result ≡ [] }
@@ -36,7 +38,7 @@ impl<'a, W: Write> Page<'a, W> {
         }
     }
 
-    /// Puts text after what waits.
+    /// Adds text after the text that waits. There must be room for it.
     #[inline(always)]
     pub(crate) fn lay(&mut self, text: &[u8])
         requires { length (waiting self.old) + length text.now ≤ PAGE }
@@ -45,7 +47,7 @@ impl<'a, W: Write> Page<'a, W> {
         self.text.try_extend_from_slice(text).unwrap();
     }
 
-    /// Writes what waits, unless there is room.
+    /// Makes room for `ROOM` bytes: if there is less, it writes the text that waits.
     #[inline(always)]
     pub(crate) fn make_room(&mut self) -> Result<(), Fault>
         ensures laid { Lays W.contents self.old self.new result [] }
@@ -57,7 +59,7 @@ impl<'a, W: Write> Page<'a, W> {
         Ok(())
     }
 
-    /// Writes what waits.
+    /// Writes the text that waits.
     pub(crate) fn send(&mut self) -> Result<(), Fault>
         ensures laid { Lays W.contents self.old self.new result [] }
         ensures empty { OnOk result (waiting self.new ≡ []) }

@@ -1,4 +1,4 @@
-//! From an input to an output.
+//! The program, from its input to its output and exit status.
 
 ghost use Rattle.std.specs.Prelude.{◌≡◌, ◌≢◌, ◌<◌, [], ℕ, ℤ, Err, IfSome, List, OnOk, length};
 ghost use Rattle.std.specs.Io.KnownBytes.{IsAtEnd, Keeps};
@@ -20,7 +20,8 @@ use std::alloc::Allocator;
 use std::io::{Read, Write};
 use std::process::ExitCode;
 
-/// Runs the program: the exit status is that of the fault, or 0, and a fault is told by a line.
+/// Runs the program and returns its exit status: 0, or that of the fault. It writes a line for a
+/// fault to `errors`.
 pub fn start<A: Allocator + Copy, R: Read, W: Write, E: Write>(
     alloc: A,
     input: &mut R,
@@ -36,8 +37,8 @@ pub fn start<A: Allocator + Copy, R: Read, W: Write, E: Write>(
     finish(errors, outcome)
 }
 
-/// The exit status, with a line for a fault. Where that line can't be written whole there is
-/// nowhere left to tell it.
+/// Returns the exit status of an outcome, and writes a line for a fault. If that line cannot be
+/// written whole, the status is the same, as there is nowhere left to report it.
 pub fn finish<W: Write>(errors: &mut W, outcome: Result<(), Fault>) -> ExitCode
     ensures status { exit_status result ≡ status_after outcome }
     ensures line { TellsFault (W.contents errors.old) (W.contents errors.new) outcome }
@@ -52,10 +53,12 @@ pub fn finish<W: Write>(errors: &mut W, outcome: Result<(), Fault>) -> ExitCode
 }
 
 /// Reads all of the input, runs the commands that its lines spell, and writes a line for each
-/// reply. After `BadLine` nothing was written. After `NoMemory` the replies before the command that
-/// found none were written, and no more. After `Io` a beginning of the replies was, short of the
-/// whole unless that is empty; an input of 2^64 lines or more ends in `Io` too. Where the lines
-/// spell no commands nothing is written.
+/// reply.
+///
+/// After `BadLine` nothing was written. After `NoMemory` the replies before the command that failed
+/// were written, and nothing else. After `Io` a prefix of the replies was written, shorter than the
+/// whole unless that is empty. `Io` is also returned for an input of 2^64 lines or more. If a line
+/// is bad, nothing is written, whatever the fault is.
 pub fn run<A: Allocator + Copy, R: Read, W: Write>(
     alloc: A,
     input: &mut R,
@@ -71,8 +74,8 @@ pub fn run<A: Allocator + Copy, R: Read, W: Write>(
     ensures bad_line_keeps { (number : ℕ) → result ≡ Err (Fault.BadLine number)
         → Keeps (W.contents output.old) (W.contents output.new) }
 
-    // After the other faults the first replies were written, or less than all of their text; and
-    // these are all that there are, by `laws::replies_are_unique` and `replies_exist`.
+    // After the other faults the first replies were written, or less than all of their text. By
+    // `laws::replies_exist` and `replies_are_unique` there is exactly one list of replies.
     ensures no_memory { result ≡ Err Fault.NoMemory → WroteFirstReplies
         (R.remaining input.old) (W.contents output.old) (W.contents output.new) }
     ensures io { result ≡ Err Fault.Io → WrotePartOfReplies
@@ -80,7 +83,7 @@ pub fn run<A: Allocator + Copy, R: Read, W: Write>(
     ensures no_commands { KeepsWithoutCommands
         (R.remaining input.old) (W.contents output.old) (W.contents output.new) }
 
-    // No memory is wanted of an empty input.
+    // An empty input never allocates.
     ensures some_input { result ≡ Err Fault.NoMemory → HasBytes (R.remaining input.old) }
 {
     let commands = read_commands(alloc, input)?;
@@ -88,8 +91,8 @@ pub fn run<A: Allocator + Copy, R: Read, W: Write>(
     answer(alloc, &commands, &mut page)
 }
 
-// Runs the commands, and writes a line for each reply, by way of a page on which nothing waits. No
-// list of replies is kept: a page of text goes out when it is full. Where a command finds no memory
+// Runs the commands, and writes a line for each reply by way of a page on which no text waits. It
+// keeps no list of replies: a page is written when it is full. If an allocation fails in a command,
 // the replies before it are written.
 fn answer<A: Allocator + Copy, W: Write>(
     alloc: A,

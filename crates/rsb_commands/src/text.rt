@@ -1,4 +1,4 @@
-//! Replies and faults as lines of text. Writing them takes no memory.
+//! Replies and faults as lines of text. Writing them does not allocate.
 
 ghost use Rattle.std.specs.Prelude.{◌≡◌, ◌+◌, ◌≤◌, ◌++◌, IfSome, codes, decimal, flat_map, length};
 ghost use Rattle.std.specs.Fmt.{signed_decimal};
@@ -20,7 +20,7 @@ use std::fmt::Write as _;
 use std::io::Write;
 use std::ops::RangeInclusive;
 
-/// Writes a reply and a line feed, by way of the page.
+/// Writes a reply and a line feed to the page.
 #[inline(always)]
 pub(crate) fn write_line<A: Allocator, W: Write>(
     page: &mut Page<'_, W>,
@@ -43,7 +43,7 @@ pub(crate) fn write_line<A: Allocator, W: Write>(
     }
 }
 
-// Writes whether something was so, and a line feed.
+// Writes `true` or `false`, and a line feed.
 #[inline(always)]
 fn write_flag<W: Write>(page: &mut Page<'_, W>, flag: bool) -> Result<(), Fault>
     ensures { Lays W.contents page.old page.new result (line_text (flag_content flag)) }
@@ -53,7 +53,8 @@ fn write_flag<W: Write>(page: &mut Page<'_, W>, flag: bool) -> Result<(), Fault>
     Ok(())
 }
 
-// Lays whether something was so, and a line feed. A text of known length takes no call to copy it.
+// Adds `true` or `false` and a line feed, for which there must be room. Each text has a known
+// length, so it is copied without a call.
 #[inline(always)]
 fn lay_flag<W: Write>(page: &mut Page<'_, W>, flag: bool)
     requires { length (waiting page.old) + 6 ≤ PAGE }
@@ -66,7 +67,7 @@ fn lay_flag<W: Write>(page: &mut Page<'_, W>, flag: bool)
     }
 }
 
-// Writes a number, and a line feed.
+// Writes a number and a line feed.
 fn write_count<W: Write>(page: &mut Page<'_, W>, count: u64) -> Result<(), Fault>
     ensures { Lays W.contents page.old page.new result (line_text (number_content count)) }
 {
@@ -90,7 +91,7 @@ fn write_piece<W: Write>(
     write_presence(page, present)
 }
 
-// Writes a space, whether something was so, and a line feed.
+// Writes a space, `true` or `false`, and a line feed.
 fn write_presence<W: Write>(page: &mut Page<'_, W>, present: bool) -> Result<(), Fault>
     ensures { Lays W.contents page.old page.new result
         (codes " " ++ line_text (flag_content present)) }
@@ -101,7 +102,7 @@ fn write_presence<W: Write>(page: &mut Page<'_, W>, present: bool) -> Result<(),
     Ok(())
 }
 
-// Writes how many runs a set has, and a line feed.
+// Writes a number of runs and a line feed.
 fn write_runs<W: Write>(page: &mut Page<'_, W>, runs: usize) -> Result<(), Fault>
     ensures { Lays W.contents page.old page.new result (line_text (runs_content runs)) }
 {
@@ -111,7 +112,7 @@ fn write_runs<W: Write>(page: &mut Page<'_, W>, runs: usize) -> Result<(), Fault
     Ok(())
 }
 
-// Writes how two sets compare, and a line feed.
+// Writes the order of two sets and a line feed.
 fn write_order<W: Write>(page: &mut Page<'_, W>, order: Ordering) -> Result<(), Fault>
     ensures { Lays W.contents page.old page.new result (line_text (order_content order)) }
 {
@@ -120,7 +121,7 @@ fn write_order<W: Write>(page: &mut Page<'_, W>, order: Ordering) -> Result<(), 
     Ok(())
 }
 
-// The line that says how two sets compare.
+// Returns the line for an order.
 fn order_line(order: Ordering) -> &'static [u8]
     ensures line { result.now ≡ line_text (order_content order) }
     ensures bound { length result.now ≤ 8 }
@@ -132,7 +133,7 @@ fn order_line(order: Ordering) -> &'static [u8]
     }
 }
 
-// Writes ranges with a comma and a space between, and a line feed.
+// Writes ranges with a comma and a space between them, and a line feed.
 fn write_ranges<W: Write>(
     page: &mut Page<'_, W>,
     ranges: &[RangeInclusive<i32>],
@@ -152,7 +153,7 @@ fn write_line_feed<W: Write>(page: &mut Page<'_, W>) -> Result<(), Fault>
     Ok(())
 }
 
-// Writes ranges with a comma and a space between.
+// Writes ranges with a comma and a space between them.
 fn write_list<W: Write>(page: &mut Page<'_, W>, ranges: &[RangeInclusive<i32>]) -> Result<(), Fault>
     ensures { Lays W.contents page.old page.new result (ranges_text ranges.now) }
 {
@@ -176,7 +177,7 @@ fn write_others<W: Write>(
     Ok(())
 }
 
-// Writes a comma, a space and one range.
+// Writes a comma, a space and a range.
 fn write_next_range<W: Write>(
     page: &mut Page<'_, W>,
     range: &RangeInclusive<i32>,
@@ -189,14 +190,14 @@ fn write_next_range<W: Write>(
     Ok(())
 }
 
-// Writes one range.
+// Writes a range.
 fn write_range<W: Write>(page: &mut Page<'_, W>, range: &RangeInclusive<i32>) -> Result<(), Fault>
     ensures { Lays W.contents page.old page.new result (range_text range.now) }
 {
     write_ends(page, range.start(), range.end())
 }
 
-// Writes two numbers with `..=` between.
+// Writes two numbers with `..=` between them.
 fn write_ends<W: Write>(page: &mut Page<'_, W>, start: &i32, end: &i32) -> Result<(), Fault>
     ensures { Lays W.contents page.old page.new result (ends_text start.now end.now) }
 {
@@ -205,7 +206,7 @@ fn write_ends<W: Write>(page: &mut Page<'_, W>, start: &i32, end: &i32) -> Resul
     Ok(())
 }
 
-// Lays one range.
+// Adds a range, for which there must be room.
 fn lay_range<W: Write>(page: &mut Page<'_, W>, range: &RangeInclusive<i32>)
     requires { length (waiting page.old) + 25 ≤ PAGE }
     ensures { Waits page.old page.new (range_text range.now) }
@@ -213,7 +214,7 @@ fn lay_range<W: Write>(page: &mut Page<'_, W>, range: &RangeInclusive<i32>)
     lay_ends(page, range.start(), range.end());
 }
 
-// Lays two numbers with `..=` between.
+// Adds two numbers with `..=` between them. There must be room for them.
 fn lay_ends<W: Write>(page: &mut Page<'_, W>, start: &i32, end: &i32)
     requires { length (waiting page.old) + 25 ≤ PAGE }
     ensures { Waits page.old page.new (ends_text start.now end.now) }
@@ -223,7 +224,7 @@ fn lay_ends<W: Write>(page: &mut Page<'_, W>, start: &i32, end: &i32)
     lay_number(page, end);
 }
 
-// Lays one number.
+// Adds a number, for which there must be room.
 fn lay_number<W: Write>(page: &mut Page<'_, W>, number: &i32)
     requires { length (waiting page.old) + 11 ≤ PAGE }
     ensures laid { Waits page.old page.new (signed_decimal number.now) }
@@ -232,10 +233,10 @@ fn lay_number<W: Write>(page: &mut Page<'_, W>, number: &i32)
     page.lay(Buffer::new().format(*number).as_bytes());
 }
 
-/// How many bytes the longest line of a fault has, with its line feed: `bad line ` and 20 digits.
+/// The length of the longest line of a fault in bytes: `bad line `, 20 digits and a line feed.
 const FAULT_LINE: usize = 30;
 
-/// Writes the line of a fault.
+/// Writes the line of a fault. Returns `Io` if a write fails.
 pub(crate) fn write_fault<W: Write>(output: &mut W, fault: Fault) -> Result<(), Fault>
     ensures { Writes (W.contents output.old) (W.contents output.new) result
         (fault_line fault ++ codes "\n") }
@@ -247,7 +248,8 @@ pub(crate) fn write_fault<W: Write>(output: &mut W, fault: Fault) -> Result<(), 
     Ok(())
 }
 
-// A fault by its `Display`, and a line feed. `None` if that fails, which no clause of `fmt` excludes.
+// Returns the text of a fault and a line feed. It is `None` if `Display` fails, which no clause of
+// `fmt` excludes.
 fn fault_text(fault: Fault) -> Option<ArrayString<FAULT_LINE>>
     ensures { IfSome result (λ text. text.bytes ≡ fault_line fault ++ codes "\n") }
 {

@@ -1,4 +1,4 @@
-//! Tests of commands and of the program, over the public names of the libraries.
+//! Tests of commands and of the program, with only the public names of the libraries.
 #![tactic(auto)]
 
 #[cfg(test)]

@@ -1,4 +1,4 @@
-//! Commands to ten sets, and the program.
+//! Tests of commands to ten sets, and of the program.
 
 mod commands;
 mod ends;

@@ -1,4 +1,4 @@
--- The law of the pieces of what lies deep in a sweep: they come by starts.
+-- The law of the pieces of what lies deep in a sweep: they come in the order of their starts.
 use Rattle.std.proofs.Common.{◌≡◌, Bool, true, false, ◌++◌, map, refl, []}
 use Rattle.rsb_integer.specs.declared.integer.Integer.{Ghosts as Elements}
 use Rattle.rsb_integer.proofs.RunsLemmas.{runs-canonical, runs-members}
@@ -13,7 +13,7 @@ use Rattle.rsb_many.specs.declared.deep_pieces.DeepPieces.{DeepPieces}
 module _ {T N I A : Type 0} (integer : Elements T N) (stream : Stream I T N) where
   open integer use {rank, value_count as n}
 
-  -- by whether all was told
+  -- The law below, with the two values of `done` as cases.
   deep_pieces-keeps : (s : DeepPieces T I A N) (done : Bool) → s.done ≡ done
       → (s.done ≡ false → DeepReady integer stream s)
       → Keeps (HasSortedStarts n) (deep_may_give integer stream s) (deep_left integer stream s)
@@ -37,6 +37,6 @@ module _ {T N I A : Type 0} (integer : Elements T N) (stream : Stream I T N) whe
     ends = (ready is).sweep.ends;
   })
 
-  -- the pieces come by their starts, there are some lists of them, and they end
+  -- The pieces come in the order of their starts, some list of them may come, and they end.
   pub deep_pieces-sorted : IsSorted integer (deep_pieces {A = A} integer stream)
   deep_pieces-sorted s ready = deep_pieces-keeps s s.done refl ready

@@ -1,4 +1,4 @@
--- What a merge and a sweep of many streams hold.
+-- What a merge or a sweep of many streams holds.
 use Rattle.std.specs.Prelude.{◌≡◌, ℕ, ◌+◌, ◌*◌, ◌<◌, ◌≤◌, false, nat_eq, nat_le, nat_lt, ◌&&◌, Bool, List, [], ◌∷◌, ◌++◌, length, All, IsPermutation, Option, Some, None, IfSome}
 use Rattle.std.specs.Iterator.{size, IsFinite}
 use Rattle.std.specs.Option.{option_len}
@@ -12,12 +12,12 @@ use Rattle.rsb_many.specs.Many.{gives_of, may_give_at, IsBegun}
 use Rattle.rsb_many.specs.declared.drawn.Drawn.{Drawn}
 use Rattle.rsb_many.specs.declared.heads.Head.{Head}
 
--- whether this is the place
+-- Whether the option is this place.
 abbrev pub is_at : Option ℕ → ℕ → Bool
 is_at None place = false
 is_at (Some used) place = nat_eq used place
 
--- the inputs: a range is due of the one whose range was used last
+-- The streams and heads as inputs. A range is due from the input whose range was used last.
 abbrev pub inputs_of : {T I A N : Type 0} → Drawn T I A N → Inputs T I
 inputs_of s = record {
   streams = s.streams.items;
@@ -25,30 +25,31 @@ inputs_of s = record {
   due = is_at s.used;
 }
 
--- the start of the range of a head was not given
+-- Whether the start of a head's range was not reported yet.
 abbrev pub IsUnstarted : {T : Type 0} → Head T → Type 0
 IsUnstarted head = head.started ≡ false
 
--- these heads came to those that were there, of ranges whose start was not given
+-- Whether `new` has the heads of `old` and perhaps others, whose starts were not reported.
 pub record AddsUnstarted {T : Type 0} (old new : List (Head T)) : Type 0 where
   pub came : List (Head T)
   pub unstarted : All IsUnstarted came
   pub all : IsPermutation (came ++ old) new
 
--- there is room for a head of each input, and one of them may have been used last
+-- Whether there is room for a head of each input. The heads, and the input used last if there is
+-- one, are at most as many as the inputs.
 pub record HasRoomForAll {T I A N : Type 0} (s : Drawn T I A N) : Type 0 where
   pub used : IfSome s.used (λ place. place < length s.streams.items)
   pub few : length s.heads.heads + option_len s.used ≤ length s.streams.items
   pub room : length s.streams.items ≤ s.heads.room
 
 module _ {T N I A : Type 0} (integer : Elements T N) (stream : Stream I T N) where
-  -- the inputs are ready, and there is room for their heads
+  -- Whether the inputs are ready and there is room for their heads.
   pub record DrawnReady (s : Drawn T I A N) : Type 0 where
     pub inputs : AreReady integer stream (inputs_of s)
     pub room : HasRoomForAll s
 
-  -- the range that is due is drawn, if one is: no input uses anything. Few comparisons are made, of
-  -- which those that are left close the place of the head that came out last. Their count never falls
+  -- Whether the range that is due, if any, is drawn, while no input uses anything. Few comparisons
+  -- are made, counting those that will close the open place at the top. Their count never falls.
   pub record Refills (s t : Drawn T I A N) : Type 0 where
     pub ready : DrawnReady t
     pub none : t.used ≡ None
@@ -65,14 +66,14 @@ module _ {T N I A : Type 0} (integer : Elements T N) (stream : Stream I T N) whe
         ≤ s.heads.comparisons + 2 * binary_digits (length s.streams.items)
     pub counted : s.heads.comparisons ≤ t.heads.comparisons
 
-  -- the least head leaves, and a range of its input is due
+  -- Whether the least head is taken out, and a range of its input is due.
   pub record TakesHead (s : Drawn T I A N) (head : Head T) (t : Drawn T I A N) : Type 0 where
     pub taken : TakesLeastHead integer.rank s.heads head t.heads
     pub streams : t.streams ≡ s.streams
     pub used : t.used ≡ Some head.input
     pub room : s.heads.room ≤ t.heads.room
 
--- the head that left last stands there again, its start given, and no range is due
+-- Whether the head that was taken last is back with its start reported, and no range is due.
 pub record PutsBack {T I A N : Type 0} (s : Drawn T I A N) (head : Head T) (t : Drawn T I A N)
     : Type 0 where
   pub kept : IsPermutation (started head ∷ s.heads.heads) t.heads.heads
@@ -80,7 +81,7 @@ pub record PutsBack {T I A N : Type 0} (s : Drawn T I A N) (head : Head T) (t : 
   pub used : t.used ≡ None
   pub room : s.heads.room ≤ t.heads.room
 
--- no head is there, and nothing changes
+-- Whether there is no head, no range is due, and the streams are unchanged.
 pub record HasNoHead {T I A N : Type 0} (s t : Drawn T I A N) : Type 0 where
   pub old : s.heads.heads ≡ []
   pub new : t.heads.heads ≡ []
@@ -88,9 +89,9 @@ pub record HasNoHead {T I A N : Type 0} (s t : Drawn T I A N) : Type 0 where
   pub used : t.used ≡ None
   pub room : s.heads.room ≤ t.heads.room
 
--- ---- streams of which the first ranges are drawn
+-- ---- streams whose first ranges are drawn
 
--- the inputs, where a range is due of those from a place on
+-- The inputs, with a range due from each one at the place `first` or past it.
 abbrev pub due_from : {T I A N : Type 0} → ℕ → Drawn T I A N → Inputs T I
 due_from first s = record {
   streams = s.streams.items;
@@ -99,7 +100,7 @@ due_from first s = record {
 }
 
 module _ {T N I A : Type 0} (integer : Elements T N) (stream : Stream I T N) where
-  -- of these the first ranges are drawn, and no more
+  -- Whether `s` holds these streams and has drawn the first range of each, and nothing more.
   pub record IsBegunOf (streams : List I) (s : Drawn T I A N) : Type 0 where
     pub ready : DrawnReady integer stream s
     pub unstarted : All IsUnstarted s.heads.heads
@@ -107,7 +108,8 @@ module _ {T N I A : Type 0} (integer : Elements T N) (stream : Stream I T N) whe
     pub begun : (place : ℕ) → IsBegun (may_give_at stream.may_give streams place)
         (input_at integer stream (inputs_of s) place)
 
-  -- of these streams the first ranges are drawn up to a place
+  -- Whether `s` holds these streams and has drawn the first range of each one before `first`, and
+  -- nothing more.
   pub record IsBegunTo (streams : List I) (first : ℕ) (s : Drawn T I A N) : Type 0 where
     pub ready : AreReady integer stream (due_from first s)
     pub unstarted : All IsUnstarted s.heads.heads

@@ -1,8 +1,8 @@
--- Streams that are handed in, as the items of what becomes an iterator.
+-- Streams that a call receives as the items of a value that becomes an iterator.
 use Rattle.std.specs.Prelude.{List, Option}
 use Rattle.std.specs.Iterator.Runs.{EachRunFrom}
 
--- whatever items the value has given as an iterator, the fact holds of them
+-- Whether the fact holds of whatever items the value has given as an iterator.
 abbrev pub EachGaveRun : {J I X : Type 0} → (J → I → Type 0) → (I → Option X → I → Type 0) → J
     → (List X → Type 0) → Type 0
 EachGaveRun {I = I} becomes steps value Fact = (iter : I) → becomes value iter

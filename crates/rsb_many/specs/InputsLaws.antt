@@ -5,13 +5,14 @@ use Rattle.std.specs.Prelude.{IfSome}
 use Rattle.rsb_streams.specs.MergeLaws.{both-finite}
 use Rattle.rsb_many.specs.Inputs.{left_of}
 
--- a count that ends unless it is over, ends
+-- If a count is finite unless the input is over, then it is finite when an input that is over
+-- counts nothing.
 finite-unless : (over : Bool) (left : Count) → (over ≡ false → IsFinite left)
     → IsFinite (count_unless over left)
 finite-unless true left ends = tt
 finite-unless false left ends = ends refl
 
--- where each stream ends that is not over, all end together
+-- If each stream that is not over has finitely many ranges left, so have all together.
 pub left_of-finite : {S : Type 0} (left : S → Count) (over : ℕ → Bool) (streams : List S)
     → ((place : ℕ) → over place ≡ false → IfSome (slice_get streams place) (λ s. IsFinite (left s)))
     → IsFinite (left_of left over streams)

@@ -12,22 +12,23 @@ use Rattle.rsb_many.specs.Inputs.{input_at, inputs_left, inputs_merge}
 use Rattle.rsb_many.specs.Many.{may_give_at, merges_all, IsBegun}
 use Rattle.rsb_many.specs.declared.kmerge.KMerge.{KMerge}
 
--- how many comparisons of keys one answer may take, of so many inputs: four for each binary digit of
--- their number, which has one at least, and four more
+-- The most comparisons of keys that one call may make with `count` inputs: four for each binary
+-- digit of `count`, with at least one digit, and four more.
 abbrev pub comparison_bound : ℕ → ℕ
 comparison_bound count = 4 * binary_digits (cond (nat_lt 0 count) count 1) + 4
 
 module _ {T N I A : Type 0} (integer : Elements T N) (stream : Stream I T N) where
-  -- the streams may be drawn from, and no range was half given
+  -- Whether the streams are ready, and the start of no held range was reported.
   pub record KMergeReady (s : KMerge T I A N) : Type 0 where
     pub drawn : DrawnReady integer stream s.inputs
     pub unstarted : All IsUnstarted s.inputs.heads.heads
 
-  -- its inputs, at places from 0 on
+  -- The inputs of a merge, by their places from 0.
   abbrev pub kmerge_inputs : KMerge T I A N → ℕ → Input
   kmerge_inputs s place = input_at integer stream (inputs_of s.inputs) place
 
-  -- a draw takes one range of one of the streams, with few comparisons, whose count never falls
+  -- Whether a draw takes one range from one of the streams, or finds that all have ended. It makes
+  -- few comparisons, and their count never falls.
   pub record AsksInOrder (s : KMerge T I A N) (item : Option (RangeInclusive T))
       (t : KMerge T I A N) : Type 0 where
     pub takes : AsksOne integer.rank kmerge_inputs s item t
@@ -36,13 +37,13 @@ module _ {T N I A : Type 0} (integer : Elements T N) (stream : Stream I T N) whe
         ≤ s.inputs.heads.comparisons + comparison_bound (length s.inputs.streams.items)
     pub counted : s.inputs.heads.comparisons ≤ t.inputs.heads.comparisons
 
-  -- the merge: what is held and still to come of all, by starts
+  -- The merge as a stream: what is held of all inputs and what is still to come, by starts.
   abbrev pub kmerge : Stream (KMerge T I A N) T N
   kmerge = asking integer AsksInOrder KMergeReady
       (λ s. inputs_left integer stream (inputs_of s.inputs))
       (λ s. inputs_merge integer stream (inputs_of s.inputs))
 
-  -- it gives a merge of what these streams may give, and has drawn the first range of each
+  -- Whether `s` gives a merge of what the streams may give, and has drawn the first range of each.
   pub record MakesKMerge (streams : List I) (s : KMerge T I A N) : Type 0 where
     pub gives : kmerge.may_give s ⊆ merges_all integer.value_count (length streams)
         (may_give_at stream.may_give streams)

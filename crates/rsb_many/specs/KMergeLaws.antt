@@ -1,4 +1,4 @@
--- The law of a merge of any number of streams: it comes by starts.
+-- The law of a merge of any number of streams: its ranges come in the order of their starts.
 use Rattle.std.proofs.Common.{◌≡◌, Bool, true, false, List, [], ◌++◌, length, slice_get, refl, Option, Some, None}
 use Rattle.std.specs.Iterator.{IsFinite}
 use Rattle.std.specs.Prelude.{IfSome, MatchOption}
@@ -16,7 +16,7 @@ use Rattle.rsb_many.specs.ManyLaws.{merges_all-some, merges_all-starts}
 
 module _ {T N I : Type 0} (integer : Elements T N) (stream : Stream I T N)
     (sorted : IsSorted integer stream) where
-  -- something may come of an input, by whether it has ended and by its stream
+  -- Some list may come from an input, with the cases that it has ended and that it has a stream.
   pub some-by : (over : Bool) (found : Option I) (held : List Interval)
       → (over ≡ false → IfSome found stream.can_draw)
       → HasOutcome (gives_of (record {
@@ -29,19 +29,19 @@ module _ {T N I : Type 0} (integer : Elements T N) (stream : Stream I T N)
   some-by false (Some s) held can =
       λ never. (sorted s (can refl)).some (λ runs may. never (held ++ runs) (runs, may, refl))
 
-  -- the stream of an input ends, by what it is
+  -- If an input has a stream, that stream ends.
   ends-by : (found : Option I) → IfSome found stream.can_draw
       → IfSome found (λ s. IsFinite (stream.draws_left s))
   ends-by None can = tt
   ends-by (Some s) can = (sorted s can).ends
 
-  -- the ranges that many inputs have left end
+  -- The number of ranges that ready inputs have left is finite.
   pub inputs-finite : (s : Inputs T I) → AreReady integer stream s
       → IsFinite (inputs_left integer stream s)
   inputs-finite s ready = left_of-finite stream.draws_left (has_ended integer stream s) s.streams
       (λ place going. ends-by (slice_get s.streams place) (ready.can place going))
 
-  -- the ranges come by their starts, there are some lists of them, and they end
+  -- The ranges come in the order of their starts, some list of them may come, and they end.
   pub kmerge-sorted : {A : Type 0} → IsSorted integer (kmerge {A = A} integer stream)
   kmerge-sorted s ready =
       let inputs = inputs_of s.inputs in

@@ -1,14 +1,13 @@
--- Keys: a start or an end of a range of an input, and the order in which a sweep meets them.
+-- Keys: the starts and ends of ranges of inputs, and the order in which a sweep meets them.
 use Rattle.std.specs.Prelude.{ℕ, Bool, true, false, not, ◌&&◌, cond, nat_lt}
 
--- the rank where a range of an input starts, or where it ends
+-- The rank where a range of an input starts, or where it ends.
 pub record Key : Type 0 where
   pub at : ℕ
   pub is_end : Bool
   pub input : ℕ
 
--- whether one key comes before another: by its rank, at one rank a start before an end, and then by
--- its input
+-- Whether one key comes before another: by rank, then a start before an end, then by input.
 abbrev pub comes_before : Key → Key → Bool
 comes_before one other =
     cond (nat_lt one.at other.at) true

@@ -1,4 +1,4 @@
--- The law of a merge of any number of streams: it comes by starts.
+-- The law of a merge of any number of streams: its ranges come in the order of their starts.
 use Rattle.std.proofs.Common.{ℕ, zero, suc, ◌<◌, [], refl, arith}
 use Rattle.std.specs.Iterator.{at_most}
 use Rattle.rsb_streams.specs.MergeLaws.{merge-starts, merges-keeps}
@@ -6,14 +6,14 @@ use Rattle.rsb_streams.specs.Stream.{◌⊆◌, merges, HasOutcome, HasSortedSta
 use Rattle.rsb_streams.specs.StreamLaws.{settled_sorted}
 use Rattle.rsb_many.specs.Many.{merges_all}
 
--- a merge of two starts no earlier than both
+-- If two streams come in the order of their starts, none before `low`, so does their merge.
 pub merges-starts : (n low : ℕ) (P Q : Outcomes) → P ⊆ HasSortedStartsFrom n low
     → Q ⊆ HasSortedStartsFrom n low → merges n P Q ⊆ HasSortedStartsFrom n low
 merges-starts n low P Q first second runs may = settled_sorted n low runs (λ fails.
     may (λ left right at also all. fails
     (merge-starts n low left right runs (first left at) (second right also) all.0 all.1)))
 
--- and a merge of many no earlier than all
+-- If many streams come in the order of their starts, none before `low`, so does their merge.
 pub merges_all-starts : (n low count : ℕ) (may_give : ℕ → Outcomes)
     → ((place : ℕ) → place < count → may_give place ⊆ HasSortedStartsFrom n low)
     → merges_all n count may_give ⊆ HasSortedStartsFrom n low
@@ -23,7 +23,8 @@ merges_all-starts n low (suc count) may_give each runs may = merges-starts n low
     (merges_all-starts n low count (λ place. may_give (suc place))
     (λ place less. each (suc place) (omega (arith, less)))) runs may
 
--- something comes of a merge of many that come by their starts
+-- If some list may come from each of many streams, in the order of its starts, then some list may
+-- come from their merge.
 pub merges_all-some : (n count : ℕ) (may_give : ℕ → Outcomes)
     → ((place : ℕ) → place < count → HasOutcome (may_give place))
     → ((place : ℕ) → place < count → may_give place ⊆ HasSortedStarts n)

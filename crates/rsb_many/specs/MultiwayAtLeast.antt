@@ -1,4 +1,4 @@
--- What lies in at least so many of many streams.
+-- What lies in at least a given number of streams.
 use Rattle.std.specs.Prelude.{ℕ, ◌≤◌, List, length, map, sum_by}
 use Rattle.rsb_integer.specs.Runs.{Interval, members, AreRuns}
 use Rattle.rsb_integer.specs.Selection.{at_least}
@@ -16,8 +16,8 @@ use Rattle.rsb_many.specs.SweepPieces.{PassesSome, Telling}
 use Rattle.rsb_many.specs.declared.deep_pieces.DeepPieces.{DeepPieces}
 use Rattle.rsb_many.specs.declared.multiway_at_least.MultiwayAtLeast.{MultiwayAtLeast}
 
--- runs of what lies in at least so many of the lists that streams give, at most as many as these
--- lists have together. No search looks into this word.
+-- Whether only runs of what lies in at least `least` of the lists of the streams may come, and at
+-- most as many as these lists have together. Proof search does not unfold this word.
 unfoldable pub GivesRunsOfAllAtMost : {S : Type 0} → ℕ → ℕ → (S → Outcomes) → List S → Outcomes
     → Type 0
 GivesRunsOfAllAtMost least n may_give streams given = given ⊆ (λ runs.
@@ -26,31 +26,32 @@ GivesRunsOfAllAtMost least n may_give streams given = given ⊆ (λ runs.
     × (length runs ≤ sum_by (λ (each : List Interval). length each) lists)))
 
 module _ {T N I A : Type 0} (integer : Elements T N) (stream : Stream I T N) where
-  -- the pieces of a sweep, joined
+  -- The pieces of a sweep, joined.
   abbrev pub joined_deep : Stream (UnionIter T (DeepPieces T I A N)) T N
   joined_deep = union_iter integer (deep_pieces integer stream)
 
-  -- the inputs of the sweep and the events that it may still give: none once it has ended
+  -- The inputs of the sweep and the events that it may still give. Once it is done, none come.
   abbrev pub at_least_telling : MultiwayAtLeast T I A N → Telling
   at_least_telling s =
       unless_told s.iter.iter.done (deep_telling integer stream s.iter.iter.iter)
 
-  -- its inputs alone
+  -- The inputs of the sweep.
   abbrev pub at_least_inputs : MultiwayAtLeast T I A N → ℕ → Input
   at_least_inputs s place = (at_least_telling s).inputs place
 
-  -- the joined pieces may be drawn from, and one range of each input is held at most
+  -- Whether the joined pieces are ready and at most one range of each input is held.
   pub record AtLeastReady (s : MultiwayAtLeast T I A N) : Type 0 where
     pub joined : joined_deep.can_draw s.iter
     pub holds : HoldOneAtMost (at_least_inputs s)
 
-  -- what lies in at least so many: a draw passes some events
+  -- What lies in at least a given number of streams, as a stream. A draw passes some events.
   abbrev pub multiway_at_least : Stream (MultiwayAtLeast T I A N) T N
   multiway_at_least = asking integer
       (λ s item t. PassesSome (at_least_telling s) (at_least_telling t))
       AtLeastReady (λ s. joined_deep.draws_left s.iter) (λ s. joined_deep.may_give s.iter)
 
-  -- made of what lies in at least so many of the streams
+  -- Whether `result` is ready and gives only runs of what lies in at least `least` of the streams.
+  -- At most one range of each is drawn.
   abbrev pub MakesMultiwayAtLeast : ℕ → Stream (MultiwayAtLeast T I A N) T N → List I
       → MultiwayAtLeast T I A N → Type 0
   MakesMultiwayAtLeast least made streams result = IsMade made.can_draw result

@@ -1,4 +1,4 @@
--- What lies in all of any number of streams.
+-- What lies in all of the given streams.
 use Rattle.std.specs.Prelude.{ℕ, Option}
 use Rattle.std.specs.declared.ops.RangeInclusive.{RangeInclusive}
 use Rattle.rsb_integer.specs.Rank.{intervals_of}
@@ -14,22 +14,22 @@ use Rattle.rsb_many.specs.declared.operation_results.multiway_intersection.Multi
 use Rattle.rsb_many.specs.declared.operation_results.multiway_union.MultiwayUnion.{MultiwayUnion}
 
 module _ {T N I A : Type 0} (integer : Elements T N) (stream : Stream I T N) where
-  -- what some of them leave out
+  -- What at least one of the streams leaves out: the union of their complements.
   abbrev pub left_out : Stream (MultiwayUnion T (NotIter T I) A N) T N
   left_out = multiway_union integer (not_iter integer stream)
 
-  -- and its gaps
+  -- The gaps of that union.
   abbrev pub not_left_out : Stream (NotIter T (MultiwayUnion T (NotIter T I) A N)) T N
   not_left_out = not_iter integer left_out
 
-  -- its inputs, which are the complements of the streams, where the range that the union of these
-  -- holds came of one place
+  -- The inputs of an intersection: the complements of the streams. The range that their union holds
+  -- is counted as one from the place `from`.
   abbrev pub multiway_intersection_inputs : ℕ → MultiwayIntersection T I A N → ℕ → Input
   multiway_intersection_inputs from s =
       multiway_union_inputs integer (not_iter integer stream) from s.iter.iter
 
-  -- a draw passes over some answers of the union. If one range at most was held of each input, each
-  -- range that it uses of one lies within one of these answers, and one at most is held of each
+  -- Whether a draw passes over some ranges of the union. If at most one range of each input was
+  -- held, that is still so, and each range used of it lies within one of these.
   pub record AsksOfAll (s : MultiwayIntersection T I A N) (item : Option (RangeInclusive T))
       (t : MultiwayIntersection T I A N) : Type 0 where
     pub passes : PassesOver integer left_out s.iter item t.iter
@@ -37,7 +37,7 @@ module _ {T N I A : Type 0} (integer : Elements T N) (stream : Stream I T N) whe
         → (now_from : ℕ) × ((place : ℕ) → UsesWithin (intervals_of integer.rank passes.used)
         (multiway_intersection_inputs from s place) (multiway_intersection_inputs now_from t place))
 
-  -- the gaps of what some of them leave out
+  -- The intersection as a stream: the gaps of what at least one of the streams leaves out.
   abbrev pub multiway_intersection : Stream (MultiwayIntersection T I A N) T N
   multiway_intersection = asking integer AsksOfAll
       (λ s. not_left_out.can_draw s.iter)

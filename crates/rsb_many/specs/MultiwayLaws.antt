@@ -1,4 +1,4 @@
--- The laws of what operations on any number of streams make: each is canonical.
+-- The laws of the results of operations on any number of streams: each result is canonical.
 use Rattle.rsb_integer.specs.declared.integer.Integer.{Ghosts as Elements}
 use Rattle.rsb_streams.specs.NotIter.{not_iter}
 use Rattle.rsb_streams.specs.NotIterLaws.{not_iter-disjoint}
@@ -17,13 +17,13 @@ use Rattle.rsb_many.specs.MultiwayUnion.{multiway_union}
 use Rattle.rsb_many.specs.SweepPieces.{sweep_pieces}
 use Rattle.rsb_many.specs.SweepPiecesLaws.{sweep_pieces-sorted}
 
--- what lies in some of them
+-- The union of many streams is canonical.
 pub multiway_union-disjoint : {T N I A : Type 0} (integer : Elements T N) (stream : Stream I T N)
     → IsSorted integer stream → IsDisjoint integer (multiway_union {A = A} integer stream)
 multiway_union-disjoint integer stream sorted s = union_iter-disjoint integer (kmerge integer stream)
     (kmerge-sorted integer stream sorted) s.iter
 
--- what lies in all of them
+-- The intersection of many streams is canonical.
 pub multiway_intersection-disjoint : {T N I A : Type 0} (integer : Elements T N)
     (stream : Stream I T N) → IsSorted integer stream
     → IsDisjoint integer (multiway_intersection {A = A} integer stream)
@@ -34,7 +34,7 @@ multiway_intersection-disjoint integer stream sorted s =
     (multiway_union-disjoint integer gaps (disjoint-sorted integer gaps
     (not_iter-disjoint integer stream sorted)))) s.iter
 
--- what lies in an odd number of them
+-- What lies in an odd number of streams is canonical.
 pub multiway_symmetric_difference-disjoint : {T N I A : Type 0} (integer : Elements T N)
     (stream : Stream I T N)
     → IsDisjoint integer (multiway_symmetric_difference {A = A} integer stream)
@@ -42,7 +42,7 @@ multiway_symmetric_difference-disjoint integer stream s ready =
     union_iter-disjoint integer (sweep_pieces integer stream)
     (sweep_pieces-sorted integer stream) s.iter ready.joined
 
--- what lies in at least so many of them
+-- What lies in at least a given number of streams is canonical.
 pub multiway_at_least-disjoint : {T N I A : Type 0} (integer : Elements T N) (stream : Stream I T N)
     → IsDisjoint integer (multiway_at_least {A = A} integer stream)
 multiway_at_least-disjoint integer stream s ready =

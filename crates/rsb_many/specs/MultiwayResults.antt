@@ -1,5 +1,5 @@
--- What operations on any number of streams make: the result may be drawn from, gives nothing but
--- runs of what the operation selects, and of each stream one range at most is drawn.
+-- The results of operations on any number of streams. Each is ready and gives only runs of what the
+-- operation selects. At most one range of each stream is drawn.
 use Rattle.std.specs.Prelude.{ℕ, List, [], ◌∷◌, length}
 use Rattle.rsb_integer.specs.Selection.{Selection, all_of, any_of, odd_of}
 use Rattle.rsb_integer.specs.declared.integer.Integer.{Ghosts as Elements}
@@ -16,14 +16,15 @@ use Rattle.rsb_many.specs.declared.multiway_sym_diff_set.MultiwaySymmetricDiffer
 use Rattle.rsb_many.specs.declared.operation_results.multiway_intersection.MultiwayIntersection.{MultiwayIntersection}
 use Rattle.rsb_many.specs.declared.operation_results.multiway_union.MultiwayUnion.{MultiwayUnion}
 
--- a stream made of many others gives nothing but runs of a set made of theirs
+-- Whether a stream gives only runs of the set that the operation makes of what the streams give.
 abbrev pub GivesByAll : {S : Type 0} → (List Selection → Selection) → ℕ → (S → Outcomes) → List S
     → Outcomes → Type 0
 GivesByAll operation n may_give streams given =
     given ⊆ runs_by_all n operation (length streams) (may_give_at may_give streams)
 
 module _ {T N I : Type 0} (integer : Elements T N) (stream : Stream I T N) where
-  -- the streams of the last list are the complements of the others, of which nothing is drawn
+  -- Whether the second list has the complements of the streams in the first, with nothing drawn
+  -- from them.
   abbrev pub AreComplements : List I → List (NotIter T I) → Type 0
   AreComplements [] [] = Unit {0}
   AreComplements [] (gap ∷ gaps) = ⊥
@@ -32,7 +33,8 @@ module _ {T N I : Type 0} (integer : Elements T N) (stream : Stream I T N) where
       MakesComplement integer stream (not_iter integer stream) of gap × AreComplements streams gaps
 
   module _ {A : Type 0} where
-    -- of what lies in some of the streams
+    -- Whether `result` is ready and gives only runs of the union of the streams. At most one range
+    -- of each is drawn.
     abbrev pub MakesMultiwayUnion : Stream (MultiwayUnion T I A N) T N → List I
         → MultiwayUnion T I A N → Type 0
     MakesMultiwayUnion made streams result = IsMade made.can_draw result
@@ -40,7 +42,7 @@ module _ {T N I : Type 0} (integer : Elements T N) (stream : Stream I T N) where
         ((from place : ℕ) → IsBegun (may_give_at stream.may_give streams place)
         (multiway_union_inputs integer stream from result place))
 
-    -- of the complements of the streams one range at most is drawn
+    -- Whether at most one range is drawn from the complement of each stream.
     pub record BeginsComplements (streams : List I) (result : MultiwayIntersection T I A N) : Type 0
       where
         pub gaps : List (NotIter T I)
@@ -49,14 +51,16 @@ module _ {T N I : Type 0} (integer : Elements T N) (stream : Stream I T N) where
             → IsBegun (may_give_at (not_iter integer stream).may_give gaps place)
             (multiway_intersection_inputs integer stream from result place)
 
-    -- of what lies in all of the streams
+    -- Whether `result` is ready and gives only runs of the intersection of the streams. At most one
+    -- gap of each is drawn.
     abbrev pub MakesMultiwayIntersection : Stream (MultiwayIntersection T I A N) T N → List I
         → MultiwayIntersection T I A N → Type 0
     MakesMultiwayIntersection made streams result = IsMade made.can_draw result
         (GivesByAll all_of integer.value_count stream.may_give streams (made.may_give result))
         (BeginsComplements streams result)
 
-    -- of what lies in an odd number of the streams
+    -- Whether `result` is ready and gives only runs of what lies in an odd number of the streams.
+    -- At most one range of each is drawn.
     abbrev pub MakesMultiwaySymmetricDifference : Stream (MultiwaySymmetricDifference T I A N) T N
         → List I → MultiwaySymmetricDifference T I A N → Type 0
     MakesMultiwaySymmetricDifference made streams result = IsMade made.can_draw result

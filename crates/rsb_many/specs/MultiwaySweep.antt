@@ -1,4 +1,4 @@
--- The events of any number of streams, as they come.
+-- The events of any number of streams, as a sweep gives them.
 use Rattle.std.specs.Prelude.{◌≡◌, ℕ, ◌+◌, ◌*◌, ◌≤◌, Bool, false, cond, nat_eq, ◌&&◌, ◌||◌, List, [], ◌∷◌, length, sum_by, Option, MatchOption}
 use Rattle.std.specs.Iterator.{Count, count_map, IsFinite}
 use Rattle.rsb_integer.specs.Runs.{Interval}
@@ -18,80 +18,82 @@ use Rattle.rsb_many.specs.declared.sweep_event.SweepEvent.{SweepEvent}
 
 -- ---- events that may come
 
--- the lists of events that a sweep may still give
+-- The lists of events that a sweep may still give.
 abbrev pub EventOutcomes : Type 1
 EventOutcomes = List Event → Type 0
 
--- some list of events may come. (As of ranges, no list is at hand: it is not so that there is none.)
+-- Whether some list of events may come. “Some” means “not none”: a closure might not return, so we
+-- cannot exhibit a list.
 abbrev pub HasEvents : EventOutcomes → Type 0
 HasEvents P = ¬ ((events : List Event) → ¬ (P events))
 
 -- ---- heads
 
--- whether a range of the input at a place has started, and not ended
+-- Whether a range of the input at a place has started and not ended.
 abbrev pub has_begun : {T : Type 0} → List (Head T) → ℕ → Bool
 has_begun [] place = false
 has_begun (head ∷ heads) place = (nat_eq head.input place && head.started) || has_begun heads place
 
--- how many events of the range of a head are to come: its end, and first its start, if that was not
--- given
+-- How many events of a head's range are to come: one if its start was reported, and otherwise two.
 abbrev pub events_of_head : {T : Type 0} → Head T → ℕ
 events_of_head head = cond head.started 1 2
 
 -- ---- inputs
 
--- a range of the input at a place starts: it is the one that is held of it then, and no input uses
--- anything
+-- Whether a range of the input at a place starts. It is then the one range held of that input, and
+-- no input uses anything.
 pub record StartsAt (place : ℕ) (before : ℕ → Input) (run : Interval) (now : ℕ → Input) : Type 0
   where
     pub held : (now place).held ≡ run ∷ []
     pub uses : (other : ℕ) → Uses (before other) [] (now other)
 
--- a range of the input at a place ends at a rank: the input uses it, nothing is held of it then, and
--- no other input uses anything
+-- Whether a range of the input at a place ends at the rank `last`. That input uses it and then
+-- holds nothing. No other input uses anything.
 pub record EndsAt (place : ℕ) (before : ℕ → Input) (last : ℕ) (now : ℕ → Input) : Type 0 where
   pub run : Interval
   pub ends : run.last ≡ last
   pub here : GivesFrom (before place) run (now place)
   pub elsewhere : (other : ℕ) → ¬ (other ≡ place) → Uses (before other) [] (now other)
 
--- what an event asks of the inputs: it uses the range that ends, if one does
+-- Whether the inputs change as the event asks: they use the range that ends, if one does.
 abbrev pub AsksAt : (ℕ → Input) → Event → (ℕ → Input) → Type 0
 AsksAt before (Start run place) now = StartsAt place before run now
 AsksAt before (End last place) now = EndsAt place before last now
 
 -- ---- a sweep
 
--- how many streams it sweeps over
+-- The number of streams of a sweep.
 abbrev pub stream_count : {T I A N : Type 0} → MultiwaySweep T I A N → ℕ
 stream_count s = length s.inputs.streams.items
 
 module _ {T N I A : Type 0} (integer : Elements T N) (stream : Stream I T N) where
-  -- its inputs, at places from 0 on
+  -- The inputs of a sweep, by their places from 0.
   abbrev pub sweep_inputs : MultiwaySweep T I A N → ℕ → Input
   sweep_inputs s place = input_at integer stream (inputs_of s.inputs) place
 
-  -- the events of lists that the inputs may give, where of some the first range has started
+  -- The events of lists that the inputs may give. If the first range of an input has started, only
+  -- its end is still to come.
   abbrev pub sweep_may_give : MultiwaySweep T I A N → EventOutcomes
   sweep_may_give s events = SomeOfEach (stream_count s) (λ place. gives_of (sweep_inputs s place))
       (λ lists. AreEventsOf (rests_by (has_begun s.inputs.heads.heads) lists) events)
 
-  -- two for each range to come, and those of the heads
+  -- How many events are left: two for each range to come, and those of the heads.
   abbrev pub events_left : MultiwaySweep T I A N → Count
   events_left s = count_map (λ left. 2 * left + sum_by events_of_head s.inputs.heads.heads)
       (left_of stream.draws_left (has_ended integer stream (inputs_of s.inputs))
       s.inputs.streams.items)
 
-  -- the streams may be drawn from, the ranges of each input ascend and do not overlap, there is some
-  -- list of their events, and it ends
+  -- Whether the streams are ready, and the ranges of each input ascend and do not overlap. Some
+  -- list of their events may come, and it ends.
   pub record SweepReady (s : MultiwaySweep T I A N) : Type 0 where
     pub drawn : DrawnReady integer stream s.inputs
     pub touching : (place : ℕ) → gives_of (sweep_inputs s place) ⊆ IsTouching
     pub some : HasEvents (sweep_may_give s)
     pub ends : IsFinite (events_left s)
 
-  -- the event, and then what may come after it, might come before it. After `None` the sweep may be
-  -- called again, and no events come. Few comparisons are made, and their count never falls
+  -- Whether a call gives an event that may come, followed by what may come afterwards. After `None`
+  -- the sweep is ready again and no events come. Few comparisons are made, and their count never
+  -- falls.
   pub record Sweeps (s : MultiwaySweep T I A N) (item : Option (SweepEvent T))
       (t : MultiwaySweep T I A N) : Type 0 where
     pub answers : MatchOption item (sweep_may_give s [])
@@ -109,8 +111,9 @@ module _ {T N I A : Type 0} (integer : Elements T N) (stream : Stream I T N) whe
         ≤ s.inputs.heads.comparisons + comparison_bound (stream_count s)
     pub counted : s.inputs.heads.comparisons ≤ t.inputs.heads.comparisons
 
-  -- a sweep just made of streams, of which no range overlaps another: it may be called, all that may
-  -- come are the events of lists that they may give, and the first range of each is drawn
+  -- Whether `s` is a sweep just built from these streams, whose ranges do not overlap within a
+  -- stream. It is ready, and only the events of lists that the streams may give may come. The first
+  -- range of each is drawn.
   pub record SweepsOver (streams : List I) (s : MultiwaySweep T I A N) : Type 0 where
     pub touching : (place : ℕ)
         → may_give_at stream.may_give streams place ⊆ IsTouchingIn integer.value_count

@@ -13,16 +13,16 @@ use Rattle.rsb_many.specs.declared.multiway_sym_diff_set.MultiwaySymmetricDiffer
 use Rattle.rsb_many.specs.declared.sweep_pieces.SweepPieces.{SweepPieces}
 
 module _ {T N I A : Type 0} (integer : Elements T N) (stream : Stream I T N) where
-  -- the pieces of a sweep, joined
+  -- The pieces of a sweep, joined.
   abbrev pub joined_pieces : Stream (UnionIter T (SweepPieces T I A N)) T N
   joined_pieces = union_iter integer (sweep_pieces integer stream)
 
-  -- its inputs are those of the sweep, and nothing once that has ended
+  -- The inputs of the sweep. Once it is done, they have ended.
   abbrev pub odd_inputs : MultiwaySymmetricDifference T I A N → ℕ → Input
   odd_inputs s place =
       unless_ended s.iter.iter.done (pieces_inputs integer stream s.iter.iter.iter place)
 
-  -- they, and the events that the sweep may still give: none once it has ended
+  -- These inputs and the events that the sweep may still give. Once it is done, none come.
   abbrev pub odd_telling : MultiwaySymmetricDifference T I A N → Telling
   odd_telling s = record {
     inputs = odd_inputs s;
@@ -30,12 +30,12 @@ module _ {T N I A : Type 0} (integer : Elements T N) (stream : Stream I T N) whe
         (sweep_may_give integer stream s.iter.iter.iter.sweep events);
   }
 
-  -- the joined pieces may be drawn from, and one range of each input is held at most
+  -- Whether the joined pieces are ready and at most one range of each input is held.
   pub record OddReady (s : MultiwaySymmetricDifference T I A N) : Type 0 where
     pub joined : joined_pieces.can_draw s.iter
     pub holds : HoldOneAtMost (odd_inputs s)
 
-  -- the symmetric difference: a draw passes some events
+  -- The symmetric difference as a stream. A draw passes some events.
   abbrev pub multiway_symmetric_difference : Stream (MultiwaySymmetricDifference T I A N) T N
   multiway_symmetric_difference = asking integer
       (λ s item t. PassesSome (odd_telling s) (odd_telling t))

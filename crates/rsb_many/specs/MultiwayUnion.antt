@@ -11,16 +11,16 @@ use Rattle.rsb_many.specs.KMerge.{kmerge, kmerge_inputs}
 use Rattle.rsb_many.specs.declared.kmerge.KMerge.{KMerge}
 use Rattle.rsb_many.specs.declared.operation_results.multiway_union.MultiwayUnion.{MultiwayUnion}
 
--- two places by number are one, or they are not
+-- A decision whether two places are equal.
 abbrev pub same_place : Sameness ℕ
 same_place one other = cases_eq one other
 
 module _ {T N I A : Type 0} (integer : Elements T N) (stream : Stream I T N) where
-  -- a merge of many, joined
+  -- A merge of many streams, joined.
   abbrev pub joined_kmerge : Stream (UnionIter T (KMerge T I A N)) T N
   joined_kmerge = union_iter integer (kmerge integer stream)
 
-  -- the union: a draw looks ahead of each stream by one range at most
+  -- The union as a stream. A draw looks ahead by at most one range of each stream.
   abbrev pub multiway_union : Stream (MultiwayUnion T I A N) T N
   multiway_union = asking integer
       (λ s item t. AsksAhead same_place integer (kmerge_inputs integer stream) s.iter item t.iter)
@@ -28,7 +28,7 @@ module _ {T N I A : Type 0} (integer : Elements T N) (stream : Stream I T N) whe
       (λ s. joined_kmerge.draws_left s.iter)
       (λ s. joined_kmerge.may_give s.iter)
 
-  -- its inputs, where the range that it holds came of one place
+  -- The inputs of a union. The range that it holds is counted as one from the place `from`.
   abbrev pub multiway_union_inputs : ℕ → MultiwayUnion T I A N → ℕ → Input
   multiway_union_inputs from s =
       joined_inputs same_place integer (kmerge_inputs integer stream) from s.iter

@@ -4,7 +4,7 @@ use Rattle.std.specs.Prelude.{◌≡◌, List, All}
 use Rattle.std.specs.Vec.Iter.{into_iter_items, into_iter_steps}
 use Rattle.std.specs.declared.vec.IntoIter.{IntoIter}
 
--- it gives these streams in order, and each of them is ready
+-- Whether the iterator gives these streams in order, and each of them is ready.
 pub record GivesStreams {I A : Type 0} (can_draw : I → Type 0) (streams : List I) (iter : IntoIter I A)
     : Type 0 where
   pub items : into_iter_items iter ≡ streams

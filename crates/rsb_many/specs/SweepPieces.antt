@@ -17,35 +17,35 @@ use Rattle.rsb_many.specs.declared.sweep_pieces.SweepPieces.{SweepPieces}
 
 -- ---- edges
 
--- the rank where an event changes what lies in how many ranges: where a range starts, and past the
--- end of one
+-- The edge of an event: the rank where a range starts, or the rank past the end of a range.
 abbrev pub edge_of : Event → ℕ
 edge_of (Start range input) = range.first
 edge_of (End last input) = last + 1
 
--- the ranks from an edge on
+-- The ranks at or past an edge.
 abbrev pub from_edge : ℕ → Selection
 from_edge edge rank = nat_le edge rank
 
--- the ranks that have an odd number of the edges at or before them
+-- The ranks that have an odd number of the edges at or before them.
 abbrev pub odd_past : List ℕ → Selection
 odd_past edges = odd_of (map from_edge edges)
 
--- the start of a piece that has begun, as an edge
+-- The start of a piece that has begun, as a list of edges.
 abbrev pub edges_of : {T : Type 0} → (T → ℕ) → Option T → List ℕ
 edges_of rank None = []
 edges_of rank (Some start) = rank start ∷ []
 
--- the edge, where a value of a type of so many lies there
+-- The edge as a list, if it is a rank of a type of `n` values. Otherwise the list is empty.
 abbrev pub edge_in : ℕ → ℕ → List ℕ
 edge_in n edge = cond (nat_lt edge n) (edge ∷ []) []
 
--- the ranks from one edge up to another, if there are any
+-- The piece from one edge up to another, as a list. It is empty if there are no ranks between.
 abbrev pub piece_up_to : ℕ → ℕ → List Interval
 piece_up_to first edge =
     cond (nat_lt first edge) (record { first = first; last = edge - 1 } ∷ []) []
 
--- an edge is passed: a piece that has begun ends before it, and else one begins there
+-- Whether an edge is passed. A piece that has begun ends before it. If none has begun, one begins
+-- there.
 abbrev pub PassesEdge : {T : Type 0} → (T → ℕ) → ℕ → ℕ → Option T → Option (RangeInclusive T)
     → Option T → Type 0
 PassesEdge rank n edge old piece new = MatchOption old
@@ -54,76 +54,78 @@ PassesEdge rank n edge old piece new = MatchOption old
 
 -- ---- lists of events
 
--- the range of an event has members and lies in a type of n values, or its end does
+-- Whether an event lies in a type of `n` values. If a range starts, it must have members.
 abbrev pub IsEventIn : ℕ → Event → Type 0
 IsEventIn n (Start range input) = (range.first ≤ range.last) × (range.last < n)
 IsEventIn n (End last input) = last < n
 
--- no edge falls, the first lies at `low` or past it, and the events lie in a type of n values
+-- Whether the edges never fall, the first is at `low` or past it, and the events lie in a type of
+-- `n` values.
 abbrev pub HasEdgesFrom : ℕ → ℕ → List Event → Type 0
 HasEdgesFrom n low [] = Unit {0}
 HasEdgesFrom n low (event ∷ events) =
     (low ≤ edge_of event) × IsEventIn n event × HasEdgesFrom n (edge_of event) events
 
--- where a piece has begun, an odd number of edges is to come; and else an even number, unless they
--- all lie past the end of the type
+-- Whether each piece will end. If one has begun, an odd number of edges is to come. Otherwise an
+-- even number is to come, or all edges lie past the end of the type.
 abbrev pub IsClosed : {T : Type 0} → ℕ → Option T → List Event → Type 0
 IsClosed n (Some start) events = odd_past (map edge_of events) n ≡ true
 IsClosed n None events = (odd_past (map edge_of events) n ≡ false) ⊎ HasEdgesFrom n n events
 
--- where no edge lies before: at the start of the piece that has begun
+-- The rank before which no edge lies: the start of the piece that has begun, or 0 if none has.
 abbrev pub low_of : {T : Type 0} → (T → ℕ) → Option T → ℕ
 low_of rank None = 0
 low_of rank (Some start) = rank start
 
--- no edge falls, also after the start of the piece that has begun, and each piece has an end
+-- Whether the edges never fall, from the start of the piece that has begun, and each piece will
+-- end.
 pub record IsWhole {T : Type 0} (rank : T → ℕ) (n : ℕ) (start : Option T) (events : List Event)
     : Type 0 where
   pub edges : HasEdgesFrom n (low_of rank start) events
   pub closed : IsClosed n start events
 
--- the fact holds of a list of events that may come
+-- Whether the fact holds of some list of events that may come. “Some” means “not none”.
 abbrev pub SomeEvents : EventOutcomes → (List Event → Type 0) → Type 0
 SomeEvents P Fact = ¬ ((events : List Event) → P events → ¬ (Fact events))
 
 -- ---- inputs
 
--- where the events end ranges of the input at a place
+-- The ranks where the events end ranges of the input at a place.
 abbrev pub ends_at : ℕ → List Event → List ℕ
 ends_at place [] = []
 ends_at place (Start range input ∷ events) = ends_at place events
 ends_at place (End last input ∷ events) =
     cond (nat_eq input place) (last ∷ ends_at place events) (ends_at place events)
 
--- an input uses ranges that end there
+-- Whether an input uses ranges that end at these ranks.
 pub record UsesTo (lasts : List ℕ) (before now : Input) : Type 0 where
   pub used : List Interval
   pub uses : Uses before used now
   pub ends : map (λ (run : Interval). run.last) used ≡ lasts
 
--- the inputs of a sweep, and the events that may come of them
+-- The inputs of a sweep, and the events that may come from them.
 pub record Telling : Type 1 where
   pub inputs : ℕ → Input
   pub events : EventOutcomes
 
--- all inputs have ended, and no events come
+-- The inputs and events once all is over: the inputs have ended, and no events come.
 abbrev pub told_all : Telling
 told_all = record { inputs = λ place. undrawn (just []); events = λ events. events ≡ [] }
 
--- some events were passed: they come before those that may come then, each input used the ranges of
--- which the end was passed, and one range of each is held at most
+-- Whether some events were passed, ahead of those that may still come. Each input used the ranges
+-- whose ends were passed, and at most one range of each is held.
 pub record PassesSome (before now : Telling) : Type 0 where
   pub passed : List Event
   pub come : (rest : List Event) → now.events rest → before.events (passed ++ rest)
   pub uses : (place : ℕ) → UsesTo (ends_at place passed) (before.inputs place) (now.inputs place)
   pub holds : HoldOneAtMost now.inputs
 
--- all events were passed, and the inputs have ended
+-- Whether all events were passed and the inputs have ended.
 pub record PassesAll (before now : Telling) : Type 0 where
   pub passes : PassesSome before told_all
   pub over : (place : ℕ) → HasEnded (now.inputs place)
 
--- a call passes some events, and all that are left where it answers `None`
+-- Whether a call passes some events, or all that are left if it returns `None`.
 abbrev pub AsksToPass : {T : Type 0} → Telling → Option (RangeInclusive T) → Telling → Type 0
 AsksToPass before item now =
     MatchOption item (PassesAll before now) (λ _. PassesSome before now)
@@ -133,30 +135,30 @@ AsksToPass before item now =
 module _ {T N I A : Type 0} (integer : Elements T N) (stream : Stream I T N) where
   open integer use {rank, value_count as n}
 
-  -- the inputs of the sweep, at places from 0 on
+  -- The inputs of the sweep, by their places from 0.
   abbrev pub pieces_inputs : SweepPieces T I A N → ℕ → Input
   pieces_inputs s = sweep_inputs integer stream s.sweep
 
-  -- they, and the events that the sweep may still give
+  -- These inputs, and the events that the sweep may still give.
   abbrev pub pieces_telling : SweepPieces T I A N → Telling
   pieces_telling s = record {
     inputs = pieces_inputs s;
     events = sweep_may_give integer stream s.sweep;
   }
 
-  -- the sweep may be called, a piece that has begun starts at a value, and each has an end
+  -- Whether the sweep is ready, a piece that has begun starts at a value, and each piece will end.
   pub record TellsPieces (s : SweepPieces T I A N) : Type 0 where
     pub sweep : SweepReady integer stream s.sweep
     pub start : IfSome s.start (λ value. rank value < n)
     pub whole : (events : List Event) → sweep_may_give integer stream s.sweep events
         → IsWhole rank n s.start events
 
-  -- pieces of what has an odd number of edges at or before it
+  -- The pieces that may come, of the ranks that have an odd number of edges at or before them.
   abbrev pub pieces_may_give : SweepPieces T I A N → Outcomes
   pieces_may_give s pieces = SomeEvents (sweep_may_give integer stream s.sweep)
       (λ events. ArePieces n (odd_past (edges_of rank s.start ++ map edge_of events)) pieces)
 
-  -- the pieces: a draw passes some events
+  -- The stream of pieces. A draw passes some events.
   abbrev pub sweep_pieces : Stream (SweepPieces T I A N) T N
   sweep_pieces = asking integer (λ s item t. AsksToPass (pieces_telling s) item (pieces_telling t))
       TellsPieces (λ s. events_left integer stream s.sweep) pieces_may_give

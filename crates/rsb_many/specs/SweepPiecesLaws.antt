@@ -1,4 +1,4 @@
--- The law of the pieces of a sweep: they come by starts.
+-- The law of the pieces of a sweep: they come in the order of their starts.
 use Rattle.std.proofs.Common.{◌++◌, map}
 use Rattle.rsb_integer.specs.declared.integer.Integer.{Ghosts as Elements}
 use Rattle.rsb_integer.proofs.RunsLemmas.{runs-canonical, runs-members}
@@ -7,7 +7,7 @@ use Rattle.rsb_streams.specs.StreamLaws.{canonical-sorted, runs-exist, settled_s
 use Rattle.rsb_streams.specs.declared.draw.Draw.{Ghosts as Stream}
 use Rattle.rsb_many.specs.SweepPieces.{edge_of, edges_of, odd_past, sweep_pieces}
 
--- the pieces come by their starts, there are some lists of them, and they end
+-- The pieces come in the order of their starts, some list of them may come, and they end.
 pub sweep_pieces-sorted : {T N I A : Type 0} (integer : Elements T N) (stream : Stream I T N)
     → IsSorted integer (sweep_pieces {A = A} integer stream)
 sweep_pieces-sorted integer stream s ready =

@@ -1,4 +1,4 @@
-//! What lies in at least so many streams, as pieces that may touch.
+//! What lies in at least the given number of streams, as pieces that may touch.
 
 ghost use Rattle.std.specs.Prelude.{◌≡◌, ◌<◌, false, IfSome};
 ghost use Rattle.rsb_many.specs.DeepPieces.{
@@ -21,23 +21,23 @@ use rsb_streams::Draw;
 use std::alloc::{Allocator, Global};
 use std::ops::RangeInclusive;
 
-/// What lies in at least so many streams of a sweep, as pieces that may touch. A piece begins where
-/// so many ranges have started that have not ended, and ends where there are fewer.
+/// What lies in at least `least` streams of a sweep, as pieces that may touch. A piece begins where
+/// `least` ranges have started and not ended. It ends where there are fewer.
 #[derive(Debug, Drop)]
 pub(crate) struct DeepPieces<T: Integer, I, A: Allocator = Global> {
     sweep: MultiwaySweep<T, I, A>,
     least: usize,
-    // How many ranges have started and not ended.
+    // The number of ranges that have started and not ended.
     depth: usize,
-    // Where the piece starts that has begun.
+    // The start of the piece that has begun, if one has.
     start: Option<T>,
-    // The sweep has ended.
+    // Whether the sweep has ended.
     done: bool,
 }
 
 impl<T: Integer, I: Draw<T>, A: Allocator> DeepPieces<T, I, A> {
-    /// The pieces of a sweep, of which no event was passed yet. Where no range is needed, one begins
-    /// at the least value.
+    /// Returns the pieces of a sweep, with no event passed. If `least` is 0, a piece begins at the
+    /// least value. Otherwise none has begun.
     pub(crate) fn over(sweep: MultiwaySweep<T, I, A>, least: usize) -> Self
         ensures sweep { result.sweep ≡ sweep }
         ensures least { result.least ≡ least }
@@ -60,8 +60,8 @@ impl<T: Integer, I: Draw<T>, A: Allocator> DeepPieces<T, I, A> {
     }
 }
 
-/// Counts a range that starts or ends, and answers whether their number comes to the least one
-/// there, or falls below it.
+/// Counts a range that starts or ends. Returns whether the number of ranges reaches `least` there,
+/// or falls below it.
 fn counts<T: Integer>(depth: &mut usize, least: usize, event: &SweepEvent<T>) -> bool
     requires { CanPass depth.old (event_of T.rank event.now) }
     ensures depth { depth.new ≡ depth_after depth.old (event_of T.rank event.now) }
@@ -80,7 +80,7 @@ fn counts<T: Integer>(depth: &mut usize, least: usize, event: &SweepEvent<T>) ->
     }
 }
 
-/// Passes an event, and answers the piece that ends there, if one does.
+/// Passes an event and returns the piece that ends there, if one does.
 fn pass<T: Integer>(
     least: usize,
     depth: &mut usize,

@@ -1,4 +1,4 @@
-//! The streams of many inputs, with the heads that were drawn of them.
+//! The streams of many inputs, with the heads drawn from them.
 
 ghost use Rattle.std.specs.Prelude.{◌≡◌, ◌+◌, ◌*◌, ◌<◌, ◌≤◌, [], length, slice_get, All, IfOk, IfSome, MatchOption, None};
 ghost use Rattle.rsb_many.specs.Drawn.{DrawnReady, HasNoHead, IsBegunOf, PutsBack, Refills, TakesHead};
@@ -10,17 +10,18 @@ use rsb_integer::Integer;
 use rsb_streams::Draw;
 use std::alloc::{AllocError, Allocator, Global};
 
-/// Streams, and the heads that were drawn of them: what a merge and a sweep of many hold.
+/// Streams and the heads drawn from them: what a merge or a sweep of many streams holds.
 #[derive(Debug, Drop)]
 pub(crate) struct Drawn<T: Integer, I, A: Allocator = Global> {
     streams: Vec<I, A>,
     heads: Heads<T, A>,
-    // The input whose range was used last: its next one is drawn when one more is asked for.
+    // The input whose range was used last. Its next range is drawn only when one more is asked for.
     used: Option<usize>,
 }
 
 impl<T: Integer, I: Draw<T>, A: Allocator> Drawn<T, I, A> {
-    /// Streams that may be drawn from, with the head of each. Without memory nothing is made.
+    /// Returns the given streams, which must be ready, with the head of each. If allocation fails,
+    /// the streams are dropped.
     pub(crate) fn over(alloc: A, streams: Vec<I, A>) -> Result<Self, AllocError>
         requires { All I.can_draw streams.items }
         ensures { IfOk result (λ drawn. IsBegunOf T.Integer.own I.Draw streams.items drawn) }
@@ -50,7 +51,8 @@ impl<T: Integer, I: Draw<T>, A: Allocator> Drawn<T, I, A> {
         }
     }
 
-    /// Draws a range of the input at a place, whose head goes among the others.
+    /// Draws a range of the input at a place and adds its head to the others. If the stream has
+    /// ended, no head is added. There must be room for the head.
     fn draw_from(&mut self, place: usize)
         requires place { place < length self.old.streams.items }
         requires ready { IfSome (slice_get self.old.streams.items place) I.can_draw }
@@ -68,7 +70,7 @@ impl<T: Integer, I: Draw<T>, A: Allocator> Drawn<T, I, A> {
         }
     }
 
-    /// Draws the range that is due, if one is.
+    /// Draws the range that is due, if any.
     pub(crate) fn refill(&mut self)
         requires { DrawnReady T.Integer.own I.Draw self.old }
         ensures { Refills T.Integer.own I.Draw self.old self.new }
@@ -78,7 +80,8 @@ impl<T: Integer, I: Draw<T>, A: Allocator> Drawn<T, I, A> {
         }
     }
 
-    /// Takes the least head out, where no range is due. The next one of its input is due then.
+    /// Takes the least head out and returns it, or returns `None` if there is none. No range may be
+    /// due. Afterwards the next range of the head's input is due.
     pub(crate) fn take(&mut self) -> Option<Head<T>>
         requires none { self.old.used ≡ None }
         ensures taken { MatchOption result (HasNoHead self.old self.new)
@@ -93,7 +96,8 @@ impl<T: Integer, I: Draw<T>, A: Allocator> Drawn<T, I, A> {
         Some(head)
     }
 
-    /// Puts the head back that was taken last, its start given. No range is due then.
+    /// Puts back the head that was taken last, with the start of its range reported. There must be
+    /// room for it. No range is due afterwards.
     pub(crate) fn put_back(&mut self, head: Head<T>)
         requires values { HasValues T.rank T.value_count head }
         requires room { length self.old.heads.heads < self.old.heads.room }
@@ -106,7 +110,7 @@ impl<T: Integer, I: Draw<T>, A: Allocator> Drawn<T, I, A> {
         self.used = None;
     }
 
-    /// How many streams there are.
+    /// Returns the number of streams.
     pub(crate) fn count(&self) -> usize
         ensures { result ≡ length self.now.streams.items }
     {

@@ -1,4 +1,4 @@
-//! Streams of unlike types as streams of one type.
+//! Streams of different types as streams of one type.
 
 ghost use Rattle.std.specs.Iterator.{YieldsFirst, item_count};
 ghost use Rattle.std.specs.Prelude.{All, IfOk};
@@ -18,9 +18,9 @@ use std::marker::Model;
 use std::ops::RangeInclusive;
 use std::vec::IntoIter;
 
-/// All ranges of a stream, taken when it was built: a stream whose type does not say what they came
-/// from. Contracts see it as the list of the ranges still to come. (`DynSortedDisjoint` of the Rust
-/// crate, which keeps the stream.)
+/// All ranges of a stream, collected when it was built. Its own type does not depend on the type of
+/// that stream. Contracts see it as the list of the ranges still to come. (`DynSortedDisjoint` of
+/// the Rust crate, which keeps the stream.)
 #[derive(Drop)]
 pub struct DynSortedDisjoint<T, A: Allocator = Global> {
     ranges: IntoIter<RangeInclusive<T>, A>,
@@ -37,8 +37,8 @@ impl<T, A: Allocator> Model for DynSortedDisjoint<T, A> {
 }
 
 impl<T: Integer, A: Allocator> DynSortedDisjoint<T, A> {
-    /// All ranges of a stream that may be drawn from. Without memory nothing is made, and the stream
-    /// is dropped. (`DynSortedDisjoint::new`.)
+    /// Returns a stream of all ranges of the given stream, which must be ready. It collects them
+    /// into a list. If allocation fails, the stream is dropped. (`DynSortedDisjoint::new`.)
     pub fn new<I: DrawDisjoint<T>>(alloc: A, stream: I) -> Result<Self, AllocError>
         requires { I.can_draw stream }
         ensures ready { IfOk result ⟦<DynSortedDisjoint<T, A> as Draw<T>>⟧.can_draw }
@@ -102,8 +102,8 @@ impl<T: Integer, A: Allocator> DrawDisjoint<T> for DynSortedDisjoint<T, A> {
 
 impl<T: Integer, A: Allocator> SortedDisjoint<T> for DynSortedDisjoint<T, A> {}
 
-/// Returns the streams taken so far with one more behind them, whose ranges it takes. If allocation
-/// fails, it drops every stream.
+/// Returns the streams collected so far, followed by one more, whose ranges it collects. All must
+/// be ready. If allocation fails, it drops every stream.
 pub(crate) fn one_more_taken<T: Integer, A: Allocator + Copy, I: DrawDisjoint<T>>(
     alloc: A,
     taken: Vec<DynSortedDisjoint<T, A>, A>,

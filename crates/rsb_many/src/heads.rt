@@ -1,4 +1,4 @@
-//! The heads of inputs, in a binary heap: the one module that makes and sees keys.
+//! The heads of inputs, in a binary heap. Only this module makes and sees keys.
 
 ghost use Rattle.std.specs.Prelude.{◌≡◌, ◌*◌, ◌+◌, ◌<◌, ◌≤◌, [], ◌∷◌, length, IfOk, IfSome, IsFalse, IsPermutation, MatchOption};
 ghost use Rattle.rsb_integer.specs.Rank.{interval_of};
@@ -21,42 +21,45 @@ use std::alloc::{AllocError, Allocator, Global};
 use std::marker::Model;
 use std::ops::RangeInclusive;
 
-/// A range that was drawn of an input and is not yet used. Its ends do not lie side by side: they
-/// would be read in one load just after they were written in two stores, which a processor waits for.
+/// A range that was drawn from an input and is not used up. A sweep reports its start and later its
+/// end; a merge reports the whole range. The fields `start` and `end` are not adjacent. If they
+/// were, one load would read both just after two stores wrote them, and the processor would have to
+/// wait for the stores.
 #[derive(Clone, Copy, Debug, Drop)]
 pub(crate) struct Head<T> {
-    // Where it stands: at its start, or, once that was given, at its end.
+    // The value that orders the head: the start of the range, or its end once the start was
+    // reported.
     at: T,
     start: T,
     input: usize,
     end: T,
-    // Whether its start was given.
+    // Whether the start of the range was reported.
     started: bool,
 }
 
 impl<T: Integer> Head<T> {
-    /// The range.
+    /// Returns the range.
     pub(crate) fn range(&self) -> RangeInclusive<T>
         ensures { interval_of T.rank result ≡ run_of_head T.rank self.now }
     {
         self.start..=self.end
     }
 
-    /// The end of the range.
+    /// Returns the end of the range.
     pub(crate) fn end(&self) -> T
         ensures { result ≡ self.now.end }
     {
         self.end
     }
 
-    /// The input that it was drawn of.
+    /// Returns the input that the range was drawn from.
     pub(crate) fn input(&self) -> usize
         ensures { result ≡ self.now.input }
     {
         self.input
     }
 
-    /// Whether the start of the range was given.
+    /// Returns whether the start of the range was reported.
     pub(crate) fn is_started(&self) -> bool
         ensures { result ≡ self.now.started }
     {
@@ -64,8 +67,8 @@ impl<T: Integer> Head<T> {
     }
 }
 
-/// Heads of inputs, of which the least comes out first. Allocates only when it is built. If the
-/// place at the top is open, the head that lies there came out, and is none of them.
+/// Heads of inputs, of which the least comes out first. It allocates only when it is built. While
+/// the place at the top is open, the head stored there has come out and no longer counts.
 #[derive(Debug, Drop)]
 pub(crate) struct Heads<T: Integer, A: Allocator = Global> {
     list: ComparedHeads<T, A>,
@@ -90,7 +93,7 @@ impl<T: Integer, A: Allocator> Model for Heads<T, A> {
 }
 
 impl<T: Integer, A: Allocator> Heads<T, A> {
-    /// No heads, with room for the given number.
+    /// Returns an empty heap with room for the given number of heads.
     pub(crate) fn with_room(alloc: A, room: usize) -> Result<Self, AllocError>
         ensures none { IfOk result (λ heads. heads.heads ≡ []) }
         ensures room { IfOk result (λ heads. room ≤ heads.room) }
@@ -102,7 +105,8 @@ impl<T: Integer, A: Allocator> Heads<T, A> {
         })
     }
 
-    /// Adds the head of a range that was drawn of an input. It stands at its start.
+    /// Adds the head of a range that was drawn from an input. The head is at the start of the
+    /// range. There must be room for it.
     pub(crate) fn push_range(&mut self, range: RangeInclusive<T>, input: usize)
         requires room { length self.old.heads < self.old.room }
         requires values { HasValues T.rank T.value_count (head_of input range) }
@@ -123,7 +127,8 @@ impl<T: Integer, A: Allocator> Heads<T, A> {
         });
     }
 
-    /// Puts a head back, its start given. It stands at its end.
+    /// Puts a head back, with the start of its range reported. The head is then at the end of the
+    /// range. There must be room for it.
     pub(crate) fn put_back(&mut self, head: Head<T>)
         requires room { length self.old.heads < self.old.room }
         requires values { HasValues T.rank T.value_count head }
@@ -142,7 +147,8 @@ impl<T: Integer, A: Allocator> Heads<T, A> {
         self.push(back);
     }
 
-    // Adds a head, for which there is room: at the top, if the place there is open.
+    // Adds a head, for which there must be room. If the place at the top is open, the head starts
+    // there.
     fn push(&mut self, head: Head<T>)
         requires room { length self.old.heads < self.old.room }
         requires values { HasValues T.rank T.value_count head }
@@ -164,7 +170,7 @@ impl<T: Integer, A: Allocator> Heads<T, A> {
     }
 
     /// Takes the least head out and returns it, or returns `None` if there is none. Its place stays
-    /// open, and the next head that is added goes there.
+    /// open for the next head that is added.
     pub(crate) fn pop(&mut self) -> Option<Head<T>>
         ensures taken { MatchOption result ((self.old.heads ≡ []) × (self.new.heads ≡ []))
             (λ head. TakesLeastHead T.rank self.old head self.new) }
@@ -181,7 +187,7 @@ impl<T: Integer, A: Allocator> Heads<T, A> {
         Some(self.list.heads[0])
     }
 
-    // Puts the last head in the place at the top, if that is open, and moves it to where it belongs.
+    // Moves the last head to the top, if the place there is open, and down to where it belongs.
     fn close(&mut self)
         ensures kept { IsPermutation self.old.heads self.new.heads }
         ensures closed { IsFalse self.new.is_open }

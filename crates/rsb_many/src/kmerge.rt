@@ -14,18 +14,19 @@ use std::alloc::{AllocError, Allocator, Global};
 use std::iter::FusedIterator;
 use std::ops::RangeInclusive;
 
-/// The ranges of any number of streams, by their starts. The order of ranges that start alike is left
-/// open. It draws a range of a stream only if the one that it held was returned and one more is asked
-/// for. Allocates only when it is built. (`KMerge` of the Rust crate.)
+/// The ranges of any number of streams, ordered by their starts. Ranges with equal starts come in
+/// an unspecified order. It draws the next range of a stream only after it has returned the
+/// previous one and another is asked for. It allocates only when it is built. (`KMerge` of the Rust
+/// crate.)
 #[derive(Debug, Drop)]
 pub struct KMerge<T: Integer, I, A: Allocator = Global> {
     inputs: Drawn<T, I, A>,
 }
 
 impl<T: Integer, I: Draw<T>, A: Allocator + Copy> KMerge<T, I, A> {
-    /// The merge of any number of streams that may be drawn from. Room is taken for all of them, and
-    /// the first range of each is drawn. Without memory nothing is made, and the streams are dropped.
-    /// (`KMerge::new`.)
+    /// Returns the merge of finitely many streams, each of which must be ready. It allocates room
+    /// for all of them and draws the first range of each. If allocation fails, the streams are
+    /// dropped. (`KMerge::new`.)
     pub fn new<K: IntoIterator<Item = I>>(alloc: A, inputs: K) -> Result<Self, AllocError>
         requires ends { IsEnding K.into_iter_gives K.IntoIter.can_next K.IntoIter.remaining inputs }
         requires can { EachGaveRun K.into_iter_gives K.IntoIter.next_gives inputs (All I.can_draw) }
@@ -40,7 +41,8 @@ impl<T: Integer, I: Draw<T>, A: Allocator + Copy> KMerge<T, I, A> {
 }
 
 impl<T: Integer, I: Draw<T>, A: Allocator> KMerge<T, I, A> {
-    /// The merge of the streams of a list, which may be drawn from.
+    /// Returns the merge of a list of streams, each of which must be ready. If allocation fails,
+    /// the streams are dropped.
     pub(crate) fn over(alloc: A, streams: Vec<I, A>) -> Result<Self, AllocError>
         requires { All I.can_draw streams.items }
         ensures ready { IfOk result ⟦<KMerge<T, I, A> as Draw<T>>⟧.can_draw }

@@ -7,14 +7,14 @@ ghost use Rattle.rsb_streams.specs.Touching.{IsTouchingIn};
 
 use rsb_integer::Integer;
 
-/// There is one list of the events of a list of inputs. (Own.)
+/// A list of inputs has at most one list of events. Not in range-set-blaze.
 pub fn one_list_of_events<T: Integer>()
     ensures { (inputs : List (List Interval)) (events others : List Event)
         → AreEvents inputs events → AreEvents inputs others → events ≡ others }
 {}
 
-/// Where the ranges of each input ascend and do not overlap, there is such a list: they may touch.
-/// (Own.)
+/// A list of inputs has a list of events if the ranges of each input ascend, do not overlap, and
+/// lie within the type. They may touch. Not in range-set-blaze.
 pub fn some_list_of_events<T: Integer>()
     ensures { (inputs : List (List Interval)) → All (IsTouchingIn T.value_count) inputs
         → (events : List Event) × AreEvents inputs events }

@@ -20,12 +20,12 @@ use rsb_integer::Integer;
 use rsb_streams::{Draw, DrawDisjoint, NotIter};
 use std::alloc::{AllocError, Allocator};
 
-/// Set algebra over any number of streams of one type, which may be drawn from. Room is taken when a
-/// result is built alone, and then the first range of each stream is drawn. Without memory nothing is
-/// made, and the streams are dropped. (`MultiwaySortedDisjoint` of the Rust crate.)
+/// Set algebra over finitely many streams of one type, each of which must be ready. Each call
+/// allocates only to build its result, and then draws the first range of each stream. If allocation
+/// fails, the streams are dropped. (`MultiwaySortedDisjoint` of the Rust crate.)
 pub trait MultiwaySortedDisjoint<T: Integer, I: DrawDisjoint<T>>: IntoIterator<Item = I> {
-    /// What lies in some of the streams: nothing, of none. It looks ahead of each by one range at
-    /// most. (`MultiwaySortedDisjoint::union`.)
+    /// Returns the union of the streams, which is empty if there are none. It looks ahead by at
+    /// most one range of each. (`MultiwaySortedDisjoint::union`.)
     final fn union<A: Allocator + Copy>(
         self,
         alloc: A,
@@ -44,8 +44,8 @@ pub trait MultiwaySortedDisjoint<T: Integer, I: DrawDisjoint<T>>: IntoIterator<I
         Ok(MultiwayUnion::of(merge))
     }
 
-    /// What lies in all of the streams: every value, of none. It holds one gap of each at most.
-    /// (`MultiwaySortedDisjoint::intersection`.)
+    /// Returns the intersection of the streams, which is every value if there are none. It holds at
+    /// most one gap of each. (`MultiwaySortedDisjoint::intersection`.)
     final fn intersection<A: Allocator + Copy>(
         self,
         alloc: A,
@@ -65,8 +65,8 @@ pub trait MultiwaySortedDisjoint<T: Integer, I: DrawDisjoint<T>>: IntoIterator<I
         Ok(MultiwayIntersection::of(merge))
     }
 
-    /// What lies in an odd number of the streams: nothing, of none. It holds one range of each at
-    /// most. (`MultiwaySortedDisjoint::symmetric_difference`.)
+    /// Returns what lies in an odd number of the streams: nothing if there are none. It holds at
+    /// most one range of each. (`MultiwaySortedDisjoint::symmetric_difference`.)
     final fn symmetric_difference<A: Allocator + Copy>(
         self,
         alloc: A,
@@ -85,9 +85,9 @@ pub trait MultiwaySortedDisjoint<T: Integer, I: DrawDisjoint<T>>: IntoIterator<I
         Ok(MultiwaySymmetricDifference::of(sweep))
     }
 
-    /// What lies in at least `k` of the streams: every value for `k` of 0, and nothing where there are
-    /// fewer streams. It holds one range of each at most, and gives at most as many ranges as all
-    /// streams together, for `k` of at least 1. (Own.)
+    /// Returns what lies in at least `k` of the streams: every value if `k` is 0, and nothing if
+    /// there are fewer than `k` streams. It holds at most one range of each. If `k` is at least 1,
+    /// it gives at most as many ranges as all streams together. Not in range-set-blaze.
     final fn at_least<A: Allocator + Copy>(
         self,
         alloc: A,
@@ -115,7 +115,8 @@ pub trait MultiwaySortedDisjoint<T: Integer, I: DrawDisjoint<T>>: IntoIterator<I
 impl<T: Integer, I: DrawDisjoint<T>, K: IntoIterator<Item = I>> MultiwaySortedDisjoint<T, I>
     for K {}
 
-// The complements of streams that may be drawn from.
+// Returns the complements of finitely many streams, each of which must be ready. If allocation
+// fails, the streams are dropped.
 fn complements<T: Integer, I: DrawDisjoint<T>, A: Allocator, K: IntoIterator<Item = I>>(
     alloc: A,
     streams: K,

@@ -21,19 +21,19 @@ use rsb_streams::{Draw, DrawDisjoint, SortedTouching};
 use std::alloc::{AllocError, Allocator, Global};
 use std::iter::FusedIterator;
 
-/// The events of any number of streams, by their values: each range of each stream starts and ends.
-/// At one value starts come before ends, and then the inputs come by their numbers. It holds one
-/// range of each stream at most. Room is taken when it is built alone. (`MultiwaySweep` of the Rust
-/// crate.)
+/// The events of any number of streams, ordered by value: each range of each stream starts and
+/// ends. At one value, starts come before ends, and inputs come in the order of their numbers. It
+/// holds at most one range of each stream. It allocates only when it is built. (`MultiwaySweep` of
+/// the Rust crate.)
 #[derive(Debug, Drop)]
 pub struct MultiwaySweep<T: Integer, I, A: Allocator = Global> {
     inputs: Drawn<T, I, A>,
 }
 
 impl<T: Integer, I: DrawDisjoint<T>, A: Allocator + Copy> MultiwaySweep<T, I, A> {
-    /// The sweep over any number of streams that may be drawn from. Room is taken for all of them, and
-    /// the first range of each is drawn. Without memory nothing is made, and the streams are dropped.
-    /// (`MultiwaySweep::new`.)
+    /// Returns the sweep over finitely many streams, each of which must be ready. It allocates room
+    /// for all of them and draws the first range of each. If allocation fails, the streams are
+    /// dropped. (`MultiwaySweep::new`.)
     pub fn new<K: IntoIterator<Item = I>>(alloc: A, inputs: K) -> Result<Self, AllocError>
         requires ends { IsEnding K.into_iter_gives K.IntoIter.can_next K.IntoIter.remaining inputs }
         requires can { EachGaveRun K.into_iter_gives K.IntoIter.next_gives inputs (All I.can_draw) }
@@ -48,9 +48,9 @@ impl<T: Integer, I: DrawDisjoint<T>, A: Allocator + Copy> MultiwaySweep<T, I, A>
 }
 
 impl<T: Integer, I: SortedTouching<T>, A: Allocator + Copy> MultiwaySweep<T, I, A> {
-    /// The sweep over any number of streams that may be drawn from, the ranges of each of which may
-    /// touch. Room is taken for all of them, and the first range of each is drawn. Without memory
-    /// nothing is made, and the streams are dropped. (Own.)
+    /// Returns the sweep over finitely many streams, each of which must be ready. The ranges of a
+    /// stream may touch. It allocates room for all streams and draws the first range of each. If
+    /// allocation fails, the streams are dropped. Not in range-set-blaze.
     pub fn new_touching<K: IntoIterator<Item = I>>(alloc: A, inputs: K) -> Result<Self, AllocError>
         requires ends { IsEnding K.into_iter_gives K.IntoIter.can_next K.IntoIter.remaining inputs }
         requires can { EachGaveRun K.into_iter_gives K.IntoIter.next_gives inputs (All I.can_draw) }
@@ -65,8 +65,8 @@ impl<T: Integer, I: SortedTouching<T>, A: Allocator + Copy> MultiwaySweep<T, I, 
 }
 
 impl<T: Integer, I: Draw<T>, A: Allocator> MultiwaySweep<T, I, A> {
-    /// The sweep over the streams of a list, which may be drawn from. The ranges of each may touch,
-    /// and do not overlap.
+    /// Returns the sweep over a list of streams, each of which must be ready. The ranges of a
+    /// stream may touch but not overlap. If allocation fails, the streams are dropped.
     pub(crate) fn over(alloc: A, streams: Vec<I, A>) -> Result<Self, AllocError>
         requires can { All I.can_draw streams.items }
         requires touching { (place : ℕ)
@@ -80,7 +80,7 @@ impl<T: Integer, I: Draw<T>, A: Allocator> MultiwaySweep<T, I, A> {
 }
 
 impl<T: Integer, I: Draw<T>, A: Allocator> MultiwaySweep<T, I, A> {
-    /// How many streams it sweeps over, those that have ended included. (`input_count` of the Rust
+    /// Returns the number of streams, including those that have ended. (`input_count` of the Rust
     /// crate.)
     pub fn input_count(&self) -> usize
         ensures { result ≡ stream_count self.now }

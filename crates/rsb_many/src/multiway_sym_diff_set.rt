@@ -17,18 +17,19 @@ use std::alloc::{AllocError, Allocator, Global};
 use std::iter::FusedIterator;
 use std::ops::RangeInclusive;
 
-/// What lies in an odd number of any number of streams: nothing, of none. It draws the first range
-/// of each when it is built, and holds one range of each at most. Room is taken when it is built
-/// alone. (`MultiwaySymmetricDifference` of the Rust crate.)
+/// What lies in an odd number of the streams: nothing if there are none. It draws the first range
+/// of each stream when it is built, and holds at most one range of each. It allocates only when it
+/// is built. (`MultiwaySymmetricDifference` of the Rust crate.)
 #[derive(Debug, Drop)]
 pub struct MultiwaySymmetricDifference<T: Integer, I, A: Allocator = Global> {
     iter: UnionIter<T, SweepPieces<T, I, A>>,
 }
 
 impl<T: Integer, I: SortedTouching<T>, A: Allocator + Copy> MultiwaySymmetricDifference<T, I, A> {
-    /// What lies in an odd number of streams that may be drawn from, the ranges of each of which may
-    /// touch: nothing, of none. Room is taken for all of them, and the first range of each is drawn.
-    /// Without memory nothing is made, and the streams are dropped. (Own.)
+    /// Returns what lies in an odd number of finitely many streams: nothing if there are none. Each
+    /// stream must be ready, and its ranges may touch. It allocates room for all streams and draws
+    /// the first range of each. If allocation fails, the streams are dropped. Not in
+    /// range-set-blaze.
     pub fn new_touching<K: IntoIterator<Item = I>>(alloc: A, inputs: K) -> Result<Self, AllocError>
         requires ends { IsEnding K.into_iter_gives K.IntoIter.can_next K.IntoIter.remaining inputs }
         requires can { EachGaveRun K.into_iter_gives K.IntoIter.next_gives inputs (All I.can_draw) }
@@ -44,8 +45,8 @@ impl<T: Integer, I: SortedTouching<T>, A: Allocator + Copy> MultiwaySymmetricDif
 }
 
 impl<T: Integer, I: Draw<T>, A: Allocator> MultiwaySymmetricDifference<T, I, A> {
-    /// What lies in an odd number of the streams of a sweep that was just made; nothing more is
-    /// drawn.
+    /// Returns what lies in an odd number of the streams of a sweep that was just made. It draws
+    /// nothing more.
     pub(crate) fn of(sweep: MultiwaySweep<T, I, A>) -> Self
         requires { (streams : List I) × SweepsOver T.Integer.own I.Draw streams sweep }
         ensures ready { ⟦<MultiwaySymmetricDifference<T, I, A> as Draw<T>>⟧.can_draw result }

@@ -1,4 +1,4 @@
-//! The operators on results of operations on many streams, and on streams of any type.
+//! The operators on results of operations on many streams and on `DynSortedDisjoint`.
 
 mod bit_and;
 mod bit_or;

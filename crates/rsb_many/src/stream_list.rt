@@ -9,10 +9,10 @@ use std::alloc::{AllocError, Allocator, Global};
 use std::marker::{Model, PhantomData};
 use std::vec::IntoIter;
 
-/// Streams of one type that are ready, in the order in which they were added. A loop can fill it, and
-/// its caller has no invariant to write: every operation on many streams takes it by value, as
-/// `streams.union(alloc)?` or `MultiwaySweep::new(alloc, streams)?`. Contracts see it as the list of
-/// its streams. Not in range-set-blaze.
+/// Ready streams of one type, in the order in which they were added. A loop can fill it without an
+/// invariant. Every operation on many streams takes it by value, such as `streams.union(alloc)?` or
+/// `MultiwaySweep::new(alloc, streams)?`. Contracts see it as the list of its streams. Not in
+/// range-set-blaze.
 #[derive(Drop)]
 pub struct Streams<T: Integer, I: Draw<T>, A: Allocator = Global> {
     list: Vec<I, A>,
@@ -30,7 +30,7 @@ impl<T: Integer, I: Draw<T>, A: Allocator> Model for Streams<T, I, A> {
 }
 
 impl<T: Integer, I: Draw<T>, A: Allocator> Streams<T, I, A> {
-    /// Returns no streams. It does not allocate. Not in range-set-blaze.
+    /// Returns an empty list of streams. It does not allocate. Not in range-set-blaze.
     pub fn new(alloc: A) -> Self
         ensures { result ≡ [] }
     {
@@ -40,8 +40,8 @@ impl<T: Integer, I: Draw<T>, A: Allocator> Streams<T, I, A> {
         }
     }
 
-    /// Adds a stream that is ready, behind all others. If allocation fails, the list is unchanged and
-    /// the stream is dropped. Not in range-set-blaze.
+    /// Adds a stream, which must be ready, at the end. If allocation fails, the list is unchanged
+    /// and the stream is dropped. Not in range-set-blaze.
     pub fn push(&mut self, stream: I) -> Result<(), AllocError>
         requires { I.can_draw stream }
         ensures added { OnOk result (self.new ≡ self.old ++ stream ∷ []) }

@@ -12,17 +12,17 @@ use rsb_streams::Draw;
 use std::alloc::{Allocator, Global};
 use std::ops::RangeInclusive;
 
-/// What lies in an odd number of the streams of a sweep, as pieces that may touch. Each event ends a
-/// piece, or one begins there.
+/// What lies in an odd number of the streams of a sweep, as pieces that may touch. Each event ends
+/// a piece or begins one.
 #[derive(Debug, Drop)]
 pub(crate) struct SweepPieces<T: Integer, I, A: Allocator = Global> {
     sweep: MultiwaySweep<T, I, A>,
-    // Where the piece starts that has begun.
+    // The start of the piece that has begun, if one has.
     start: Option<T>,
 }
 
 impl<T: Integer, I: Draw<T>, A: Allocator> SweepPieces<T, I, A> {
-    /// The pieces of a sweep, of which no event was passed yet.
+    /// Returns the pieces of a sweep, with no piece begun.
     pub(crate) fn over(sweep: MultiwaySweep<T, I, A>) -> Self
         ensures sweep { result.sweep ≡ sweep }
         ensures start { result.start ≡ None }
@@ -31,7 +31,8 @@ impl<T: Integer, I: Draw<T>, A: Allocator> SweepPieces<T, I, A> {
     }
 }
 
-/// Passes the start of a range: a piece that has begun ends before it, and else one begins there.
+/// Passes the start of a range. A piece that has begun ends just before it, and is returned unless
+/// it is empty. If none has begun, one begins there.
 fn pass_start<T: Integer>(start: &mut Option<T>, next: T) -> Option<RangeInclusive<T>>
     requires start { IfSome start.old (λ value. T.rank value < T.value_count) }
     requires next { T.rank next < T.value_count }
@@ -48,7 +49,8 @@ fn pass_start<T: Integer>(start: &mut Option<T>, next: T) -> Option<RangeInclusi
     }
 }
 
-/// Passes the end of a range: a piece that has begun ends there, and else one begins past it.
+/// Passes the end of a range. A piece that has begun ends there, and is returned unless it is
+/// empty. If none has begun, one begins just past it, unless that is past the type.
 fn pass_end<T: Integer>(start: &mut Option<T>, last: T) -> Option<RangeInclusive<T>>
     requires start { IfSome start.old (λ value. T.rank value < T.value_count) }
     requires last { T.rank last < T.value_count }
@@ -65,7 +67,7 @@ fn pass_end<T: Integer>(start: &mut Option<T>, last: T) -> Option<RangeInclusive
     }
 }
 
-/// Passes an event, and answers the piece that ends there, if one does.
+/// Passes an event and returns the piece that ends there, if one does.
 pub(crate) fn pass<T: Integer>(
     start: &mut Option<T>,
     event: SweepEvent<T>,

@@ -1,6 +1,6 @@
-//! Streams whose ranges were taken one stream after another, and the operations on them. The macros
-//! `union_dyn!`, `intersection_dyn!` and `symmetric_difference_dyn!` call these functions; none of them
-//! is in range-set-blaze.
+//! Streams whose ranges were collected one stream after another, and the operations on them. The
+//! macros `union_dyn!`, `intersection_dyn!` and `symmetric_difference_dyn!` call these functions.
+//! None of them is in range-set-blaze.
 
 ghost use Rattle.std.specs.Prelude.{All, IfOk, IsOkAnd};
 ghost use Rattle.rsb_many.specs.DynSortedDisjoint.{TakesOneMore};
@@ -18,8 +18,8 @@ use rsb_integer::Integer;
 use rsb_streams::{Draw, DrawDisjoint};
 use std::alloc::{AllocError, Allocator};
 
-/// Returns the streams taken so far with one more behind them, whose ranges it takes. An earlier error
-/// is passed on. On an error it drops every stream.
+/// Returns the streams collected so far, followed by one more, whose ranges it collects. All must
+/// be ready. An earlier error is passed on. On an error it drops every stream.
 pub fn with_one_more<T: Integer, A: Allocator + Copy, I: DrawDisjoint<T>>(
     alloc: A,
     taken: Result<Vec<DynSortedDisjoint<T, A>, A>, AllocError>,
@@ -37,7 +37,8 @@ pub fn with_one_more<T: Integer, A: Allocator + Copy, I: DrawDisjoint<T>>(
     one_more_taken(alloc, taken?, stream)
 }
 
-/// Returns the union of the streams taken: nothing, if there are none. An earlier error is passed on.
+/// Returns the union of the collected streams, which is empty if there are none. They must be
+/// ready. An earlier error is passed on. If allocation fails, it drops every stream.
 pub fn union_of_taken<T: Integer, A: Allocator + Copy>(
     alloc: A,
     taken: Result<Vec<DynSortedDisjoint<T, A>, A>, AllocError>,
@@ -53,8 +54,8 @@ pub fn union_of_taken<T: Integer, A: Allocator + Copy>(
     MultiwaySortedDisjoint::union(taken?, alloc)
 }
 
-/// Returns the intersection of the streams taken: every value, if there are none. An earlier error is
-/// passed on.
+/// Returns the intersection of the collected streams, which is every value if there are none. They
+/// must be ready. An earlier error is passed on. If allocation fails, it drops every stream.
 pub fn intersection_of_taken<T: Integer, A: Allocator + Copy>(
     alloc: A,
     taken: Result<Vec<DynSortedDisjoint<T, A>, A>, AllocError>,
@@ -71,8 +72,8 @@ pub fn intersection_of_taken<T: Integer, A: Allocator + Copy>(
     MultiwaySortedDisjoint::intersection(taken?, alloc)
 }
 
-/// Returns the symmetric difference of the streams taken: nothing, if there are none. An earlier error
-/// is passed on.
+/// Returns the symmetric difference of the collected streams, which is empty if there are none.
+/// They must be ready. An earlier error is passed on. If allocation fails, it drops every stream.
 pub fn symmetric_difference_of_taken<T: Integer, A: Allocator + Copy>(
     alloc: A,
     taken: Result<Vec<DynSortedDisjoint<T, A>, A>, AllocError>,

@@ -1,4 +1,5 @@
-//! Tests of operations on many streams and on many sets, over the public names of the libraries.
+//! Tests of operations on many streams and on many sets, with only the public names of the
+//! libraries.
 #![tactic(auto)]
 
 #[cfg(test)]

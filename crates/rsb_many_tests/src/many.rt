@@ -1,4 +1,4 @@
-//! Any number of streams, and of sets.
+//! Tests of any number of streams and of sets.
 
 pub(crate) mod any_types;
 mod at_least;

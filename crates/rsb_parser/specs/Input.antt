@@ -5,11 +5,13 @@ use Rattle.rsb_parser.specs.declared.command.Command.{Command}
 use Rattle.rsb_parser.specs.declared.input.Reading.{Reading}
 use Rattle.rsb_parser.specs.Spelling.{AreCommands, IsFirstBadLine}
 
--- whatever comes after the bytes, the lines are those of the bytes, and then of what comes
+-- Whether the lines of the bytes stay the same whatever follows: the lines of all are the lines of
+-- the bytes and then those of what follows.
 unfoldable pub IsClosed : List ℕ → Type 0
 IsClosed bytes = (more : List ℕ) → lines (bytes ++ more) ≡ lines bytes ++ lines more
 
--- the bytes are whole lines and then the rest; the lines are so many, and spell these commands
+-- Whether the bytes are whole lines and then `rest`. There are `count` whole lines, and they spell
+-- these commands.
 pub record HasLines (bytes : List ℕ) (commands : List (Command ℤ)) (count : ℕ) (rest : List ℕ)
     : Type 0 where
   pub whole : List ℕ
@@ -18,16 +20,17 @@ pub record HasLines (bytes : List ℕ) (commands : List (Command ℤ)) (count : 
   pub spelled : AreCommands whole commands
   pub counted : count ≡ length (lines whole)
 
--- whatever comes after the bytes, the first bad line has this number
+-- Whether the first bad line has this number, whatever follows the bytes.
 abbrev pub HasBadLine : List ℕ → ℕ → Type 0
 HasBadLine bytes number = (more : List ℕ) → IsFirstBadLine (bytes ++ more) number
 
--- the bytes were read: their first bad line is known, or what all of their whole lines spell
+-- Whether the bytes were read: either their first bad line is known, or the commands of all their
+-- whole lines are.
 abbrev pub HasTaken : {A : Type 0} → List ℕ → Reading A → Type 0
 HasTaken bytes reading = MatchOption reading.bad_line
     (HasLines bytes reading.commands.items reading.count reading.rest.items)
     (HasBadLine bytes)
 
--- the known input has a byte
+-- Whether the input is known and has a byte.
 abbrev pub HasBytes : Option (List ℕ) → Type 0
 HasBytes known = IfSome known (λ input. 0 < length input)

@@ -1,4 +1,4 @@
--- Which commands the lines of an input spell.
+-- The commands that the lines of an input spell.
 use Rattle.std.specs.Prelude.{◌≡◌, ◌≢◌, ℕ, ℤ, ◌+◌, ◌<◌, ◌==◌, ◌||◌, ◌++◌, Bool, Option, List, [], ◌∷◌, All, IsTrue, MatchOption, codes, filter, length, map, nat_lt}
 use Rattle.std.specs.Borrow.{Bor}
 use Rattle.std.specs.Int.{w32}
@@ -11,24 +11,25 @@ use Rattle.rsb_parser.specs.declared.command.Command.TheVariants.{Add, Del, Has,
 
 -- ---- words
 
--- a space or a tab
+-- Whether the byte is a space or a tab.
 abbrev pub is_blank : ℕ → Bool
 is_blank byte = (byte == 32) || (byte == 9)
 
--- the part is not empty
+-- Whether the part is not empty.
 abbrev pub has_bytes : List ℕ → Bool
 has_bytes part = nat_lt 0 (length part)
 
--- the words of a line: what stands between its blanks
+-- The words of a line: its parts between spaces and tabs.
 abbrev pub words : List ℕ → List (List ℕ)
 words line = filter has_bytes (slice_split is_blank line)
 
--- the word is one digit, which is the slot; 48 is the code of '0'
+-- Whether the word is one digit, which names the slot. 48 is the code of '0'.
 pub record IsSlot (word : List ℕ) (slot : ℕ) : Type 0 where
   pub digit : word ≡ (48 + slot) ∷ []
   pub one_digit : slot < 10
 
--- the word is an optional sign and one decimal digit or more, and spells a number of 32 bits
+-- Whether the word is an optional sign and at least one decimal digit, and spells `number`, which
+-- fits 32 bits.
 pub record IsNumber (word : List ℕ) (number : ℤ) : Type 0 where
   pub digits : IsNumeral 10 (without_leading_sign word)
   pub value : number ≡ signed_digits_value 10 word
@@ -36,22 +37,22 @@ pub record IsNumber (word : List ℕ) (number : ℤ) : Type 0 where
 
 -- ---- lines
 
--- what a word after the first stands for
+-- What a word after the first stands for.
 pub data Argument : Type 0 where
   slot : ℕ → Argument
   number : ℤ → Argument
 
--- the word stands for the argument
+-- Whether the word stands for the argument.
 abbrev pub IsArgument : List ℕ → Argument → Type 0
 IsArgument word (slot n) = IsSlot word n
 IsArgument word (number z) = IsNumber word z
 
--- the line of a command: its first word, and what the other words stand for
+-- The line of a command: its first word, and what the other words stand for.
 pub record Line : Type 0 where
   pub keyword : List ℕ
   pub arguments : List Argument
 
--- the line of each command
+-- The line of each command.
 abbrev pub line_of : Command ℤ → Line
 line_of (Add n first last) = record {
   keyword = codes "add";
@@ -91,31 +92,31 @@ line_of (Compare left right) = record {
   arguments = slot left ∷ slot right ∷ [];
 }
 
--- the words are those of the command's line, a number in any of its spellings
+-- Whether the words are those of the command's line. A number may have any of its spellings.
 pub record Spells (line_words : List (List ℕ)) (command : Command ℤ) : Type 0 where
   pub arguments : List (List ℕ)
   pub parts : line_words ≡ (line_of command).keyword ∷ arguments
   pub stand_for : AllZip IsArgument arguments (line_of command).arguments
 
--- the word is none of these
+-- Whether the word is none of the others.
 abbrev pub IsNoneOf : List (List ℕ) → List ℕ → Type 0
 IsNoneOf others word = All (λ other. word ≢ other) others
 
 -- ---- inputs
 
--- the line has a word
+-- Whether the line has a word.
 abbrev pub has_words : List (List ℕ) → Bool
 has_words line_words = nat_lt 0 (length line_words)
 
--- the words of each line that has some
+-- The words of each line that has some.
 abbrev pub lines_with_words : List ℕ → List (List (List ℕ))
 lines_with_words input = filter has_words (map words (lines input))
 
--- the lines with words spell these commands, one each
+-- Whether the lines with words spell these commands, one each.
 abbrev pub AreCommands : List ℕ → List (Command ℤ) → Type 0
 AreCommands input commands = AllZip Spells (lines_with_words input) commands
 
--- the first line of the input that has words spells a command
+-- Whether the first line with words spells a command.
 pub record StartsWithCommand (input : List ℕ) : Type 0 where
   pub line : List (List ℕ)
   pub others : List (List (List ℕ))
@@ -123,12 +124,12 @@ pub record StartsWithCommand (input : List ℕ) : Type 0 where
   pub command : Command ℤ
   pub spelled : Spells line command
 
--- the line has words, and they spell no command
+-- Whether the line has words that spell no command.
 pub record IsBadLine (line : List ℕ) : Type 0 where
   pub some : IsTrue (has_words (words line))
   pub none : (command : Command ℤ) → ¬ Spells (words line) command
 
--- the line of this number, counted from 1, is the first bad one
+-- Whether the line with this number, counted from 1, is the first bad one.
 pub record IsFirstBadLine (input : List ℕ) (number : ℕ) : Type 0 where
   pub before : List (List ℕ)
   pub line : List ℕ
@@ -140,23 +141,24 @@ pub record IsFirstBadLine (input : List ℕ) (number : ℕ) : Type 0 where
 
 -- ---- reading
 
--- a value that the fact holds of, or None where it holds of none
+-- Whether the result is a value that the fact holds of, or `None` if there is no such value.
 abbrev pub Reads : {X : Type 0} → Option X → (X → Type 0) → Type 0
 Reads {X} result Holds = MatchOption result ((x : X) → ¬ Holds x) Holds
 
--- the line has a first word that the fact holds of, and the words of the rest come after it
+-- Whether the line has a first word that the fact holds of, and `rest` has the words after it.
 pub record BeginsWith (Holds : List ℕ → Type 0) (line rest : List ℕ) : Type 0 where
   pub word : List ℕ
   pub parts : words line ≡ word ∷ words rest
   pub holds : Holds word
 
--- the fact holds of no value and the first word of the line
+-- Whether the fact holds of no value at the first word of the line. A line without words lacks one.
 abbrev pub LacksFirst : {X : Type 0} → (List ℕ → X → Type 0) → List ℕ → Type 0
 LacksFirst {X} Holds line =
     (word : List ℕ) (others : List (List ℕ)) → words line ≡ word ∷ others
     → (x : X) → ¬ Holds word x
 
--- a value that the fact holds of at the first word of the line, with the rest of the line
+-- Whether the result is a value that the fact holds of at the first word of the line, with the rest
+-- of the line. It is `None` if there is no such value.
 abbrev pub ReadsFirst : {X : Type 0} → Option (X × Bor (List ℕ)) → (List ℕ → X → Type 0) → List ℕ
     → Type 0
 ReadsFirst result Holds line = MatchOption result (LacksFirst Holds line)

@@ -1,4 +1,4 @@
-//! Why the program ends with another status than 0.
+//! Why the program exits with a status other than 0.
 
 ghost use Rattle.std.specs.Prelude.{◌≡◌, Some};
 ghost use Rattle.rsb_parser.specs.declared.fault.Fault.TheVariants.{NoMemory};
@@ -11,16 +11,16 @@ use std::fmt;
 /// The first fault that was met.
 #[derive(Clone, Copy, Debug, PartialEq, Eq)]
 pub enum Fault {
-    /// The number of the first line that is no command, counted from 1.
+    /// A line is not a command. The number is that of the first such line, counted from 1.
     BadLine(u64),
-    /// A growth was refused.
+    /// An allocation failed.
     NoMemory,
     /// A read or a write failed.
     Io,
 }
 
 impl Fault {
-    /// The exit status.
+    /// Returns the exit status of the fault: 2, 3 or 4.
     pub fn status(&self) -> u8
         ensures { result ≡ status_of self.now }
     {

@@ -1,4 +1,4 @@
-//! The commands of an input that is read part by part.
+//! The commands of an input that is read in parts.
 
 ghost use Rattle.std.specs.Prelude.{◌≡◌, ◌≢◌, ℕ, ℤ, ◌+◌, ◌<◌, ◌≤◌, ◌++◌, [], Err, IfErr, IfOk, IfSome, IsNone, List, OnOk, length, take};
 ghost use Rattle.std.specs.Io.KnownBytes.{IsAtEnd};
@@ -13,26 +13,28 @@ use memchr::memrchr;
 use std::alloc::Allocator;
 use std::io::{ErrorKind, Read};
 
-/// What was read: the commands of whole lines, and the bytes after the last line feed.
+/// What was read so far: the commands of whole lines, and the bytes after the last line feed.
 #[derive(Drop)]
 struct Reading<A: Allocator> {
     commands: Vec<Command<i32>, A>,
-    // How many lines these are.
+    // The number of these lines.
     count: u64,
     rest: Vec<u8, A>,
-    // The number of the first bad line. What comes after it is read, and not kept.
+    // The number of the first bad line, if there is one. What follows is read but not kept.
     bad_line: Option<u64>,
     alloc: A,
 }
 
-/// Reads an input to its end, and returns the commands that its lines spell. It keeps only the bytes
-/// of the last part that was read, and of the line in which that part ends.
+/// Reads an input to its end, and returns the commands that its lines spell. Besides the commands,
+/// it keeps only the last part that was read and the unfinished line before it.
 ///
-/// `BadLine` has the number of the first bad line. The rest of the input is then read too, and not
-/// kept. `NoMemory` is returned if an allocation for these bytes or for the commands fails. `Io` is
-/// returned if a read fails, if the reader has not ended after 2^64 - 1 calls, interrupted ones
-/// included, or if it gives 2^64 lines or more. After `BadLine` the input is at its end. After
-/// `NoMemory` and `Io` it is past the bytes that were read, and these and their commands are lost.
+/// `BadLine` has the number of the first bad line. The rest of the input is then still read, but
+/// not kept. `NoMemory` is returned if an allocation for these bytes or for the commands fails.
+/// `Io` is returned if a read fails, or if there are 2^64 lines or more. It is also returned if the
+/// reader has not ended after 2^64 - 1 calls, counting interrupted ones.
+///
+/// After `BadLine` the input is at its end. After `NoMemory` and `Io` it is past the bytes that
+/// were read, and these and their commands are lost.
 pub fn read_commands<A: Allocator + Copy, R: Read>(
     alloc: A,
     input: &mut R,
@@ -63,7 +65,7 @@ pub fn read_commands<A: Allocator + Copy, R: Read>(
 }
 
 impl<A: Allocator + Copy> Reading<A> {
-    // Before the first byte.
+    // Returns the state before the first byte.
     fn new(alloc: A) -> Self
         ensures { HasTaken [] result }
     {
@@ -76,7 +78,8 @@ impl<A: Allocator + Copy> Reading<A> {
         }
     }
 
-    // Takes the next bytes.
+    // Takes the next bytes of the input. Returns `NoMemory` or `Io`, but never `BadLine`: the
+    // number of a bad line is stored.
     fn take(&mut self, bytes: &[u8]) -> Result<(), Fault>
         ensures taken { (before : List ℕ) → HasTaken before self.old
             → OnOk result (HasTaken (before ++ bytes.now) self.new) }
@@ -93,7 +96,7 @@ impl<A: Allocator + Copy> Reading<A> {
         }
     }
 
-    // Takes the lines of the first bytes of the rest, which end with a line feed.
+    // Takes the lines of the first `end` bytes of `rest`, which must end with a line feed.
     fn take_lines(&mut self, end: usize) -> Result<(), Fault>
         requires within { end ≤ length self.old.rest.items }
         requires closed { IsClosed (take end self.old.rest.items) }
@@ -117,7 +120,7 @@ impl<A: Allocator + Copy> Reading<A> {
         Ok(())
     }
 
-    // The commands, where there are no more bytes.
+    // Returns the commands, or the first bad line, once there are no more bytes.
     fn finish(self) -> Result<Vec<Command<i32>, A>, Fault>
         ensures commands { (bytes : List ℕ) → HasTaken bytes self
             → IfOk result (λ commands. AreCommands bytes commands.items) }
@@ -152,7 +155,7 @@ impl<A: Allocator + Copy> Reading<A> {
     }
 }
 
-// The sum of two numbers of lines, where it is less than 2^64.
+// Returns the sum of two numbers of lines, or `Io` if it is 2^64 or more.
 fn sum(left: u64, right: u64) -> Result<u64, Fault>
     ensures sum { IfOk result (λ sum. sum ≡ left + right) }
     ensures err { IfErr result (λ fault. fault ≡ Fault.Io) }

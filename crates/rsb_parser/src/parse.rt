@@ -1,4 +1,4 @@
-//! Lines, words and commands in bytes. A line is read in place, with no memory of its own.
+//! Lines, words and commands in bytes. Lines are read in place, without a copy.
 
 ghost use Rattle.std.specs.Prelude.{◌≡◌, ◌≢◌, ◌↔◌, ℕ, ℤ, ◌^◌, ◌<◌, ◌≤◌, ◌==◌, [], ◌∷◌, Err, IfOk, IfSome, IsTrue, List, MatchOption, Some, SomeIff, codes, length, position};
 ghost use Rattle.std.specs.Char.{digit_value};
@@ -14,9 +14,9 @@ use crate::set_no::SetNo;
 use memchr::memchr_iter;
 use std::alloc::Allocator;
 
-/// The commands that the lines spell, or the number of the first line that spells none. The list of
-/// commands alone takes memory: `NoMemory` is answered where a growth of it was refused, and so only
-/// where the first line with words spells a command.
+/// Returns the commands that the lines spell, or `BadLine` with the number of the first line that
+/// spells none. It allocates only for the list of commands, and returns `NoMemory` if that fails.
+/// So `NoMemory` is possible only if the first line with words spells a command.
 pub fn parse_commands<A: Allocator + Copy>(
     alloc: A,
     input: &[u8],
@@ -33,7 +33,7 @@ pub fn parse_commands<A: Allocator + Copy>(
     Ok(commands)
 }
 
-/// The same, and how many lines there are.
+/// Returns the same commands, and the number of lines.
 pub(crate) fn parse_lines<A: Allocator + Copy>(
     alloc: A,
     input: &[u8],
@@ -62,7 +62,7 @@ pub(crate) fn parse_lines<A: Allocator + Copy>(
     Ok((commands, number))
 }
 
-// The first line without its ending, and the bytes after it.
+// Returns the first line without its ending, and the bytes after it. There must be a byte.
 fn first_line(bytes: &[u8]) -> (&[u8], &[u8])
     requires { 0 < length bytes.now }
     ensures lines { lines bytes.now ≡ result.0.now ∷ lines result.1.now }
@@ -77,7 +77,8 @@ fn first_line(bytes: &[u8]) -> (&[u8], &[u8])
     }
 }
 
-// The place of the first line feed. The iterator looks near by first, and lines are short.
+// Returns the place of the first line feed. Lines are short, and the iterator is fast at places
+// nearby.
 fn line_feed(bytes: &[u8]) -> Option<usize>
     ensures place { result ≡ position (λ byte. byte == 10) bytes.now }
     ensures within { IfSome result (λ i. i < length bytes.now) }
@@ -85,7 +86,7 @@ fn line_feed(bytes: &[u8]) -> Option<usize>
     memchr_iter(b'\n', bytes).next()
 }
 
-// The line without the carriage return at its end, if it has one.
+// Returns the line without the carriage return at its end, if it has one.
 fn without_return(line: &[u8]) -> &[u8]
     ensures { result.now ≡ strip_carriage_return line.now }
 {
@@ -95,7 +96,7 @@ fn without_return(line: &[u8]) -> &[u8]
     }
 }
 
-// The first word of a line, and what comes after it.
+// Returns the first word of a line and what comes after it, or `None` if there is no word.
 #[inline(always)]
 fn first_word(line: &[u8]) -> Option<(&[u8], &[u8])>
     ensures { MatchOption result (words line.now ≡ [])
@@ -111,7 +112,7 @@ fn first_word(line: &[u8]) -> Option<(&[u8], &[u8])>
     }
 }
 
-// The line from its first byte on that is no blank.
+// Returns the line from its first byte that is not a space or a tab.
 #[inline(always)]
 fn without_blanks(line: &[u8]) -> &[u8]
     ensures words { words result.now ≡ words line.now }
@@ -125,7 +126,7 @@ fn without_blanks(line: &[u8]) -> &[u8]
     &[]
 }
 
-// The place of the first space or tab.
+// Returns the place of the first space or tab.
 #[inline(always)]
 fn blank(line: &[u8]) -> Option<usize>
     ensures place { result ≡ position is_blank line.now }
@@ -134,14 +135,14 @@ fn blank(line: &[u8]) -> Option<usize>
     line.iter().position(|byte| *byte == b' ' || *byte == b'\t')
 }
 
-// Whether the line has no word.
+// Returns whether the line has no word.
 fn is_blank_line(line: &[u8]) -> bool
     ensures { IsTrue result ↔ (words line.now ≡ []) }
 {
     first_word(line).is_none()
 }
 
-// The command that a keyword and the words of its arguments spell.
+// Returns the command that a keyword and the words of its arguments spell.
 fn command_of(keyword: &[u8], arguments: &[u8]) -> Option<Command<i32>>
     ensures { Reads result (Spells (keyword.now ∷ words arguments.now)) }
 {
@@ -174,7 +175,8 @@ fn command_of(keyword: &[u8], arguments: &[u8]) -> Option<Command<i32>>
     }
 }
 
-// The command on several sets that a keyword and the words of its arguments spell.
+// Returns the command on several sets that a keyword and the words of its arguments spell. The
+// keyword must not be one of those that `command_of` handles itself.
 fn operation_of(keyword: &[u8], arguments: &[u8]) -> Option<Command<i32>>
     requires { IsNoneOf (codes "add" ∷ codes "del" ∷ codes "has" ∷ codes "gap" ∷ codes "len"
         ∷ codes "show" ∷ []) keyword.now }
@@ -229,7 +231,7 @@ fn operation_of(keyword: &[u8], arguments: &[u8]) -> Option<Command<i32>>
     }
 }
 
-// A slot and two numbers, and nothing after them.
+// Returns a slot and two numbers, if there is nothing after them.
 #[inline(always)]
 fn slot_and_range(arguments: &[u8]) -> Option<(SetNo, i32, i32)>
     ensures { Reads result (λ read. AllZip IsArgument (words arguments.now)
@@ -246,7 +248,7 @@ fn slot_and_range(arguments: &[u8]) -> Option<(SetNo, i32, i32)>
     }
 }
 
-// A slot and a number, and nothing after them.
+// Returns a slot and a number, if there is nothing after them.
 #[inline(always)]
 fn slot_and_value(arguments: &[u8]) -> Option<(SetNo, i32)>
     ensures { Reads result (λ read. AllZip IsArgument (words arguments.now)
@@ -262,7 +264,7 @@ fn slot_and_value(arguments: &[u8]) -> Option<(SetNo, i32)>
     }
 }
 
-// A slot, and nothing after it.
+// Returns a slot, if there is nothing after it.
 #[inline(always)]
 fn one_slot(arguments: &[u8]) -> Option<SetNo>
     ensures { Reads result (λ n. AllZip IsArgument (words arguments.now)
@@ -277,7 +279,7 @@ fn one_slot(arguments: &[u8]) -> Option<SetNo>
     }
 }
 
-// Two slots, and nothing after them.
+// Returns two slots, if there is nothing after them.
 #[inline(always)]
 fn two_slots(arguments: &[u8]) -> Option<(SetNo, SetNo)>
     ensures { Reads result (λ read. AllZip IsArgument (words arguments.now)
@@ -289,7 +291,7 @@ fn two_slots(arguments: &[u8]) -> Option<(SetNo, SetNo)>
     Some((left, right))
 }
 
-// Three slots, and nothing after them.
+// Returns three slots, if there is nothing after them.
 #[inline(always)]
 fn three_slots(arguments: &[u8]) -> Option<(SetNo, SetNo, SetNo)>
     ensures { Reads result (λ read. AllZip IsArgument (words arguments.now)
@@ -301,7 +303,7 @@ fn three_slots(arguments: &[u8]) -> Option<(SetNo, SetNo, SetNo)>
     Some((target, left, right))
 }
 
-// Four slots, and nothing after them.
+// Returns four slots, if there is nothing after them.
 #[inline(always)]
 fn four_slots(arguments: &[u8]) -> Option<(SetNo, SetNo, SetNo, SetNo)>
     ensures { Reads result (λ read. AllZip IsArgument (words arguments.now)
@@ -313,7 +315,7 @@ fn four_slots(arguments: &[u8]) -> Option<(SetNo, SetNo, SetNo, SetNo)>
     Some((target, a, b, c))
 }
 
-// The number that the first word of a line spells, and what comes after it.
+// Returns the number that the first word of a line spells, and what comes after it.
 #[inline(always)]
 fn first_number(line: &[u8]) -> Option<(i32, &[u8])>
     ensures { ReadsFirst result IsNumber line.now }
@@ -322,7 +324,8 @@ fn first_number(line: &[u8]) -> Option<(i32, &[u8])>
     Some((number(word)?, rest))
 }
 
-// The same where the word ends its line in most cases, and is then read in one pass.
+// Returns the same as `first_number`. Usually the word is the last of its line, and one pass reads
+// it.
 #[inline(always)]
 fn last_number(line: &[u8]) -> Option<(i32, &[u8])>
     ensures { ReadsFirst result IsNumber line.now }
@@ -334,7 +337,7 @@ fn last_number(line: &[u8]) -> Option<(i32, &[u8])>
     first_number(line)
 }
 
-// The slot that a word names.
+// Returns the slot that a word names.
 #[inline(always)]
 fn slot(word: &[u8]) -> Option<SetNo>
     ensures { Reads result (IsSlot word.now) }
@@ -345,7 +348,7 @@ fn slot(word: &[u8]) -> Option<SetNo>
     }
 }
 
-// The number that a word spells.
+// Returns the number that a word spells.
 #[inline(always)]
 fn number(word: &[u8]) -> Option<i32>
     ensures { Reads result (IsNumber word.now) }
@@ -358,7 +361,7 @@ fn number(word: &[u8]) -> Option<i32>
     }
 }
 
-// The number that digits write, where it has 32 bits.
+// Returns the number that decimal digits spell, if there is a digit and the number fits 32 bits.
 #[inline(always)]
 fn digits(digits: &[u8]) -> Option<u32>
     ensures { SomeIff result (IsNumeral 10 digits.now × (digits_value 10 digits.now < 2 ^ 32))
@@ -378,7 +381,7 @@ fn digits(digits: &[u8]) -> Option<u32>
     Some(value)
 }
 
-// What a decimal digit counts.
+// Returns the value of a decimal digit.
 #[inline(always)]
 fn value_of(byte: u8) -> Option<u8>
     ensures { SomeIff result (digit_value byte < 10) (digit_value byte) }

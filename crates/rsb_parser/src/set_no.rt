@@ -21,7 +21,7 @@ impl Model for SetNo {
 }
 
 impl SetNo {
-    /// The slot with this number, where there is one.
+    /// Returns the slot with this number, or `None` if the number is not below 10.
     pub fn new(n: u8) -> Option<SetNo>
         ensures some { IsSome result ↔ (n < 10) }
         ensures number { IfSome result (λ slot. slot ≡ n) }
@@ -33,7 +33,7 @@ impl SetNo {
         }
     }
 
-    /// The slot as an index into the ten sets.
+    /// Returns the slot as an index into the ten sets.
     pub fn index(self) -> usize
         ensures place { result ≡ self }
         ensures below { result < 10 }

@@ -1,4 +1,5 @@
-//! Range sets by lines: reads commands to ten sets, runs them, and writes a line for each reply.
+//! A program on ten range sets: reads commands in lines, runs them, and writes a line for each
+//! reply.
 #![tactic(auto)]
 
 use rsb_commands::start;

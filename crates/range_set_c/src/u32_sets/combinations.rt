@@ -1,5 +1,8 @@
 // Written by tools/c/narrow from src/u64_sets/combinations.rt.
-//! Sets made of one set or two.
+//! Sets built from one set or two.
+//!
+//! A call leaves its operands unchanged. It replaces the set of `out` and returns `CHANGED`. If an
+//! allocation fails, it returns `NO_MEMORY`, and `out` is unchanged too.
 
 ghost use Rattle.std.specs.Prelude.{◌≡◌, ◌⊎◌, ◌^◌};
 ghost use Rattle.rsb_integer.specs.Runs.{members};
@@ -10,7 +13,7 @@ use super::handle::Handle;
 use range_set_blaze::RangeSetBlaze;
 use std::alloc::Global;
 
-/// Makes `out` a copy of a set.
+/// Sets `out` to a copy of a set.
 #[unsafe(no_mangle)]
 pub extern "C" fn rsb_u32_clone(alloc: Global, out: &mut Handle, set: &mut Handle) -> u32
     ensures answer { (result ≡ 1) ⊎ (result ≡ 2) }
@@ -23,7 +26,7 @@ pub extern "C" fn rsb_u32_clone(alloc: Global, out: &mut Handle, set: &mut Handl
     out.set_to(alloc, made)
 }
 
-/// Makes `out` the values that a set lacks.
+/// Sets `out` to the values that a set lacks.
 #[unsafe(no_mangle)]
 pub extern "C" fn rsb_u32_complement(alloc: Global, out: &mut Handle, set: &mut Handle) -> u32
     ensures answer { (result ≡ 1) ⊎ (result ≡ 2) }
@@ -37,7 +40,7 @@ pub extern "C" fn rsb_u32_complement(alloc: Global, out: &mut Handle, set: &mut 
     out.set_to(alloc, made)
 }
 
-/// Makes `out` what lies in either of two sets.
+/// Sets `out` to the union of two sets.
 #[unsafe(no_mangle)]
 pub extern "C" fn rsb_u32_union(
     alloc: Global,
@@ -58,7 +61,7 @@ pub extern "C" fn rsb_u32_union(
     out.set_to(alloc, made)
 }
 
-/// Makes `out` what two sets both have.
+/// Sets `out` to the intersection of two sets.
 #[unsafe(no_mangle)]
 pub extern "C" fn rsb_u32_intersection(
     alloc: Global,
@@ -79,7 +82,7 @@ pub extern "C" fn rsb_u32_intersection(
     out.set_to(alloc, made)
 }
 
-/// Makes `out` what the left set has and the right one lacks.
+/// Sets `out` to what the left set has and the right one lacks.
 #[unsafe(no_mangle)]
 pub extern "C" fn rsb_u32_difference(
     alloc: Global,
@@ -100,7 +103,7 @@ pub extern "C" fn rsb_u32_difference(
     out.set_to(alloc, made)
 }
 
-/// Makes `out` what lies in one of two sets alone.
+/// Sets `out` to what exactly one of two sets has.
 #[unsafe(no_mangle)]
 pub extern "C" fn rsb_u32_symmetric_difference(
     alloc: Global,

@@ -1,5 +1,5 @@
 // Written by tools/c/narrow from src/u64_sets/comparisons.rt.
-//! Questions about two sets. Both are as they were, and no memory is taken.
+//! Comparisons of two sets. They leave both sets unchanged and do not allocate.
 
 ghost use Rattle.std.specs.Prelude.{◌≡◌, ◌↔◌, ◌^◌, IsTrue};
 ghost use Rattle.rsb_integer.specs.Runs.{members};
@@ -13,7 +13,7 @@ use range_set_blaze::prelude::{cmp_counted, order_by_least_difference};
 use std::alloc::Global;
 use std::cmp::Ordering;
 
-/// Whether two sets have the same members.
+/// Returns whether two sets have the same members.
 #[unsafe(no_mangle)]
 pub extern "C" fn rsb_u32_equal(alloc: Global, left: &mut Handle, right: &mut Handle) -> bool
     ensures found { IsTrue result ↔
@@ -27,8 +27,8 @@ pub extern "C" fn rsb_u32_equal(alloc: Global, left: &mut Handle, right: &mut Ha
     left.set_or(&none) == right.set_or(&nothing)
 }
 
-/// How two sets compare: -1, 0 or 1 where the left one is less, equal or greater. They compare as
-/// the ascending lists of their members do.
+/// Returns the order of two sets: -1, 0 or 1 if the left one is less, equal or greater. Sets
+/// compare as the ascending lists of their members do.
 #[unsafe(no_mangle)]
 pub extern "C" fn rsb_u32_order(alloc: Global, left: &mut Handle, right: &mut Handle) -> i32
     ensures order { HasOrder (2 ^ 32) (members left.old.kept.set) (members right.old.kept.set)
@@ -47,7 +47,7 @@ pub extern "C" fn rsb_u32_order(alloc: Global, left: &mut Handle, right: &mut Ha
     }
 }
 
-/// Whether each member of the left set is one of the right set.
+/// Returns whether each member of the left set is one of the right set.
 #[unsafe(no_mangle)]
 pub extern "C" fn rsb_u32_is_subset(alloc: Global, left: &mut Handle, right: &mut Handle) -> bool
     ensures found { IsTrue result ↔
@@ -60,7 +60,7 @@ pub extern "C" fn rsb_u32_is_subset(alloc: Global, left: &mut Handle, right: &mu
     left.set_or(&none).is_subset(right.set_or(&nothing))
 }
 
-/// Whether no member of the left set is one of the right set.
+/// Returns whether no member of the left set is one of the right set.
 #[unsafe(no_mangle)]
 pub extern "C" fn rsb_u32_is_disjoint(alloc: Global, left: &mut Handle, right: &mut Handle) -> bool
     ensures found { IsTrue result ↔

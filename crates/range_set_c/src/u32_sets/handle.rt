@@ -13,7 +13,7 @@ use std::alloc::{AllocError, Global};
 use std::marker::Model;
 use std::mem;
 
-/// A set of `u32`. C sees a struct of one pointer; where it is null, the set is empty.
+/// A set of `u32`. C sees a struct with one pointer. If it is null, the set is empty.
 #[repr(C)]
 pub struct Handle {
     pub(super) at: *mut u8,
@@ -26,7 +26,7 @@ impl Model for Handle {
 }
 
 impl Handle {
-    /// The null handle.
+    /// Returns the null handle.
     pub(crate) fn empty(alloc: Global) -> Handle
         ensures { result.kept.set ≡ [] }
     {
@@ -36,15 +36,15 @@ impl Handle {
         }
     }
 
-    /// A handle to a set.
+    /// Returns a handle to a set.
     pub(crate) fn of(kept: Box<Kept>) -> Handle
         ensures { result.kept ≡ kept.value }
     {
         Handle::of_parts(Unboxed::of(kept))
     }
 
-    /// The set, which leaves a null handle. A null handle gives a new, empty one. Without memory the
-    /// handle was null and is.
+    /// Takes the set out, leaves a null handle, and returns the set. If the handle is null, it
+    /// returns a new empty set. If its allocation fails, the handle was null and stays null.
     pub(crate) fn take_or_make(&mut self, alloc: Global) -> Result<Box<Kept>, AllocError>
         ensures taken { IfOk result (λ kept. kept.value.set ≡ self.old.kept.set) }
         ensures left { self.new.kept.set ≡ [] }
@@ -57,7 +57,8 @@ impl Handle {
         Ok(Box::new(alloc, Kept { set })?)
     }
 
-    /// Makes the handle one to a set that was made, and says so. Without memory it is as it was.
+    /// Replaces the set by the one in `made` and returns `CHANGED`. If `made` is an error or an
+    /// allocation fails, it returns `NO_MEMORY`, and the handle is unchanged.
     pub(crate) fn set_to(
         &mut self,
         alloc: Global,
@@ -78,7 +79,8 @@ impl Handle {
         CHANGED
     }
 
-    // The set, which leaves a null handle. It is `None` where the handle was null.
+    // Takes the set out, leaves a null handle, and returns the set, or `None` if the handle was
+    // null.
     fn take(&mut self, alloc: Global) -> Option<Box<Kept>>
         ensures taken { MatchOption result (self.old.kept.set ≡ [])
             (λ kept. kept.value ≡ self.old.kept) }
@@ -87,7 +89,7 @@ impl Handle {
         mem::replace(self, Handle::empty(alloc)).into_box()
     }
 
-    // The set, or `None` where the handle is null.
+    // Returns the set, or `None` if the handle is null.
     fn into_box(self) -> Option<Box<Kept>>
         ensures { MatchOption result (self.kept.set ≡ []) (λ kept. kept.value ≡ self.kept) }
     {
@@ -119,7 +121,7 @@ impl Handle {
     }
 }
 
-// The set and its memory go.
+// Frees the set and its memory.
 impl Drop for Handle {
     fn drop(self) {
         drop(self.into_box());

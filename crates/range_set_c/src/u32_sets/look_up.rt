@@ -1,5 +1,5 @@
 // Written by tools/c/narrow from src/u64_sets/look_up.rt.
-//! Questions about one set. It is as it was, and no memory is taken.
+//! Questions about one set. They leave it unchanged and do not allocate.
 
 ghost use Rattle.std.specs.Prelude.{◌≡◌, ℕ, ◌^◌, ◌<◌, ◌≤◌, [], length, IfSome, IsFalse, IsNone, IsTrue};
 ghost use Rattle.std.specs.Range.{range_inclusive_end, range_inclusive_start};
@@ -14,7 +14,7 @@ use range_set_blaze::RangeSetBlaze;
 use std::alloc::Global;
 use std::ops::RangeInclusive;
 
-/// Whether a value is a member.
+/// Returns whether a value is a member.
 #[unsafe(no_mangle)]
 pub extern "C" fn rsb_u32_contains(alloc: Global, set: &mut Handle, value: u32) -> bool
     ensures found { result ≡ members set.old.kept.set value }
@@ -24,7 +24,7 @@ pub extern "C" fn rsb_u32_contains(alloc: Global, set: &mut Handle, value: u32) 
     set.set_or(&empty).contains(value)
 }
 
-/// How many members there are.
+/// Returns the number of members.
 #[unsafe(no_mangle)]
 pub extern "C" fn rsb_u32_len(alloc: Global, set: &mut Handle) -> u64
     ensures count { result ≡ count (2 ^ 32) (members set.old.kept.set) }
@@ -34,7 +34,7 @@ pub extern "C" fn rsb_u32_len(alloc: Global, set: &mut Handle) -> u64
     set.set_or(&empty).len()
 }
 
-/// How many runs there are.
+/// Returns the number of runs.
 #[unsafe(no_mangle)]
 pub extern "C" fn rsb_u32_run_count(alloc: Global, set: &mut Handle) -> usize
     ensures runs { result ≡ length set.old.kept.set }
@@ -44,7 +44,8 @@ pub extern "C" fn rsb_u32_run_count(alloc: Global, set: &mut Handle) -> usize
     set.set_or(&empty).ranges_len()
 }
 
-/// Puts the least member into `value`, and answers whether there is one.
+/// Stores the least member in `value` and returns true. If the set is empty, it returns false, and
+/// `value` is unchanged.
 #[unsafe(no_mangle)]
 pub extern "C" fn rsb_u32_first(alloc: Global, set: &mut Handle, value: &mut u32) -> bool
     ensures none { IsFalse result → set.old.kept.set ≡ [] }
@@ -61,7 +62,8 @@ pub extern "C" fn rsb_u32_first(alloc: Global, set: &mut Handle, value: &mut u32
     true
 }
 
-/// Puts the greatest member into `value`, and answers whether there is one.
+/// Stores the greatest member in `value` and returns true. If the set is empty, it returns false,
+/// and `value` is unchanged.
 #[unsafe(no_mangle)]
 pub extern "C" fn rsb_u32_last(alloc: Global, set: &mut Handle, value: &mut u32) -> bool
     ensures none { IsFalse result → set.old.kept.set ≡ [] }
@@ -78,8 +80,8 @@ pub extern "C" fn rsb_u32_last(alloc: Global, set: &mut Handle, value: &mut u32)
     true
 }
 
-/// Puts the run that has a value into `block` and answers true, or else the gap that it lies in and
-/// answers false.
+/// Stores the run that has a value in `block` and returns true. If the value is not a member, it
+/// stores the gap that the value lies in and returns false.
 #[unsafe(no_mangle)]
 pub extern "C" fn rsb_u32_run_or_gap(
     alloc: Global,
@@ -101,9 +103,9 @@ pub extern "C" fn rsb_u32_run_or_gap(
     found
 }
 
-/// Puts into `run` the run that has `from`, or else the first one past it, and answers whether there
-/// is one. So `from = run.last + 1` walks over the runs in ascending order, up to one that ends at
-/// the greatest value.
+/// Stores the run that has `from`, or else the first one past it, in `run` and returns true. If
+/// there is none, it returns false, and `run` is unchanged. To walk over the runs, begin with
+/// `from` of 0 and go on with `run.last + 1`, unless a run ends at the greatest value.
 #[unsafe(no_mangle)]
 pub extern "C" fn rsb_u32_next_run(
     alloc: Global,
@@ -131,7 +133,7 @@ pub extern "C" fn rsb_u32_next_run(
     true
 }
 
-// The run that has a value, or else the first one past it.
+// Returns the run that has a value, or else the first one past it.
 fn run_from(set: &RangeSetBlaze<u32, Global>, from: u32) -> Option<RangeInclusive<u32>>
     ensures none { IsNone result → (rank : ℕ) → from ≤ rank → rank < 2 ^ 32
         → IsFalse (members set.now rank) }

@@ -1,4 +1,7 @@
 //! Changes of one set.
+//!
+//! A call returns `UNCHANGED` if the set was already as asked, and `CHANGED` if it is now. It
+//! returns `NO_MEMORY` if an allocation fails, and the set is then unchanged.
 
 ghost use Rattle.std.specs.Prelude.{◌≡◌, ◌<◌, ◌≤◌, ◌^◌, [], IsFalse, IsTrue};
 ghost use Rattle.rsb_integer.specs.Runs.{members, covers, from_to};
@@ -10,7 +13,8 @@ use crate::status::{CHANGED, NO_MEMORY, UNCHANGED};
 use range_set_blaze::RangeSetBlaze;
 use std::alloc::Global;
 
-/// Adds the values from `first` to `last`: none where `last` is below `first`.
+/// Adds the values from `first` to `last`: none if `last` is below `first`. It cannot return
+/// `NO_MEMORY` if there is none to add, or if `first` or the value before it is a member.
 #[unsafe(no_mangle)]
 pub extern "C" fn rsb_u64_insert_range(
     alloc: Global,
@@ -44,7 +48,7 @@ pub extern "C" fn rsb_u64_insert_range(
     answer
 }
 
-/// Adds a value.
+/// Adds a value. It cannot return `NO_MEMORY` if the value or the one before it is a member.
 #[unsafe(no_mangle)]
 pub extern "C" fn rsb_u64_insert(alloc: Global, set: &mut Handle, value: u64) -> u32
     ensures answer { result ≤ 2 }
@@ -67,7 +71,7 @@ pub extern "C" fn rsb_u64_insert(alloc: Global, set: &mut Handle, value: u64) ->
     answer
 }
 
-/// Takes a value out.
+/// Removes a value. It cannot return `NO_MEMORY` if the value is not a member.
 #[unsafe(no_mangle)]
 pub extern "C" fn rsb_u64_remove(set: &mut Handle, value: u64) -> u32
     ensures answer { result ≤ 2 }
@@ -87,8 +91,8 @@ pub extern "C" fn rsb_u64_remove(set: &mut Handle, value: u64) -> u32
     }
 }
 
-/// Adds the members of another set, or, without memory, none of them. It takes no memory where each
-/// of them is a member before.
+/// Adds all members of another set, which is unchanged. It cannot return `NO_MEMORY` if each of
+/// them is already a member.
 #[unsafe(no_mangle)]
 pub extern "C" fn rsb_u64_union_with(alloc: Global, set: &mut Handle, other: &mut Handle) -> u32
     ensures answer { result ≤ 2 }
@@ -113,7 +117,7 @@ pub extern "C" fn rsb_u64_union_with(alloc: Global, set: &mut Handle, other: &mu
     set.set_to(alloc, made)
 }
 
-/// Takes all members out.
+/// Removes all members.
 #[unsafe(no_mangle)]
 pub extern "C" fn rsb_u64_clear(set: &mut Handle)
     ensures { set.new.kept.set ≡ [] }
@@ -123,7 +127,7 @@ pub extern "C" fn rsb_u64_clear(set: &mut Handle)
     }
 }
 
-/// Gives the set's memory back. The handle is null then.
+/// Frees the memory of the set and leaves a null handle, which is the empty set.
 #[unsafe(no_mangle)]
 pub extern "C" fn rsb_u64_free(alloc: Global, set: &mut Handle)
     ensures { set.new.kept.set ≡ [] }

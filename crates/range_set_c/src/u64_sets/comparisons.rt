@@ -1,4 +1,4 @@
-//! Questions about two sets. Both are as they were, and no memory is taken.
+//! Comparisons of two sets. They leave both sets unchanged and do not allocate.
 
 ghost use Rattle.std.specs.Prelude.{◌≡◌, ◌↔◌, ◌^◌, IsTrue};
 ghost use Rattle.rsb_integer.specs.Runs.{members};
@@ -12,7 +12,7 @@ use range_set_blaze::prelude::{cmp_counted, order_by_least_difference};
 use std::alloc::Global;
 use std::cmp::Ordering;
 
-/// Whether two sets have the same members.
+/// Returns whether two sets have the same members.
 #[unsafe(no_mangle)]
 pub extern "C" fn rsb_u64_equal(alloc: Global, left: &mut Handle, right: &mut Handle) -> bool
     ensures found { IsTrue result ↔
@@ -26,8 +26,8 @@ pub extern "C" fn rsb_u64_equal(alloc: Global, left: &mut Handle, right: &mut Ha
     left.set_or(&none) == right.set_or(&nothing)
 }
 
-/// How two sets compare: -1, 0 or 1 where the left one is less, equal or greater. They compare as
-/// the ascending lists of their members do.
+/// Returns the order of two sets: -1, 0 or 1 if the left one is less, equal or greater. Sets
+/// compare as the ascending lists of their members do.
 #[unsafe(no_mangle)]
 pub extern "C" fn rsb_u64_order(alloc: Global, left: &mut Handle, right: &mut Handle) -> i32
     ensures order { HasOrder (2 ^ 64) (members left.old.kept.set) (members right.old.kept.set)
@@ -46,7 +46,7 @@ pub extern "C" fn rsb_u64_order(alloc: Global, left: &mut Handle, right: &mut Ha
     }
 }
 
-/// Whether each member of the left set is one of the right set.
+/// Returns whether each member of the left set is one of the right set.
 #[unsafe(no_mangle)]
 pub extern "C" fn rsb_u64_is_subset(alloc: Global, left: &mut Handle, right: &mut Handle) -> bool
     ensures found { IsTrue result ↔
@@ -59,7 +59,7 @@ pub extern "C" fn rsb_u64_is_subset(alloc: Global, left: &mut Handle, right: &mu
     left.set_or(&none).is_subset(right.set_or(&nothing))
 }
 
-/// Whether no member of the left set is one of the right set.
+/// Returns whether no member of the left set is one of the right set.
 #[unsafe(no_mangle)]
 pub extern "C" fn rsb_u64_is_disjoint(alloc: Global, left: &mut Handle, right: &mut Handle) -> bool
     ensures found { IsTrue result ↔

@@ -1,4 +1,4 @@
-//! Questions about one set. It is as it was, and no memory is taken.
+//! Questions about one set. They leave it unchanged and do not allocate.
 
 ghost use Rattle.std.specs.Prelude.{◌≡◌, ℕ, ◌+◌, ◌*◌, ◌^◌, ◌<◌, ◌≤◌, [], length, IfSome, IsFalse, IsNone, IsTrue};
 ghost use Rattle.std.specs.Range.{range_inclusive_end, range_inclusive_start};
@@ -13,7 +13,7 @@ use range_set_blaze::RangeSetBlaze;
 use std::alloc::Global;
 use std::ops::RangeInclusive;
 
-/// Whether a value is a member.
+/// Returns whether a value is a member.
 #[unsafe(no_mangle)]
 pub extern "C" fn rsb_u64_contains(alloc: Global, set: &mut Handle, value: u64) -> bool
     ensures found { result ≡ members set.old.kept.set value }
@@ -23,7 +23,7 @@ pub extern "C" fn rsb_u64_contains(alloc: Global, set: &mut Handle, value: u64) 
     set.set_or(&empty).contains(value)
 }
 
-/// How many members there are.
+/// Returns the number of members.
 #[unsafe(no_mangle)]
 pub extern "C" fn rsb_u64_len(alloc: Global, set: &mut Handle) -> Count
     ensures count { result.low + 2 ^ 64 * result.high ≡ count (2 ^ 64) (members set.old.kept.set) }
@@ -37,7 +37,7 @@ pub extern "C" fn rsb_u64_len(alloc: Global, set: &mut Handle) -> Count
     }
 }
 
-/// How many runs there are.
+/// Returns the number of runs.
 #[unsafe(no_mangle)]
 pub extern "C" fn rsb_u64_run_count(alloc: Global, set: &mut Handle) -> usize
     ensures runs { result ≡ length set.old.kept.set }
@@ -47,7 +47,8 @@ pub extern "C" fn rsb_u64_run_count(alloc: Global, set: &mut Handle) -> usize
     set.set_or(&empty).ranges_len()
 }
 
-/// Puts the least member into `value`, and answers whether there is one.
+/// Stores the least member in `value` and returns true. If the set is empty, it returns false, and
+/// `value` is unchanged.
 #[unsafe(no_mangle)]
 pub extern "C" fn rsb_u64_first(alloc: Global, set: &mut Handle, value: &mut u64) -> bool
     ensures none { IsFalse result → set.old.kept.set ≡ [] }
@@ -64,7 +65,8 @@ pub extern "C" fn rsb_u64_first(alloc: Global, set: &mut Handle, value: &mut u64
     true
 }
 
-/// Puts the greatest member into `value`, and answers whether there is one.
+/// Stores the greatest member in `value` and returns true. If the set is empty, it returns false,
+/// and `value` is unchanged.
 #[unsafe(no_mangle)]
 pub extern "C" fn rsb_u64_last(alloc: Global, set: &mut Handle, value: &mut u64) -> bool
     ensures none { IsFalse result → set.old.kept.set ≡ [] }
@@ -81,8 +83,8 @@ pub extern "C" fn rsb_u64_last(alloc: Global, set: &mut Handle, value: &mut u64)
     true
 }
 
-/// Puts the run that has a value into `block` and answers true, or else the gap that it lies in and
-/// answers false.
+/// Stores the run that has a value in `block` and returns true. If the value is not a member, it
+/// stores the gap that the value lies in and returns false.
 #[unsafe(no_mangle)]
 pub extern "C" fn rsb_u64_run_or_gap(
     alloc: Global,
@@ -104,9 +106,9 @@ pub extern "C" fn rsb_u64_run_or_gap(
     found
 }
 
-/// Puts into `run` the run that has `from`, or else the first one past it, and answers whether there
-/// is one. So `from = run.last + 1` walks over the runs in ascending order, up to one that ends at
-/// the greatest value.
+/// Stores the run that has `from`, or else the first one past it, in `run` and returns true. If
+/// there is none, it returns false, and `run` is unchanged. To walk over the runs, begin with
+/// `from` of 0 and go on with `run.last + 1`, unless a run ends at the greatest value.
 #[unsafe(no_mangle)]
 pub extern "C" fn rsb_u64_next_run(
     alloc: Global,
@@ -134,7 +136,7 @@ pub extern "C" fn rsb_u64_next_run(
     true
 }
 
-// The run that has a value, or else the first one past it.
+// Returns the run that has a value, or else the first one past it.
 fn run_from(set: &RangeSetBlaze<u64, Global>, from: u64) -> Option<RangeInclusive<u64>>
     ensures none { IsNone result → (rank : ℕ) → from ≤ rank → rank < 2 ^ 64
         → IsFalse (members set.now rank) }

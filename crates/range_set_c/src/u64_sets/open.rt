@@ -1,4 +1,4 @@
-//! The set behind a handle, where it lies.
+//! Access to the set behind a handle, in place.
 
 ghost use Rattle.std.specs.Prelude.{◌≡◌, [], MatchOption};
 ghost use types.Logic.{sem};
@@ -10,7 +10,8 @@ use range_set_blaze::RangeSetBlaze;
 use std::alloc::Global;
 
 impl Handle {
-    /// The set, or else the empty one. Neither the handle nor the set is written.
+    /// Returns the set, or the given empty set if the handle is null. It writes to neither the
+    /// handle nor the set.
     pub(crate) fn set_or<'a>(
         &'a mut self,
         empty: &'a RangeSetBlaze<u64, Global>,
@@ -25,7 +26,7 @@ impl Handle {
         }
     }
 
-    /// The set, or `None` where the handle is null.
+    /// Returns the set, or `None` if the handle is null.
     pub(crate) fn open(&mut self) -> Option<&mut Kept>
         ensures* writes_back { sem 𝓛 (EndsWithKept self.entry result) }
         ensures kept { MatchOption result (self.old.kept.set ≡ [])

@@ -1,4 +1,4 @@
-//! A stream whose ranges are counted as they are drawn.
+//! A stream that counts its ranges as they are drawn.
 
 ghost use Rattle.std.specs.Prelude.{◌≡◌};
 
@@ -8,10 +8,12 @@ use std::iter::FusedIterator;
 use std::marker::Model;
 use std::ops::RangeInclusive;
 
-/// A stream that gives what another gives, and adds one to a number that it was lent for each range
-/// that it gives, up to the greatest number, and nothing for the end. (Own.)
+/// A stream that gives what another stream gives, and counts the ranges in a cell, taken by
+/// reference. The count stops at the greatest `usize`, and the end of the stream is not counted.
+/// Not in range-set-blaze.
 ///
-/// Contracts see it as the other stream, so it has that one's laws. What a cell holds they can't see.
+/// Contracts see it as the other stream, so the laws of that stream hold for it. Contracts cannot
+/// see what a cell holds.
 #[derive(Drop)]
 pub struct Counted<'a, I> {
     iter: I,
@@ -25,7 +27,8 @@ impl<'a, I> Model for Counted<'a, I> {
 }
 
 impl<'a, I> Counted<'a, I> {
-    /// The stream, of which each range is counted from now on. It takes no memory. (Own.)
+    /// Returns the stream, which counts each range from now on. It does not allocate. Not in
+    /// range-set-blaze.
     pub fn new(iter: I, drawn: &'a Cell<usize>) -> Self
         ensures { result ≡ iter }
     {
@@ -65,7 +68,7 @@ impl<'a, T: Integer, I: Draw<T>> Draw<T> for Counted<'a, I> {
 
     ghost may_give = { I.may_give };
 
-    // What makes streams of streams draws by this call, so it counts as `next` does.
+    // Streams built on this one draw by this call, so it counts as `next` does.
     fn draw(&mut self) -> Option<RangeInclusive<T>> {
         let range = self.iter.draw()?;
         self.count_one();

@@ -1,4 +1,4 @@
-//! A stream of one's own: the weekends of a year.
+//! An example of a user-defined stream: the weekends of a year.
 
 ghost use Rattle.std.specs.Prelude.{◌≡◌, ◌+◌, ◌-◌, ◌^◌, ◌<◌, ◌≤◌, MatchOption};
 ghost use Rattle.std.specs.Iterator.{at_most};
@@ -15,18 +15,19 @@ use range_set_blaze::{Draw, DrawDisjoint, Integer, SortedDisjoint, SortedStarts}
 use std::iter::FusedIterator;
 use std::ops::RangeInclusive;
 
-/// The weekends of a year of 365 days that begins with a Sunday, by the numbers of its days from 1
-/// on, as a stream: 1..=1, 7..=8, and so on each seven days to 364..=365. (Own.)
+/// A stream of the weekends of a year of 365 days that begins on a Sunday. Days are numbered from
+/// 1, so the ranges are 1..=1, 7..=8, and so on every seven days to 364..=365. Not in
+/// range-set-blaze.
 #[derive(Clone, Debug, Drop)]
 pub struct OrdinalWeekends {
     // The Saturday of the next weekend, or the first day of the year.
     start: u16,
-    // Its Sunday.
+    // The Sunday of that weekend.
     end: u16,
 }
 
 impl OrdinalWeekends {
-    /// All weekends of the year. It takes no memory. (Own.)
+    /// Returns all weekends of the year. It does not allocate. Not in range-set-blaze.
     pub fn new() -> Self
         ensures ready { ⟦<OrdinalWeekends as Draw<i32>>⟧.can_draw result }
         ensures gives { ⟦<OrdinalWeekends as Draw<i32>>⟧.may_give result ⊆ just weekends }
@@ -40,7 +41,7 @@ impl Iterator for OrdinalWeekends {
 
     ghost can_next = { λ s. s.start ≤ s.end };
 
-    // The next weekend begins on the sixth day after this one's Sunday.
+    // The next weekend begins on the sixth day after the Sunday of this one.
     ghost next_gives = { λ s item t. MatchOption item (365 < s.end) (λ range. (s.end ≤ 365)
         × (interval_of ⟦<i32 as Integer>⟧.rank range
         ≡ record { first = 2 ^ 31 + s.start; last = 2 ^ 31 + s.end })
@@ -68,7 +69,7 @@ impl Draw<i32> for OrdinalWeekends {
 
     ghost draws_left = { ⟦<OrdinalWeekends as Iterator>⟧.remaining };
 
-    // What its calls give.
+    // A list may be given if calls of `next` can give it.
     ghost may_give = { gives_by ⟦<i32 as Integer>⟧.rank
         ⟦<OrdinalWeekends as Iterator>⟧.next_gives };
 

@@ -1,4 +1,4 @@
-//! An element type of two values.
+//! An example of an element type with two values.
 
 ghost use Rattle.std.specs.Prelude.{◌≡◌, ◌==◌, ◌<◌, cond, zero, suc};
 ghost use Rattle.std.specs.Ordering.{nat_cmp};
@@ -11,12 +11,12 @@ ghost use Rattle.rsb_commands.specs.declared.outside.side.Side.TheVariants.{Lo, 
 use range_set_blaze::Integer;
 use std::ops::RangeInclusive;
 
-/// One of two sides, as few values as an element type may have. (Own.)
+/// One of two sides. No element type may have fewer values. Not in range-set-blaze.
 #[derive(Clone, Copy, Debug, PartialEq, Eq, PartialOrd, Ord, Hash)]
 pub enum Side {
-    /// The lower one.
+    /// The lesser value.
     Lo,
-    /// The one after it.
+    /// The greater value.
     Hi,
 }
 

@@ -1,4 +1,4 @@
-//! The quarter hours of a day, as an element type.
+//! An example of an element type: the quarter hours of a day.
 
 ghost use Rattle.std.specs.Prelude.{◌≡◌, ◌↔◌, ◌<◌, ℕ, IsSome, IfSome};
 ghost use Rattle.std.proofs.Common.{lit<, lit≤, refl};
@@ -10,8 +10,8 @@ use std::fmt::{self, Debug, Display, Formatter, Write};
 use std::marker::Model;
 use std::ops::RangeInclusive;
 
-/// A quarter hour of a day, by its number: from 0, which begins at midnight, to 95. Contracts see it
-/// as that number. (Own.)
+/// A quarter hour of a day, numbered from 0, which begins at midnight, to 95. Contracts see it as
+/// that number. Not in range-set-blaze.
 #[derive(Clone, Copy, PartialEq, Eq, PartialOrd, Ord, Hash)]
 pub struct Slot {
     number: u8,
@@ -28,7 +28,8 @@ impl Model for Slot {
 }
 
 impl Slot {
-    /// The slot with this number, where there is one. (Own.)
+    /// Returns the slot with this number, or `None` if the number is not below 96. Not in
+    /// range-set-blaze.
     pub fn new(n: u8) -> Option<Slot>
         ensures some { IsSome result ↔ (n < 96) }
         ensures number { IfSome result (λ slot. slot ≡ n) }
@@ -40,7 +41,7 @@ impl Slot {
         }
     }
 
-    /// Its number, from 0 to 95. (Own.)
+    /// Returns the number of the slot, from 0 to 95. Not in range-set-blaze.
     pub fn get(self) -> u8
         ensures number { result ≡ self }
         ensures in_day { result < 96 }
@@ -49,7 +50,7 @@ impl Slot {
     }
 }
 
-/// The number.
+/// Writes the number.
 impl Display for Slot {
     ghost output = { ⟦<u8 as Display>⟧.output };
 
@@ -58,7 +59,7 @@ impl Display for Slot {
     }
 }
 
-/// The number too, since a set is written by the texts for debugging of its values.
+/// Also writes only the number, because a set is displayed with the `Debug` texts of its values.
 impl Debug for Slot {
     ghost debug_output = { ⟦<u8 as Display>⟧.output };
 

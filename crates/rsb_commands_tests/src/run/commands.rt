@@ -1,4 +1,4 @@
-//! The calls of commands, each once.
+//! Each call on commands, at least once.
 
 use crate::run::sessions::{ALL_COMMANDS, ALL_TOLD, MOST, MOST_TOLD, SESSION, TOLD, Told};
 use rsb_commands::laws::{
@@ -12,7 +12,7 @@ use std::ops::RangeInclusive;
 use std::process::Abort;
 use std::test::*;
 
-// The slot of a number up to nine.
+// Returns the slot of a number up to 9.
 fn slot(rt: &impl Abort, n: u8) -> SetNo {
     SetNo::new(n).expect(rt, "a slot")
 }
@@ -47,7 +47,7 @@ fn lines_spell_commands(rt: HostRuntime) -> Result<(), Fail> {
     Ok(())
 }
 
-// Whether a reply says this.
+// Whether a reply is as expected.
 fn says(reply: &Reply<i32>, told: Told) -> bool {
     match (reply, told) {
         (Reply::Flag(flag), Told::Flag(wanted)) => *flag == wanted,
@@ -72,7 +72,7 @@ fn says(reply: &Reply<i32>, told: Told) -> bool {
     }
 }
 
-// Whether replies say this.
+// Whether the replies are as expected.
 fn say(replies: &[Reply<i32>], told: &[Told]) -> bool {
     let mut is_right = replies.len() == told.len();
     for (reply, wanted) in replies.iter().zip(told) {
@@ -81,7 +81,7 @@ fn say(replies: &[Reply<i32>], told: &[Told]) -> bool {
     is_right
 }
 
-// Whether the replies to the commands that are read of some lines say this.
+// Whether the commands that the lines spell have the expected replies.
 fn are_answered(alloc: Global, lines: &[u8], told: &[Told]) -> Result<bool, Fault> {
     let mut input = lines;
     let commands = read_commands(alloc, &mut input)?;
@@ -98,8 +98,8 @@ fn the_worked_sessions_run_as_commands(rt: HostRuntime) {
     assert!(rt; are_answered(rt.alloc(), MOST, &MOST_TOLD) == Ok(true));
 }
 
-// Whether replies say that an empty set lacked the last value of a range, and that the values of the
-// range were added.
+// Whether the replies show that an empty set lacked the last value of a range, and that the values
+// of the range were added.
 fn say_of_range<T: Integer>(
     replies: &[Reply<T>],
     range: &RangeInclusive<T>,
@@ -118,9 +118,9 @@ fn say_of_range<T: Integer>(
     *found == count && ranges.len() == 1 && ranges.first() == Some(range)
 }
 
-// Commands that add a range of values to a set. They ask for its last value before and after, then for
-// the count of all values and for the values. They are in a list: an array of a type parameter has no
-// size that generic code can bound.
+// Returns commands that add a range of values to a set. They ask for the last value before and
+// after, and then for the count and the runs. They are in a list, because generic code cannot bound
+// the size of an array of a type parameter.
 fn commands_on_range<T: Integer>(
     alloc: Global,
     slot: SetNo,
@@ -150,12 +150,13 @@ fn are_answered_of_range<T: Integer>(
     }
 }
 
-// The quarter hour of a number up to 95.
+// Returns the quarter hour of a number up to 95.
 fn quarter_hour(rt: &impl Abort, n: u8) -> Slot {
     Slot::new(n).expect(rt, "a quarter hour")
 }
 
-// Two values, and the quarter hours of a day, are types that a user of the library writes.
+// Two of the types are user-defined: `Side`, with two values, and `Slot`, the quarter hours of a
+// day.
 #[test]
 fn commands_run_over_other_element_types(rt: HostRuntime) -> Result<(), Fail> {
     let set = slot(&rt, 4);

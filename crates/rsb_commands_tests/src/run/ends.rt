@@ -1,11 +1,11 @@
-//! Readers and writers that misbehave.
+//! Readers and writers that fail, or are interrupted.
 
 use linked_list_allocator::LocalHeap;
 use std::alloc::AllocError;
 use std::io;
 use std::io::{ErrorKind, Read, Write};
 
-/// Each kind of failure but an interruption.
+/// Each kind of error except an interruption.
 pub(crate) static KINDS: [ErrorKind; 40] = [
     ErrorKind::NotFound,
     ErrorKind::PermissionDenied,
@@ -49,7 +49,8 @@ pub(crate) static KINDS: [ErrorKind; 40] = [
     ErrorKind::Other,
 ];
 
-/// Gives one byte a call, with an interruption before each. Where the bytes end it may fail, once.
+/// A reader that gives one byte a call, with an interruption before each. At the end of the bytes
+/// it may fail once.
 #[derive(Drop)]
 pub struct Dripping<'a> {
     pub bytes: &'a [u8],
@@ -73,8 +74,8 @@ impl Read for Dripping<'_> {
     }
 }
 
-/// Takes one byte a call, with an interruption before each, until it is full. Then it fails, once,
-/// and takes the rest, or it takes no more.
+/// A writer that takes one byte a call, with an interruption before each, until it is full. Then it
+/// either fails once and takes the rest, or takes no more.
 #[derive(Drop)]
 pub struct Filling {
     pub taken: Vec<u8>,
@@ -108,7 +109,7 @@ impl Write for Filling {
     }
 }
 
-/// Is interrupted the given number of times, and then reads the bytes.
+/// A reader that is interrupted the given number of times, and then reads the bytes.
 #[derive(Drop)]
 pub struct Delayed<'a> {
     pub bytes: &'a [u8],
@@ -125,7 +126,7 @@ impl Read for Delayed<'_> {
     }
 }
 
-/// Is interrupted the given number of times, and then takes all bytes.
+/// A writer that is interrupted the given number of times, and then takes all bytes.
 #[derive(Drop)]
 pub struct Hesitant {
     pub taken: Vec<u8>,
@@ -146,8 +147,8 @@ impl Write for Hesitant {
     }
 }
 
-/// Reads the bytes. At their end it takes all that is free in a heap, except one block of the given
-/// size, and keeps it until it is dropped.
+/// A reader of the bytes. At their end it allocates all that is free in a heap, except one block of
+/// the given size, and keeps it until it is dropped.
 #[derive(Drop)]
 pub struct Holding<'a> {
     pub bytes: &'a [u8],

@@ -1,4 +1,4 @@
-//! More than a million of each thing that a loop of the program goes through.
+//! More than a million of everything that a loop of the program handles.
 
 use crate::run::ends::{Delayed, Hesitant};
 use crate::run::sessions::{REPLIES, SESSION};
@@ -6,7 +6,7 @@ use rsb_commands::{Command, Fault, Reply, SetNo, run, run_commands};
 use std::alloc::{AllocError, Global};
 use std::test::*;
 
-/// What `run` returns for lines, and whether the given replies are written.
+/// Returns what `run` returns for the lines, and whether it writes the given replies.
 fn outcome_of(alloc: Global, lines: &[u8], replies: &[u8]) -> (Result<(), Fault>, bool) {
     let mut rest = lines;
     let mut output = Vec::new(alloc);
@@ -14,7 +14,7 @@ fn outcome_of(alloc: Global, lines: &[u8], replies: &[u8]) -> (Result<(), Fault>
     (outcome, output.as_slice() == replies)
 }
 
-/// A million and more lines without words, and then these bytes.
+/// Returns more than a million lines without words, followed by these bytes.
 fn after_a_million_lines(alloc: Global, bytes: &[u8]) -> Result<Vec<u8>, AllocError> {
     let mut lines = Vec::new(alloc);
     lines.resize(1_200_000, b'\n')?;
@@ -32,7 +32,7 @@ fn a_million_lines_are_read(rt: HostRuntime) -> Result<(), Fail> {
     Ok(())
 }
 
-/// A line of a million and more bytes.
+/// Returns a line of more than a million bytes.
 fn long_line(alloc: Global) -> Result<Vec<u8>, AllocError> {
     let mut line = Vec::new(alloc);
     line.extend_from_slice(b"has 0")?;
@@ -73,7 +73,7 @@ fn a_writer_may_be_interrupted_a_million_times(rt: HostRuntime) {
 /// One more than a million.
 const MANY: i32 = 1_000_001;
 
-/// As many commands, each of which looks for a value.
+/// Returns `MANY` commands, each of which looks for a value.
 fn many_questions(alloc: Global, slot: SetNo) -> Result<Vec<Command<i32>>, AllocError> {
     let mut commands = Vec::new(alloc);
     for value in 0..MANY {
@@ -92,7 +92,8 @@ fn a_million_commands_run(rt: HostRuntime) -> Result<(), Fail> {
     Ok(())
 }
 
-/// Commands that add as many single values, apart, to the set in a slot, and then show it.
+/// Returns commands that add `MANY` single values, with gaps between them, to the set in a slot,
+/// and then show it.
 fn many_additions(alloc: Global, slot: SetNo) -> Result<Vec<Command<i32>>, AllocError> {
     let mut commands = Vec::with_capacity(alloc, 1_000_002)?;
     for half in 0..MANY {
@@ -107,7 +108,7 @@ fn many_additions(alloc: Global, slot: SetNo) -> Result<Vec<Command<i32>>, Alloc
     Ok(commands)
 }
 
-/// Whether a reply shows as many ranges, the last of which is of this value.
+/// Whether a reply shows `MANY` ranges, the last of which has only this value.
 fn shows_many(reply: Option<&Reply<i32>>, value: i32) -> bool {
     let Some(Reply::Ranges(ranges)) = reply else {
         return false;
@@ -115,7 +116,8 @@ fn shows_many(reply: Option<&Reply<i32>>, value: i32) -> bool {
     ranges.len() == MANY as usize && ranges.last() == Some(&(value..=value))
 }
 
-// In the checked build of `rt try --test` it takes more than a minute: `--seconds 400` lets it end.
+// In the checked build of `rt try --test` this takes more than a minute: `--seconds 400` lets it
+// end.
 #[test]
 fn a_million_runs_are_shown(rt: HostRuntime) -> Result<(), Fail> {
     let commands = many_additions(rt.alloc(), SetNo::new(7).expect(&rt, "a slot"))?;

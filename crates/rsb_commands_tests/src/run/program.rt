@@ -1,4 +1,4 @@
-//! The program from bytes to bytes.
+//! The program, from input bytes to output bytes.
 
 use crate::run::ends::{Dripping, Filling, KINDS};
 use crate::run::sessions::{ALL_COMMANDS, ALL_REPLIES, MOST, MOST_REPLIES, REPLIES, SESSION};
@@ -9,7 +9,7 @@ use std::io::ErrorKind;
 use std::process::ExitCode;
 use std::test::*;
 
-/// What is shown, lines, and the text that they are answered with.
+/// What a row shows, the lines of the input, and the expected output.
 static ANSWERED: [(&str, &[u8], &[u8]); 22] = [
     ("the worked session", SESSION, REPLIES),
     ("no bytes", b"", b""),
@@ -95,7 +95,7 @@ static ANSWERED: [(&str, &[u8], &[u8]); 22] = [
     ),
 ];
 
-/// Whether lines are answered with these replies.
+/// Whether the lines have these replies.
 fn are_answered(alloc: Global, lines: &[u8], replies: &[u8]) -> bool {
     let mut rest = lines;
     let mut output = Vec::new(alloc);
@@ -166,7 +166,7 @@ static BAD_LINES: [(&[u8], u64); 53] = [
     (b"len 0\nMost 0 1 2 3\n", 2),
 ];
 
-/// Whether lines are told to be bad at the one of a number, and nothing is written.
+/// Whether the lines are reported as bad at the given line, and nothing is written.
 fn are_told_as_bad(alloc: Global, lines: &[u8], number: u64) -> bool {
     let mut rest = lines;
     let mut output = Vec::new(alloc);
@@ -180,7 +180,7 @@ fn bad_lines_are_told_by_their_number(rt: HostRuntime) {
     }
 }
 
-// The last input lacks its line feed.
+// The second input lacks its last line feed.
 #[test]
 fn nothing_is_written_after_a_bad_line_nor_for_no_bytes(rt: HostRuntime) {
     assert!(rt; are_told_as_bad(rt.alloc(), b"len 0\nlen 10\n", 2));
@@ -188,11 +188,11 @@ fn nothing_is_written_after_a_bad_line_nor_for_no_bytes(rt: HostRuntime) {
     assert!(rt; are_answered(rt.alloc(), b"", b""));
 }
 
-/// The worked sessions, each with its replies.
+/// The sessions worked by hand, each with its replies.
 static SESSIONS: [(&[u8], &[u8]); 2] = [(SESSION, REPLIES), (ALL_COMMANDS, ALL_REPLIES)];
 
-/// Whether lines that come a byte a call, with interruptions, are answered with these replies, by a
-/// writer that takes as much.
+/// Whether the lines have these replies if input and output pass one byte a call, with
+/// interruptions.
 fn are_answered_in_drops(alloc: Global, lines: &[u8], replies: &[u8]) -> bool {
     let mut input = Dripping {
         bytes: lines,
@@ -215,8 +215,8 @@ fn one_byte_a_call_and_interruptions_change_nothing(rt: HostRuntime) {
     }
 }
 
-/// Whether a read that fails once after these bytes is told, and nothing is written. With no bytes it
-/// is the first call that fails; a second one would find the input's end.
+/// Whether a read that fails once after these bytes is reported, and nothing is written. If there
+/// are no bytes, the first call fails. A second call would find the end of the input.
 fn is_told_unread(alloc: Global, bytes: &[u8], kind: ErrorKind) -> bool {
     let mut input = Dripping {
         bytes,
@@ -239,9 +239,9 @@ fn a_read_that_fails_once_in_any_way_is_told_and_nothing_is_written(rt: HostRunt
     }
 }
 
-/// Whether a writer with room for so many bytes, which then fails once or takes no more, is told
-/// as a failure for these lines, and has just that front of the replies. With room for none it is
-/// the first call that fails.
+/// Whether a failed write is reported for these lines, and exactly `room` bytes of the replies are
+/// written. The writer has room for these bytes, and then fails once or takes no more. If it has no
+/// room, the first call fails.
 fn is_told_where_it_stopped(
     alloc: Global,
     session: (&[u8], &[u8]),
@@ -261,14 +261,14 @@ fn is_told_where_it_stopped(
         && replies.starts_with(&output.taken)
 }
 
-/// Whether a write that fails once, or takes no more, at any of three places is told where it stopped.
+/// Whether a write that fails once, or takes no more, is reported at each of three places.
 fn is_told_at_each(alloc: Global, session: (&[u8], &[u8]), failure: Option<ErrorKind>) -> bool {
     is_told_where_it_stopped(alloc, session, 0, failure)
         && is_told_where_it_stopped(alloc, session, 3, failure)
         && is_told_where_it_stopped(alloc, session, 33, failure)
 }
 
-// A second write would be taken.
+// A second write would succeed.
 #[test]
 fn a_write_that_fails_once_in_any_way_is_told_where_it_stopped(rt: HostRuntime) {
     for session in &SESSIONS {
@@ -282,7 +282,7 @@ fn a_write_that_fails_once_in_any_way_is_told_where_it_stopped(rt: HostRuntime) 
     }
 }
 
-/// Ten thousand lines, and one that is longer than a page.
+/// Returns ten thousand lines, and one that is longer than a page.
 fn many_lines(alloc: Global) -> Result<Vec<u8>, AllocError> {
     let mut lines = Vec::new(alloc);
     for _ in 0..5_000u16 {
@@ -294,7 +294,7 @@ fn many_lines(alloc: Global) -> Result<Vec<u8>, AllocError> {
     Ok(lines)
 }
 
-/// What is replied to those lines.
+/// Returns the replies to those lines.
 fn replies_to_many(alloc: Global) -> Result<Vec<u8>, AllocError> {
     let mut replies = Vec::new(alloc);
     for _ in 0..5_000u16 {
@@ -304,7 +304,7 @@ fn replies_to_many(alloc: Global) -> Result<Vec<u8>, AllocError> {
     Ok(replies)
 }
 
-// A byte a call.
+// The input gives one byte a call.
 #[test]
 fn many_lines_and_a_long_one_are_answered(rt: HostRuntime) -> Result<(), Fail> {
     let lines = many_lines(rt.alloc())?;
@@ -313,7 +313,7 @@ fn many_lines_and_a_long_one_are_answered(rt: HostRuntime) -> Result<(), Fail> {
     Ok(())
 }
 
-// What is read at once ends before that line.
+// The bad line is past the first part that is read.
 #[test]
 fn a_bad_line_after_many_is_told_by_its_number(rt: HostRuntime) -> Result<(), Fail> {
     let mut lines = many_lines(rt.alloc())?;
@@ -322,8 +322,8 @@ fn a_bad_line_after_many_is_told_by_its_number(rt: HostRuntime) -> Result<(), Fa
     Ok(())
 }
 
-/// Lines that add a hundred thousand single values, apart, work on sets of as many runs, and show
-/// twenty thousand of these.
+/// Returns lines that add a hundred thousand single values, with gaps between them. Further lines
+/// work on sets of as many runs, and show twenty thousand of these.
 fn many_values(alloc: Global) -> Result<String, Fail> {
     let mut lines = String::new(alloc);
     for half in 0..100_000u32 {
@@ -335,7 +335,7 @@ fn many_values(alloc: Global) -> Result<String, Fail> {
     Ok(lines)
 }
 
-/// What is replied to those lines.
+/// Returns the replies to those lines.
 fn many_replies(alloc: Global) -> Result<String, Fail> {
     let mut replies = String::new(alloc);
     for _ in 0..100_000u32 {
@@ -351,8 +351,8 @@ fn many_replies(alloc: Global) -> Result<String, Fail> {
     Ok(replies)
 }
 
-// More than a megabyte of input, more runs than a length of sixteen bits counts, and a reply of
-// several pages.
+// The input has more than a megabyte, the sets have more runs than 16 bits count, and one reply
+// takes several pages.
 #[test]
 fn a_hundred_thousand_lines_are_answered(rt: HostRuntime) -> Result<(), Fail> {
     let lines = many_values(rt.alloc())?;
@@ -361,7 +361,8 @@ fn a_hundred_thousand_lines_are_answered(rt: HostRuntime) -> Result<(), Fail> {
     Ok(())
 }
 
-/// Lines that add two thousand single values, apart, and then a range whose bounds are reversed.
+/// Returns lines that add two thousand single values, with gaps between them, and then a range with
+/// reversed bounds.
 fn reversed_after_many(alloc: Global) -> Result<String, Fail> {
     let mut lines = String::new(alloc);
     for half in 0..2_000u32 {
@@ -372,7 +373,7 @@ fn reversed_after_many(alloc: Global) -> Result<String, Fail> {
     Ok(lines)
 }
 
-/// What is replied to those lines.
+/// Returns the replies to those lines.
 fn replies_to_reversed(alloc: Global) -> Result<String, Fail> {
     let mut replies = String::new(alloc);
     for _ in 0..2_000u32 {
@@ -390,7 +391,7 @@ fn a_reversed_range_adds_nothing_to_many_runs(rt: HostRuntime) -> Result<(), Fai
     Ok(())
 }
 
-/// Whether an outcome is finished with this status and this line.
+/// Whether `finish` returns this status and writes this line for an outcome.
 fn finishes(alloc: Global, outcome: Result<(), Fault>, code: ExitCode, line: &[u8]) -> bool {
     let mut errors = Vec::new(alloc);
     finish(&mut errors, outcome) == code && errors.as_slice() == line
@@ -415,10 +416,10 @@ fn each_outcome_has_its_status_and_line(rt: HostRuntime) {
     }
 }
 
-/// How the program ends: its status, what it wrote, and its line of error.
+/// How the program ends: its exit status, its output, and the line of its fault.
 type End<'a> = (u8, &'a [u8], &'a [u8]);
 
-/// Whether lines, written by a writer with so much room, end so.
+/// Whether the program ends like this, if the writer has the given room.
 fn ends(alloc: Global, lines: &[u8], room: usize, end: End<'_>) -> bool {
     let mut rest = lines;
     let mut errors = Vec::new(alloc);
@@ -432,7 +433,7 @@ fn ends(alloc: Global, lines: &[u8], room: usize, end: End<'_>) -> bool {
     code == ExitCode::from(end.0) && output.taken.as_slice() == end.1 && errors.as_slice() == end.2
 }
 
-/// Lines, for how many replied bytes a writer has room, and how the program ends.
+/// Lines, the room of the writer in bytes, and how the program ends.
 static ENDS: [(&[u8], usize, End<'static>); 3] = [
     (SESSION, 35, (0, REPLIES, b"")),
     (b"len 0\nlen 10\n", 35, (2, b"", b"bad line 2\n")),

@@ -1,4 +1,4 @@
-//! Memory that is refused.
+//! Failed allocations.
 
 use crate::run::ends::{Dripping, Filling, Holding};
 use linked_list_allocator::LocalHeap;
@@ -16,9 +16,9 @@ const FIRST: &[u8] = b"true\n";
 
 const ALL: &[u8] = b"true\n1..=5\n";
 
-/// What `run` returns for the lines if the commands find the given number of bytes free, and how many
-/// bytes it writes. The writer fails once its room is full. `None` if what is written is no prefix of
-/// the replies.
+/// Returns what `run` returns for `COMMANDS` if it runs them with the given number of bytes free,
+/// and how many bytes it writes. The writer fails once its room is full. The result is `None` if
+/// what is written is no prefix of the replies.
 fn outcome_over(
     alloc: Global,
     spared: usize,
@@ -45,8 +45,8 @@ fn outcome_over(
 /// The outcome if the allocation of the second command fails.
 const STOPPED: Option<(Result<(), Fault>, usize)> = Some((Err(Fault::NoMemory), 5));
 
-// As more bytes are free, first an allocation before the replies fails, then that of `show`, and then
-// none.
+// As more bytes are free, first an allocation before the replies fails, then that of `show`, and
+// then none.
 #[test]
 fn true_is_written_before_the_allocation_of_show_fails(rt: HostRuntime) -> Result<(), Fail> {
     let mut is_stopped_early = false;
@@ -63,8 +63,8 @@ fn true_is_written_before_the_allocation_of_show_fails(rt: HostRuntime) -> Resul
     Ok(())
 }
 
-// If the allocation of `show` fails, and then the reply before it can't be written, the failed write
-// is reported.
+// If the allocation of `show` fails and then the reply before it cannot be written, the failed
+// write is reported.
 #[test]
 fn a_failed_write_is_told_before_refused_memory(rt: HostRuntime) -> Result<(), Fail> {
     let mut is_write_told = false;
@@ -85,7 +85,7 @@ fn a_failed_write_is_told_before_refused_memory(rt: HostRuntime) -> Result<(), F
     Ok(())
 }
 
-/// The given number of lines, each of which spells a command.
+/// Returns the given number of lines, each of which spells a command.
 fn lines_of(alloc: Global, count: u8) -> Result<Vec<u8>, AllocError> {
     let mut lines = Vec::new(alloc);
     for _ in 0..count {
@@ -94,8 +94,8 @@ fn lines_of(alloc: Global, count: u8) -> Result<Vec<u8>, AllocError> {
     Ok(lines)
 }
 
-/// Whether a call read these commands over a heap. `None` if it returned other commands or another
-/// fault than `NoMemory`, or leaked.
+/// Returns whether a call read these commands with a heap. The result is `None` if it returned
+/// other commands or a fault other than `NoMemory`, or leaked.
 fn read_over(
     heap: &LocalHeap,
     read: Result<Vec<Command<i32>, &LocalHeap>, Fault>,
@@ -112,13 +112,13 @@ fn read_over(
 enum How {
     /// By `parse_commands`.
     Parsed,
-    /// By `read_commands`, all at once.
+    /// By `read_commands`, with all bytes in one call.
     Read,
-    /// By `read_commands`, a byte a call.
+    /// By `read_commands`, one byte a call.
     Dripped,
 }
 
-/// Reads the commands over a heap of this size, and returns what `read_over` says of that.
+/// Reads the commands with a heap of this size, and returns the result of `read_over`.
 fn is_read_over(
     alloc: Global,
     size: usize,
@@ -145,9 +145,9 @@ fn is_read_over(
     Ok(read_over(&heap, read, wanted))
 }
 
-/// The number of heaps that are too small, each 16 bytes larger than the one before, until one
-/// suffices. A heap rounds sizes to 16 bytes, so no allocation is passed over. `None` if a call goes
-/// wrong, or if no heap suffices.
+/// Returns the number of heaps that are too small, each 16 bytes larger than the one before, until
+/// one suffices. A heap rounds sizes to 16 bytes, so no allocation is skipped. The result is `None`
+/// if a call goes wrong, or if no heap suffices.
 fn refusals(alloc: Global, how: How, count: u8) -> Result<Option<usize>, Fault> {
     let lines = lines_of(alloc, count)?;
     let wanted = parse_commands(alloc, &lines)?;
@@ -161,7 +161,7 @@ fn refusals(alloc: Global, how: How, count: u8) -> Result<Option<usize>, Fault> 
     Ok(None)
 }
 
-// Only no lines allocate nothing.
+// Only an input of no lines does not allocate.
 #[test]
 fn each_allocation_of_the_commands_fails_in_turn(rt: HostRuntime) {
     for how in [How::Parsed, How::Read, How::Dripped] {
@@ -173,7 +173,7 @@ fn each_allocation_of_the_commands_fails_in_turn(rt: HostRuntime) {
     }
 }
 
-/// Three commands on the set in a slot.
+/// Returns three commands on the set in a slot.
 fn three_commands(slot: SetNo) -> [Command<i32>; 3] {
     [
         Command::Add {
@@ -186,7 +186,8 @@ fn three_commands(slot: SetNo) -> [Command<i32>; 3] {
     ]
 }
 
-/// Whether replies are those to so many of the three commands, the last of which is not looked at.
+/// Whether the replies are those to the first `count` of the three commands. The third reply is not
+/// checked.
 fn are_kept(replies: &[Reply<i32, &LocalHeap>], count: usize) -> bool {
     match replies {
         [] => count == 0,
@@ -196,8 +197,8 @@ fn are_kept(replies: &[Reply<i32, &LocalHeap>], count: usize) -> bool {
     }
 }
 
-/// How many of the three commands are done over a heap of this size. `None` where the replies are not
-/// those to as many.
+/// Returns how many of the three commands run with a heap of this size, or `None` if the replies
+/// are not those to these commands.
 fn done_over(
     alloc: Global,
     size: usize,
@@ -210,7 +211,7 @@ fn done_over(
     }
 }
 
-// Commands that are stopped keep the replies to those before.
+// If commands are stopped, the replies to those before are kept.
 #[test]
 fn stopped_commands_keep_their_replies(rt: HostRuntime) -> Result<(), Fail> {
     let commands = three_commands(SetNo::new(0).expect(&rt, "a slot"));
@@ -226,7 +227,7 @@ fn stopped_commands_keep_their_replies(rt: HostRuntime) -> Result<(), Fail> {
     Ok(())
 }
 
-// It takes no memory of its own, but the replies and the sets do.
+// The command does not allocate, but the replies and the sets do.
 #[test]
 fn a_question_without_room_to_begin_is_stopped_at_0(rt: HostRuntime) -> Result<(), Fail> {
     let heap = LocalHeap::new(rt.alloc(), 16)?;
@@ -241,7 +242,8 @@ fn a_question_without_room_to_begin_is_stopped_at_0(rt: HostRuntime) -> Result<(
     Ok(())
 }
 
-/// Whether lines over a heap end with this status and this line, and with no reply.
+/// Whether the program ends with this status and this line of a fault, and with no reply, if it has
+/// this heap.
 fn ends(alloc: Global, heap: &LocalHeap, lines: &[u8], status: u8, line: &[u8]) -> bool {
     let mut input = lines;
     let mut output = Vec::new(alloc);
@@ -253,7 +255,7 @@ fn ends(alloc: Global, heap: &LocalHeap, lines: &[u8], status: u8, line: &[u8]) 
 #[test]
 fn refused_memory_ends_with_status_3_and_no_commands_with_0(rt: HostRuntime) -> Result<(), Fail> {
     let heap = LocalHeap::new(rt.alloc(), 64)?;
-    // No commands want no memory.
+    // An empty input does not allocate.
     assert!(rt;
         ends(rt.alloc(), &heap, COMMANDS, 3, b"no memory\n") && ends(rt.alloc(), &heap, b"", 0, b"")
     );

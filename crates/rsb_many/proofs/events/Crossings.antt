@@ -1,5 +1,5 @@
--- What lies in at least so many lists has an odd number of the crossing edges of their events at or
--- before it.
+-- What lies in at least a given number of lists has an odd number of the crossing edges of their
+-- events at or before it.
 use Rattle.std.proofs.Common.{◌≡◌, ℕ, zero, suc, ◌+◌, ◌-◌, ◌<◌, ◌≤◌, Bool, true, false, not, cond, ◌&&◌, ◌||◌, nat_eq, nat_le, List, [], ◌∷◌, ◌++◌, map, refl, sym, ap, ◌∙◌, inl, inr, arith, All, sum_by}
 use Rattle.std.proofs.lemmas.Bool.{cases_lt}
 use Rattle.std.proofs.lemmas.Bool.Decides.{nat_tests}
@@ -158,8 +158,8 @@ xor-false false = refl
 more-none : (count more : ℕ) → more ≡ 0 → count ≡ count + more
 more-none count more none = omega (arith, none)
 
--- that an odd number of crossing edges lies at or before the rank exactly where so many have started
--- and not ended, where they had not, or had, before
+-- Whether an odd number of crossing edges lies at or before the rank exactly if the test `least ≤
+-- depth` has changed from the start of the events to the rank.
 abbrev IsCrossed : ℕ → ℕ → ℕ → List Event → Type 0
 IsCrossed rank least depth events =
     exclusive_or (nat_le least depth) (odd_past (map edge_of (crossing least depth events)) rank)

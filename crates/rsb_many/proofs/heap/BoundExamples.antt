@@ -1,4 +1,4 @@
--- How many comparisons one answer of a merge or a sweep may take, for some numbers of streams.
+-- The most comparisons that one call of a merge or a sweep may make, for some numbers of streams.
 use Rattle.std.proofs.Common.{◌≡◌, refl}
 use Rattle.rsb_many.specs.Heads.{binary_digits}
 use Rattle.rsb_many.specs.KMerge.{comparison_bound}

@@ -1,4 +1,5 @@
--- Which inputs have begun, by the heads: whatever their order, and what comes first of an input.
+-- Which inputs have begun, as the heads show in whatever order, and which event of an input comes
+-- first.
 use Rattle.std.proofs.Common.{◌≡◌, inl, inr, ℕ, ◌+◌, ◌<◌, ◌≤◌, Bool, true, false, cond, nat_eq, nat_lt, ◌&&◌, ◌||◌, List, [], ◌∷◌, ◌++◌, length, refl, sym, ap, ◌∙◌, arith, All, sum_by, IsPermutation, IsFalse}
 use Rattle.std.proofs.lemmas.Bool.{eqb-true}
 use Rattle.std.proofs.lemmas.Bool.Decides.{nat_tests}

@@ -1,4 +1,5 @@
--- What was handed in as an iterator: all of it is a whole run of calls.
+-- A value that is passed as an iterator: all of its items are those of one run of calls up to
+-- `None`.
 use Rattle.std.proofs.Common.{true, List, refl}
 use Rattle.std.proofs.iter.runs.Made.{run, seen, to_end}
 use Rattle.std.specs.Iterator.{DrainsIf, Yields}

@@ -1,4 +1,5 @@
--- What operations on any number of streams make, of a merge of which the first ranges are drawn.
+-- The results of operations on any number of streams, built from a merge that has drawn the first
+-- range of each.
 use Rattle.std.proofs.Common.{◌≡◌, ◌⊎◌, inl, inr, ℕ, zero, suc, ◌+◌, ◌<◌, Bool, true, false, List, [], ◌∷◌, ◌++◌, length, refl, sym, subst, arith}
 use Rattle.std.specs.Iterator.{Yields, YieldsThen}
 use Rattle.std.specs.Prelude.{Option, None}
@@ -155,7 +156,8 @@ module _ {T N I A : Type 0} (integer : Elements T N) (stream : Stream I T N) whe
   abbrev inputs : ℕ → MultiwayUnion T I A N → ℕ → Input
   inputs = multiway_union_inputs integer stream
 
-  -- the ranges of each input that were used lie within these answers, and one at most is held of each
+  -- Whether the ranges used of each input lie within these answers, and at most one of each is
+  -- held.
   abbrev UseWithin : List (RangeInclusive T) → ℕ → (s t : MultiwayUnion T I A N) → Type 0
   UseWithin answers from s t = (now_from : ℕ) × ((place : ℕ)
       → UsesWithin (intervals_of rank answers) (inputs from s place) (inputs now_from t place))

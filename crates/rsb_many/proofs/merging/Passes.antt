@@ -1,4 +1,4 @@
--- A stream whose draws pass events, joined: so do the draws of the union.
+-- If the draws of a stream pass events, so do the draws of its union.
 use Rattle.std.proofs.Common.{◌≡◌, Bool, true, false, List, [], ◌∷◌, subst, arith, Option, Some, None}
 use Rattle.std.specs.Iterator.{Yields}
 use Rattle.std.specs.Prelude.{MatchBool, MatchOption}

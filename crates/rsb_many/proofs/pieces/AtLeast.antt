@@ -1,4 +1,4 @@
--- What lies in at least so many streams: one answer, and how it is made.
+-- What lies in at least a given number of streams: one draw of it, and how it is built.
 use Rattle.std.proofs.Common.{◌≡◌, inl, inr, ℕ, ◌+◌, ◌<◌, ◌≤◌, false, nat_eq, List, [], ◌∷◌, ◌++◌, length, map, refl, sym, ap, subst, ◌∙◌, arith, All, sum_by, Option, Some, None}
 use Rattle.std.proofs.lemmas.List.Elements.{All-cons, All-nil, All-weaker}
 use Rattle.std.specs.Iterator.{MakesProgress}

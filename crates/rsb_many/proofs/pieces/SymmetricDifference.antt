@@ -1,4 +1,4 @@
--- What lies in an odd number of streams: one answer, and how it is made.
+-- What lies in an odd number of streams: one draw of it, and how it is built.
 use Rattle.std.proofs.Common.{◌≡◌, ℕ, ◌≤◌, Bool, true, false, List, [], ◌∷◌, length, sym, subst, arith, Option, Some, None}
 use Rattle.std.specs.Iterator.{MakesProgress, Yields}
 use Rattle.std.specs.Prelude.{MatchBool, MatchOption}

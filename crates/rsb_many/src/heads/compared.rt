@@ -1,4 +1,4 @@
-//! A list of heads, with the count of the comparisons of their keys.
+//! A list of heads, with a count of the comparisons of their keys.
 
 ghost use Rattle.std.specs.Prelude.{◌≡◌, ◌+◌, ◌<◌, ◌≤◌, ℕ, [], length, All, IfOk};
 ghost use Rattle.std.specs.Vec.{vec_capacity};
@@ -11,7 +11,7 @@ use rsb_integer::Integer;
 use std::alloc::{AllocError, Allocator, Global};
 use std::marker::Model;
 
-/// How many comparisons were made so far. It has no bytes, and its methods do nothing at run time.
+/// The number of comparisons made so far. It has no bytes, and its methods do nothing at run time.
 /// Only this module makes and raises a count.
 #[derive(Debug, Drop)]
 struct Comparisons {
@@ -25,14 +25,14 @@ impl Model for Comparisons {
 }
 
 impl Comparisons {
-    /// No comparison was made yet.
+    /// Returns a count of no comparisons.
     fn none() -> Self
         ensures { result.made ≡ 0 }
     {
         Comparisons {}
     }
 
-    // The same number of comparisons, and one more.
+    // Returns a count of one comparison more.
     fn and_one(&self) -> Self
         ensures { result.made ≡ self.now.made + 1 }
     {
@@ -47,8 +47,8 @@ impl Comparisons {
     }
 }
 
-/// Heads in a list, and how many comparisons of keys were made there. The list and its count are
-/// one value, so a comparison has no other count to go to.
+/// Heads in a list, and the number of comparisons of their keys so far. The list and its count are
+/// one value, so no comparison can be added to another count.
 #[derive(Debug, Drop)]
 pub(super) struct ComparedHeads<T: Integer, A: Allocator = Global> {
     pub(super) heads: Vec<Head<T>, A>,
@@ -56,7 +56,8 @@ pub(super) struct ComparedHeads<T: Integer, A: Allocator = Global> {
 }
 
 impl<T: Integer, A: Allocator> ComparedHeads<T, A> {
-    /// No heads, with room for the given number. No comparison was made yet.
+    /// Returns an empty list with room for the given number of heads, and a count of no
+    /// comparisons.
     pub(super) fn with_room(alloc: A, room: usize) -> Result<Self, AllocError>
         ensures none { IfOk result (λ list. list.heads.items ≡ []) }
         ensures room { IfOk result (λ list. room ≤ vec_capacity list.heads) }
@@ -68,7 +69,7 @@ impl<T: Integer, A: Allocator> ComparedHeads<T, A> {
         })
     }
 
-    /// Whether the head at a place comes before another: the one comparison of keys.
+    /// Returns whether the head at a place comes before another. No other function compares keys.
     #[inline(always)]
     pub(super) fn comes_first(&mut self, place: usize, other: &Head<T>) -> bool
         requires place { place < length self.old.heads.items }

@@ -1,4 +1,4 @@
-//! Heads that move to where they belong in a binary heap.
+//! How heads move to where they belong in a binary heap.
 
 ghost use Rattle.std.specs.Prelude.{◌≡◌, ◌+◌, ◌*◌, ◌<◌, ◌≤◌, length, All, IsPermutation};
 ghost use Rattle.std.specs.Vec.{vec_capacity};
@@ -10,7 +10,8 @@ use rsb_integer::Integer;
 use std::alloc::Allocator;
 
 impl<T: Integer, A: Allocator> ComparedHeads<T, A> {
-    /// The one of the heads under a place that the other does not come before.
+    /// Returns the place of a child of the given place, such that no other child comes before it.
+    /// There must be a child.
     #[inline(always)]
     fn lesser_child(&mut self, place: usize) -> usize
         requires some { 2 * place + 1 < length self.old.heads.items }
@@ -57,8 +58,8 @@ impl<T: Integer, A: Allocator> ComparedHeads<T, A> {
         }
     }
 
-    /// Moves the first head down to where it belongs, among heads that are a heap except for it. It is
-    /// put back into the list only once its place is found.
+    /// Moves the first head down to where it belongs, among heads that are a heap except for it. It
+    /// is written to the list only once its place is found.
     pub(super) fn sift_down(&mut self)
         requires values { All (HasValues T.rank T.value_count) self.old.heads.items }
         requires order { IsHeapButFirst T.rank self.old.heads.items }

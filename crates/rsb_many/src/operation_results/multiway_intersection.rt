@@ -1,4 +1,4 @@
-//! What lies in all of any number of streams.
+//! What lies in all of the given streams.
 
 ghost use Rattle.std.specs.Prelude.{List};
 ghost use Rattle.rsb_streams.specs.StreamLaws.{canonical_stream-starts, drawn-itself};
@@ -15,18 +15,18 @@ use std::alloc::{Allocator, Global};
 use std::iter::FusedIterator;
 use std::ops::RangeInclusive;
 
-/// What lies in all of any number of streams: every value, of none. It draws the first gap of each
-/// when it is built, and never holds more than one gap of each. Room is taken when it is built alone.
-/// (`MultiwayIntersection` of the Rust crate.)
+/// What lies in all of the given streams: every value if there are none. It draws the first gap of
+/// each stream when it is built, and holds at most one gap of each. It allocates only when it is
+/// built. (`MultiwayIntersection` of the Rust crate.)
 #[derive(Debug, Drop)]
 pub struct MultiwayIntersection<T: Integer, I, A: Allocator = Global> {
-    // What none leaves out.
+    // The complement of the union of the complements.
     iter: NotIter<T, MultiwayUnion<T, NotIter<T, I>, A>>,
 }
 
 impl<T: Integer, I: Draw<T>, A: Allocator> MultiwayIntersection<T, I, A> {
-    /// What lies in all of the streams whose complements are merged, by a merge that may be drawn
-    /// from; nothing more is drawn.
+    /// Returns what lies in all of the streams whose complements are merged. The merge must be
+    /// ready. It draws nothing more.
     pub(crate) fn of(gaps: KMerge<T, NotIter<T, I>, A>) -> Self
         requires { ⟦<KMerge<T, NotIter<T, I>, A> as Draw<T>>⟧.can_draw gaps }
         ensures ready { ⟦<MultiwayIntersection<T, I, A> as Draw<T>>⟧.can_draw result }

@@ -1,4 +1,4 @@
-//! What lies in some of any number of streams.
+//! What lies in at least one of the given streams.
 
 ghost use Rattle.std.specs.Prelude.{List};
 ghost use Rattle.rsb_streams.specs.StreamLaws.{canonical_stream-starts, drawn-itself};
@@ -14,17 +14,18 @@ use std::alloc::{Allocator, Global};
 use std::iter::FusedIterator;
 use std::ops::RangeInclusive;
 
-/// What lies in some of any number of streams: nothing, of none. It draws the first range of each
-/// when it is built, and then looks ahead of each by one range at most: what it has drawn lies within
-/// its answers, but for one that starts past the last of them with a gap between. Room is taken when
-/// it is built alone. (`MultiwayUnion` of the Rust crate.)
+/// What lies in at least one of the given streams: nothing if there are none. It draws the first
+/// range of each stream when it is built, and then looks ahead by at most one range of each. Once
+/// it has returned a range, what it has drawn from a stream lies within its ranges, except for at
+/// most one range. That one starts past the last range returned, with a gap between. It allocates
+/// only when it is built. (`MultiwayUnion` of the Rust crate.)
 #[derive(Debug, Drop)]
 pub struct MultiwayUnion<T: Integer, I, A: Allocator = Global> {
     iter: UnionIter<T, KMerge<T, I, A>>,
 }
 
 impl<T: Integer, I: Draw<T>, A: Allocator> MultiwayUnion<T, I, A> {
-    /// The union of the streams of a merge that may be drawn from; nothing more is drawn.
+    /// Returns the union of the streams of a merge, which must be ready. It draws nothing more.
     pub(crate) fn of(merge: KMerge<T, I, A>) -> Self
         requires { ⟦<KMerge<T, I, A> as Draw<T>>⟧.can_draw merge }
         ensures ready { ⟦<MultiwayUnion<T, I, A> as Draw<T>>⟧.can_draw result }

@@ -1,5 +1,5 @@
-//! The operator `&` on results of operations on many streams, and on streams of any type: what two both
-//! have.
+//! The operator `&` on results of operations on many streams and on `DynSortedDisjoint`: the
+//! intersection of two streams.
 
 ghost use Rattle.rsb_streams.specs.Results.{CanDrawBoth, MakesIntersection};
 

@@ -1,5 +1,5 @@
-//! The operator `|` on results of operations on many streams, and on streams of any type: what lies in
-//! either of two.
+//! The operator `|` on results of operations on many streams and on `DynSortedDisjoint`: the union
+//! of two streams.
 
 ghost use Rattle.rsb_streams.specs.Results.{CanDrawBoth, MakesUnion};
 

@@ -1,5 +1,5 @@
-//! The operator `^` on results of operations on many streams, and on streams of any type: what exactly
-//! one of two has.
+//! The operator `^` on results of operations on many streams and on `DynSortedDisjoint`: the
+//! symmetric difference of two streams.
 
 ghost use Rattle.rsb_streams.specs.Results.{CanDrawBoth, MakesSymmetricDifference};
 

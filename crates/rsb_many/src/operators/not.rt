@@ -1,5 +1,5 @@
-//! The operator `!` on results of operations on many streams, and on streams of any type: what a stream
-//! leaves out.
+//! The operator `!` on results of operations on many streams and on `DynSortedDisjoint`: the
+//! complement of a stream.
 
 ghost use Rattle.rsb_streams.specs.Results.{MakesComplement};
 

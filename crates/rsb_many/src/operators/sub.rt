@@ -1,5 +1,5 @@
-//! The operator `-` on results of operations on many streams, and on streams of any type: what the left
-//! one has and the right one lacks.
+//! The operator `-` on results of operations on many streams and on `DynSortedDisjoint`: the
+//! difference of two streams.
 
 ghost use Rattle.rsb_streams.specs.Results.{CanDrawBoth, MakesDifference};
 

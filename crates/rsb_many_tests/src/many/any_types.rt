@@ -1,4 +1,4 @@
-//! Streams of unlike types, by the macros: of none, of one, of three and of five.
+//! The macros on streams of different types: none, one, two, three and five of them.
 
 use rsb_many::{
     DynSortedDisjoint, MultiwayIntersection, MultiwaySymmetricDifference, MultiwayUnion,
@@ -9,7 +9,7 @@ use rsb_tables::{Ranges, gives, odd_of_three, some_of_two, stream_of};
 use std::alloc::{AllocError, Global};
 use std::test::Fail;
 
-/// Streams that were taken.
+/// A stream of collected ranges.
 type Taken = DynSortedDisjoint<u8>;
 
 #[test]
@@ -67,7 +67,7 @@ fn what_three_streams_of_unlike_types_have_together(rt: HostRuntime) -> Result<(
     Ok(())
 }
 
-/// What an odd number of three streams has.
+/// What an odd number of three streams have.
 static ODD: [(u8, u8); 6] = [(1, 4), (7, 7), (10, 10), (14, 15), (18, 29), (38, 42)];
 
 #[test]
@@ -79,7 +79,7 @@ fn what_lies_in_an_odd_number_of_streams_of_unlike_types(rt: HostRuntime) -> Res
     Ok(())
 }
 
-/// Whether the union of five streams has what each of them has alone.
+/// Whether the union of five streams has what only one of them has.
 fn five_are_united(alloc: Global) -> Result<bool, AllocError> {
     let union = union_dyn!(
         alloc,
@@ -92,8 +92,8 @@ fn five_are_united(alloc: Global) -> Result<bool, AllocError> {
     Ok(gives(union, &[(1, 2), (5, 6), (10, 10), (20, 25), (250, 255)]))
 }
 
-/// Whether the intersection of five streams lacks what each of them lacks alone: the first 21..=29, the
-/// next 0..=4, then 8..=9, 33..=35 and 15.
+/// Whether the intersection of five streams lacks what only one of them lacks: the first 21..=29,
+/// the next 0..=4, then 8..=9, 33..=35 and 15.
 fn five_are_met(alloc: Global) -> Result<bool, AllocError> {
     let intersection = intersection_dyn!(
         alloc,
@@ -106,7 +106,7 @@ fn five_are_met(alloc: Global) -> Result<bool, AllocError> {
     Ok(gives(intersection, &[(5, 7), (10, 14), (16, 20), (30, 32)]))
 }
 
-/// Whether the symmetric difference of five streams turns where each of them begins and ends.
+/// Whether the symmetric difference of five streams starts or ends wherever one of them does.
 fn five_are_turned(alloc: Global) -> Result<bool, AllocError> {
     let odd = symmetric_difference_dyn!(
         alloc,

@@ -1,4 +1,5 @@
-//! What lies in at least so many streams, sets and lent sets, in rows worked by hand.
+//! What lies in at least a given number of streams, of sets by value and of sets by reference, in
+//! rows worked by hand.
 
 use crate::many::forms::{makes_one, subset};
 use crate::many::sets::both_make;
@@ -9,7 +10,7 @@ use std::test::Fail;
 /// Three sets.
 static THREE: [Table<'static>; 3] = [&[(1, 5)], &[(3, 8)], &[(5, 6)]];
 
-/// What lies in at least none, one, two, three and four of them.
+/// What lies in at least 0, 1, 2, 3 and 4 of them.
 static DEPTHS: [Table<'static>; 5] = [
     &[(i32::MIN, i32::MAX)],
     &[(1, 8)],
@@ -18,7 +19,7 @@ static DEPTHS: [Table<'static>; 5] = [
     &[],
 ];
 
-/// Whether a form of the runs of three sets gives these.
+/// Whether a form of the runs of three sets gives the wanted ranges.
 fn runs_make(alloc: Global, form: Form, wanted: Table<'_>) -> Result<bool, AllocError> {
     let (a, b) = (set_of(alloc, THREE[0])?, set_of(alloc, THREE[1])?);
     let c = set_of(alloc, THREE[2])?;
@@ -39,7 +40,7 @@ fn from_every_value_in_none_of_three_to_no_value_in_four(rt: HostRuntime) -> Res
     Ok(())
 }
 
-/// Whether what lies in at least one, in at least two and in all of three subsets are these.
+/// Whether what lies in at least one, in at least two and in all of three streams is as wanted.
 fn depths_are(
     alloc: Global,
     tables: &[Ranges],

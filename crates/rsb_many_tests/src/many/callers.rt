@@ -1,5 +1,6 @@
-//! Callers of the macros over any streams, which use the result in the function that calls the macro.
-//! They need no proof file. One caller writes the calls of a macro out and says what the result gives.
+//! Callers of the macros for streams of any type, which use the result in the function that calls
+//! the macro. They need no proof file. One caller writes out the calls that a macro makes, and
+//! states what the result gives.
 
 ghost use Rattle.std.specs.Prelude.{[], ◌∷◌, List, IfOk};
 ghost use Rattle.rsb_integer.specs.Runs.{members, AreRuns, Interval};
@@ -17,7 +18,7 @@ use rsb_tables::{Table, gives, set_of, stream_of};
 use std::alloc::{AllocError, Global};
 use std::test::Fail;
 
-/// Returns the set of what both streams have.
+/// Returns the intersection of two streams as a set.
 fn shared<T: Integer, L: DrawDisjoint<T>, R: DrawDisjoint<T>>(
     alloc: Global,
     left: L,
@@ -29,7 +30,7 @@ fn shared<T: Integer, L: DrawDisjoint<T>, R: DrawDisjoint<T>>(
     intersection_dyn!(alloc, left, right)?.into_range_set_blaze(alloc)
 }
 
-/// Returns the set of what some of two streams have and a third one lacks.
+/// Returns the set of what at least one of two streams has and a third lacks.
 fn some_without<T: Integer, L: DrawDisjoint<T>, R: DrawDisjoint<T>, W: DrawDisjoint<T>>(
     alloc: Global,
     left: L,
@@ -44,14 +45,14 @@ fn some_without<T: Integer, L: DrawDisjoint<T>, R: DrawDisjoint<T>, W: DrawDisjo
     rest.into_range_set_blaze(alloc)
 }
 
-/// Returns how many values the ranges of a stream have, up to the greatest number.
+/// Returns how many values the ranges of a stream have, or `u64::MAX` if there are more.
 fn value_count<I: DrawDisjoint<i32>>(stream: I) -> u64
     requires { I.can_draw stream }
 {
     stream.members_len()
 }
 
-/// Returns how many values lie in an odd number of two sets. A generic function takes the result.
+/// Returns how many values lie in exactly one of two sets. A generic function takes the stream.
 fn odd_values(
     alloc: Global,
     one: &RangeSetBlaze<i32>,

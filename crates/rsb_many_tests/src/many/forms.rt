@@ -1,4 +1,5 @@
-//! What lies in some, in all and in an odd number of streams, in rows worked by hand.
+//! The union, the intersection and the symmetric difference of many streams, in rows worked by
+//! hand.
 
 use rsb_tables::{Form, Ranges, form_gives, streams_of};
 use std::alloc::{AllocError, Global};
@@ -14,7 +15,7 @@ pub(crate) fn makes_one(
     form_gives(alloc, form, streams_of(alloc, tables)?, wanted)
 }
 
-/// Whether what lies in some, in all and in an odd number of streams are these.
+/// Whether the union, the intersection and the symmetric difference of streams are as wanted.
 fn makes(
     alloc: Global,
     tables: &[Ranges],
@@ -55,7 +56,8 @@ fn streams_may_end_at_the_greatest_value(rt: HostRuntime) -> Result<(), Fail> {
     Ok(())
 }
 
-/// The lists of the subsets of four values: the one at a place has those whose bits the place has.
+/// The 16 subsets of four values. Value `v` is in the subset at a place if bit `v` of the place is
+/// set.
 static SUBSETS: [Ranges; 16] = [
     &[],
     &[(0, 0)],
@@ -75,7 +77,7 @@ static SUBSETS: [Ranges; 16] = [
     &[(0, 3)],
 ];
 
-/// The list of the values whose bits are set.
+/// The subset of the values whose bits are set.
 pub(crate) fn subset(bits: usize) -> Ranges {
     SUBSETS[bits % 16]
 }

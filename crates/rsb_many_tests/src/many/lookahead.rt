@@ -1,4 +1,4 @@
-//! How many ranges of its inputs a union of many has drawn, call by call.
+//! How many ranges a union of many streams has drawn from its inputs after each call.
 
 use rsb_commands::outside::Counted;
 use rsb_many::MultiwaySortedDisjoint;
@@ -8,13 +8,13 @@ use std::cell::Cell;
 use std::ops::RangeInclusive;
 use std::test::Fail;
 
-/// How many ranges of each of three inputs were drawn.
+/// How many ranges were drawn from each of three inputs.
 fn drawn_of(drawn: &[Cell<usize>; 3]) -> (usize, usize, usize) {
     (drawn[0].get(), drawn[1].get(), drawn[2].get())
 }
 
-/// How many ranges of each input a union has drawn once it is built, its first range, and how many it
-/// has drawn then.
+/// How many ranges of each input a union has drawn when it is built, its first range, and how many
+/// it has drawn then.
 type Drawn = (
     (usize, usize, usize),
     Option<RangeInclusive<u8>>,

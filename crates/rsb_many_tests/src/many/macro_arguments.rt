@@ -1,5 +1,5 @@
-//! The arguments of the macros: each is evaluated once, in order, and dropped, also after an allocation
-//! for an earlier one failed.
+//! The arguments of the macros. Each is evaluated once, in order, and is dropped. This is so even
+//! if an allocation for an earlier argument failed.
 
 ghost use Rattle.std.specs.Prelude.{◌≡◌, IfOk};
 
@@ -13,7 +13,7 @@ use std::test::Fail;
 /// An allocator that counts its calls.
 type Heap = Counting<Global>;
 
-/// Returns the value, and writes its digit behind those seen before.
+/// Returns the value, and appends its digit to those seen before.
 fn seen<X>(digits: &Cell<u32>, digit: u32, value: X) -> X
     ensures { result ≡ value }
 {
@@ -21,7 +21,8 @@ fn seen<X>(digits: &Cell<u32>, digit: u32, value: X) -> X
     value
 }
 
-/// Whether a macro returns a stream. The allocator has the digit 9, the streams 1, 2 and 3.
+/// Whether a macro returns a stream. The digit of the allocator is 9, and those of the streams are
+/// 1, 2 and 3.
 fn is_made<I: DrawDisjoint<i32>>(
     heap: &Heap,
     digits: &Cell<u32>,
@@ -64,8 +65,8 @@ fn owning<'a>(heap: &'a Heap, at: i32) -> Result<DynSortedDisjoint<i32, &'a Heap
     DynSortedDisjoint::new(heap, RangeOnce::new(at..=at))
 }
 
-/// Whether a macro returns a stream if the allocator passes the given number of allocations, and
-/// whether it evaluates and drops its arguments then.
+/// Whether a macro returns a stream if only the given number of allocations succeed, and whether it
+/// then evaluates and drops its arguments.
 fn after_passing(alloc: Global, form: Form, passed: usize) -> Result<(bool, bool), AllocError> {
     let heap = Counting::new(alloc);
     let digits = Cell::new(0);
@@ -75,8 +76,8 @@ fn after_passing(alloc: Global, form: Form, passed: usize) -> Result<(bool, bool
     Ok((is_made, digits.get() == 9123 && heap.bytes() == 0))
 }
 
-/// Returns how many allocations a macro makes if it evaluates and drops its arguments whichever of
-/// them fails.
+/// Returns how many allocations a macro makes, if it evaluates and drops its arguments whichever of
+/// these fails.
 fn allocations_of(alloc: Global, form: Form) -> Result<Option<usize>, AllocError> {
     for passed in 0..20usize {
         let (is_made, is_right) = after_passing(alloc, form, passed)?;

@@ -1,5 +1,6 @@
-//! What is built from the runs of three sets, in an allocator that counts its calls: no `next` calls it,
-//! and nothing leaks.
+//! What is built from the runs of three sets, in an allocator that counts its calls. No `next`
+//! calls the allocator, and nothing leaks. A stream is quiet if no `next` of it calls the
+//! allocator.
 
 ghost use Rattle.std.specs.Prelude.{All, IfOk};
 
@@ -15,7 +16,7 @@ use std::ops::RangeInclusive;
 use std::test::Fail;
 use std::vec::IntoIter;
 
-/// A set in ample memory.
+/// A set in the system's allocator.
 type Set = RangeSetBlaze<i32>;
 
 /// An allocator that counts its calls.
@@ -30,17 +31,17 @@ enum Built {
     Intersection,
     SymmetricDifference,
     AtLeast,
-    /// Of streams whose ranges may touch, as the next one.
+    /// From streams whose ranges may touch, like the next one.
     TouchingSweep,
     TouchingDifference,
-    /// Of all ranges of a stream, taken first, as the next three.
+    /// From all ranges of a stream, which are collected first, like the next three.
     AnyType,
     DynUnion,
     DynIntersection,
     DynSymmetricDifference,
 }
 
-/// All that is built.
+/// Everything that is built.
 static ALL: [Built; 12] = [
     Built::Merge,
     Built::Sweep,
@@ -56,7 +57,7 @@ static ALL: [Built; 12] = [
     Built::DynSymmetricDifference,
 ];
 
-/// Whether no `next` of a stream calls the allocator, up to a number of them.
+/// Whether no `next` of a stream calls the allocator, in at most `draws` calls.
 fn draws_quietly<I: Draw<i32>>(heap: &Heap, stream: I, draws: usize) -> bool
     requires { I.can_draw stream }
 {
@@ -70,7 +71,7 @@ fn draws_quietly<I: Draw<i32>>(heap: &Heap, stream: I, draws: usize) -> bool
     heap.calls() == before
 }
 
-/// Whether no `next` of a sweep calls the allocator, up to a number of them.
+/// Whether no `next` of a sweep calls the allocator, in at most `draws` calls.
 fn sweeps_quietly<I: Draw<i32>, A: Allocator>(
     heap: &Heap,
     sweep: MultiwaySweep<i32, I, A>,
@@ -126,7 +127,7 @@ fn touching_are_quiet<I: SortedTouching<i32>>(
     Ok(draws_quietly(heap, odd, draws))
 }
 
-/// Whether what is built from all ranges of three streams, taken first, is quiet.
+/// Whether what is built from the collected ranges of three streams is quiet.
 fn taken_are_quiet<I: DrawDisjoint<i32>>(
     heap: &Heap,
     built: Built,
@@ -153,10 +154,10 @@ fn taken_are_quiet<I: DrawDisjoint<i32>>(
     }
 }
 
-/// Ranges in ample memory, which may touch.
+/// Ranges in the system's allocator, which may touch.
 type Touching = CheckSortedTouching<i32, IntoIter<RangeInclusive<i32>>>;
 
-/// Adds the runs of a set to streams whose ranges may touch, in ample memory.
+/// Adds the runs of a set, in the system's allocator, to streams whose ranges may touch.
 fn add_touching(
     alloc: Global,
     set: &Set,
@@ -172,7 +173,7 @@ fn add_touching(
     Ok(streams)
 }
 
-/// The runs of three sets as streams whose ranges may touch, in ample memory.
+/// Returns the runs of three sets, in the system's allocator, as streams whose ranges may touch.
 fn touching(alloc: Global, sets: &[Set; 3]) -> Result<Vec<Touching>, AllocError>
     ensures { IfOk result (λ streams. All ⟦<Touching as Draw<i32>>⟧.can_draw streams.items) }
 {
@@ -205,7 +206,8 @@ fn is_quiet(
     }
 }
 
-/// A set of the given number of runs of three values, of which each starts five past the one before.
+/// Returns a set of the given number of runs of three values. Each starts five past the start of
+/// the one before.
 fn runs_from(alloc: Global, first: i32, runs: i32) -> Result<Set, AllocError> {
     let ranges = (0..runs).map(|place| {
         let start = first.saturating_add(place.saturating_mul(5));
@@ -214,7 +216,7 @@ fn runs_from(alloc: Global, first: i32, runs: i32) -> Result<Set, AllocError> {
     RangeSetBlaze::from_iter(alloc, ranges)
 }
 
-/// Three sets of the given number of runs, which overlap.
+/// Returns three sets of the given number of runs, which overlap.
 fn three_sets(alloc: Global, runs: i32) -> Result<[Set; 3], AllocError> {
     Ok([
         runs_from(alloc, 0, runs)?,
@@ -226,11 +228,11 @@ fn three_sets(alloc: Global, runs: i32) -> Result<[Set; 3], AllocError> {
 /// How many runs the sets of a row have.
 static RUNS: [i32; 4] = [0, 1, 3, 100];
 
-/// How many ranges are drawn in a row before the rest is dropped.
+/// How many ranges are drawn before the stream is dropped.
 static DRAWS: [usize; 3] = [0, 1, 1000];
 
-/// Whether what is built from three sets is quiet, and leaves nothing in the allocator, however few of
-/// its ranges are drawn.
+/// Whether what is built from three sets is quiet and leaves nothing in the allocator, however few
+/// of its ranges are drawn.
 fn is_quiet_and_dropped(alloc: Global, built: Built, sets: &[Set; 3]) -> Result<bool, AllocError> {
     let heap = Counting::new(alloc);
     let mut is_right = true;
@@ -255,8 +257,8 @@ fn no_next_of_what_is_built_from_many_calls_the_allocator(rt: HostRuntime) -> Re
     Ok(())
 }
 
-/// Whether each failed allocation leaves nothing in the allocator, until what is built from three sets
-/// is there.
+/// Whether a failed allocation leaves nothing in the allocator. The first allocation fails, then
+/// the second, and so on, until the call succeeds.
 fn failures_leave_nothing(alloc: Global, built: Built, sets: &[Set; 3]) -> bool {
     let heap = Counting::new(alloc);
     for passed in 0..100usize {

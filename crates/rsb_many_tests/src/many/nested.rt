@@ -1,4 +1,4 @@
-//! The complement of what many streams make, at every element type.
+//! The complement of a result of an operation on many streams, at every element type.
 
 ghost use Rattle.std.specs.Prelude.{length, All, IfOk};
 ghost use Rattle.rsb_integer.specs.Selection.{any_of, complement};
@@ -12,7 +12,7 @@ use rsb_tables::{Ranges, gives, streams_of};
 use std::alloc::{AllocError, Allocator};
 use std::test::Fail;
 
-/// What lies in none of the streams of a list.
+/// Returns what lies in none of the streams of a list.
 fn none_of<T: Integer, I: DrawDisjoint<T>, A: Allocator + Copy>(
     alloc: A,
     streams: Vec<I, A>,
@@ -27,7 +27,7 @@ fn none_of<T: Integer, I: DrawDisjoint<T>, A: Allocator + Copy>(
     Ok(union.complement())
 }
 
-/// Three streams that lie apart.
+/// Three streams whose union has gaps.
 static APART: [Ranges; 3] = [&[(1, 2)], &[(5, 6)], &[(2, 3), (200, 255)]];
 
 #[test]

@@ -1,4 +1,5 @@
-//! The operators of what is made of 1..=9, 3..=12 and 5..=20, and of a stream of any type, with 8..=25.
+//! The operators on results of operations on 1..=9, 3..=12 and 5..=20, and on a
+//! `DynSortedDisjoint`. The right operand is 8..=25.
 
 ghost use Rattle.std.specs.Prelude.{IfOk};
 
@@ -14,17 +15,17 @@ use std::test::Fail;
 /// The three streams.
 static THREE: [Ranges; 3] = [&[(1, 9)], &[(3, 12)], &[(5, 20)]];
 
-/// The other stream.
+/// The right operand.
 static OTHER: Ranges = &[(8, 25)];
 
-/// What lies in some of the streams, which is 1..=20.
+/// The union of the streams, which is 1..=20.
 fn union_of_three(alloc: Global) -> Result<MultiwayUnion<u8, Listed<'static>>, AllocError>
     ensures { IfOk result ⟦<MultiwayUnion<u8, Listed<'static>> as Draw<u8>>⟧.can_draw }
 {
     streams_of(alloc, &THREE)?.union(alloc)
 }
 
-/// Whether an operator of it is right.
+/// Whether an operator on that union gives the right ranges.
 fn union_is_met(stream: MultiwayUnion<u8, Listed<'static>>, operation: Operation) -> bool
     requires { ⟦<MultiwayUnion<u8, Listed<'static>> as Draw<u8>>⟧.can_draw stream }
 {
@@ -38,7 +39,7 @@ fn union_is_met(stream: MultiwayUnion<u8, Listed<'static>>, operation: Operation
     }
 }
 
-/// What lies in all of the streams, which is 5..=9.
+/// The intersection of the streams, which is 5..=9.
 fn intersection_of_three(
     alloc: Global,
 ) -> Result<MultiwayIntersection<u8, Listed<'static>>, AllocError>
@@ -47,7 +48,7 @@ fn intersection_of_three(
     streams_of(alloc, &THREE)?.intersection(alloc)
 }
 
-/// Whether an operator of it is right.
+/// Whether an operator on that intersection gives the right ranges.
 fn intersection_is_met(
     stream: MultiwayIntersection<u8, Listed<'static>>,
     operation: Operation,
@@ -64,8 +65,7 @@ fn intersection_is_met(
     }
 }
 
-/// What lies in an odd number of the streams, which is 1..=2, 5..=9 and
-/// 13..=20.
+/// What lies in an odd number of the streams, which is 1..=2, 5..=9 and 13..=20.
 fn symmetric_difference_of_three(
     alloc: Global,
 ) -> Result<MultiwaySymmetricDifference<u8, Listed<'static>>, AllocError>
@@ -74,7 +74,7 @@ fn symmetric_difference_of_three(
     streams_of(alloc, &THREE)?.symmetric_difference(alloc)
 }
 
-/// Whether an operator of it is right.
+/// Whether an operator on that symmetric difference gives the right ranges.
 fn symmetric_difference_is_met(
     stream: MultiwaySymmetricDifference<u8, Listed<'static>>,
     operation: Operation,
@@ -101,7 +101,7 @@ fn two_deep_of_three(alloc: Global) -> Result<MultiwayAtLeast<u8, Listed<'static
     streams_of(alloc, &THREE)?.at_least(alloc, 2)
 }
 
-/// Whether an operator of it is right.
+/// Whether an operator on that stream gives the right ranges.
 fn two_deep_is_met(stream: MultiwayAtLeast<u8, Listed<'static>>, operation: Operation) -> bool
     requires { ⟦<MultiwayAtLeast<u8, Listed<'static>> as Draw<u8>>⟧.can_draw stream }
 {
@@ -115,14 +115,14 @@ fn two_deep_is_met(stream: MultiwayAtLeast<u8, Listed<'static>>, operation: Oper
     }
 }
 
-/// The ranges of a stream of any type, which are 1..=9 and 12..=20.
+/// A `DynSortedDisjoint` of the ranges 1..=9 and 12..=20.
 fn any_type(alloc: Global) -> Result<DynSortedDisjoint<u8>, AllocError>
     ensures { IfOk result ⟦<DynSortedDisjoint<u8> as Draw<u8>>⟧.can_draw }
 {
     DynSortedDisjoint::new(alloc, stream_of(&[(1, 9), (12, 20)]))
 }
 
-/// Whether an operator of it is right.
+/// Whether an operator on that stream gives the right ranges.
 fn any_type_is_met(stream: DynSortedDisjoint<u8>, operation: Operation) -> bool
     requires { ⟦<DynSortedDisjoint<u8> as Draw<u8>>⟧.can_draw stream }
 {

@@ -1,5 +1,5 @@
-//! Operations on many streams at two element types of a user's own: `Side`, of two values, and `Slot`,
-//! of ninety-six.
+//! Operations on many streams at two user-defined element types: `Side`, with two values, and
+//! `Slot`, with ninety-six.
 
 use crate::many::thousand::singles;
 use rsb_commands::outside::{Side, Slot};
@@ -22,7 +22,8 @@ fn form_of_two_gives<T: Integer>(
     form_gives(alloc, form, singles(alloc, two)?, wanted)
 }
 
-/// Whether what lies in some, in all, in an odd number and in at least two of two streams are these.
+/// Whether what lies in some, in all, in an odd number and in at least two of two streams is as
+/// wanted.
 fn two_make<T: Integer>(
     alloc: Global,
     two: &[(T, T)],
@@ -38,7 +39,7 @@ fn two_make<T: Integer>(
     )
 }
 
-/// Whether the symmetric difference of one stream, whose ranges touch, gives one range.
+/// Whether the symmetric difference of one stream whose ranges touch gives one range.
 fn touching_are_joined<T: Integer>(
     alloc: Global,
     ranges: &[(T, T)],
@@ -51,7 +52,7 @@ fn touching_are_joined<T: Integer>(
     Ok(gives(odd, wanted))
 }
 
-/// Cites each law of many sets and of the events of many inputs.
+/// Calls each law of many sets and of the events of many inputs.
 fn cite_laws<T: Integer>() {
     at_least_one::<T>();
     at_least_all::<T>();

@@ -1,4 +1,4 @@
-//! Sets made of any number of sets, which are given up or lent.
+//! Sets built from any number of sets, by value or by reference.
 
 use range_set_blaze::{
     MultiwayRangeSetBlaze, MultiwayRangeSetBlazeRef, MultiwaySortedDisjoint, RangeSetBlaze,
@@ -7,10 +7,10 @@ use rsb_tables::{Form, Table, gives, of_lent, of_sets, set_of};
 use std::alloc::{AllocError, Global};
 use std::test::Fail;
 
-/// A set in ample memory.
+/// A set in the system's allocator.
 type Set = RangeSetBlaze<i32>;
 
-/// The sets of some tables.
+/// Returns the sets of the tables.
 fn sets_of(alloc: Global, tables: &[Table<'_>]) -> Result<Vec<Set>, AllocError> {
     let mut sets = Vec::new(alloc);
     for table in tables {
@@ -19,7 +19,7 @@ fn sets_of(alloc: Global, tables: &[Table<'_>]) -> Result<Vec<Set>, AllocError> 
     Ok(sets)
 }
 
-/// References to some sets.
+/// Returns references to the sets.
 pub(crate) fn lent<'a>(alloc: Global, sets: &'a [Set]) -> Result<Vec<&'a Set>, AllocError> {
     let mut lent = Vec::new(alloc);
     for set in sets {
@@ -28,7 +28,7 @@ pub(crate) fn lent<'a>(alloc: Global, sets: &'a [Set]) -> Result<Vec<&'a Set>, A
     Ok(lent)
 }
 
-/// Whether a form of the sets of some tables, which are given up, has these runs.
+/// Whether a form of the sets of the tables, by value, has these runs.
 fn given_up_make(
     alloc: Global,
     form: Form,
@@ -39,7 +39,7 @@ fn given_up_make(
     Ok(gives(made.ranges(), wanted))
 }
 
-/// Whether a form of some sets, which are lent, has these runs.
+/// Whether a form of sets by reference has these runs.
 fn lent_make(
     alloc: Global,
     form: Form,
@@ -50,7 +50,7 @@ fn lent_make(
     Ok(gives(made.ranges(), wanted))
 }
 
-/// Whether a form of the sets of some tables has these runs, whether they are given up or lent.
+/// Whether a form of the sets of the tables has these runs, both by value and by reference.
 pub(crate) fn both_make(
     alloc: Global,
     form: Form,
@@ -68,7 +68,7 @@ static THREE: [Table<'static>; 3] = [
     &[(6, 8), (12, 20)],
 ];
 
-/// A form, and what it makes of the three.
+/// A form, and its runs for the three sets.
 static MADE: [(Form, Table<'static>); 3] = [
     (Form::Some, &[(1, 29)]),
     (Form::All, &[(6, 6), (8, 8), (12, 13)]),
@@ -96,19 +96,19 @@ fn sets_that_are_given_up_and_sets_that_are_lent_make_the_same(
     Ok(())
 }
 
-/// Whether the union of the runs of two sets, as an array, is this.
+/// Whether the union of the runs of two sets, in an array, is as wanted.
 fn runs_are_united(alloc: Global, a: &Set, b: &Set, wanted: Table<'_>) -> Result<bool, AllocError> {
     let runs = [a.ranges(), b.ranges()].union(alloc)?;
     Ok(gives(runs, wanted))
 }
 
-/// Whether the union of two sets, as an array of references, is this.
+/// Whether the union of two sets, in an array of references, is as wanted.
 fn lent_are_united(alloc: Global, a: &Set, b: &Set, wanted: Table<'_>) -> Result<bool, AllocError> {
     let made = MultiwayRangeSetBlazeRef::union([a, b], alloc)?;
     Ok(gives(made.ranges(), wanted))
 }
 
-/// Whether the union of two sets, as an array that gives them up, is this.
+/// Whether the union of two sets, in an array by value, is as wanted.
 fn given_up_are_united(
     alloc: Global,
     a: Set,

@@ -1,4 +1,4 @@
-//! Lists of streams that a loop fills, and what the operations on many streams make of them. None of
+//! Lists of streams that a loop fills, and the operations on many streams applied to them. None of
 //! the callers has a proof file.
 
 use crate::many::sweeps::{end, start};
@@ -12,7 +12,7 @@ use std::ops::RangeInclusive;
 use std::test::Fail;
 use std::vec::IntoIter;
 
-/// Returns the streams of tables.
+/// Returns the streams of the tables.
 fn listed(alloc: Global, tables: &[Ranges]) -> Result<Streams<u8, Listed<'static>>, AllocError> {
     let mut streams = Streams::new(alloc);
     for table in tables {
@@ -21,7 +21,7 @@ fn listed(alloc: Global, tables: &[Ranges]) -> Result<Streams<u8, Listed<'static
     Ok(streams)
 }
 
-/// Returns the ranges of sets of any type, as streams.
+/// Returns the runs of sets of any element type, as streams.
 fn ranges_of<'a, T: Integer>(
     alloc: Global,
     sets: &'a [RangeSetBlaze<T>],
@@ -33,7 +33,7 @@ fn ranges_of<'a, T: Integer>(
     Ok(streams)
 }
 
-/// Ranges of a list that was tested.
+/// The ranges of a list that was checked.
 type Tested = CheckSortedDisjoint<u64, IntoIter<RangeInclusive<u64>>>;
 
 /// Returns the lists that are canonical, as streams.
@@ -50,7 +50,7 @@ fn tested(
     Ok(streams)
 }
 
-/// Returns the set of what lies in some of the streams, whatever they are.
+/// Returns the union of the streams as a set, whatever their type.
 fn in_some<T: Integer, I: DrawDisjoint<T>, A: Allocator + Copy>(
     alloc: A,
     streams: Streams<T, I, A>,
@@ -58,7 +58,7 @@ fn in_some<T: Integer, I: DrawDisjoint<T>, A: Allocator + Copy>(
     streams.union(alloc)?.into_range_set_blaze(alloc)
 }
 
-/// Returns the number of events of a sweep over the streams, up to the greatest number.
+/// Returns the number of events of a sweep over the streams, or `usize::MAX` if there are more.
 fn event_count<T: Integer, I: DrawDisjoint<T>>(
     alloc: Global,
     streams: Streams<T, I>,
@@ -137,7 +137,7 @@ fn row_gives(alloc: Global, row: &Row, form: Form, wanted: Ranges) -> Result<boo
     list_gives(alloc, form, listed(alloc, row.streams)?, wanted)
 }
 
-/// Whether the streams of a row are as many as were added, and make what the row says.
+/// Whether there are as many streams as were added, and they give what the row says.
 fn is_right(alloc: Global, row: &Row) -> Result<bool, AllocError> {
     let streams = listed(alloc, row.streams)?;
     let count = streams.len() == row.streams.len() && streams.is_empty() == row.streams.is_empty();
@@ -179,7 +179,7 @@ fn lists_that_are_canonical_are_united(rt: HostRuntime) -> Result<(), Fail> {
     Ok(())
 }
 
-/// Returns that many streams, of which each has only its number.
+/// Returns the given number of streams, each with only its own number.
 fn numbers(alloc: Global, count: i32) -> Result<Streams<i32, RangeOnce<i32>>, AllocError> {
     let mut streams = Streams::new(alloc);
     for number in 0..count {
@@ -204,7 +204,7 @@ fn a_thousand_streams_that_a_loop_added_are_one_run(rt: HostRuntime) -> Result<(
 /// An allocator that counts its calls.
 type Heap = Counting<Global>;
 
-/// Adds single values from 0 on until an allocation fails, and returns how many were added.
+/// Adds single values, starting at 0, until an allocation fails. Returns how many were added.
 fn add_until_full<'a>(streams: &mut Streams<i32, RangeOnce<i32>, &'a Heap>) -> usize {
     let mut added = 0;
     for number in 0..100 {
@@ -216,8 +216,8 @@ fn add_until_full<'a>(streams: &mut Streams<i32, RangeOnce<i32>, &'a Heap>) -> u
     added
 }
 
-/// Whether a failed allocation leaves the streams that were added before it, after so many that were
-/// granted.
+/// Whether the streams that were added before a failed allocation are kept, if `granted`
+/// allocations succeed.
 fn are_kept(heap: &Heap, granted: usize, wanted: &[(i32, i32)]) -> Result<bool, AllocError> {
     let mut streams = Streams::new(heap);
     heap.fail_after(granted);

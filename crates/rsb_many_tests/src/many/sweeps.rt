@@ -5,7 +5,7 @@ use rsb_tables::{Ranges, streams_of};
 use std::alloc::{AllocError, Global};
 use std::test::Fail;
 
-/// A range of the input starts.
+/// Returns the event that a range of the input starts.
 pub(crate) fn start(first: u8, last: u8, input: usize) -> SweepEvent<u8> {
     SweepEvent::Start {
         range: first..=last,
@@ -13,7 +13,7 @@ pub(crate) fn start(first: u8, last: u8, input: usize) -> SweepEvent<u8> {
     }
 }
 
-/// The range of the input ends.
+/// Returns the event that a range of the input ends.
 pub(crate) fn end(at: u8, input: usize) -> SweepEvent<u8> {
     SweepEvent::End { at, input }
 }
@@ -32,7 +32,7 @@ fn at_one_value_starts_come_before_ends(rt: HostRuntime) -> Result<(), Fail> {
 /// Three streams, of which the middle one has no range.
 static THREE: [Ranges; 3] = [&[(1, 2)], &[], &[(9, 9)]];
 
-/// How many inputs a sweep over the three tells of before its first event, and after its last.
+/// How many inputs a sweep over the three reports before its first event, and after its last.
 fn counted(alloc: Global) -> Result<(usize, usize), AllocError> {
     let mut sweep = MultiwaySweep::new(alloc, streams_of(alloc, &THREE)?)?;
     let before = sweep.input_count();

@@ -1,4 +1,4 @@
-//! Texts for debugging of what is built from many streams. Their wording is left open.
+//! The `Debug` texts of what is built from many streams. Their wording is not specified.
 
 use rsb_many::{KMerge, MultiwaySortedDisjoint, MultiwaySweep};
 use rsb_tables::{is_shown, three_tens};

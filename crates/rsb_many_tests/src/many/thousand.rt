@@ -1,5 +1,5 @@
-//! Up to a hundred and twenty thousand streams and twenty thousand sets, each of one value, and two of
-//! seventy thousand runs: no call gives up at a size.
+//! Up to 120,000 streams and 20,000 sets, each of one value, and two sets of 70,000 runs. No call
+//! fails because of its size.
 
 ghost use Rattle.std.specs.Prelude.{All, IfOk};
 
@@ -12,7 +12,7 @@ use rsb_tables::{Form, every_fifth, form_gives, gives, of_lent, of_sets};
 use std::alloc::{AllocError, Global};
 use std::test::Fail;
 
-/// Each range as a stream.
+/// Returns each range as a stream.
 pub(crate) fn singles<T: Integer>(
     alloc: Global,
     ends: &[(T, T)],
@@ -26,7 +26,7 @@ pub(crate) fn singles<T: Integer>(
     Ok(streams)
 }
 
-/// So many streams, of which each has its number alone.
+/// Returns the given number of streams, each with only its own number.
 fn numbers(alloc: Global, count: i32) -> Result<Vec<RangeOnce<i32>>, AllocError>
     ensures { IfOk result (λ streams. All ⟦<RangeOnce<i32> as Draw<i32>>⟧.can_draw streams.items) }
 {
@@ -36,7 +36,8 @@ fn numbers(alloc: Global, count: i32) -> Result<Vec<RangeOnce<i32>>, AllocError>
     singles(alloc, &ends)
 }
 
-/// Whether some, and an odd number, of so many streams have all numbers, which are one run.
+/// Whether the union and the symmetric difference of the given number of streams are one run of all
+/// numbers.
 fn are_one_run(alloc: Global, count: i32, run: (i32, i32)) -> Result<bool, AllocError> {
     Ok(
         form_gives(alloc, Form::Some, numbers(alloc, count)?, &[run])?
@@ -44,7 +45,7 @@ fn are_one_run(alloc: Global, count: i32, run: (i32, i32)) -> Result<bool, Alloc
     )
 }
 
-/// Whether a form of twenty thousand streams, each of 7, is 7.
+/// Whether a form of 20,000 streams, each with only 7, has only 7.
 fn share_seven(alloc: Global, form: Form) -> Result<bool, AllocError> {
     form_gives(alloc, form, singles(alloc, &[(7, 7); 20_000])?, &[(7, 7)])
 }
@@ -52,13 +53,13 @@ fn share_seven(alloc: Global, form: Form) -> Result<bool, AllocError> {
 /// The number of streams of the largest rows.
 const MOST: i32 = 120_000;
 
-/// Whether a form of that many streams, each of 7, is 7.
+/// Whether a form of that many streams, each with only 7, has only 7.
 fn most_share_seven(alloc: Global, form: Form) -> Result<bool, AllocError> {
     let ends = (0..MOST).map(|_| (7, 7)).collect::<Vec<(i32, i32)>>(alloc)?;
     form_gives(alloc, form, singles(alloc, &ends)?, &[(7, 7)])
 }
 
-/// Whether a merge of so many streams, joined, has all numbers, which are one run.
+/// Whether a merge of the given number of streams, joined, is one run of all numbers.
 fn are_merged(alloc: Global, count: i32, run: (i32, i32)) -> Result<bool, AllocError> {
     let merged = KMerge::new(alloc, numbers(alloc, count)?)?;
     Ok(gives(UnionIter::new(merged), &[run]))
@@ -88,7 +89,7 @@ fn what_a_hundred_and_twenty_thousand_streams_share(rt: HostRuntime) -> Result<(
     Ok(())
 }
 
-/// Whether so many single values start and end in turn.
+/// Whether single values start and end alternately in a sweep.
 fn start_and_end_in_turn(alloc: Global, count: i32) -> Result<bool, AllocError> {
     let mut events = Vec::new(alloc);
     let mut input = 0usize;
@@ -130,8 +131,8 @@ fn twenty_thousand_sets_make_one(rt: HostRuntime) -> Result<(), Fail> {
     Ok(())
 }
 
-/// A form of the first three and the middle three of each five values, how many runs it has, and how
-/// many members.
+/// A form of two sets, the first three and the middle three of each five values: how many runs and
+/// how many members it has.
 static OF_TWO: [Row; 4] = [
     (Form::Some, 70_000, 280_000),
     (Form::All, 70_000, 140_000),
@@ -139,16 +140,16 @@ static OF_TWO: [Row; 4] = [
     (Form::AtLeast(2), 70_000, 140_000),
 ];
 
-/// A form, how many runs it has, and how many members.
+/// A form, its number of runs, and its number of members.
 type Row = (Form, usize, u64);
 
-/// Whether a form of two sets, which are lent, has so many runs and so many members.
+/// Whether a form of two sets by reference has these numbers of runs and members.
 fn lent_have(alloc: Global, sets: [&RangeSetBlaze<i32>; 2], row: &Row) -> Result<bool, AllocError> {
     let made = of_lent(alloc, row.0, Vec::from_array(alloc, sets)?)?;
     Ok(made.ranges_len() == row.1 && made.len() == row.2)
 }
 
-/// Whether a form of copies of two sets, which are given up, has so many runs and so many members.
+/// Whether a form of copies of two sets, by value, has these numbers of runs and members.
 fn given_up_have(
     alloc: Global,
     sets: [&RangeSetBlaze<i32>; 2],

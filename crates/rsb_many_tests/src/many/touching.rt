@@ -1,11 +1,12 @@
-//! Many streams, of each of which the ranges may touch.
+//! Many streams whose ranges may touch within each stream.
 
 use crate::many::sweeps::{end, start};
 use rsb_many::{MultiwaySweep, MultiwaySymmetricDifference};
 use rsb_tables::{Ranges, gives, neighbors_of};
 use std::test::Fail;
 
-/// Two inputs: the ranges of the first touch, and the other lies across the place where they do.
+/// Two inputs. The ranges of the first touch, and the range of the other spans the place where they
+/// do.
 static TWO: [Ranges; 2] = [&[(1, 2), (3, 4)], &[(2, 3)]];
 
 #[test]

@@ -1,4 +1,5 @@
--- What was taken, followed by what may still come, might come of the stream at first.
+-- What was collected, followed by what may still come, is a list that the stream might give at
+-- first.
 use Rattle.std.proofs.Common.{List, ◌++◌}
 use Rattle.std.specs.Iterator.{IsFinite, size}
 use Rattle.rsb_integer.specs.Rank.{intervals_of}
