@@ -116,7 +116,7 @@ module _ {T I : Type 0} (rank : T → ℕ) (n : ℕ) (can_draw : I → Type 0)
   abbrev pub GivesGreatest : Iter T I → Option T → Iter T I → Type 0
   GivesGreatest = Gives (IsGreatest n)
 
-  -- ---- streams that go from both ends
+  -- ---- streams that go from both ends (docs/DECISIONS.md, goes-back)
 
   -- what a call from the back answered comes last, after what may come once it is answered
   abbrev pub AnswersLast : I → Option (RangeInclusive T) → I → Type 0

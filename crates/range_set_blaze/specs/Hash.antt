@@ -1,4 +1,5 @@
--- What a set feeds a hasher: its length, and the start and the end of each run.
+-- What a set feeds a hasher: its length, and the start and the end of each run. It is stated by the
+-- ranks of the set, since the law of `Hash` is about every list, canonical or not.
 use Rattle.std.specs.Hash.{HashWrites}
 use Rattle.std.specs.Prelude.{ℕ, zero, suc, Bool, false, not, ◌&&◌, cond, nat_lt, List, [], ◌∷◌, ◌++◌, flat_map}
 use Rattle.rsb_integer.specs.Runs.{Interval, members}

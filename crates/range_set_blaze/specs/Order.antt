@@ -1,4 +1,5 @@
--- The order of two sets, and the turns that it takes to find it by their runs.
+-- The order of two sets, and the turns that it takes to find it by their runs. It is defined at
+-- every list, canonical or not, since a law of comparisons is about every value of the model.
 use Rattle.std.specs.Prelude.{◌≡◌, ◌⊎◌, ◌==◌, ℕ, zero, suc, Bool, true, false, cond, ◌+◌, ◌<◌, ◌≤◌, List, [], ◌∷◌, ◌++◌, length, IsTrue, IsFalse}
 use Rattle.std.specs.Cmp.Lexicographic.{slice_cmp}
 use Rattle.std.specs.Ordering.{nat_cmp}

@@ -23,12 +23,14 @@ ascending_ranks [] = []
 ascending_ranks (run ∷ runs) = ranks_from run.first (length_of run) ++ ascending_ranks runs
 
 module _ {F T : Type 0} (rank : T → ℕ) (n : ℕ) (g : Mut F (Bor T × Unit {0}) Bool) where
-  -- each call from f on answers at a value, of n, what `keeps` says of its rank
+  -- each call from f on answers at a value, of n, what `keeps` says of its rank. (Only at values: a
+  -- test of signed numbers need not answer by rank at numbers that do not fit.)
   abbrev pub AnswersByRank : Selection → F → Type 0
   AnswersByRank keeps = AlwaysReturns g (λ a r. rank a.0.now < n → r ≡ keeps (rank a.0.now))
 
 -- each call from f on answers at a range that was not iterated to its end, of values of a type of n,
--- what `keeps` says of its ranks
+-- what `keeps` says of its ranks. (A test such as `r.start() < r.end()` reads the ends of an
+-- emptied range too, and all emptied ranges have the same ranks: none.)
 abbrev pub AnswersByRun : {F T : Type 0} (rank : T → ℕ) (n : ℕ)
     (g : Mut F (Bor (RangeInclusive T) × Unit {0}) Bool) → (Interval → Bool) → F → Type 0
 AnswersByRun rank n g keeps = AlwaysReturns g (λ a r.

@@ -2,7 +2,7 @@
 --
 -- A text of no ranges is blanks, or empty. Any other is its ranges, with a comma between two. A range
 -- is a number, or two numbers with `..=` between. Blanks may stand around each number. A number is a
--- sign, or none, and decimal digits, and it is one of the type. At `u8`:
+-- sign, or none, and decimal digits, and it is one of the type; `-0` is 0 at each. At `u8`:
 --
 --   "" and "  "            no ranges
 --   "1..=3, 7..=8"         1..=3 and 7..=8

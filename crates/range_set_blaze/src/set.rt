@@ -1,4 +1,6 @@
 //! The set: a map of its runs in ascending order, and how many members they have.
+//!
+//! Contracts see only the list of its runs (docs/DECISIONS.md, set-as-runs).
 
 ghost use Rattle.std.specs.Prelude.{◌≡◌, ◌↔◌, ◌<◌, [], length, IfSome, IsNone, IsTrue};
 ghost use Rattle.rsb_integer.specs.Rank.{intervals_of};
@@ -50,10 +52,11 @@ use std::marker::Model;
 /// (`RangeSetBlaze` of the Rust crate.)
 #[derive(Drop)]
 pub struct RangeSetBlaze<T: Integer, A: Allocator = Global> {
-    // From the start of each run to its end.
+    // From the start of each run to its end (docs/DECISIONS.md, tree-map).
     map: BTreeMap<T, T, A>,
     length: T::SafeLen,
     // The map's allocator, for the sets that calls on this one make.
+    // (docs/DECISIONS.md, allocator-parameter)
     alloc: A,
 }
 

@@ -2,7 +2,7 @@
 //!
 //! `include/range_set.h` declares the exports, and lists the duties of a caller that no proof can
 //! check. The clauses of an export are about `kept.set`, the set that a handle points to, as the
-//! list of its runs.
+//! list of its runs. An export takes each handle by `&mut` (docs/DECISIONS.md, handle-by-mut).
 #![tactic(auto)]
 
 mod status;

@@ -1,4 +1,5 @@
--- What adding text to a page does to the text that waits there, and to the bytes of its writer.
+-- What adding text to a page does to the text that waits there, and to the bytes of its writer. A
+-- page has no `Model`: it would hide the reference, and then what the writer has at the end.
 use Rattle.std.specs.Prelude.{◌≡◌, ℕ, List, ◌++◌, MatchResult, Option, Result}
 use Rattle.std.specs.Io.KnownBytes.{Appends}
 use Rattle.rsb_parser.specs.declared.fault.Fault.{Fault}

@@ -1,4 +1,4 @@
-//! Text that is buffered before it is written.
+//! Text that is buffered before it is written (docs/DECISIONS.md, page).
 
 ghost use Rattle.std.specs.Prelude.{◌≡◌, ◌+◌, ◌≤◌, [], length, OnOk};
 ghost use Rattle.rsb_commands.specs.Page.{Lays, Waits, waiting};

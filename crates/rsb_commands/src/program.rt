@@ -1,4 +1,4 @@
-//! The program, from its input to its output and exit status.
+//! The program, from its input to its output and exit status (docs/DECISIONS.md, first-fault).
 
 ghost use Rattle.std.specs.Prelude.{◌≡◌, ◌≢◌, ◌<◌, [], ℕ, ℤ, Err, IfSome, List, OnOk, length};
 ghost use Rattle.std.specs.Io.KnownBytes.{IsAtEnd, Keeps};

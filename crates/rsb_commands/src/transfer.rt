@@ -1,4 +1,4 @@
-//! Writing a whole text, in as many calls as it takes.
+//! Writing a whole text, in as many calls as it takes (docs/DECISIONS.md, own-loops).
 
 ghost use Rattle.rsb_commands.specs.Transfer.{Writes};
 

@@ -1,4 +1,5 @@
--- Sets of ranks and their algebra. A rank is the position of a value in its type, starting at 0.
+-- Sets of ranks and their algebra. A rank is the position of a value in its type, starting at 0
+-- (docs/DECISIONS.md, predicates-on-ranks).
 use Rattle.std.specs.Prelude.{◌≡◌, ℕ, zero, suc, Bool, true, false, not, ◌&&◌, ◌||◌, cond, ◌+◌, ◌<◌, nat_le, nat_lt, List, [], ◌∷◌, IsTrue, IsFalse}
 
 -- A set of ranks, as a test that is true for its members.

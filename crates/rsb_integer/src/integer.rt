@@ -1,4 +1,5 @@
-//! The trait of element types.
+//! The trait of element types (docs/DECISIONS.md, one-element-trait). It requires neither
+//! `Send` nor `Sync` (docs/DECISIONS.md, no-send-above).
 
 ghost use Rattle.std.specs.Prelude.{◌≡◌, ◌↔◌, ℕ, ◌+◌, ◌^◌, ◌<◌, ◌≤◌, IsNone, IfSome};
 ghost use Rattle.std.specs.Ordering.{nat_cmp};
@@ -33,7 +34,7 @@ pub trait Integer: Copy + PartialEq + PartialOrd + Ord + Debug {
         + SubAssign;
 
     // The rank of a value, starting at 0. A term that is not a value, such as 256 for `u8`, has a
-    // rank of `value_count` or more.
+    // rank of `value_count` or more (docs/DECISIONS.md, rank-count-value).
     ghost rank: { Self → ℕ };
 
     // The number of values.
@@ -159,7 +160,8 @@ pub trait Integer: Copy + PartialEq + PartialOrd + Ord + Debug {
     // `value_at` gives a value with the given rank.
     ghost ranks: { (place : ℕ) → place < value_count → rank (value_at place) ≡ place };
 
-    // Values that compare as equal are equal, so no two values have the same rank.
+    // Values that compare as equal are equal, so no two values have the same rank
+    // (docs/DECISIONS.md, exact-of-all).
     ghost exact: { CmpEqualImpliesEq Self.cmp };
 
     // Values are ordered by rank.

@@ -1,4 +1,7 @@
 //! The unsigned types that `UIntPlusOne` extends by one number.
+//!
+//! `checked_difference` has the clause `value` because nothing else in generic code says that a
+//! number is at most the greatest one.
 
 ghost use Rattle.std.specs.Prelude.{◌≡◌, ◌↔◌, ℕ, ◌+◌, ◌-◌, ◌*◌, ◌<◌, ◌≤◌, ◌^◌, List, pos, Some, IsNone, IfSome, IsTrue, codes};
 ghost use Rattle.std.specs.Ordering.{nat_cmp};

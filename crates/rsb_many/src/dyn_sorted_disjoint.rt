@@ -1,4 +1,4 @@
-//! Streams of different types as streams of one type.
+//! Streams of different types as streams of one type (docs/DECISIONS.md, whole-lists).
 
 ghost use Rattle.std.specs.Iterator.{YieldsFirst, item_count};
 ghost use Rattle.std.specs.Prelude.{All, IfOk};

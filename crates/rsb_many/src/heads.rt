@@ -1,4 +1,5 @@
-//! The heads of inputs, in a binary heap. Only this module makes and sees keys.
+//! The heads of inputs, in a binary heap (docs/DECISIONS.md, own-heap). Only this module makes and
+//! sees keys.
 
 ghost use Rattle.std.specs.Prelude.{◌≡◌, ◌*◌, ◌+◌, ◌<◌, ◌≤◌, [], ◌∷◌, length, IfOk, IfSome, IsFalse, IsPermutation, MatchOption};
 ghost use Rattle.rsb_integer.specs.Rank.{interval_of};

@@ -1,5 +1,5 @@
 //! A program on ten range sets: reads commands in lines, runs them, and writes a line for each
-//! reply.
+//! reply (docs/DECISIONS.md, program-is-main).
 #![tactic(auto)]
 
 use rsb_commands::start;

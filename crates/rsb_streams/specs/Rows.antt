@@ -1,5 +1,6 @@
 -- Streams as rows, which are the members of `Draw`. A row states when a stream is ready, what a
--- draw returns and leaves, how many ranges are left, and what may still come.
+-- draw returns and leaves, how many ranges are left, and what may still come
+-- (docs/DECISIONS.md, rows).
 use Rattle.std.specs.Iterator.{Count}
 use Rattle.std.specs.Prelude.{List, Option}
 use Rattle.std.specs.declared.ops.RangeInclusive.{RangeInclusive}

@@ -15,7 +15,8 @@ use std::ops::RangeInclusive;
 /// supertrait with members, so each level of nesting adds only one dictionary to those that a call
 /// passes. A source is ready if a range may be drawn from it (`can_draw`).
 pub trait Draw<T: Integer>: Drop {
-    // Whether the source is ready, that is, a range may be drawn from it.
+    // Whether the source is ready, that is, a range may be drawn from it. Every call on streams
+    // requires this. For the streams of this crate it is the `can_next` of their iterators.
     ghost can_draw: { Self → Type 0 };
 
     // What a draw returns, and the state that it leaves.

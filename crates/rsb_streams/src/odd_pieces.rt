@@ -1,4 +1,6 @@
 //! The values in exactly one range of a source, if no value is in more than two of its ranges.
+//!
+//! Pieces may touch. The `UnionIter` above joins them, and so looks ahead by one range more.
 
 ghost use Rattle.std.specs.Iterator.{MakesProgress};
 ghost use Rattle.std.specs.Prelude.{

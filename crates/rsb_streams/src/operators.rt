@@ -1,4 +1,4 @@
-//! The operators on streams.
+//! The operators on streams. The right side is a stream (docs/DECISIONS.md, other-is-a-stream).
 
 mod bit_and;
 mod bit_or;

@@ -1,4 +1,4 @@
-//! Streams of ranges that ascend and may touch.
+//! Streams of ranges that ascend and may touch (docs/DECISIONS.md, touching-apart).
 
 ghost use Rattle.rsb_streams.specs.PutBack.{IsFresh};
 ghost use Rattle.rsb_streams.specs.Stream.{◌⊆◌, joined};

@@ -1,4 +1,5 @@
-//! An allocator that counts its calls, and that can fail from a given call onwards.
+//! An allocator that counts its calls, and that can fail from a given call onwards. A heap of
+//! bounded size can do neither.
 
 use std::alloc::{AllocError, Allocator};
 use std::cell::Cell;

@@ -1,5 +1,5 @@
 //! What the tests of the libraries share: ranges written as tables of their ends, and comparisons
-//! of streams and sets with such tables.
+//! of streams and sets with such tables (docs/DECISIONS.md, tests-on-top).
 #![tactic(auto)]
 
 pub mod any_types;

@@ -1,4 +1,5 @@
 //! Sets that another set changes in place: by an intersection, a difference or a symmetric difference.
+//! (docs/DECISIONS.md, assigned-anew)
 
 ghost use Rattle.std.specs.Prelude.{◌≡◌, IsOk, OnErr, OnOk};
 ghost use Rattle.rsb_integer.specs.Runs.{members};

@@ -93,6 +93,7 @@ pub(crate) fn put_entry<T: Integer, A: Allocator + Clone>(
     ensures succeeds { (other : Interval) → Contains (runs_of T.rank map.old.entries) other
         → other.first ≡ T.rank run.start → IsOk result }
 {
+    // A run that starts here gets a new end so, too (docs/DECISIONS.md, insert-at-start).
     map.insert(run.start, run.end)?;
     Ok(())
 }

@@ -109,6 +109,7 @@ impl<T: Integer, A: Allocator + Copy> RangeSetBlaze<T, A> {
     pub fn from_array<const N: usize>(alloc: A, values: [T; N]) -> Result<Self, AllocError>
         ensures members { IfOk result (λ set. IsSetOf set (ranks_of T.rank values)) }
     {
+        // (docs/DECISIONS.md, lists-for-arrays)
         Self::from_iter_values(alloc, Vec::from_array(alloc, values)?)
     }
 
@@ -153,6 +154,7 @@ impl<T: Integer, A: Allocator + Copy> RangeSetBlaze<T, A> {
         ensures err { OnErr result (AddsPrefixOf self.old self.new other.old) }
         ensures other { OnErr result (other.new ≡ other.old) }
     {
+        // If allocation fails, the other set stays whole (docs/DECISIONS.md, append-direction).
         self.bitor_assign(&*other)?;
         other.clear();
         Ok(())

@@ -1,4 +1,7 @@
 //! What a set keeps, made of a stream in one pass and of a list in order.
+//!
+//! The list comes first since std builds the map of a list in order in one pass. Each allocation of
+//! the list can fail.
 
 ghost use Rattle.std.specs.Prelude.{◌≡◌, IfOk};
 ghost use Rattle.rsb_integer.specs.Runs.{IsCanonicalIn};

@@ -221,7 +221,7 @@ fn touched<T: Integer, A: Allocator>(map: &BTreeMap<T, T, A>, run: Run<T>) -> Op
     })
 }
 
-// The last two runs that start at a value or before it.
+// The last two runs that start at a value or before it (docs/DECISIONS.md, last-reached-first).
 fn last_two<T: Integer, A: Allocator>(
     map: &BTreeMap<T, T, A>,
     value: T,
@@ -352,7 +352,8 @@ fn put<T: Integer, A: Allocator + Clone>(
     ensures succeeds { IsSome joining.first → IsOk result }
 {
     let run = joining.joined;
-    // The new entry comes before any other is taken out, since it may find no memory.
+    // The new entry comes before any other is taken out, since it may find no memory
+    // (docs/DECISIONS.md, put-then-take).
     put_entry(map, run)?;
     let others = without(joining.first, total);
     let mut length = take_in(map, run, joining.last, joining.before, others);

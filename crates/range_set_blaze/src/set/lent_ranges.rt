@@ -1,4 +1,7 @@
 //! The ranges that an iterator lends, by value.
+//!
+//! `cloned` would require that each clone succeeds. `T: Copy` says neither that nor that a clone
+//! equals its value.
 
 ghost use Rattle.std.specs.Prelude.{◌≡◌};
 ghost use Rattle.range_set_blaze.specs.Lent.{lent_steps, HaveSameRanks};

@@ -227,7 +227,8 @@ fn after_blanks<T: ParseInteger>(start: Option<T>, byte: u8) -> Option<Place<T>>
     after_sign(start, false, byte)
 }
 
-// The place after the first digit of a number.
+// The place after the first digit of a number. Numbers are read digit by digit, since the contract
+// of `str::parse` does not say where a text goes wrong.
 fn after_sign<T: ParseInteger>(start: Option<T>, negative: bool, byte: u8) -> Option<Place<T>>
     ensures { Steps T.number T.fits (Signed start negative) byte result }
 {

@@ -88,6 +88,7 @@ fn retain_runs<T: Integer, A: Allocator, F: FnMut(&RangeInclusive<T>) -> bool>(
             take_off_length(&mut length, run);
             take_entry(map, run.start);
         }
+        // The map's own `retain` does not say what a closure that changes a capture leaves there.
         next = run_after(map, run.end);
     }
     length

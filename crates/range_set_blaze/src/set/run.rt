@@ -1,4 +1,7 @@
 //! A run of values, and comparisons of values in ranks.
+//!
+//! In code a run is a `Run`. Pairs are only entries of the map. A `RangeInclusive` has a flag that
+//! a run does not need, and is not `Copy`.
 
 ghost use Rattle.std.specs.Prelude.{◌≡◌, ◌↔◌, ◌+◌, ◌-◌, ◌<◌, ◌≤◌, max, min, IfSome, IsNone, IsTrue};
 

@@ -1,5 +1,5 @@
 // Written by tools/c/narrow from src/u64_sets/handle.rt.
-//! The handle that C holds.
+//! The handle that C holds (docs/DECISIONS.md, handle-one-pointer).
 
 ghost use Rattle.std.specs.Prelude.{◌≡◌, ◌⊎◌, ◌<◌, [], IfOk, IsOk, MatchOption, OnErr};
 ghost use Rattle.range_set_c.specs.U32Handle.{handle_owns, kept_coded};

@@ -1,4 +1,4 @@
-//! The handle that C holds.
+//! The handle that C holds (docs/DECISIONS.md, handle-one-pointer).
 
 ghost use Rattle.std.specs.Prelude.{◌≡◌, ◌⊎◌, ◌<◌, [], IfOk, IsOk, MatchOption, OnErr};
 ghost use Rattle.range_set_c.specs.U64Handle.{handle_owns, kept_coded};

@@ -1,4 +1,5 @@
-//! A list of heads, with a count of the comparisons of their keys.
+//! A list of heads, with a count of the comparisons of their keys
+//! (docs/DECISIONS.md, count-without-brand).
 
 ghost use Rattle.std.specs.Prelude.{◌≡◌, ◌+◌, ◌<◌, ◌≤◌, ℕ, [], length, All, IfOk};
 ghost use Rattle.std.specs.Vec.{vec_capacity};
