@@ -1,4 +1,5 @@
-//! What a stream requires of the streams that it is built from.
+//! What a stream requires of the streams that it is built from
+//! (docs/DECISIONS.md, three-laws and draw-without-supertrait).
 
 ghost use Rattle.std.specs.Prelude.{Option};
 ghost use Rattle.std.specs.Iterator.{Count, MakesProgress};

@@ -42,7 +42,8 @@ pub(crate) struct OddPieces<T, I> {
     done: bool,
     // Where the next piece of the range that has begun and not ended starts.
     start: T,
-    // The end of that range, between two calls. During a call, the pending ends are in a vector.
+    // The end of that range, between two calls. During a call, the pending ends are in a vector
+    // (docs/DECISIONS.md, two-ends-in-call).
     end: Option<T>,
 }
 
