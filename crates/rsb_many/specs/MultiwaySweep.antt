@@ -91,9 +91,9 @@ module _ {T N I A : Type 0} (integer : Elements T N) (stream : Stream I T N) whe
     pub some : HasEvents (sweep_may_give s)
     pub ends : IsFinite (events_left s)
 
-  -- Whether a call gives an event that may come, followed by what may come afterwards. After `None`
-  -- the sweep is ready again and no events come. Few comparisons are made, and their count never
-  -- falls.
+  -- Whether a call gives an event that may come next, and leaves only what may follow it. After
+  -- `None` the sweep is ready again and no events come. Few comparisons are made, and their count
+  -- never falls.
   pub record Sweeps (s : MultiwaySweep T I A N) (item : Option (SweepEvent T))
       (t : MultiwaySweep T I A N) : Type 0 where
     pub answers : MatchOption item (sweep_may_give s [])
