@@ -1,4 +1,4 @@
-//! What a set keeps, made of a stream in one pass and of a list in order.
+//! What a set keeps, built from a stream in one pass.
 
 ghost use Rattle.std.specs.Prelude.{◌≡◌, IfOk};
 ghost use Rattle.rsb_integer.specs.Runs.{IsCanonicalIn};
@@ -10,7 +10,7 @@ use rsb_streams::DrawDisjoint;
 use std::alloc::{AllocError, Allocator};
 use std::collections::BTreeMap;
 
-/// The runs of a stream as entries, and how many members they have.
+/// Returns the runs of a ready stream as entries, and the number of their members.
 pub(crate) fn gathered<T: Integer, A: Allocator, I: DrawDisjoint<T>>(
     alloc: A,
     iter: I,
@@ -31,7 +31,7 @@ pub(crate) fn gathered<T: Integer, A: Allocator, I: DrawDisjoint<T>>(
     Ok((entries, length))
 }
 
-/// The map of entries that come in order, built in one pass.
+/// Returns the map of entries that are in ascending order, built in one pass.
 pub(crate) fn map_of<T: Integer, A: Allocator + Clone>(
     alloc: A,
     entries: Vec<(T, T), A>,
