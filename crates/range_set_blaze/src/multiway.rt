@@ -196,7 +196,7 @@ trait GivesRuns<T: Integer>: Sized {
         ensures one_more { (sets : List Self)
             → shown (sets ++ self ∷ []) ≡ shown sets ++ given result ∷ [] };
 
-    // No sets have no runs.
+    // The empty list of sets has no lists of runs.
     ghost none: { shown [] ≡ [] };
 
     // The stream gives its runs and nothing else.
