@@ -84,8 +84,8 @@ module _ {T : Type 0} (rank : T → ℕ) (n : ℕ) (runs : List Interval) where
 abbrev pub Has : List Interval → Selection → Type 0
 Has set selected = (rank : ℕ) → IsTrue (selected rank) → IsTrue (members set rank)
 
--- Whether the new entries and the length represent a set of the members of the old entries and of
--- the run, and the run has a rank that was no member.
+-- Whether the new entries and the length represent a set: the members of the old entries, and those
+-- of the run. Some rank of the run was no member before.
 pub record IsInserted {T : Type 0} (rank : T → ℕ) (n : ℕ) (old new : List (T × T)) (run : Run T)
     (length : ℕ) : Type 0 where
   pub kept : IsKept rank n new length

@@ -115,8 +115,8 @@ later-elements n low (suc more) rank selected all past none = elim (true_or_fals
       ]))
 ]
 
--- If two sets first differ at this rank and the left one has it, their order is that of the lists
--- of their elements from there on.
+-- If two sets first differ at this rank and the left one has it, they compare as the lists of their
+-- elements from there on.
 first-order : (n rank : ℕ) (left right : Selection) (others rest : List ℕ)
     → DiffersAt n left right rank → later-at n right rank others
     → HasOrder n left right (slice_cmp nat_cmp (rank ∷ rest) others)

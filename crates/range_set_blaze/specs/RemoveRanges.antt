@@ -28,8 +28,8 @@ abbrev pub IsSameOutside : Interval → List Interval → List Interval → Type
 IsSameOutside range old new = (rank : ℕ) → IsFalse (covers range rank)
     → members new rank ≡ members old rank
 
--- Whether the new entries and the length represent a set that has the members of the old one
--- outside the range and lacks its last rank. So no run goes on past the range.
+-- Whether the new entries and the length represent a set with the members of the old one outside
+-- the range, and without its last rank. So no run goes on past the range.
 pub record IsNarrowed {T : Type 0} (rank : T → ℕ) (n : ℕ) (range : Interval)
     (old new : List (T × T)) (length : ℕ) : Type 0 where
   pub kept : IsKept rank n new length

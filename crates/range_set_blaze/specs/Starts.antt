@@ -85,8 +85,8 @@ pub record IsJoined (n : ℕ) (fewer : List Interval) (run : Interval) (more : L
     pub has : (rank : ℕ) → members more rank ≡ (members fewer rank || covers run rank)
     pub counted : count n (members more) ≡ count n (members fewer) + length_of run
 
--- Whether the gap that has the point ends at this rank: no rank past the point and up to it is a
--- member, and the next rank is a member or past the type.
+-- Whether the gap that has the point ends at this rank. No rank past the point and up to this one
+-- is a member. The next rank is a member or past the type.
 pub record IsGapEnd (n : ℕ) (runs : List Interval) (point rank : ℕ) : Type 0 where
   pub from : point ≤ rank
   pub in_type : rank < n

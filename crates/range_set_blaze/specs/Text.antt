@@ -46,8 +46,8 @@ module _ {T : Type 0} (number : T → ℤ) (fits : ℤ → Type 0) where
     pub is : number value ≡ signed_by negative (magnitude * 10 + digit)
     pub of_type : fits (signed_by negative (magnitude * 10 + digit))
 
-  -- Whether the text goes on with any number of digits of the number `value`, and the rest of it is
-  -- as `Rest` says of the whole number.
+  -- Whether the text goes on with any number of digits of the number `value`. The rest of it is as
+  -- `Rest` says of the whole number.
   abbrev pub DigitsThen : Bool → (T → List ℕ → Type 0) → T → List ℕ → Type 0
   DigitsThen negative Rest value [] = Rest value []
   DigitsThen negative Rest value (first ∷ rest) = Rest value (first ∷ rest)
@@ -63,7 +63,7 @@ module _ {T : Type 0} (number : T → ℤ) (fits : ℤ → Type 0) where
       × HasDigit negative 0 (digit_value first) next × DigitsThen negative Rest next rest
 
   -- Whether the text starts with an optional sign and digits, and the rest of it is as `Rest` says
-  -- of the number. 43 is '+', and 45 is '-'.
+  -- of the number. The codes are 43 for '+' and 45 for '-'.
   abbrev pub SignedThen : (T → List ℕ → Type 0) → List ℕ → Type 0
   SignedThen Rest text = NumeralThen false Rest text
       ⊎ (Then 43 (NumeralThen false Rest) text ⊎ Then 45 (NumeralThen true Rest) text)
@@ -79,13 +79,14 @@ module _ {T : Type 0} (number : T → ℤ) (fits : ℤ → Type 0) where
   abbrev pub EndThen : RangeInclusive T → (List ℕ → Type 0) → T → T → List ℕ → Type 0
   EndThen range Rest start end text = (range ≡ range_of (start, end)) × Rest text
 
-  -- Whether the range has only this number, or `..=` and its end come next, and the rest of the
-  -- text is as `Rest` says. 46 is '.', and 61 is '='.
+  -- Whether the range has only this number, or `..=` and its end come next. The rest of the text is
+  -- as `Rest` says. The codes are 46 for '.' and 61 for '='.
   abbrev pub StartThen : RangeInclusive T → (List ℕ → Type 0) → T → List ℕ → Type 0
   StartThen range Rest start text = EndThen range Rest start start text
       ⊎ Then 46 (Then 46 (Then 61 (NumberThen (EndThen range Rest start)))) text
 
-  -- Whether the text is at its end, or goes on with a comma and the other ranges. 44 is ','.
+  -- Whether the text is at its end, or goes on with a comma and the other ranges. The code of ','
+  -- is 44.
   abbrev pub OthersFollow : List (RangeInclusive T) → List ℕ → Type 0
   OthersFollow [] text = text ≡ []
   OthersFollow (range ∷ others) text =

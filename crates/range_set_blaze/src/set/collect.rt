@@ -1,5 +1,4 @@
-//! `FromIterator` and `Extend` for sets. Each returns what the call of that name on the set
-//! returns.
+//! `FromIterator` and `Extend` for sets. Each returns what the set's own call returns.
 
 ghost use Rattle.std.specs.Iterator.{ExtendsWithItems};
 ghost use Rattle.std.specs.Prelude.{OnOk};

@@ -18,8 +18,8 @@ fn fourths(alloc: Global, first: i32) -> Result<RangeSetBlaze<i32>, AllocError> 
     RangeSetBlaze::from_iter_values(alloc, (first..=last).step_by(4))
 }
 
-/// A making from the set of the fourths from 0 on and that of the fourths from 2 on, and the
-/// numbers of runs and of members of its result.
+/// A making from the fourths from 0 on and those from 2 on, and the numbers of runs and of members
+/// of its result.
 static MADE: [(Making, usize, u64); 9] = [
     (Making::Clone, 1_000_100, 1_000_100),
     (Making::Bitor, 2_000_200, 2_000_200),
