@@ -53,7 +53,7 @@ pub struct RangeSetBlaze<T: Integer, A: Allocator = Global> {
     // From the start of each run to its end.
     map: BTreeMap<T, T, A>,
     length: T::SafeLen,
-    // The map's allocator, for the sets that calls on this one make.
+    // The map's allocator, which calls on this set use to make other sets.
     alloc: A,
 }
 
