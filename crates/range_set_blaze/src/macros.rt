@@ -26,10 +26,10 @@ macro_rules! intersection_dyn {
     }};
 }
 
-/// Returns the values in an odd number of the given streams: `symmetric_difference_dyn!(alloc, a,
-/// b, ..)`. The streams may have different types; it collects the ranges of each into a list. Of no
-/// streams, the result is empty. If allocation fails, it still evaluates the arguments that follow,
-/// and drops every stream.
+/// Returns the values in an odd number of the given streams:
+/// `symmetric_difference_dyn!(alloc, a, b, ..)`. The streams may have different types; it collects
+/// the ranges of each into a list. Of no streams, the result is empty. If allocation fails, it
+/// still evaluates the arguments that follow, and drops every stream.
 #[macro_export]
 macro_rules! symmetric_difference_dyn {
     ($alloc:expr $(, $stream:expr)* $(,)?) => {{

@@ -112,10 +112,9 @@ impl<T: Integer, A: Allocator + Copy> RangeSetBlaze<T, A> {
         Self::from_iter_values(alloc, Vec::from_array(alloc, values)?)
     }
 
-    /// Adds the members of another set. Inserts one run after the other if the other set has few
-    /// runs, and otherwise takes one pass over both sets. If allocation fails, a prefix of the
-    /// other's runs is added. (`BitOrAssign` of `RangeSetBlaze`: `a.bitor_assign(&b)?` for `a |=
-    /// &b`.)
+    /// Adds the members of another set. Inserts its runs one by one if they are few, and otherwise
+    /// takes one pass over both sets. If allocation fails, a prefix of the other's runs is added.
+    /// (`BitOrAssign` of `RangeSetBlaze`: `a.bitor_assign(&b)?` for `a |= &b`.)
     pub fn bitor_assign<B: Allocator>(
         &mut self,
         other: &RangeSetBlaze<T, B>,
