@@ -1,5 +1,5 @@
--- What iterators over elements stand for: a set of ranks, of which the least and the greatest are
--- taken out.
+-- What iterators over elements stand for: a set of ranks, from which calls take the least and the
+-- greatest.
 use Rattle.std.specs.Prelude.{◌≡◌, ◌↔◌, ℕ, ◌+◌, ◌*◌, cond, false, List, [], ◌∷◌, ◌++◌, Option, Some, None, IsNone, IfSome, MatchOption}
 use Rattle.std.specs.Iterator.{Count, YieldsLast, size}
 use Rattle.std.specs.declared.ops.RangeInclusive.{RangeInclusive}
@@ -12,57 +12,59 @@ use Rattle.rsb_streams.specs.Stream.{Outcomes, ◌⊆◌, run_if_any}
 use Rattle.range_set_blaze.specs.Set.{only, IsGreatest, IsLeast}
 use Rattle.range_set_blaze.specs.declared.iter.Iter.{Iter}
 
--- ---- one element is taken out of a set
+-- ---- one element is removed from a set
 
--- the set without the value, if there is one
+-- The set without the value, if there is one.
 abbrev pub without : {T : Type 0} → (T → ℕ) → Selection → Option T → Selection
 without rank selected None = selected
 without rank selected (Some value) = difference selected (only (rank value))
 
 module _ {T : Type 0} (rank : T → ℕ) where
-  -- the item is a member that is found in the old set, or `None` exactly where that has none, and
-  -- the new set is the old one without it
+  -- Whether the item is the member that `IsFound` finds in the old set, and `None` exactly if that
+  -- set is empty. The new set is the old one without the item.
   pub record Takes (IsFound : Selection → ℕ → Type 0) (old : Selection) (item : Option T)
       (new : Selection) : Type 0 where
     pub none : IsNone item ↔ IsEmpty old
     pub found : IfSome item (λ value. IsFound old (rank value))
     pub rest : (point : ℕ) → new point ≡ without rank old item point
 
-  -- the item is the least member
+  -- Whether the item is the least member.
   abbrev pub TakesLeast : ℕ → Selection → Option T → Selection → Type 0
   TakesLeast n = Takes (IsLeast n)
 
-  -- the item is the greatest member
+  -- Whether the item is the greatest member.
   abbrev pub TakesGreatest : ℕ → Selection → Option T → Selection → Type 0
   TakesGreatest n = Takes (IsGreatest n)
 
 -- ---- what is left of an iterator over the elements of a stream
 
--- the interval of a range, where it has a rank
+-- The interval of a range, or none if the range is empty.
 abbrev pub held : {T : Type 0} → (T → ℕ) → RangeInclusive T → List Interval
 held rank range = run_if_any (interval_of rank range)
 
--- the stream, and whether it has ended
+-- The stream, and whether it has ended.
 abbrev pub stream_of : {T I : Type 0} → Iter T I → Fused I
 stream_of s = record { iter = s.ranges; done = s.done }
 
--- nothing is taken of the stream yet
+-- Whether nothing was taken from the stream yet.
 pub record IsWhole {T I : Type 0} (rank : T → ℕ) (ranges : I) (s : Iter T I) : Type 0 where
   pub source : s.ranges ≡ ranges
   pub undone : s.done ≡ false
   pub front : HasNoRanks (interval_of rank s.front)
   pub back : HasNoRanks (interval_of rank s.back)
 
--- these intervals, between what is held from the front and what is held from the back
+-- These intervals, between those held from the front and from the back.
 abbrev pub between_ends : {T I : Type 0} → (T → ℕ) → Iter T I → List Interval → List Interval
 between_ends rank s rest = held rank s.front ++ (rest ++ held rank s.back)
 
--- what is held from both ends, and between it what the stream may still give
+-- Whether the runs are those held from both ends, with something between them that the stream may
+-- still give.
 abbrev pub left_between : {T I : Type 0} → (T → ℕ) → (I → Outcomes) → Iter T I → Outcomes
 left_between rank may_give s runs = (rest : List Interval)
     × fused_may_give may_give (stream_of s) rest × (runs ≡ between_ends rank s rest)
 
--- at most as many elements as are held, and as there are values for each range to come
+-- The greatest number of elements left: those that are held, and as many as the type has values for
+-- each range to come.
 abbrev pub elements_left : {T I : Type 0} → (T → ℕ) → ℕ → (I → Count) → Iter T I → Count
 elements_left rank n left s = record {
   bounded = (left s.ranges).bounded;
@@ -70,7 +72,7 @@ elements_left rank n left s = record {
       + cond s.done 0 (size (left s.ranges) * n);
 }
 
--- how many ranges the stream still gives
+-- The greatest number of ranges that the stream still gives.
 abbrev pub ranges_left : {T I : Type 0} → (I → Count) → Iter T I → Count
 ranges_left left s = record {
   bounded = (left s.ranges).bounded;
@@ -79,28 +81,29 @@ ranges_left left s = record {
 
 module _ {T I : Type 0} (rank : T → ℕ) (n : ℕ) (can_draw : I → Type 0)
     (may_give : I → Outcomes) where
-  -- the stream may be drawn from or has ended, and what is left is canonical
+  -- Whether the stream is ready or has ended, and what is left is canonical.
   pub record IsReady (s : Iter T I) : Type 0 where
     pub callable : fused_can can_draw (stream_of s)
     pub canonical : left_between rank may_give s ⊆ IsCanonicalIn n
 
-  -- so the iterator may be called, in a word that no search looks into: `rev` asks it of the
-  -- iterator that it holds
+  -- Whether the iterator may be called. No search unfolds this word: `rev` requires it of the
+  -- iterator that it holds.
   unfoldable pub ElementsReady : Iter T I → Type 0
   ElementsReady s = IsReady s
 
-  -- what it says
+  -- Gives what `ElementsReady` says.
   pub is_ready : (s : Iter T I) → ElementsReady s → IsReady s
   unfolding ElementsReady
   is_ready s ready = ready
 
-  -- and how it is shown
+  -- Shows `ElementsReady`.
   pub elements_ready : (s : Iter T I) → IsReady s → ElementsReady s
   unfolding ElementsReady
   elements_ready s ready = ready
 
-  -- whatever may be left after the call, something was left before it of which the item was taken,
-  -- and the iterator may be called again
+  -- Whether the iterator may be called again after a call, and the item was taken from what was
+  -- left. For each list that may be left after the call, one that might be left before it becomes
+  -- that list once the item is removed.
   pub record Gives (IsFound : Selection → ℕ → Type 0) (s : Iter T I) (item : Option T)
       (t : Iter T I) : Type 0 where
     pub ready : ElementsReady t
@@ -108,17 +111,18 @@ module _ {T I : Type 0} (rank : T → ℕ) (n : ℕ) (can_draw : I → Type 0)
         → (before : List Interval) × left_between rank may_give s before
         × Takes rank IsFound (members before) item (members after)
 
-  -- the item was the least member
+  -- Whether the item was the least member.
   abbrev pub GivesLeast : Iter T I → Option T → Iter T I → Type 0
   GivesLeast = Gives (IsLeast n)
 
-  -- the item was the greatest member
+  -- Whether the item was the greatest member.
   abbrev pub GivesGreatest : Iter T I → Option T → Iter T I → Type 0
   GivesGreatest = Gives (IsGreatest n)
 
   -- ---- streams that go from both ends (docs/DECISIONS.md, goes-back)
 
-  -- what a call from the back answered comes last, after what may come once it is answered
+  -- Whether the range that a call from the back returned comes last, after what may come once it is
+  -- returned.
   abbrev pub AnswersLast : I → Option (RangeInclusive T) → I → Type 0
   AnswersLast s item t = MatchOption item (may_give s [])
       (λ range. (rest : List Interval) → may_give t rest
@@ -126,40 +130,40 @@ module _ {T I : Type 0} (rank : T → ℕ) (n : ℕ) (can_draw : I → Type 0)
 
   module _ (can_next_back : I → Type 0) (back_gives : I → Option (RangeInclusive T) → I → Type 0)
     where
-      -- the stream may be asked from the one end where it may be asked from the other, and answers
-      -- from the back what may come last
+      -- Whether the stream may be called from the back exactly if it is ready, and calls from the
+      -- back return what may come last.
       pub record GoesBack : Type 0 where
         pub callable : (s : I) → can_draw s → can_next_back s
         pub drawable : (s : I) → can_next_back s → can_draw s
         pub answers : (s t : I) (item : Option (RangeInclusive T)) → back_gives s item t
             → AnswersLast s item t
 
-      -- the stream goes from both ends, and the iterator may be called
+      -- Whether the stream goes from both ends, and the iterator may be called.
       pub record ElementsReadyBack (s : Iter T I) : Type 0 where
         pub both_ends : GoesBack
         pub ready : ElementsReady s
 
--- ---- where the state of the stream shows the list of the ranges to come
+-- ---- streams whose state shows the list of the ranges to come
 
 module _ {T : Type 0} (rank : T → ℕ) (n : ℕ) where
-  -- the list is canonical
+  -- Whether the list is canonical.
   abbrev pub IsListReady : List (RangeInclusive T) → Type 0
   IsListReady ranges = IsCanonicalIn n (intervals_of rank ranges)
 
-  -- it may be called
+  -- Whether the iterator may be called from the front.
   abbrev pub ListedReady : Iter T (List (RangeInclusive T)) → Type 0
   ListedReady = ElementsReady rank n IsListReady (listed_may_give rank (λ ranges. ranges))
 
-  -- it may be called from the back
+  -- Whether the iterator may be called from both ends.
   abbrev pub ListedReadyBack : Iter T (List (RangeInclusive T)) → Type 0
   ListedReadyBack = ElementsReadyBack rank n IsListReady (listed_may_give rank (λ ranges. ranges))
       IsListReady (YieldsLast (λ ranges. ranges))
 
--- what is left, as intervals in ascending order
+-- What is left, as intervals in ascending order.
 abbrev pub runs_left : {T : Type 0} → (T → ℕ) → Iter T (List (RangeInclusive T)) → List Interval
 runs_left rank s = between_ends rank s (cond s.done [] (intervals_of rank s.ranges))
 
--- the iterator may be called from both ends, and has the members of the set
+-- Whether the iterator may be called from both ends, and has the members of the set.
 pub record IsOverSet {T : Type 0} (rank : T → ℕ) (n : ℕ) (set : List Interval)
     (elements : Iter T (List (RangeInclusive T))) : Type 0 where
   pub runs : runs_left rank elements ≡ set

@@ -1,34 +1,34 @@
--- What the contracts of a set say where the first run, or the first gap, of some length is looked for.
+-- The first run, or the first gap, of at least some length.
 use Rattle.std.specs.Prelude.{ℕ, ◌+◌, ◌<◌, ◌≤◌, List, IsFalse, IsTrue}
 use Rattle.rsb_integer.specs.Runs.{Interval, length_of, members, IsMaximalRun}
 use Rattle.rsb_integer.specs.Selection.{Selection}
 
 module _ (n : ℕ) (selected : Selection) (len : ℕ) where
-  -- every maximal run is shorter
+  -- Whether every maximal run is shorter than `len`.
   abbrev pub AllShorter : Type 0
   AllShorter = (run : Interval) → IsMaximalRun n selected run → length_of run < len
 
-  -- every maximal run that starts before the rank is shorter
+  -- Whether every maximal run that starts before the rank is shorter than `len`.
   abbrev pub AllShorterBefore : ℕ → Type 0
   AllShorterBefore rank = (run : Interval) → IsMaximalRun n selected run → run.first < rank
       → length_of run < len
 
-  -- the run is the first maximal one that has at least the length
+  -- Whether the run is the first maximal one of at least this length.
   pub record IsFirstFit (run : Interval) : Type 0 where
     pub maximal : IsMaximalRun n selected run
     pub long : len ≤ length_of run
     pub first : AllShorterBefore run.first
 
--- the block of ranks that starts at the rank is of the type, and none of it is a member
+-- Whether the block of `len` ranks from `start` on is in the type, and none of them is a member.
 pub record IsFree (n : ℕ) (set : List Interval) (start len : ℕ) : Type 0 where
   pub in_type : start + len ≤ n
   pub free : (rank : ℕ) → start ≤ rank → rank < start + len → IsFalse (members set rank)
 
--- every rank from one on is a member
+-- Whether every rank of the type from `from` on is a member.
 abbrev pub HasAllFrom : ℕ → List Interval → ℕ → Type 0
 HasAllFrom n set from = (rank : ℕ) → from ≤ rank → rank < n → IsTrue (members set rank)
 
--- the rank is the first from another on that is no member
+-- Whether the rank is the first from `from` on that is no member.
 pub record IsFirstFree (n : ℕ) (set : List Interval) (from rank : ℕ) : Type 0 where
   pub later : from ≤ rank
   pub in_type : rank < n

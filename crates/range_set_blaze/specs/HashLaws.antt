@@ -1,4 +1,4 @@
--- Why equal sets feed a hasher the same: a law cites no `proofs/`.
+-- Equal sets feed a hasher the same. It is in `specs/` because a law cites no `proofs/`.
 use Rattle.std.specs.Hash.{HashWrites}
 use Rattle.std.specs.Prelude.{◌≡◌, ℕ, true, false, ◌&&◌, nat_lt, ◌++◌, ◌≤◌, List, flat_map}
 use Rattle.std.proofs.Common.{sym, ◌∙◌, ap, inl, inr, arith}
@@ -10,11 +10,11 @@ use Rattle.rsb_integer.proofs.CountLemmas.{count-agree}
 use Rattle.range_set_blaze.specs.Hash.{selected_below, bounds_from, hashed_runs}
 use Rattle.range_set_blaze.specs.OrderLaws.{set_eq, same-agree}
 
--- a rank from n on is not below n
+-- A rank of n or more is not below n.
 nat_lt-past : (rank n : ℕ) → n ≤ rank → nat_lt rank n ≡ false
 nat_lt-past rank n most = grind (arith, nat_tests)
 
--- sets that agree have the same ranks below n
+-- Sets that agree have the same ranks below n.
 selected_below-agree : (n : ℕ) (left right : Selection) → Agree n left right → (rank : ℕ)
     → selected_below n left rank ≡ selected_below n right rank
 selected_below-agree n left right same rank = elim (cases_lt rank n) [
@@ -24,7 +24,7 @@ selected_below-agree n left right same rank = elim (cases_lt rank n) [
       ap (λ test. test && left rank) past ∙ sym (ap (λ test. test && right rank) past)
 ]
 
--- sets that `==` finds equal feed the same
+-- Sets that are equal by `==` feed the same.
 pub hashed_runs-same : (length_fed value_fed : ℕ → HashWrites) (n : ℕ) (left right : List Interval)
     → set_eq n left right ≡ true
     → hashed_runs length_fed value_fed n left ≡ hashed_runs length_fed value_fed n right

@@ -1,4 +1,4 @@
--- Runs that a new one touches, and what it makes with them.
+-- A new run and the runs that it touches.
 use Rattle.std.specs.Prelude.{◌≡◌, ℕ, true, false, ◌||◌, ◌+◌, ◌<◌, ◌≤◌, List, Option, MatchOption, Contains, IsTrue}
 use Rattle.rsb_integer.specs.Runs.{Interval, covers, members, IsCanonicalIn}
 use Rattle.rsb_integer.specs.Selection.{Selection, count, LacksSome}
@@ -10,17 +10,18 @@ use Rattle.range_set_blaze.specs.declared.set.insert.Joining.{Joining}
 
 -- ---- runs that start inside another
 
--- the run starts inside the other, past the start of that
+-- Whether the run is one of the list, and starts inside the joined one, past its start.
 pub record IsInside (runs : List Interval) (joined run : Interval) : Type 0 where
   pub among : Contains runs run
   pub later : joined.first < run.first
   pub within : run.first ≤ joined.last
 
--- none starts there
+-- Whether no run starts inside the joined one, past its start.
 abbrev pub NoneInside : List Interval → Interval → Type 0
 NoneInside runs joined = (run : Interval) → IsInside runs joined run → ⊥
 
--- the run starts there, if there is one, and another does, or else no other
+-- Whether `last` starts inside the joined run, and `before` does too but before `last`. `last` is
+-- `None` if no run does, and `before` is `None` if no other does.
 abbrev pub KnowsInside : {T : Type 0} → (T → ℕ) → List Interval → Interval → Option (Run T)
     → Option (Run T) → Type 0
 KnowsInside rank runs joined last before = MatchOption last (NoneInside runs joined) (λ run.
@@ -28,8 +29,8 @@ KnowsInside rank runs joined last before = MatchOption last (NoneInside runs joi
     ((other : Interval) → IsInside runs joined other → other.first ≡ rank run.start)
     (λ other. IsInside runs joined (run_of rank other) × (rank other.start < rank run.start)))
 
--- one run stands among others that are canonical without it, and some of which may start inside it:
--- these it takes in, and it touches no others
+-- Whether the joined run is among others that are canonical without it. Some of those may start
+-- inside it, but apart from them it touches none. `others` is the number of their members.
 pub record IsOver (n : ℕ) (now : List Interval) (joined : Interval) (others : ℕ) : Type 0 where
   pub rest : List Interval
   pub parts : now ≡ with_run joined rest
@@ -41,19 +42,20 @@ pub record IsOver (n : ℕ) (now : List Interval) (joined : Interval) (others : 
   pub ends : members rest (joined.last + 1) ≡ false
   pub counted : others ≡ count n (members rest)
 
--- ---- what a run makes with those that it touches
+-- ---- a run joined with those that it touches
 
--- the run reaches the start of another, from there or from before
+-- Whether the run is one of the list, starts at or before `start`, and contains or touches it.
 pub record IsReaching (runs : List Interval) (start : ℕ) (run : Interval) : Type 0 where
   pub among : Contains runs run
   pub starts : run.first ≤ start
   pub reaches : start ≤ run.last + 1
 
--- neither the rank nor the one before it is a member
+-- Whether neither the rank nor the one before it is a member.
 abbrev pub IsUnreached : List Interval → ℕ → Type 0
 IsUnreached runs start = (rank : ℕ) → rank ≤ start → start ≤ rank + 1 → members runs rank ≡ false
 
--- the joined run has the run and else members alone, and has no member right before or after it
+-- Whether the joined run has the run and otherwise only members, and no member is right before or
+-- after it.
 pub record IsHull (runs : List Interval) (run joined : Interval) : Type 0 where
   pub first : joined.first ≤ run.first
   pub last : run.last ≤ joined.last
@@ -62,7 +64,8 @@ pub record IsHull (runs : List Interval) (run joined : Interval) : Type 0 where
   pub ends : members runs (joined.last + 1) ≡ false
 
 module _ {T : Type 0} (rank : T → ℕ) (n : ℕ) (runs : List Interval) where
-  -- the joined run touches those that are told, and no others
+  -- Whether the joined run covers the runs that `joining` names and those that start inside it, and
+  -- touches no others.
   pub record IsJoining (joining : Joining T) : Type 0 where
     pub ordered : rank joining.joined.start ≤ rank joining.joined.end
     pub in_type : rank joining.joined.end < n
@@ -75,14 +78,14 @@ module _ {T : Type 0} (rank : T → ℕ) (n : ℕ) (runs : List Interval) where
         × (rank first.end ≤ rank joining.joined.end))
     pub inside : KnowsInside rank runs (run_of rank joining.joined) joining.last joining.before
 
--- ---- what an insertion makes of them
+-- ---- what an insertion does
 
--- every selected rank is a member
+-- Whether every selected rank is a member.
 abbrev pub Has : List Interval → Selection → Type 0
 Has set selected = (rank : ℕ) → IsTrue (selected rank) → IsTrue (members set rank)
 
--- the new entries are kept with this length, and have the members of the old ones and those of the
--- run, one of which is new
+-- Whether the new entries and the length represent a set: the members of the old entries, and those
+-- of the run. Some rank of the run was no member before.
 pub record IsInserted {T : Type 0} (rank : T → ℕ) (n : ℕ) (old new : List (T × T)) (run : Run T)
     (length : ℕ) : Type 0 where
   pub kept : IsKept rank n new length

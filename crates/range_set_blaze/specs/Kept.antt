@@ -1,36 +1,36 @@
--- How a set is kept: as a map from the starts of its runs to their ends, and its length.
+-- The representation of a set: a map from the starts of its runs to their ends, and its length.
 use Rattle.std.specs.Prelude.{◌≡◌, ℕ, false, List, map}
 use Rattle.std.specs.declared.ops.RangeInclusive.{RangeInclusive}
 use Rattle.rsb_integer.specs.Runs.{Interval, members, IsCanonicalIn}
 use Rattle.rsb_integer.specs.Selection.{count}
 use Rattle.range_set_blaze.specs.declared.set.run.Run.{Run}
 
--- the ranks of a run
+-- The interval of the ranks of a run.
 abbrev pub run_of : {T : Type 0} → (T → ℕ) → Run T → Interval
 run_of rank run = record { first = rank run.start; last = rank run.end }
 
--- a run as an entry of the map
+-- A run as an entry of the map.
 abbrev pub entry_of : {T : Type 0} → Run T → T × T
 entry_of run = (run.start, run.end)
 
--- the ranks of the run of an entry
+-- The interval of the ranks of the run of an entry.
 abbrev pub entry_run : {T : Type 0} → (T → ℕ) → T × T → Interval
 entry_run rank entry = record { first = rank entry.0; last = rank entry.1 }
 
--- the ranks of the run of each entry
+-- The intervals of the ranks of the runs of entries.
 abbrev pub runs_of : {T : Type 0} → (T → ℕ) → List (T × T) → List Interval
 runs_of rank entries = map (entry_run rank) entries
 
--- the values of the run of an entry, as a range
+-- The run of an entry, as a range of values.
 abbrev pub range_of : {T : Type 0} → T × T → RangeInclusive T
 range_of entry = record { start = entry.0; end = entry.1; exhausted = false }
 
--- the values of the run of each entry, as ranges
+-- The runs of entries, as ranges of values.
 abbrev pub ranges_of : {T : Type 0} → List (T × T) → List (RangeInclusive T)
 ranges_of entries = map range_of entries
 
--- the runs are canonical in a type of n values, and the length that is kept is the number of their
--- members
+-- Whether the runs are canonical in a type of n values, and the stored length is the number of
+-- their members.
 pub record IsKept {T : Type 0} (rank : T → ℕ) (n : ℕ) (entries : List (T × T)) (kept : ℕ) : Type 0
   where
     pub canonical : IsCanonicalIn n (runs_of rank entries)

@@ -1,4 +1,4 @@
--- Values and ranges that an iterator lends.
+-- Values and ranges that an iterator gives by reference.
 use denote.Ref.{Bor}
 use Rattle.std.specs.Prelude.{◌≡◌, ℕ, List, map, Option, None, Some, MatchOption}
 use Rattle.std.specs.declared.ops.RangeInclusive.{RangeInclusive}
@@ -6,16 +6,17 @@ use Rattle.rsb_integer.specs.Rank.{interval_of}
 use Rattle.rsb_integer.specs.Runs.{covers}
 use Rattle.range_set_blaze.specs.declared.set.lent_ranges.LentRanges.{LentRanges}
 
--- what the references point to
+-- The values that the references point to.
 abbrev pub pointed_to : {T : Type 0} → List (Bor T) → List T
 pointed_to lent = map (λ item. item.now) lent
 
--- two ranges have the same ranks
+-- Whether two ranges have the same ranks.
 abbrev pub HaveSameRanks : {T : Type 0} → (T → ℕ) → RangeInclusive T → RangeInclusive T → Type 0
 HaveSameRanks rank one other = (point : ℕ)
     → covers (interval_of rank one) point ≡ covers (interval_of rank other) point
 
--- a call answers a range with the ranks of the one that a call of the iterator inside lends
+-- Whether a call returns a range with the ranks of the one that the iterator inside gives by
+-- reference.
 abbrev pub lent_steps : {T I : Type 0} → (T → ℕ)
     → (I → Option (Bor (RangeInclusive T)) → I → Type 0) → LentRanges I
     → Option (RangeInclusive T) → LentRanges I → Type 0

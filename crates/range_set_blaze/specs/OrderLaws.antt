@@ -1,4 +1,4 @@
--- Why the comparisons of sets keep their laws: a law cites no `proofs/`.
+-- The comparisons of sets keep their laws. It is in `specs/` because a law cites no `proofs/`.
 use Rattle.std.specs.Prelude.{◌≡◌, ◌⊎◌, ℕ, zero, suc, Bool, true, false, cond, ◌+◌, ◌<◌, List, [], ◌∷◌, Some}
 use Rattle.std.specs.Cmp.{IsEquivalence, IsPartialEquivalence, IsPartialOrder, IsTotalOrder, both_ways, eq_by_cmp_equiv, on_total, partial_equiv_from_equiv, po}
 use Rattle.std.specs.Cmp.Lexicographic.{slice_cmp, nat_list_cmp_total}
@@ -14,16 +14,16 @@ use Rattle.range_set_blaze.specs.Order.{same, elements_from, order, DiffersAt, H
 
 -- ---- tests
 
--- a test passes or fails
+-- A test passes or fails.
 true_or_false : (test : Bool) → (test ≡ true) ⊎ (test ≡ false)
 true_or_false true = inl refl
 true_or_false false = inr refl
 
--- no test both passes and fails
+-- No test both passes and fails.
 not_both : (test : Bool) → test ≡ true → test ≡ false → ⊥
 not_both test holds fails = absurd (cc)
 
--- the order of two numbers
+-- The order of two numbers.
 pub nat_cmp-less : (a b : ℕ) → a < b → nat_cmp a b ≡ Less
 nat_cmp-less a b less = grind (arith, nat_tests)
 
@@ -35,24 +35,24 @@ nat_cmp-same a = grind (arith, nat_tests)
 
 -- ---- `==`
 
--- two tests that differ are not both the same
+-- Two tests that do not differ are the same.
 exclusive-same : (a b : Bool) → exclusive_or a b ≡ false → a ≡ b
 exclusive-same true true differ = refl
 exclusive-same true false differ = absurd (cc)
 exclusive-same false true differ = absurd (cc)
 exclusive-same false false differ = refl
 
--- and a test does not differ from itself
+-- A test does not differ from itself.
 exclusive-self : (a : Bool) → exclusive_or a a ≡ false
 exclusive-self true = refl
 exclusive-self false = refl
 
--- what is chosen by a test and is not false is the other choice, and the test fails
+-- If `cond test false other` is true, the test fails and `other` is true.
 cond-false : (test other : Bool) → cond test false other ≡ true → (test ≡ false) × (other ≡ true)
 cond-false true other is = absurd (cc)
 cond-false false other is = (refl, is)
 
--- where sets agree at a rank and below it, they agree below the next
+-- Sets that agree at a rank and below it agree below the next rank.
 agree-more : (n : ℕ) (left right : Selection) → Agree n left right → left n ≡ right n
     → Agree (suc n) left right
 agree-more n left right below here rank within = elim (cases_lt rank n) [
@@ -62,7 +62,7 @@ agree-more n left right below here rank within = elim (cases_lt rank n) [
       subst (λ each. left each ≡ right each) at here
 ]
 
--- the test is true where no rank tells the sets apart
+-- `same` is true of sets that agree.
 pub agree-same : (n : ℕ) (left right : Selection) → Agree n left right → same n left right ≡ true
 unfolding same
 agree-same zero left right all = refl
@@ -70,7 +70,7 @@ agree-same (suc n) left right all =
     rw (all n (omega arith), exclusive-self)
     (agree-same n left right (λ rank below. all rank (omega arith)))
 
--- and there alone
+-- `same` is true only of sets that agree.
 pub same-agree : (n : ℕ) (left right : Selection) → same n left right ≡ true → Agree n left right
 unfolding same
 same-agree zero left right is = λ rank below. absurd (omega arith)
@@ -81,12 +81,13 @@ same-agree (suc n) left right is =
 
 -- ---- `cmp`
 
--- a later member is a later one in the whole set
+-- Whether the list starts past the rank and the set has a later member, or the list is empty and
+-- the set has none.
 later-at : (n : ℕ) (selected : Selection) (rank : ℕ) (others : List ℕ) → Type 0
 later-at n selected rank [] = ¬ HasLater n selected rank
 later-at n selected rank (first ∷ others) = (rank < first) × HasLater n selected rank
 
--- where so many ranks from `low` on are looked at, and a set has none below `low` but up to `rank`
+-- This holds of the elements from `low` on, if no rank between `rank` and `low` is a member.
 later-elements : (n low more rank : ℕ) (selected : Selection) → n ≡ low + more → rank < low
     → ((other : ℕ) → rank < other → other < low → selected other ≡ false)
     → later-at n selected rank (elements_from low more selected)
@@ -114,7 +115,8 @@ later-elements n low (suc more) rank selected all past none = elim (true_or_fals
       ]))
 ]
 
--- a rank in front of the elements of a set is less than them, if there are some
+-- If two sets first differ at this rank and the left one has it, they compare as the lists of their
+-- elements from there on.
 first-order : (n rank : ℕ) (left right : Selection) (others rest : List ℕ)
     → DiffersAt n left right rank → later-at n right rank others
     → HasOrder n left right (slice_cmp nat_cmp (rank ∷ rest) others)
@@ -126,7 +128,7 @@ first-order n rank left right (other ∷ others) rest differs some =
     rw (nat_cmp-less rank other less)
     (inl (record { rank = rank; differs = differs; later = some.1 }))
 
--- and the other way round
+-- The same if the right set has the rank.
 second-order : (n rank : ℕ) (left right : Selection) (others rest : List ℕ)
     → DiffersAt n right left rank → later-at n left rank others
     → HasOrder n left right (slice_cmp nat_cmp others (rank ∷ rest))
@@ -138,7 +140,7 @@ second-order n rank left right (other ∷ others) rest differs some =
     rw (nat_cmp-greater rank other less)
     (inl (record { rank = rank; differs = differs; later = some.1 }))
 
--- sets that agree below `low` have the order of their elements from there on
+-- Sets that agree below `low` have the order of their elements from `low` on.
 order-from : (n low more : ℕ) (left right : Selection) → n ≡ low + more → Agree low left right
     → HasOrder n left right
     (slice_cmp nat_cmp (elements_from low more left) (elements_from low more right))
@@ -179,27 +181,27 @@ order-from n low (suc more) left right all below =
       ]
     ]
 
--- what `cmp` answers is the order of the two sets
+-- What `cmp` returns is the order of the two sets.
 pub order-holds : (n : ℕ) (left right : Selection) → HasOrder n left right (order n left right)
 order-holds n left right =
     order-from n 0 n left right (omega arith) (λ rank below. absurd (omega arith))
 
 -- ---- both
 
--- sets with a least rank in which they differ do not agree
+-- Sets that differ at a least rank do not agree.
 differs-not : (n rank : ℕ) (left right : Selection) → DiffersAt n left right rank
     → ¬ Agree n left right
 differs-not n rank left right differs all =
     not_both (right rank) (sym (all rank differs.in_type) ∙ differs.here) differs.lacks
 
--- a set that is less than another does not agree with it
+-- A set that is less than another does not agree with it.
 pub less-not : (n : ℕ) (left right : Selection) → IsLess n left right → ¬ Agree n left right
 less-not n left right (inl less) all =
     differs-not n less.rank left right less.differs all
 less-not n left right (inr less) all =
     differs-not n less.rank right left less.differs (λ rank below. sym (all rank below))
 
--- sets with an order are equal by it where they agree
+-- Sets that agree are equal by any order that they have.
 equal-agree : (n : ℕ) (left right : Selection) (ordering : Ordering) → HasOrder n left right ordering
     → Agree n left right → is_eq ordering ≡ true
 equal-agree n left right Less less all = absurd (less-not n left right less all)
@@ -207,14 +209,14 @@ equal-agree n left right Equal same all = refl
 equal-agree n left right Greater less all =
     absurd (less-not n right left less (λ rank below. sym (all rank below)))
 
--- and agree where they are equal by it
+-- Sets that are equal by an order that they have agree.
 agree-equal : (n : ℕ) (left right : Selection) (ordering : Ordering) → HasOrder n left right ordering
     → is_eq ordering ≡ true → Agree n left right
 agree-equal n left right Less less is = absurd (cc)
 agree-equal n left right Equal same is = same
 agree-equal n left right Greater less is = absurd (cc)
 
--- `==` is true exactly where `cmp` answers that they are equal
+-- `==` is true exactly if `cmp` returns `Equal`.
 pub same-order : (n : ℕ) (left right : Selection)
     → same n left right ≡ eq_by_cmp (order n) left right
 same-order n left right = both_ways (same n left right) (is_eq (order n left right))
@@ -226,11 +228,11 @@ same-order n left right = both_ways (same n left right) (is_eq (order n left rig
 -- ---- the laws, of sets as lists of runs in a type of n values
 
 module _ (n : ℕ) where
-  -- what `==` answers
+  -- What `==` returns.
   abbrev pub set_eq : List Interval → List Interval → Bool
   set_eq left right = same n (members left) (members right)
 
-  -- what `cmp` answers
+  -- What `cmp` returns.
   abbrev pub set_cmp : List Interval → List Interval → Ordering
   set_cmp left right = order n (members left) (members right)
 

@@ -1,8 +1,8 @@
--- The part of a run that lies below a rank.
+-- The part of a run below a rank.
 use Rattle.std.specs.Prelude.{◌≡◌, ℕ, ◌+◌, ◌<◌, min}
 use Rattle.rsb_integer.specs.Runs.{Interval}
 
--- the part has the ranks of the run below the bound, of which there is one
+-- Whether the part has exactly the ranks of the run below the bound, and there is one.
 pub record IsPartBelow (run : Interval) (bound : ℕ) (part : Interval) : Type 0 where
   pub some : run.first < bound
   pub first : part.first ≡ run.first

@@ -5,18 +5,20 @@ use Rattle.range_set_blaze.specs.Text.{BlanksThen, DigitsThen, EndThen, NumberTh
 use Rattle.range_set_blaze.specs.declared.set.parse.Place.{Place}
 use Rattle.range_set_blaze.specs.declared.set.parse.Place.TheVariants.{Start, Before, Signed, Digits, Behind, Dot, Dots}
 
--- the start of a range that ends with this number, and has begun with another one, or else with itself
+-- The start of a range that ends with this number: the number it began with, or else the same
+-- number.
 abbrev pub start_or : {T : Type 0} → Option T → T → T
 start_or None value = value
 start_or (Some start) value = start
 
 module _ {T : Type 0} (number : T → ℤ) (fits : ℤ → Type 0) where
-  -- what comes after a number of the range, which has begun with the other one, if there is one
+  -- Whether the text after a number of the range is as `Rest` says, once the range is complete. The
+  -- range began with `start`, if there is one.
   abbrev pub NextThen : Option T → RangeInclusive T → (List ℕ → Type 0) → T → List ℕ → Type 0
   NextThen None range Rest value text = StartThen number fits range Rest value text
   NextThen (Some start) range Rest value text = EndThen number fits range Rest start value text
 
-  -- the rest of a text goes on at the place with the range, and then as the fact says
+  -- Whether the rest of a text goes on at the place with the range, and is as `Rest` says after it.
   abbrev pub GoesOn : Place T → RangeInclusive T → (List ℕ → Type 0) → List ℕ → Type 0
   GoesOn Start range Rest text = NumberThen number fits (NextThen None range Rest) text
   GoesOn (Before start) range Rest text = NumberThen number fits (NextThen start range Rest) text
@@ -31,7 +33,7 @@ module _ {T : Type 0} (number : T → ℤ) (fits : ℤ → Type 0) where
   GoesOn (Dots start) range Rest text =
       Then 61 (NumberThen number fits (EndThen number fits range Rest start)) text
 
-  -- the rest of a text goes on at the place with no range
+  -- Whether the rest of a text goes on at the place with no range.
   abbrev pub GoesOnEmpty : Place T → List ℕ → Type 0
   GoesOnEmpty Start text = BlanksThen (λ rest. rest ≡ []) text
   GoesOnEmpty (Before start) text = ⊥
@@ -41,18 +43,18 @@ module _ {T : Type 0} (number : T → ℤ) (fits : ℤ → Type 0) where
   GoesOnEmpty (Dot start) text = ⊥
   GoesOnEmpty (Dots start) text = ⊥
 
-  -- the rest of a text spells these ranges from the place on
+  -- Whether the rest of a text spells these ranges from the place on.
   abbrev pub Follows : Place T → List (RangeInclusive T) → List ℕ → Type 0
   Follows place [] text = GoesOnEmpty place text
   Follows place (range ∷ others) text = GoesOn place range (OthersFollow number fits others) text
 
-  -- the byte leads from the place to the next one, or to none
+  -- Whether the byte leads from the place to the next one, or to none if no text may go on so.
   abbrev pub Steps : Place T → ℕ → Option (Place T) → Type 0
   Steps place byte result = (more : List (RangeInclusive T)) (rest : List ℕ) → MatchOption result
       (¬ Follows place more (byte ∷ rest))
       (λ next. Follows place more (byte ∷ rest) ↔ Follows next more rest)
 
-  -- the range that may end at the place, if one may
+  -- Whether `result` is the range that may end at the place, or `None` if no range may.
   pub record Finishes (place : Place T) (result : Option (RangeInclusive T)) : Type 0 where
     pub comma : (more : List (RangeInclusive T)) (rest : List ℕ) → MatchOption result
         (¬ Follows place more (44 ∷ rest))
@@ -66,7 +68,7 @@ module _ {T : Type 0} (number : T → ℤ) (fits : ℤ → Type 0) where
         (λ range. Follows place more [] → more ≡ range ∷ [])
     pub last : MatchOption result (Unit {0}) (λ range. Follows place (range ∷ []) [])
 
-  -- the bytes that were read spell the ranges, as far as they go, and lead to the place
+  -- Whether the bytes read so far spell the ranges, as far as they go, and lead to the place.
   pub record HasRead (read : List ℕ) (ranges : List (RangeInclusive T)) (place : Place T) : Type 0
     where
       pub into : (all : List (RangeInclusive T)) (rest : List ℕ) → Spells number fits (read ++ rest) all

@@ -1,19 +1,19 @@
--- What a removal makes of a list of runs.
+-- What a removal does to a list of runs.
 use Rattle.std.specs.Prelude.{◌≡◌, ℕ, ◌&&◌, ◌||◌, nat_lt, ◌+◌, List, Contains}
 use Rattle.rsb_integer.specs.Runs.{Interval, covers, length_of, members, IsCanonicalIn}
 use Rattle.rsb_integer.specs.Selection.{count}
 use Rattle.range_set_blaze.specs.Set.{Removes}
 use Rattle.range_set_blaze.specs.Starts.{without_start, StartsAscendFrom}
 
--- the new runs are canonical, and have the members of the old ones but the ranks of the piece, which
--- those have
+-- Whether the new runs are canonical and have the members of the old ones except the ranks of the
+-- piece, all of which were members.
 pub record IsRemoved (n : ℕ) (old new : List Interval) (piece : Interval) : Type 0 where
   pub canonical : IsCanonicalIn n new
   pub removes : Removes old new (covers piece)
   pub counted : count n (members new) + length_of piece ≡ count n (members old)
 
--- without the run that starts where the cut one does, the runs have what the old ones have without it,
--- and what it has past the rank
+-- Whether `now` has a run that starts where `run` does, and its other runs are canonical. They have
+-- the members of the other old runs, and the ranks of `run` past the point.
 pub record IsCutAbove (n : ℕ) (old : List Interval) (run : Interval) (point : ℕ)
     (now : List Interval) : Type 0 where
   pub ascending : StartsAscendFrom n 0 now

@@ -1,35 +1,35 @@
--- What a removal of the values between two bounds makes of a list of runs.
+-- What a removal of the values between two bounds does to a list of runs.
 use Rattle.std.specs.Prelude.{◌≡◌, ℕ, ◌+◌, ◌<◌, ◌≤◌, max, min, List, IsTrue, IsFalse}
 use Rattle.rsb_integer.specs.Runs.{Interval, covers, members}
 use Rattle.rsb_integer.specs.Selection.{Selection}
 use Rattle.range_set_blaze.specs.Kept.{runs_of, IsKept}
 use Rattle.range_set_blaze.specs.Starts.{IsLastBelow}
 
--- the set has one of the ranks
+-- Whether the set has one of the ranks.
 abbrev pub HasSome : Selection → Selection → Type 0
 HasSome set ranks = (rank : ℕ) × IsTrue (ranks rank) × IsTrue (set rank)
 
--- the rank is no member of the set, or no rank of a type of n values
+-- Whether the rank is no member of the set, or no rank of a type of n values.
 abbrev pub Lacks : ℕ → List Interval → ℕ → Type 0
 Lacks n set rank = rank < n → IsFalse (members set rank)
 
--- the run is the last that has a rank of the range
+-- Whether the run is the last that has a rank of the range.
 pub record IsLastMeeting (runs : List Interval) (range run : Interval) : Type 0 where
   pub last : IsLastBelow runs (range.last + 1) run
   pub reaches : range.first ≤ run.last
 
--- the piece has the ranks that a run and the range have in common
+-- Whether the piece has exactly the ranks that the run and the range have in common.
 pub record IsCommon (run range piece : Interval) : Type 0 where
   pub first : piece.first ≡ max run.first range.first
   pub last : piece.last ≡ min run.last range.last
 
--- outside the range the new runs have the members of the old ones
+-- Whether the new runs have the members of the old ones outside the range.
 abbrev pub IsSameOutside : Interval → List Interval → List Interval → Type 0
 IsSameOutside range old new = (rank : ℕ) → IsFalse (covers range rank)
     → members new rank ≡ members old rank
 
--- the new entries are kept with this length, have the members of the old ones outside the range, and
--- lack its last rank, so that no run goes on past it
+-- Whether the new entries and the length represent a set with the members of the old one outside
+-- the range, and without its last rank. So no run goes on past the range.
 pub record IsNarrowed {T : Type 0} (rank : T → ℕ) (n : ℕ) (range : Interval)
     (old new : List (T × T)) (length : ℕ) : Type 0 where
   pub kept : IsKept rank n new length

@@ -1,4 +1,4 @@
--- What `retain` asks about, and what it keeps.
+-- What `retain` calls its closure on, and what it keeps.
 use Rattle.std.specs.Prelude.{◌≡◌, ℕ, zero, suc, Bool, false, ◌||◌, ◌+◌, ◌<◌, ◌≤◌, List, [], ◌∷◌, ◌++◌, map, IsTrue, Option, None, Some}
 use Rattle.std.specs.Fn.{always_mut, AlwaysReturns, CalledAt, Mut, Takes}
 use Rattle.std.specs.List.{FoldsTo}
@@ -12,42 +12,45 @@ use Rattle.rsb_integer.specs.Selection.{Selection}
 use Rattle.range_set_blaze.specs.Kept.{run_of, runs_of}
 use Rattle.range_set_blaze.specs.declared.set.run.Run.{Run}
 
--- as many ranks as the number, from the first one on
+-- The given number of ranks, from `first` on.
 unfoldable pub ranks_from : ℕ → ℕ → List ℕ
 ranks_from first zero = []
 ranks_from first (suc more) = first ∷ ranks_from (first + 1) more
 
--- the members of a set in ascending order
+-- The members of a set in ascending order.
 abbrev pub ascending_ranks : List Interval → List ℕ
 ascending_ranks [] = []
 ascending_ranks (run ∷ runs) = ranks_from run.first (length_of run) ++ ascending_ranks runs
 
 module _ {F T : Type 0} (rank : T → ℕ) (n : ℕ) (g : Mut F (Bor T × Unit {0}) Bool) where
-  -- each call from f on answers at a value, of n, what `keeps` says of its rank. (Only at values: a
-  -- test of signed numbers need not answer by rank at numbers that do not fit.)
+  -- Whether each call from `f` on returns, for a value of a type of n values, what `keeps` gives
+  -- for its rank. (It is about values only: a test of signed numbers need not go by rank at numbers
+  -- that do not fit.)
   abbrev pub AnswersByRank : Selection → F → Type 0
   AnswersByRank keeps = AlwaysReturns g (λ a r. rank a.0.now < n → r ≡ keeps (rank a.0.now))
 
--- each call from f on answers at a range that was not iterated to its end, of values of a type of n,
--- what `keeps` says of its ranks. (A test such as `r.start() < r.end()` reads the ends of an
--- emptied range too, and all emptied ranges have the same ranks: none.)
+-- Whether each call from `f` on returns what `keeps` gives for the ranks of the range. The range is
+-- of values of a type of n values, and was not iterated to its end. (A test such as
+-- `r.start() < r.end()` reads the ends of an emptied range too, and all emptied ranges have the same
+-- ranks: none.)
 abbrev pub AnswersByRun : {F T : Type 0} (rank : T → ℕ) (n : ℕ)
     (g : Mut F (Bor (RangeInclusive T) × Unit {0}) Bool) → (Interval → Bool) → F → Type 0
 AnswersByRun rank n g keeps = AlwaysReturns g (λ a r.
     range_inclusive_exhausted a.0.now ≡ false → rank (range_inclusive_start a.0.now) < n
     → rank (range_inclusive_end a.0.now) < n → r ≡ keeps (interval_of rank a.0.now))
 
--- calls from f on at these items, one after the other, lead to the last state
+-- Whether calls from `f` on for these items, one after the other, lead to the state `last`.
 abbrev pub IsAsked : {F X : Type 0} → Mut F (Bor X × Unit {0}) Bool → F → List X → F → Type 0
 IsAsked g f items last =
     FoldsTo (λ before item after. (answer : Bool) × CalledAt g before item answer after) f items last
 
--- ---- what a test may be asked
+-- ---- what a closure may be called on
 
 module _ {F T : Type 0} (rank : T → ℕ) (n : ℕ) where
   module _ (g : Mut F (Bor T × Unit {0}) Bool) (f : F) (set : List Interval) where
-    -- from f on, the members before the value were asked about in ascending order, and left the test
-    -- as it is now. So the value is a member, and the test can still be called if it always could.
+    -- Whether calls from `f` on for the members before the value, in ascending order, led to the
+    -- closure `now`. So the value is a member, and the closure can still be called if it always
+    -- could.
     pub record IsNextMember (now : F) (value : T) : Type 0 where
       pub asked : List T
       pub calls : IsAsked g f asked now
@@ -56,13 +59,13 @@ module _ {F T : Type 0} (rank : T → ℕ) (n : ℕ) where
       pub in_type : rank value < n
       pub callable : always_mut g f → always_mut g now
 
-    -- the test may be called on each member in ascending order
+    -- Whether the closure may be called on each member in ascending order.
     pub record CallableOnMembers : Type 0 where
       pub at : (now : F) (shown : Bor T) → IsNextMember now shown.now → Takes g now (shown, tt)
 
   module _ (g : Mut F (Bor (RangeInclusive T) × Unit {0}) Bool) (f : F) (set : List Interval) where
-    -- from f on, the runs before the range were asked about in ascending order, and left the test as
-    -- it is now. So the range is a run, and the test can still be called if it always could.
+    -- Whether calls from `f` on for the runs before the range, in ascending order, led to the
+    -- closure `now`. So the range is a run, and the closure can still be called if it always could.
     pub record IsNextRun (now : F) (range : RangeInclusive T) : Type 0 where
       pub asked : List (RangeInclusive T)
       pub calls : IsAsked g f asked now
@@ -72,53 +75,55 @@ module _ {F T : Type 0} (rank : T → ℕ) (n : ℕ) where
           (from_to (rank (range_inclusive_start range)) (rank (range_inclusive_end range)))
       pub callable : always_mut g f → always_mut g now
 
-    -- the test may be called on each run in ascending order
+    -- Whether the closure may be called on each run in ascending order.
     pub record CallableOnRuns : Type 0 where
       pub at : (now : F) (shown : Bor (RangeInclusive T)) → IsNextRun now shown.now
           → Takes g now (shown, tt)
 
--- ---- what it was asked
+-- ---- what it was called on
 
--- from f on, each run of the set was asked about once, in ascending order
+-- Whether the closure, from `f` on, was called on each run of the set once, in ascending order.
 abbrev pub AsksRuns : {F T : Type 0} (rank : T → ℕ)
     (g : Mut F (Bor (RangeInclusive T) × Unit {0}) Bool) → F → List Interval → Type 0
 AsksRuns {F} {T} rank g f set = (ranges : List (RangeInclusive T)) × (last : F)
     × IsAsked g f ranges last × (intervals_of rank ranges ≡ set)
 
 module _ {F T : Type 0} (rank : T → ℕ) (g : Mut F (Bor T × Unit {0}) Bool) where
-  -- from f on, each member of the set was asked about once, in ascending order
+  -- Whether the closure, from `f` on, was called on each member of the set once, in ascending
+  -- order.
   abbrev pub AsksAll : F → List Interval → Type 0
   AsksAll f set = (values : List T) × (last : F) × IsAsked g f values last
       × (map rank values ≡ ascending_ranks set)
 
-  -- and so was a front of the members
+  -- Whether it was called so on a prefix of the members.
   abbrev pub AsksFront : F → List Interval → Type 0
   AsksFront f set = (values : List T) × (last : F) × IsAsked g f values last
       × IsPrefix (map rank values) (ascending_ranks set)
 
 module _ {T : Type 0} (rank : T → ℕ) where
-  -- the runs that are left: the rest of one, and those of the entries
+  -- The runs that are left: the rest of one run, if there is any, and those of the entries.
   abbrev pub left_runs : Option (Run T) → List (T × T) → List Interval
   left_runs None entries = []
   left_runs (Some run) entries = run_of rank run ∷ runs_of rank entries
 
-  -- the members of a set, and the ranks of a piece that is not in it yet
+  -- The members of a set, and the ranks of a piece that is not in it yet.
   abbrev pub with_piece : List Interval → Option (Run T) → Selection
   with_piece set None other = members set other
   with_piece set (Some run) other = members set other || covers (run_of rank run) other
 
-  -- the least rank past a piece, or 0
+  -- The least rank past a piece, or 0 if there is no piece.
   abbrev pub past_piece : Option (Run T) → ℕ
   past_piece None = 0
   past_piece (Some run) = rank run.end + 1
 
--- the runs are canonical from a rank on, in a type of n values
+-- Whether the runs are canonical in a type of n values, and the first one starts at `low` or later.
 abbrev pub IsCanonicalBelow : ℕ → ℕ → List Interval → Type 0
 IsCanonicalBelow n low [] = Unit {0}
 IsCanonicalBelow n low (run ∷ runs) = (low ≤ run.first) × (run.first ≤ run.last) × (run.last < n)
     × IsCanonicalBelow n (run.last + 2) runs
 
--- the new runs have what the old ones have past their first rank
+-- Whether `first` is the first member of the old runs, and the new runs are canonical and have the
+-- others.
 pub record IsPastFirst (n : ℕ) (old new : List Interval) (first : ℕ) : Type 0 where
   pub canonical : IsCanonicalBelow n (first + 1) new
   pub listed : ascending_ranks old ≡ first ∷ ascending_ranks new

@@ -3,11 +3,11 @@ use Rattle.std.specs.Prelude.{◌≡◌, false, Option, Some, None, MatchOption}
 use Rattle.std.specs.declared.ops.RangeInclusive.{RangeInclusive}
 use Rattle.range_set_blaze.specs.declared.set.singles.Singles.{Singles}
 
--- the range of one value
+-- The range of one value.
 abbrev pub range_of_one : {T : Type 0} → T → RangeInclusive T
 range_of_one value = record { start = value; end = value; exhausted = false }
 
--- a call answers the range of what a call of the iterator inside answers
+-- Whether a call returns the range of the value that the iterator inside gives.
 abbrev pub singles_steps : {T I : Type 0} → (I → Option T → I → Type 0) → Singles I
     → Option (RangeInclusive T) → Singles I → Type 0
 singles_steps {T} steps s answer t = MatchOption answer (steps s.values None t.values) (λ range.

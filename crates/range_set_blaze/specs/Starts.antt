@@ -1,4 +1,4 @@
--- Where a run lies among others by its start, and what the calls of a map make of a list of runs.
+-- The place of a run among others by its start, and what calls of a map do to a list of runs.
 use Rattle.std.specs.Prelude.{◌≡◌, ℕ, Bool, true, false, not, ◌||◌, nat_le, nat_lt, ◌==◌, ◌+◌, ◌<◌, ◌≤◌, List, [], ◌∷◌, ◌++◌, Option, MatchOption, Contains}
 use Rattle.std.specs.List.{filter}
 use Rattle.rsb_integer.specs.Runs.{Interval, covers, length_of, members, IsCanonicalIn}
@@ -8,31 +8,31 @@ use Rattle.range_set_blaze.specs.declared.set.run.Run.{Run}
 
 -- ---- parts of a list, by starts
 
--- the runs whose starts pass a test
+-- The runs whose starts pass a test.
 abbrev pub starting : (ℕ → Bool) → List Interval → List Interval
 starting test runs = filter (λ run. test run.first) runs
 
--- the runs that start below the rank
+-- The runs that start below the rank.
 abbrev pub below : ℕ → List Interval → List Interval
 below rank runs = starting (λ start. nat_lt start rank) runs
 
--- the runs that start past the rank
+-- The runs that start past the rank.
 abbrev pub past : ℕ → List Interval → List Interval
 past rank runs = starting (λ start. nat_lt rank start) runs
 
--- the runs that start at the rank or past it
+-- The runs that start at the rank or past it.
 abbrev pub starting_from : ℕ → List Interval → List Interval
 starting_from rank runs = starting (λ start. nat_le rank start) runs
 
--- the runs that start elsewhere than at the rank
+-- The runs that do not start at the rank.
 abbrev pub without_start : ℕ → List Interval → List Interval
 without_start rank runs = starting (λ start. not (start == rank)) runs
 
--- the runs with another at its place, and none else that starts where it does
+-- The runs with one more at its place, in place of any that starts where it does.
 abbrev pub with_run : Interval → List Interval → List Interval
 with_run run runs = below run.first runs ++ run ∷ past run.first runs
 
--- the starts ascend from `low` on, below n
+-- Whether the starts ascend strictly, from `low` or later, and are below n.
 abbrev pub StartsAscendFrom : ℕ → ℕ → List Interval → Type 0
 StartsAscendFrom n low [] = Unit {0}
 StartsAscendFrom n low (run ∷ runs) =
@@ -40,19 +40,19 @@ StartsAscendFrom n low (run ∷ runs) =
 
 -- ---- one run among others
 
--- the run is the last of those that start below the rank
+-- Whether the run is the last of those that start below the rank.
 pub record IsLastBelow (runs : List Interval) (bound : ℕ) (run : Interval) : Type 0 where
   pub among : Contains runs run
   pub starts : run.first < bound
   pub last : (other : Interval) → Contains runs other → other.first < bound
       → other.first ≤ run.first
 
--- none starts below the rank
+-- Whether no run starts below the rank.
 abbrev pub NoneBelow : List Interval → ℕ → Type 0
 NoneBelow runs bound = (run : Interval) → Contains runs run → run.first < bound → ⊥
 
--- the run is the last of those that start below the rank, if there is one, and the other the last
--- before it, if there is one
+-- Whether `last` is the last run that starts below the rank, and `before` the last one before it.
+-- Each is `None` if there is no such run.
 abbrev pub IsLastTwo : {T : Type 0} → (T → ℕ) → List Interval → ℕ → Option (Run T) → Option (Run T)
     → Type 0
 IsLastTwo rank runs bound last before = MatchOption last (NoneBelow runs bound)
@@ -60,23 +60,23 @@ IsLastTwo rank runs bound last before = MatchOption last (NoneBelow runs bound)
     × MatchOption before (NoneBelow runs (rank run.start))
     (λ other. IsLastBelow runs (rank run.start) (run_of rank other)))
 
--- the list has this item last
+-- Whether this item is the last of the list.
 pub record EndsWith {X : Type 0} (items : List X) (last : X) : Type 0 where
   pub front : List X
   pub parts : items ≡ front ++ last ∷ []
 
--- the list has this item first
+-- Whether this item is the first of the list.
 pub record StartsWith {X : Type 0} (items : List X) (first : X) : Type 0 where
   pub rest : List X
   pub parts : items ≡ first ∷ rest
 
--- no member is one of the ranks from first to last, or next to one
+-- Whether none of the ranks from `first` to `last`, or next to them, is a member.
 abbrev pub LeavesApart : List Interval → ℕ → ℕ → Type 0
 LeavesApart runs first last = (rank : ℕ) → first ≤ rank + 1 → rank ≤ last + 1 → members runs rank ≡ false
 
 -- ---- one run more, or one fewer
 
--- one list has a run that the other lacks, apart from all others, and no other difference
+-- Whether one list differs from the other only by one more run, which touches no other.
 pub record IsJoined (n : ℕ) (fewer : List Interval) (run : Interval) (more : List Interval) : Type 0
   where
     pub fewer_canonical : IsCanonicalIn n fewer
@@ -85,7 +85,8 @@ pub record IsJoined (n : ℕ) (fewer : List Interval) (run : Interval) (more : L
     pub has : (rank : ℕ) → members more rank ≡ (members fewer rank || covers run rank)
     pub counted : count n (members more) ≡ count n (members fewer) + length_of run
 
--- the rank is the last of the gap that has the point: up to it no member comes after the point
+-- Whether the gap that has the point ends at this rank. No rank past the point and up to this one
+-- is a member. The next rank is a member or past the type.
 pub record IsGapEnd (n : ℕ) (runs : List Interval) (point rank : ℕ) : Type 0 where
   pub from : point ≤ rank
   pub in_type : rank < n

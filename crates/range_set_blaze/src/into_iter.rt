@@ -1,4 +1,4 @@
-//! The elements of a set that is given up, one after the other.
+//! The elements of a set given by value, one after the other.
 
 ghost use Rattle.std.specs.Iterator.{at_most};
 ghost use Rattle.rsb_integer.specs.Runs.{members};
@@ -13,7 +13,7 @@ use std::iter::FusedIterator;
 use std::marker::Model;
 
 /// The elements of a set in ascending order, from both ends. It owns them. Contracts see it as the
-/// list of the runs of what is still to come. (`IntoIter` of the Rust crate.)
+/// list of the runs of the elements still to come. (`IntoIter` in range-set-blaze.)
 #[derive(Drop)]
 #[derive_where(Debug)]
 pub struct IntoIter<T: Integer, A: Allocator = Global> {

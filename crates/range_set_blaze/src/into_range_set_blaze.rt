@@ -1,4 +1,4 @@
-//! Streams into sets.
+//! Conversion of streams into sets.
 
 ghost use Rattle.std.specs.Prelude.{IfOk};
 
@@ -7,10 +7,10 @@ use rsb_integer::Integer;
 use rsb_streams::DrawDisjoint;
 use std::alloc::{AllocError, Allocator};
 
-/// Every stream of the runs of a set can be made that set, where a file names this trait. (Own: in
-/// the Rust crate the method is one of `SortedDisjoint`.)
+/// Collects a stream of ranges into a set. A file must import this trait to call its method. Not in
+/// range-set-blaze, where the method is one of `SortedDisjoint`.
 pub trait IntoRangeSetBlaze<T: Integer>: DrawDisjoint<T> {
-    /// The set of the ranges of the stream, which may be drawn from. Without memory nothing is made.
+    /// Returns the set of the ranges of a ready stream. If allocation fails, no set is made.
     final fn into_range_set_blaze<A: Allocator + Copy>(
         self,
         alloc: A,

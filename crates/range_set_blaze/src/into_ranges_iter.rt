@@ -1,4 +1,4 @@
-//! The runs of a set that is given up, one after the other.
+//! The runs of a set given by value, one after the other.
 
 ghost use Rattle.std.specs.Iterator.{YieldsFirst, YieldsLast, item_count};
 ghost use Rattle.rsb_integer.specs.Rank.{intervals_of};
@@ -16,7 +16,7 @@ use std::marker::Model;
 use std::ops::RangeInclusive;
 
 /// The runs of a set in ascending order, from both ends. It owns them. Contracts see it as the list
-/// of the ranges still to come. (`IntoRangesIter` of the Rust crate.)
+/// of the ranges still to come. (`IntoRangesIter` in range-set-blaze.)
 #[derive(Drop)]
 #[derive_where(Debug)]
 pub struct IntoRangesIter<T: Integer, A: Allocator = Global> {

@@ -18,20 +18,20 @@ use rsb_streams::{Draw, SortedDisjoint};
 use std::iter::FusedIterator;
 use std::ops::RangeInclusive;
 
-/// The elements of a stream of ranges in ascending order, from both ends where the stream goes from
-/// both. (`Iter` of the Rust crate.)
+/// The elements of a stream of ranges in ascending order. It goes from both ends if the stream
+/// does. (`Iter` in range-set-blaze.)
 #[derive(Clone, Debug, Drop)]
 pub struct Iter<T, I> {
     pub(crate) ranges: I,
-    // Whether the stream has ended: it is not asked again then.
+    // Whether the stream has ended. If so, it is not called again.
     pub(crate) done: bool,
-    // What is left of the ranges that were taken from the two ends.
+    // What is left of the ranges taken from each end.
     pub(crate) front: RangeInclusive<T>,
     pub(crate) back: RangeInclusive<T>,
 }
 
 impl<T: Integer, I> Iter<T, I> {
-    // The elements of a stream of which nothing is taken yet.
+    // Returns the elements of a stream. Draws nothing yet.
     pub(crate) fn over(ranges: I) -> Self
         ensures { IsWhole T.rank ranges result }
     {
@@ -68,7 +68,7 @@ impl<T: Integer, I: SortedDisjoint<T>> Iterator for Iter<T, I> {
         T::range_next(&mut self.front)
     }
 
-    // Each range to come has an element.
+    // Each range still to come has at least one element.
     fn size_hint(&self) -> (usize, Option<usize>)
         ensures lower { IsWithinCount result.0
             (elements_left T.rank T.value_count I.draws_left self.now) }

@@ -1,5 +1,6 @@
-//! Laws that callers rely on: functions that do nothing, each with a law for its clause. Beside them
-//! is `cmp_counted`, which returns the order of two sets and the number of iterations that it takes.
+//! Laws that callers rely on. Each is a function that does nothing, with the law as its clause.
+//! Here too is `cmp_counted`, which returns the order of two sets and the number of iterations it
+//! takes.
 
 pub use crate::set::elements::elements_stand_for_sets;
 pub use crate::set::hash::run_bounds_are_ends;

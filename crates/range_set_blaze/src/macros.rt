@@ -1,9 +1,9 @@
-//! Set algebra over any number of streams, whatever their types. These are the macros of `rsb_many`,
-//! defined again: a crate that calls a macro has to list the crate that defines it.
+//! Set algebra over any number of streams of any types. These are the macros of `rsb_many`, defined
+//! again: a crate that calls a macro has to list the crate that defines it.
 
-/// Returns what lies in some of the given streams: `union_dyn!(alloc, a, b, ..)`. The streams may have
-/// different types; it collects the ranges of each into a list. Of no streams, the result is empty. If
-/// allocation fails, it still evaluates the arguments that follow, and drops every stream.
+/// Returns the union of the given streams: `union_dyn!(alloc, a, b, ..)`. The streams may have
+/// different types; it collects the ranges of each into a list. Of no streams, the result is empty.
+/// If allocation fails, it still evaluates the arguments that follow, and drops every stream.
 #[macro_export]
 macro_rules! union_dyn {
     ($alloc:expr $(, $stream:expr)* $(,)?) => {{
@@ -13,9 +13,10 @@ macro_rules! union_dyn {
     }};
 }
 
-/// Returns what lies in all of the given streams: `intersection_dyn!(alloc, a, b, ..)`. The streams may
-/// have different types; it collects the ranges of each into a list. Of no streams, the result is every
-/// value. If allocation fails, it still evaluates the arguments that follow, and drops every stream.
+/// Returns the intersection of the given streams: `intersection_dyn!(alloc, a, b, ..)`. The streams
+/// may have different types; it collects the ranges of each into a list. Of no streams, the result
+/// is every value. If allocation fails, it still evaluates the arguments that follow, and drops
+/// every stream.
 #[macro_export]
 macro_rules! intersection_dyn {
     ($alloc:expr $(, $stream:expr)* $(,)?) => {{
@@ -25,10 +26,10 @@ macro_rules! intersection_dyn {
     }};
 }
 
-/// Returns what lies in an odd number of the given streams: `symmetric_difference_dyn!(alloc, a, b, ..)`.
-/// The streams may have different types; it collects the ranges of each into a list. Of no streams, the
-/// result is empty. If allocation fails, it still evaluates the arguments that follow, and drops every
-/// stream.
+/// Returns the values in an odd number of the given streams:
+/// `symmetric_difference_dyn!(alloc, a, b, ..)`. The streams may have different types; it collects
+/// the ranges of each into a list. Of no streams, the result is empty. If allocation fails, it
+/// still evaluates the arguments that follow, and drops every stream.
 #[macro_export]
 macro_rules! symmetric_difference_dyn {
     ($alloc:expr $(, $stream:expr)* $(,)?) => {{
@@ -38,9 +39,9 @@ macro_rules! symmetric_difference_dyn {
     }};
 }
 
-/// The operation on the streams taken so far and on those that follow. It expands to calls inside one
-/// another, which evaluate every stream in order and leave no `match` in the caller's body. For the
-/// macros above; not in range-set-blaze.
+/// Applies the operation to the streams taken so far and those that follow. It expands to calls
+/// inside one another, which evaluate every stream in order and leave no `match` in the caller's
+/// body. For the macros above; not in range-set-blaze.
 #[macro_export]
 macro_rules! with_all_taken {
     ($operation:ident, $alloc:ident, $taken:expr) => {

@@ -18,12 +18,13 @@ use rsb_many::MultiwaySortedDisjoint;
 use rsb_streams::{Draw, DrawDisjoint};
 use std::alloc::{AllocError, Allocator};
 
-/// Set algebra over any number of sets, which are given up. Without memory nothing is made, and the
-/// sets are dropped. (`MultiwayRangeSetBlaze` of the Rust crate.)
+/// Set algebra over any number of sets, given by value. If allocation fails, no set is made, and
+/// the sets are dropped. (`MultiwayRangeSetBlaze` in range-set-blaze.)
 pub trait MultiwayRangeSetBlaze<T: Integer, S: Allocator>: IntoIterator<
     Item = RangeSetBlaze<T, S>,
 > {
-    /// What lies in some of the sets: nothing, of none. (`MultiwayRangeSetBlaze::union`.)
+    /// Returns the union: the values in some of the sets. Of no sets, the result is empty.
+    /// (`MultiwayRangeSetBlaze::union`.)
     final fn union<A: Allocator + Copy>(self, alloc: A) -> Result<RangeSetBlaze<T, A>, AllocError>
     where
         Self: Sized,
@@ -35,7 +36,8 @@ pub trait MultiwayRangeSetBlaze<T: Integer, S: Allocator>: IntoIterator<
         union_of(alloc, self)
     }
 
-    /// What lies in all of the sets: every value, of none. (`MultiwayRangeSetBlaze::intersection`.)
+    /// Returns the intersection: the values in all of the sets. Of no sets, the result is every
+    /// value. (`MultiwayRangeSetBlaze::intersection`.)
     final fn intersection<A: Allocator + Copy>(
         self,
         alloc: A,
@@ -50,7 +52,7 @@ pub trait MultiwayRangeSetBlaze<T: Integer, S: Allocator>: IntoIterator<
         intersection_of(alloc, self)
     }
 
-    /// What lies in an odd number of the sets: nothing, of none.
+    /// Returns the values in an odd number of the sets. Of no sets, the result is empty.
     /// (`MultiwayRangeSetBlaze::symmetric_difference`.)
     final fn symmetric_difference<A: Allocator + Copy>(
         self,
@@ -66,9 +68,9 @@ pub trait MultiwayRangeSetBlaze<T: Integer, S: Allocator>: IntoIterator<
         symmetric_difference_of(alloc, self)
     }
 
-    /// What lies in at least `k` of the sets: every value for `k` of 0, and nothing where there are
-    /// fewer sets. A set that is handed in twice counts twice. For `k` of at least 1 it has at most as
-    /// many runs as all sets together. (Own.)
+    /// Returns the values in at least `k` of the sets: every value if `k` is 0, and none if there
+    /// are fewer sets than `k`. A set passed twice counts twice. If `k` is at least 1, the result
+    /// has at most as many runs as all sets together. Not in range-set-blaze.
     final fn at_least<A: Allocator + Copy>(
         self,
         alloc: A,
@@ -97,12 +99,13 @@ impl<T: Integer, S: Allocator, K: IntoIterator<Item = RangeSetBlaze<T, S>>> Mult
     S,
 > for K {}
 
-/// Set algebra over any number of sets, which stay as they are. Without memory nothing is made.
-/// (`MultiwayRangeSetBlazeRef` of the Rust crate.)
+/// Set algebra over any number of sets, given by reference. If allocation fails, no set is made.
+/// (`MultiwayRangeSetBlazeRef` in range-set-blaze.)
 pub trait MultiwayRangeSetBlazeRef<'a, T: Integer + 'a, S: Allocator + 'a>: IntoIterator<
     Item = &'a RangeSetBlaze<T, S>,
 > {
-    /// What lies in some of the sets: nothing, of none. (`MultiwayRangeSetBlazeRef::union`.)
+    /// Returns the union: the values in some of the sets. Of no sets, the result is empty.
+    /// (`MultiwayRangeSetBlazeRef::union`.)
     final fn union<A: Allocator + Copy>(self, alloc: A) -> Result<RangeSetBlaze<T, A>, AllocError>
     where
         Self: Sized,
@@ -114,8 +117,8 @@ pub trait MultiwayRangeSetBlazeRef<'a, T: Integer + 'a, S: Allocator + 'a>: Into
         union_of(alloc, self)
     }
 
-    /// What lies in all of the sets: every value, of none.
-    /// (`MultiwayRangeSetBlazeRef::intersection`.)
+    /// Returns the intersection: the values in all of the sets. Of no sets, the result is every
+    /// value. (`MultiwayRangeSetBlazeRef::intersection`.)
     final fn intersection<A: Allocator + Copy>(
         self,
         alloc: A,
@@ -130,7 +133,7 @@ pub trait MultiwayRangeSetBlazeRef<'a, T: Integer + 'a, S: Allocator + 'a>: Into
         intersection_of(alloc, self)
     }
 
-    /// What lies in an odd number of the sets: nothing, of none.
+    /// Returns the values in an odd number of the sets. Of no sets, the result is empty.
     /// (`MultiwayRangeSetBlazeRef::symmetric_difference`.)
     final fn symmetric_difference<A: Allocator + Copy>(
         self,
@@ -146,9 +149,9 @@ pub trait MultiwayRangeSetBlazeRef<'a, T: Integer + 'a, S: Allocator + 'a>: Into
         symmetric_difference_of(alloc, self)
     }
 
-    /// What lies in at least `k` of the sets: every value for `k` of 0, and nothing where there are
-    /// fewer sets. A set that is handed in twice counts twice. For `k` of at least 1 it has at most as
-    /// many runs as all sets together. (Own.)
+    /// Returns the values in at least `k` of the sets: every value if `k` is 0, and none if there
+    /// are fewer sets than `k`. A set passed twice counts twice. If `k` is at least 1, the result
+    /// has at most as many runs as all sets together. Not in range-set-blaze.
     final fn at_least<A: Allocator + Copy>(
         self,
         alloc: A,
@@ -179,29 +182,29 @@ impl<
     K: IntoIterator<Item = &'a RangeSetBlaze<T, S>>,
 > MultiwayRangeSetBlazeRef<'a, T, S> for K {}
 
-// A set whose runs come as a stream: one that is given up, or one that stays as it is.
+// A set, by value or by reference, whose runs come as a stream.
 trait GivesRuns<T: Integer>: Sized {
     type Stream: DrawDisjoint<T>;
 
-    // What such a stream gives.
+    // The runs that such a stream gives.
     ghost given: { Self.Stream → List Interval };
 
-    // The runs of some sets.
+    // The runs of each set of a list.
     ghost shown: { List Self → List (List Interval) };
 
-    // The runs of the set.
+    // Returns the runs of the set as a ready stream.
     fn stream(self) -> Self::Stream
         ensures ready { Self.Stream.can_draw result }
         ensures one_more { (sets : List Self)
             → shown (sets ++ self ∷ []) ≡ shown sets ++ given result ∷ [] };
 
-    // Of no sets there are none.
+    // The empty list of sets has no lists of runs.
     ghost none: { shown [] ≡ [] };
 
-    // The stream gives them, and nothing else.
+    // The stream gives its runs and nothing else.
     ghost known: { (s : Self.Stream) → Self.Stream.may_give s ⊆ just (given s) };
 
-    // They are canonical.
+    // The runs of a ready stream are canonical.
     ghost canonical: { (s : Self.Stream) → Self.Stream.can_draw s
         → IsCanonicalIn T.value_count (given s) };
 }
@@ -242,7 +245,7 @@ impl<'a, T: Integer + 'a, S: Allocator + 'a> GivesRuns<T> for &'a RangeSetBlaze<
     ghost canonical = { λ s canonical. canonical };
 }
 
-// The runs of each of some sets, as streams.
+// Returns the runs of each set as a ready stream.
 fn streams_of<T: Integer, S: GivesRuns<T>, A: Allocator, K: IntoIterator<Item = S>>(
     alloc: A,
     sets: K,
@@ -260,7 +263,7 @@ fn streams_of<T: Integer, S: GivesRuns<T>, A: Allocator, K: IntoIterator<Item = 
     Ok(streams)
 }
 
-// The set of what lies in some of the sets.
+// Returns the set of the values in some of the sets.
 fn union_of<T: Integer, S: GivesRuns<T>, A: Allocator + Copy, K: IntoIterator<Item = S>>(
     alloc: A,
     sets: K,
@@ -274,7 +277,7 @@ fn union_of<T: Integer, S: GivesRuns<T>, A: Allocator + Copy, K: IntoIterator<It
     RangeSetBlaze::from_sorted_disjoint(alloc, union)
 }
 
-// The set of what lies in all of the sets.
+// Returns the set of the values in all of the sets.
 fn intersection_of<T: Integer, S: GivesRuns<T>, A: Allocator + Copy, K: IntoIterator<Item = S>>(
     alloc: A,
     sets: K,
@@ -288,7 +291,7 @@ fn intersection_of<T: Integer, S: GivesRuns<T>, A: Allocator + Copy, K: IntoIter
     RangeSetBlaze::from_sorted_disjoint(alloc, intersection)
 }
 
-// The set of what lies in an odd number of the sets.
+// Returns the set of the values in an odd number of the sets.
 fn symmetric_difference_of<
     T: Integer,
     S: GivesRuns<T>,
@@ -304,7 +307,7 @@ fn symmetric_difference_of<
     RangeSetBlaze::from_sorted_disjoint(alloc, difference)
 }
 
-// The set of what lies in at least `k` of the sets.
+// Returns the set of the values in at least `k` of the sets.
 fn at_least_of<T: Integer, S: GivesRuns<T>, A: Allocator + Copy, K: IntoIterator<Item = S>>(
     alloc: A,
     sets: K,

@@ -1,4 +1,4 @@
-//! Whole numbers that are read from their decimal digits.
+//! Element types whose values are read from decimal digits.
 
 ghost use Rattle.std.specs.Prelude.{◌≡◌, ℕ, ℤ, ◌*◌, ◌+◌, ◌<◌, IfSome, IsNone, pos, unsigned_abs};
 ghost use Rattle.std.specs.Int.{FitsUnsignedBits, w8, w16, w32, w64, w128};
@@ -10,21 +10,22 @@ ghost use Rattle.range_set_blaze.specs.Text.{HasDigit, signed_by};
 
 use rsb_integer::Integer;
 
-/// An element type whose values are whole numbers, and are written in decimal. The given types are
+/// An element type whose values are whole numbers, written in decimal. The implementations are for
 /// `u8` to `u128`, `usize`, `i8` to `i128` and `isize`. Not in range-set-blaze.
 pub trait ParseInteger: Integer {
-    // The number that a value is.
+    // The number of a value.
     ghost number: { Self → ℤ };
 
-    // The numbers of the type.
+    // Whether a number is one of the type.
     ghost fits: { ℤ → Type 0 };
 
     /// Returns the number 0.
     fn zero() -> Self
         ensures { number result ≡ pos 0 };
 
-    /// Returns the number whose digits are those of this one and one more, below 0 if `negative` is
-    /// true. The sign of this number does not matter. Returns `None` if the type lacks it.
+    /// Appends a decimal digit and returns the number, which is negative or 0 if `negative` is
+    /// true. The sign of this number does not matter. Returns `None` if the result is not a number
+    /// of the type.
     fn with_digit(self, negative: bool, digit: u8) -> Option<Self>
         ensures none { IsNone result → ¬ fits
             (signed_by negative (unsigned_abs (number self) * 10 + digit)) }
@@ -34,7 +35,7 @@ pub trait ParseInteger: Integer {
     // One of the values is 0.
     ghost has_zero: { (zero : Self) × (number zero ≡ pos 0) × fits (pos 0) };
 
-    // There is one value for each number of the type, and `Debug` writes it in decimal.
+    // Each number of the type is one value, and `Debug` writes it in decimal.
     ghost numbers: { AreNumbers Self.rank Self.value_count number fits Self.debug_output };
 }
 

@@ -20,11 +20,11 @@ use std::marker::Model;
 use std::ops::RangeInclusive;
 
 /// The runs of a set between two bounds, in ascending order, from both ends. The first and the last
-/// have only their values between the bounds. Contracts see it as the list of the ranges still to
-/// come. Not in range-set-blaze.
+/// run have only their values between the bounds. Contracts see it as the list of the ranges still
+/// to come. Not in range-set-blaze.
 #[derive(Clone, Debug, Drop)]
 pub struct RangesIn<'a, T: Integer> {
-    // What a run that starts before the lower bound has from it on.
+    // The part, from the lower bound on, of a run that starts before it.
     pub(crate) first: Option<Run<T>>,
     // The runs that start between the bounds.
     pub(crate) entries: Range<'a, T, T>,

@@ -1,4 +1,4 @@
-//! The set: a map of its runs in ascending order, and how many members they have.
+//! The set type: a map of its runs in ascending order, and the number of their members.
 //!
 //! Contracts see only the list of its runs (docs/DECISIONS.md, set-as-runs).
 
@@ -49,14 +49,14 @@ use std::collections::BTreeMap;
 use std::marker::Model;
 
 /// A set of integers. Contracts see it as the list of its runs, each as the interval of its ranks.
-/// (`RangeSetBlaze` of the Rust crate.)
+/// (`RangeSetBlaze` in range-set-blaze.)
 #[derive(Drop)]
 pub struct RangeSetBlaze<T: Integer, A: Allocator = Global> {
     // From the start of each run to its end (docs/DECISIONS.md, tree-map).
     map: BTreeMap<T, T, A>,
     length: T::SafeLen,
-    // The map's allocator, for the sets that calls on this one make.
-    // (docs/DECISIONS.md, allocator-parameter)
+    // The map's allocator, which calls on this set use to make other sets
+    // (docs/DECISIONS.md, allocator-parameter).
     alloc: A,
 }
 
@@ -73,7 +73,7 @@ impl<T: Integer, A: Allocator> Model for RangeSetBlaze<T, A> {
 }
 
 impl<T: Integer, A: Allocator + Copy> RangeSetBlaze<T, A> {
-    /// The empty set. It takes no memory. (`RangeSetBlaze::new`.)
+    /// Returns the empty set. Does not allocate. (`RangeSetBlaze::new`.)
     pub fn new(alloc: A) -> Self
         ensures { result ≡ [] }
     {
@@ -84,7 +84,7 @@ impl<T: Integer, A: Allocator + Copy> RangeSetBlaze<T, A> {
         }
     }
 
-    /// The empty set. It takes no memory. (`Default` of `RangeSetBlaze`, which is given no
+    /// Returns the empty set. Does not allocate. (`Default` of `RangeSetBlaze`, which is given no
     /// allocator.)
     pub fn default(alloc: A) -> Self
         ensures { result ≡ [] }
@@ -94,14 +94,14 @@ impl<T: Integer, A: Allocator + Copy> RangeSetBlaze<T, A> {
 }
 
 impl<T: Integer, A: Allocator> RangeSetBlaze<T, A> {
-    /// How many members there are. (`RangeSetBlaze::len`.)
+    /// Returns the number of members. (`RangeSetBlaze::len`.)
     pub fn len(&self) -> T::SafeLen
         ensures { T.SafeLen.number result ≡ count T.value_count (members self.now) }
     {
         self.length
     }
 
-    /// How many runs there are. (`RangeSetBlaze::ranges_len`.)
+    /// Returns the number of runs. (`RangeSetBlaze::ranges_len`.)
     pub fn ranges_len(&self) -> usize
         ensures length { result ≡ length self.now }
         ensures runs { AreRuns T.value_count (members self.now) self.now }
@@ -109,14 +109,14 @@ impl<T: Integer, A: Allocator> RangeSetBlaze<T, A> {
         self.map.len()
     }
 
-    /// Whether there is no member. (`RangeSetBlaze::is_empty`.)
+    /// Returns whether the set has no members. (`RangeSetBlaze::is_empty`.)
     pub fn is_empty(&self) -> bool
         ensures { IsTrue result ↔ IsEmpty (members self.now) }
     {
         self.map.is_empty()
     }
 
-    /// The least member, or `None` of the empty set. (`RangeSetBlaze::first`.)
+    /// Returns the least member, or `None` if the set is empty. (`RangeSetBlaze::first`.)
     pub fn first(&self) -> Option<T>
         ensures none { IsNone result ↔ (self.now ≡ []) }
         ensures found { IfSome result (λ first.
@@ -126,7 +126,7 @@ impl<T: Integer, A: Allocator> RangeSetBlaze<T, A> {
         Some(*start)
     }
 
-    /// The greatest member, or `None` of the empty set. (`RangeSetBlaze::last`.)
+    /// Returns the greatest member, or `None` if the set is empty. (`RangeSetBlaze::last`.)
     pub fn last(&self) -> Option<T>
         ensures none { IsNone result ↔ (self.now ≡ []) }
         ensures found { IfSome result (λ last.
@@ -136,7 +136,7 @@ impl<T: Integer, A: Allocator> RangeSetBlaze<T, A> {
         Some(*end)
     }
 
-    /// The runs in ascending order, from both ends. (`RangeSetBlaze::ranges`.)
+    /// Returns the runs in ascending order, as a double-ended iterator. (`RangeSetBlaze::ranges`.)
     pub fn ranges(&self) -> RangesIter<'_, T>
         ensures ranges { intervals_of T.rank result ≡ self.now }
         ensures ready { IsCanonicalIn T.value_count (intervals_of T.rank result) }
@@ -147,7 +147,7 @@ impl<T: Integer, A: Allocator> RangeSetBlaze<T, A> {
         }
     }
 
-    /// Takes all members out. It takes no memory. (`RangeSetBlaze::clear`.)
+    /// Removes all members. Does not allocate. (`RangeSetBlaze::clear`.)
     pub fn clear(&mut self)
         ensures { self.new ≡ [] }
     {

@@ -1,4 +1,4 @@
-//! Tests of the set, over the public names of the libraries.
+//! Tests of the set, by the public names of the libraries.
 #![tactic(auto)]
 
 #[cfg(test)]

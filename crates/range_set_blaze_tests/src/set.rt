@@ -1,4 +1,4 @@
-//! Sets.
+//! Tests of sets, by subject.
 
 mod additions;
 mod assign;

@@ -1,4 +1,4 @@
-//! An allow-list of addresses: who may enter, and how far a closed block reaches.
+//! An allow-list of addresses: which are allowed, and how far a closed block extends.
 
 ghost use Rattle.std.specs.Prelude.{◌↔◌, ℕ, IfSome, IsFalse, IsNone, IsTrue};
 ghost use Rattle.range_set_blaze.specs.Rank.{interval_of};
@@ -9,7 +9,7 @@ use std::alloc::Global;
 use std::io;
 use std::ops::RangeInclusive;
 
-/// Two blocks are allowed; the gap between them is found from an address inside it.
+/// Allows two blocks, and prints the closed block around an address.
 pub fn show(alloc: Global, rt: &impl Print) -> io::Result<()> {
     let mut allowed = RangeSetBlaze::new(alloc);
     allowed.ranges_insert(0x0A00_0000..=0x0AFF_FFFF_u32)?;
@@ -25,7 +25,7 @@ pub fn show(alloc: Global, rt: &impl Print) -> io::Result<()> {
     Ok(())
 }
 
-// Writes whether an address is allowed, or how far the closed block around it reaches.
+// Prints whether an address is allowed, or how far the closed block around it extends.
 fn show_block(allowed: &RangeSetBlaze<u32>, address: u32, rt: &impl Print) -> io::Result<()> {
     let Some(block) = closed_block(allowed, address) else {
         return println!(rt; "{address:08x} is allowed");
@@ -34,8 +34,8 @@ fn show_block(allowed: &RangeSetBlaze<u32>, address: u32, rt: &impl Print) -> io
     println!(rt; "{address:08x} is closed, as all from {first:08x} to {last:08x}")
 }
 
-/// The closed block around an address, or `None` where the address is allowed. No address in the
-/// block is allowed.
+/// Returns the closed block around an address, or `None` if the address is allowed. No address in
+/// the block is allowed.
 pub fn closed_block(allowed: &RangeSetBlaze<u32>, address: u32) -> Option<RangeInclusive<u32>>
     ensures none { IsNone result ↔ IsTrue (members allowed.now address) }
     ensures around { IfSome result (λ block. IsTrue (covers (interval_of (λ x. x) block) address)) }

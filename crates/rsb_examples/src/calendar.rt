@@ -24,7 +24,7 @@ use std::alloc::{AllocError, Global};
 use std::fmt::{self, Display, Formatter, Write};
 use std::io;
 
-/// The slot of an hour and a quarter of it.
+/// Returns the slot of an hour and a quarter of it.
 pub fn slot_at(hour: u8, quarter: u8) -> Slot
     requires hour { hour < 24 }
     requires quarter { quarter < 4 }
@@ -33,7 +33,7 @@ pub fn slot_at(hour: u8, quarter: u8) -> Slot
     Slot::new(4 * hour + quarter).unwrap()
 }
 
-/// The time at which a slot begins, as in `09:15`.
+/// The time at which a slot starts, such as `09:15`.
 #[derive(Clone, Copy)]
 struct Time(Slot);
 
@@ -45,7 +45,7 @@ impl Display for Time {
     }
 }
 
-/// Three bookings are tried, and the day is written with its gaps.
+/// Tries three bookings, and prints the day with its gaps.
 pub fn show(alloc: Global, rt: &impl Print) -> io::Result<()> {
     let mut booked = RangeSetBlaze::new(alloc);
     let morning = book(&mut booked, slot_at(9, 0), slot_at(10, 1))?;
@@ -56,7 +56,7 @@ pub fn show(alloc: Global, rt: &impl Print) -> io::Result<()> {
     show_day(&booked, rt)
 }
 
-// Writes the booked slots and the gaps between them, from the first slot of the day to the last.
+// Prints the booked slots and the gaps between them, from the first slot of the day to the last.
 fn show_day(booked: &RangeSetBlaze<Slot>, rt: &impl Print) -> io::Result<()> {
     for (slots, is_booked) in booked.ranges().fill_gaps() {
         let (first, last) = slots.into_inner();
@@ -66,8 +66,8 @@ fn show_day(booked: &RangeSetBlaze<Slot>, rt: &impl Print) -> io::Result<()> {
     Ok(())
 }
 
-/// Books the slots from the first to the last if all are free, and says whether it did. Without
-/// memory the calendar is as it was.
+/// Books the slots from the first to the last if all are free, and returns whether it did. If
+/// allocation fails, the calendar is unchanged.
 pub fn book(booked: &mut RangeSetBlaze<Slot>, first: Slot, last: Slot) -> Result<bool, AllocError>
     ensures free { IfOk result (λ done. IsTrue done ↔ ((quarter : ℕ) → first ≤ quarter
         → quarter ≤ last → IsFalse (members booked.old quarter))) }
@@ -83,7 +83,7 @@ pub fn book(booked: &mut RangeSetBlaze<Slot>, first: Slot, last: Slot) -> Result
     Ok(true)
 }
 
-// Whether no slot from the first to the last is booked.
+// Returns whether no slot from the first to the last is booked.
 fn are_free(booked: &RangeSetBlaze<Slot>, first: Slot, last: Slot) -> bool
     ensures { IsTrue result ↔ ((quarter : ℕ) → first ≤ quarter → quarter ≤ last
         → IsFalse (members booked.now quarter)) }

@@ -1,4 +1,4 @@
-//! The character classes of a lexer: every character is in one class or the other.
+//! The character classes of a lexer. Every character is in exactly one of two classes.
 
 ghost use Rattle.std.specs.Prelude.{◌≡◌, ℕ, not, ◌<◌, IfOk};
 ghost use Rattle.range_set_blaze.specs.Runs.{members};
@@ -7,7 +7,7 @@ use range_set_blaze::RangeSetBlaze;
 use std::alloc::{AllocError, Global};
 use std::io;
 
-/// Words and the rest of a line.
+/// Prints the two classes, and the class of each character of a line.
 pub fn show(alloc: Global, rt: &impl Print) -> io::Result<()> {
     let (word, rest) = classes(alloc)?;
     println!(rt; "word: {word}")?;
@@ -20,7 +20,7 @@ pub fn show(alloc: Global, rt: &impl Print) -> io::Result<()> {
     println!(rt; "")
 }
 
-/// The characters of words, and all others. Without memory nothing is made.
+/// Returns the characters of words, and all others. If allocation fails, no set is made.
 pub fn classes(alloc: Global) -> Result<(RangeSetBlaze<char>, RangeSetBlaze<char>), AllocError>
     ensures { IfOk result (λ both. (rank : ℕ) → rank < 1112064
         → members both.1 rank ≡ not (members both.0 rank)) }
@@ -33,7 +33,7 @@ pub fn classes(alloc: Global) -> Result<(RangeSetBlaze<char>, RangeSetBlaze<char
     Ok((word, rest))
 }
 
-// The letters of Latin and German words.
+// Returns the letters of English and German words.
 fn letters(alloc: Global) -> Result<RangeSetBlaze<char>, AllocError> {
     let mut letters = RangeSetBlaze::from(alloc, 'a'..='z')?;
     letters.ranges_insert('A'..='Z')?;

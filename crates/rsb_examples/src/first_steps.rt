@@ -1,4 +1,4 @@
-//! The calls that most programs make, and a caller with a promise of its own.
+//! The calls that most programs make, and a caller with a contract of its own.
 
 ghost use Rattle.std.specs.Prelude.{◌≡◌, ◌⊎◌, IsTrue, OnErr, OnOk};
 ghost use Rattle.range_set_blaze.specs.Runs.{members};
@@ -8,7 +8,8 @@ use range_set_blaze::{IntoRangeSetBlaze, RangeSetBlaze};
 use std::alloc::{AllocError, Global};
 use std::io;
 
-/// Hours at which a shop is open: asked, walked over and combined with others.
+/// Prints the hours at which a shop is open, after look-ups, a loop over the runs, and set
+/// operations.
 pub fn show(alloc: Global, rt: &impl Print) -> io::Result<()> {
     let open = opening_hours(alloc)?;
     println!(rt;
@@ -24,7 +25,7 @@ pub fn show(alloc: Global, rt: &impl Print) -> io::Result<()> {
     println!(rt; "idle: {}", idle_hours(alloc, &open, &busy)?)
 }
 
-// Two runs, and the two values between them.
+// Returns a set of two runs and the two values between them.
 fn opening_hours(alloc: Global) -> Result<RangeSetBlaze<u32>, AllocError> {
     let mut open = RangeSetBlaze::new(alloc);
     open.ranges_insert(9..=10)?;
@@ -33,7 +34,7 @@ fn opening_hours(alloc: Global) -> Result<RangeSetBlaze<u32>, AllocError> {
     Ok(open)
 }
 
-// The hours of a day in neither set, by a chain of streams.
+// Returns the hours of a day that are in neither set, by a chain of streams.
 fn idle_hours(
     alloc: Global,
     open: &RangeSetBlaze<u32>,
@@ -44,7 +45,7 @@ fn idle_hours(
     idle.into_range_set_blaze(alloc)
 }
 
-/// Adds two values. Without memory the set is as it was, or has the first one more.
+/// Inserts two values. If allocation fails, the set is unchanged, or has gained only the first.
 pub fn add_both(set: &mut RangeSetBlaze<u32>, a: u32, b: u32) -> Result<(), AllocError>
     ensures both { OnOk result (IsTrue (members set.new a) × IsTrue (members set.new b)) }
     ensures err { OnErr result ((set.new ≡ set.old) ⊎ Adds set.old set.new (only a)) }

@@ -1,11 +1,11 @@
-//! The union of many sets, of all at once and of one after the other: the same set, at unlike cost.
+//! The union of many sets, at once and one after the other: the same set at different cost.
 
 use range_set_blaze::{MultiwayRangeSetBlazeRef, RangeSetBlaze};
 use std::alloc::{AllocError, Global};
 use std::io;
 use std::time::Instant;
 
-/// The union of ten sets of ten runs, made in both ways.
+/// Prints the number of runs of the union of ten sets of ten runs, taken both ways.
 pub fn show(alloc: Global, rt: &impl Print) -> io::Result<()> {
     let sets = sets(alloc, 10)?;
     let at_once = MultiwayRangeSetBlazeRef::union(&sets, alloc)?;
@@ -14,7 +14,7 @@ pub fn show(alloc: Global, rt: &impl Print) -> io::Result<()> {
     println!(rt; "one by one: {} runs", in_turn.ranges_len())
 }
 
-/// How long both ways take with a thousand sets of a thousand runs.
+/// Prints how long both ways take with a thousand sets of a thousand runs.
 pub fn time(rt: &HostRuntime) -> io::Result<()> {
     let alloc = rt.alloc();
     let sets = sets(alloc, 1000)?;
@@ -29,7 +29,7 @@ pub fn time(rt: &HostRuntime) -> io::Result<()> {
     println!(rt; "one by one: {} runs in {passed} ms", in_turn.ranges_len())
 }
 
-// As many sets as are told, each of as many runs.
+// Returns `many` sets of `many` runs each.
 fn sets(alloc: Global, many: u16) -> Result<Vec<RangeSetBlaze<i32>>, AllocError> {
     let mut sets = Vec::new(alloc);
     for number in 0..many {
@@ -38,7 +38,8 @@ fn sets(alloc: Global, many: u16) -> Result<Vec<RangeSetBlaze<i32>>, AllocError>
     Ok(sets)
 }
 
-// The set of a number: in each block of 4,096 values a run of two, which no other set's touches.
+// Returns the set of a number. It has one run of two values in each block of 4,096, which touches
+// no run of another set.
 fn set_no(alloc: Global, number: u16, many: u16) -> Result<RangeSetBlaze<i32>, AllocError> {
     let mut set = RangeSetBlaze::new(alloc);
     for block in 0..many {
@@ -49,7 +50,7 @@ fn set_no(alloc: Global, number: u16, many: u16) -> Result<RangeSetBlaze<i32>, A
     Ok(set)
 }
 
-// The union of sets, of one after the other.
+// Returns the union of sets, taken one after the other.
 fn one_by_one(
     alloc: Global,
     sets: &[RangeSetBlaze<i32>],

@@ -1,4 +1,4 @@
-//! Who is on duty: two rotas of shifts with names, in which one shift may begin where another ends.
+//! Who is on duty: two rotas of shifts with names. One shift may start where another ends.
 
 ghost use Rattle.std.specs.Prelude.{length, map, All, IfOk};
 ghost use Rattle.range_set_blaze.specs.Many.{may_give_at, SomeOfEach};
@@ -20,7 +20,7 @@ struct Shift {
     name: &'static str,
 }
 
-/// The shifts at a desk, of which the second begins where the first ends.
+/// The shifts at a desk. The second starts where the first ends.
 static DESK: [Shift; 2] = [
     Shift {
         first: 8,
@@ -41,7 +41,7 @@ static DOOR: [Shift; 1] = [Shift {
     name: "Cleo",
 }];
 
-/// Who comes and who goes, hour by hour, and when the desk is taken.
+/// Prints who comes and who goes, hour by hour, and the hours when the desk is taken.
 pub fn show(alloc: Global, rt: &impl Print) -> io::Result<()> {
     let desk = CheckSortedTouching::try_new(hours(alloc, &DESK)?);
     let door = CheckSortedTouching::try_new(hours(alloc, &DOOR)?);
@@ -59,7 +59,7 @@ pub fn show(alloc: Global, rt: &impl Print) -> io::Result<()> {
     Ok(())
 }
 
-// The hours of shifts.
+// Returns the hours of shifts.
 fn hours(alloc: Global, shifts: &[Shift]) -> Result<Vec<RangeInclusive<u8>>, AllocError> {
     let mut hours = Vec::new(alloc);
     for shift in shifts {
@@ -68,7 +68,7 @@ fn hours(alloc: Global, shifts: &[Shift]) -> Result<Vec<RangeInclusive<u8>>, All
     Ok(hours)
 }
 
-// Writes who comes, or who goes.
+// Prints who comes, or who goes.
 fn show_event(event: &SweepEvent<u8>, rt: &impl Print) -> io::Result<()> {
     match event {
         SweepEvent::Start { range, input } => {
@@ -79,7 +79,7 @@ fn show_event(event: &SweepEvent<u8>, rt: &impl Print) -> io::Result<()> {
     }
 }
 
-// Who is on duty at an hour, by the number of the rota.
+// Returns who is on duty at an hour, in the rota of this number.
 fn name_at(rota: usize, hour: u8) -> &'static str {
     let shifts: &[Shift] = if rota == 0 { &DESK } else { &DOOR };
     for shift in shifts {
@@ -90,8 +90,8 @@ fn name_at(rota: usize, hour: u8) -> &'static str {
     "nobody"
 }
 
-/// Where the ranges of some streams start and end: each range of each of them, once, in order. Ranges
-/// that touch stay apart. Without memory nothing is told.
+/// Returns where the ranges of some streams start and end: each range of each stream once, in
+/// order. Ranges that touch stay separate. If allocation fails, no event is returned.
 pub fn timeline<T: Integer, I: SortedTouching<T>>(
     alloc: Global,
     inputs: Vec<I>,
@@ -104,7 +104,7 @@ pub fn timeline<T: Integer, I: SortedTouching<T>>(
     all_of(alloc, MultiwaySweep::new_touching(alloc, inputs)?)
 }
 
-// All events of a sweep.
+// Returns all events of a sweep.
 fn all_of<T: Integer, I: Draw<T>>(
     alloc: Global,
     sweep: MultiwaySweep<T, I>,

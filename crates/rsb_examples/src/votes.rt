@@ -9,7 +9,7 @@ use range_set_blaze::{MultiwayRangeSetBlazeRef, RangeSetBlaze};
 use std::alloc::{AllocError, Global};
 use std::io;
 
-/// Three lists, and what one, two and all of them block.
+/// Prints what at least one, at least two and all of three lists block.
 pub fn show(alloc: Global, rt: &impl Print) -> io::Result<()> {
     let lists = [
         RangeSetBlaze::from(alloc, 10..=39)?,
@@ -22,7 +22,7 @@ pub fn show(alloc: Global, rt: &impl Print) -> io::Result<()> {
     Ok(())
 }
 
-/// Returns what at least `votes` of the lists block. If allocation fails, nothing is made.
+/// Returns what at least `votes` of the lists block. If allocation fails, no set is made.
 pub fn agreed(
     alloc: Global,
     lists: &[RangeSetBlaze<u32>],

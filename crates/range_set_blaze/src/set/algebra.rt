@@ -1,4 +1,4 @@
-//! Sets made of one set or two.
+//! Sets built from one set or from two.
 
 ghost use Rattle.std.specs.Prelude.{◌≡◌, List, IfOk};
 ghost use Rattle.rsb_integer.specs.Runs.{members, AreRuns, Interval};
@@ -13,7 +13,7 @@ use rsb_streams::DrawDisjoint;
 use std::alloc::{AllocError, Allocator};
 
 impl<T: Integer, A: Allocator + Copy> RangeSetBlaze<T, A> {
-    /// A copy of the set. Without memory nothing is made. (`Clone` of `RangeSetBlaze`:
+    /// Returns a copy of the set. If allocation fails, no set is made. (`Clone` of `RangeSetBlaze`:
     /// `set.clone()?`.)
     pub fn clone(&self) -> Result<Self, AllocError>
         ensures same { IfOk result (λ set. set ≡ self.now) }
@@ -21,8 +21,8 @@ impl<T: Integer, A: Allocator + Copy> RangeSetBlaze<T, A> {
         Self::from_sorted_disjoint(self.alloc, self.ranges())
     }
 
-    /// What lies in either of two sets, by one pass over both. It has at most as many runs as both
-    /// sets together. Without memory nothing is made.
+    /// Returns the union of two sets: the values in either of them. Takes one pass over both. The
+    /// result has at most as many runs as both sets together. If allocation fails, no set is made.
     /// (`BitOr` of `RangeSetBlaze`: `a.bitor(&b)?` for `&a | &b`.)
     pub fn bitor<B: Allocator>(&self, other: &RangeSetBlaze<T, B>) -> Result<Self, AllocError>
         ensures members { IfOk result (λ set.
@@ -32,9 +32,10 @@ impl<T: Integer, A: Allocator + Copy> RangeSetBlaze<T, A> {
         union_of(self.alloc, self.ranges(), other.ranges())
     }
 
-    /// What two sets both have, by one pass over both. It has no run where one of the sets has none,
-    /// and else fewer runs than both sets together. Without memory nothing is made.
-    /// (`BitAnd` of `RangeSetBlaze`: `a.bitand(&b)?` for `&a & &b`.)
+    /// Returns the intersection of two sets: the values in both of them. Takes one pass over both.
+    /// If either set is empty, the result is empty; otherwise it has fewer runs than the two sets
+    /// together. If allocation fails, no set is made. (`BitAnd` of `RangeSetBlaze`: `a.bitand(&b)?`
+    /// for `&a & &b`.)
     pub fn bitand<B: Allocator>(&self, other: &RangeSetBlaze<T, B>) -> Result<Self, AllocError>
         ensures members { IfOk result (λ set.
             IsSetOf set (intersection (members self.now) (members other.now))) }
@@ -43,9 +44,9 @@ impl<T: Integer, A: Allocator + Copy> RangeSetBlaze<T, A> {
         intersection_of(self.alloc, self.ranges(), other.ranges())
     }
 
-    /// What this set has and the other lacks, by one pass over both. It has at most as many runs as
-    /// both sets together. Without memory nothing is made.
-    /// (`Sub` of `RangeSetBlaze`: `a.sub(&b)?` for `&a - &b`.)
+    /// Returns the difference of two sets: the values in this set that are not in the other. Takes
+    /// one pass over both. The result has at most as many runs as both sets together. If allocation
+    /// fails, no set is made. (`Sub` of `RangeSetBlaze`: `a.sub(&b)?` for `&a - &b`.)
     pub fn sub<B: Allocator>(&self, other: &RangeSetBlaze<T, B>) -> Result<Self, AllocError>
         ensures members { IfOk result (λ set.
             IsSetOf set (difference (members self.now) (members other.now))) }
@@ -54,9 +55,9 @@ impl<T: Integer, A: Allocator + Copy> RangeSetBlaze<T, A> {
         difference_of(self.alloc, self.ranges(), other.ranges())
     }
 
-    /// What lies in one of two sets alone, by one pass over both. It has at most as many runs as
-    /// both sets together. Without memory nothing is made.
-    /// (`BitXor` of `RangeSetBlaze`: `a.bitxor(&b)?` for `&a ^ &b`.)
+    /// Returns the symmetric difference of two sets: the values in exactly one of them. Takes one
+    /// pass over both. The result has at most as many runs as both sets together. If allocation
+    /// fails, no set is made. (`BitXor` of `RangeSetBlaze`: `a.bitxor(&b)?` for `&a ^ &b`.)
     pub fn bitxor<B: Allocator>(&self, other: &RangeSetBlaze<T, B>) -> Result<Self, AllocError>
         ensures members { IfOk result (λ set.
             IsSetOf set (symmetric_difference (members self.now) (members other.now))) }
@@ -65,8 +66,8 @@ impl<T: Integer, A: Allocator + Copy> RangeSetBlaze<T, A> {
         symmetric_difference_of(self.alloc, self.ranges(), other.ranges())
     }
 
-    /// The values that the set lacks. They have at most one run more than the set. Without memory
-    /// nothing is made. (`Not` of `RangeSetBlaze`: `a.not()?` for `!&a`.)
+    /// Returns the complement: the values that the set lacks. It has at most one run more than the
+    /// set. If allocation fails, no set is made. (`Not` of `RangeSetBlaze`: `a.not()?` for `!&a`.)
     pub fn not(&self) -> Result<Self, AllocError>
         ensures members { IfOk result (λ set.
             IsSetOf set (complement_in T.value_count (members self.now))) }
@@ -76,7 +77,7 @@ impl<T: Integer, A: Allocator + Copy> RangeSetBlaze<T, A> {
     }
 }
 
-// The set of what lies in either of two streams.
+// Returns the union of two ready streams as a set.
 fn union_of<T: Integer, A: Allocator + Copy, L: DrawDisjoint<T>, R: DrawDisjoint<T>>(
     alloc: A,
     left: L,
@@ -96,7 +97,7 @@ fn union_of<T: Integer, A: Allocator + Copy, L: DrawDisjoint<T>, R: DrawDisjoint
     RangeSetBlaze::from_sorted_disjoint(alloc, left.union(right))
 }
 
-// The set of what two streams both have.
+// Returns the intersection of two ready streams as a set.
 pub(super) fn intersection_of<
     T: Integer,
     A: Allocator + Copy,
@@ -117,7 +118,7 @@ pub(super) fn intersection_of<
     RangeSetBlaze::from_sorted_disjoint(alloc, left.intersection(right))
 }
 
-// The set of what one stream has and the other lacks.
+// Returns the difference of two ready streams as a set.
 fn difference_of<T: Integer, A: Allocator + Copy, L: DrawDisjoint<T>, R: DrawDisjoint<T>>(
     alloc: A,
     left: L,
@@ -137,7 +138,7 @@ fn difference_of<T: Integer, A: Allocator + Copy, L: DrawDisjoint<T>, R: DrawDis
     RangeSetBlaze::from_sorted_disjoint(alloc, left.difference(right))
 }
 
-// The set of what lies in one of two streams alone.
+// Returns the symmetric difference of two ready streams as a set.
 fn symmetric_difference_of<T: Integer, A: Allocator + Copy, L: DrawDisjoint<T>, R: DrawDisjoint<T>>(
     alloc: A,
     left: L,

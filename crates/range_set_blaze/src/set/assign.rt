@@ -1,5 +1,5 @@
-//! Sets that another set changes in place: by an intersection, a difference or a symmetric difference.
-//! (docs/DECISIONS.md, assigned-anew)
+//! Intersection, difference and symmetric difference with another set, in place
+//! (docs/DECISIONS.md, assigned-anew).
 
 ghost use Rattle.std.specs.Prelude.{◌≡◌, IsOk, OnErr, OnOk};
 ghost use Rattle.rsb_integer.specs.Runs.{members};
@@ -13,7 +13,7 @@ use std::alloc::{AllocError, Allocator};
 
 impl<T: Integer, A: Allocator + Copy> RangeSetBlaze<T, A> {
     /// Keeps the members that another set has too, by one pass over both sets. If allocation fails,
-    /// the set is unchanged. It does not allocate if one of the sets is empty. Write
+    /// the set is unchanged. Does not allocate if one of the sets is empty. Write
     /// `a.bitand_assign(&b)?` for `a &= &b`. Not in range-set-blaze.
     pub fn bitand_assign<B: Allocator>(
         &mut self,
@@ -35,7 +35,7 @@ impl<T: Integer, A: Allocator + Copy> RangeSetBlaze<T, A> {
     }
 
     /// Removes the members of another set, by one pass over both sets. If allocation fails, the set
-    /// is unchanged. It does not allocate if one of the sets is empty. Write `a.sub_assign(&b)?` for
+    /// is unchanged. Does not allocate if one of the sets is empty. Write `a.sub_assign(&b)?` for
     /// `a -= &b`. Not in range-set-blaze.
     pub fn sub_assign<B: Allocator>(
         &mut self,
@@ -56,7 +56,7 @@ impl<T: Integer, A: Allocator + Copy> RangeSetBlaze<T, A> {
     }
 
     /// Keeps the members that another set lacks, and adds those that only the other set has, by one
-    /// pass over both sets. If allocation fails, the set is unchanged. It does not allocate if the
+    /// pass over both sets. If allocation fails, the set is unchanged. Does not allocate if the
     /// other set is empty. Write `a.bitxor_assign(&b)?` for `a ^= &b`. Not in range-set-blaze.
     pub fn bitxor_assign<B: Allocator>(
         &mut self,

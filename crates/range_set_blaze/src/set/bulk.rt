@@ -15,7 +15,7 @@ use std::alloc::{AllocError, Allocator};
 use std::ops::RangeInclusive;
 
 impl<T: Integer, A: Allocator + Copy> RangeSetBlaze<T, A> {
-    /// The set of the ranges of a stream that may be drawn from. Without memory nothing is made.
+    /// Returns the set of the ranges of a ready stream. If allocation fails, no set is made.
     /// (`RangeSetBlaze::from_sorted_disjoint`.)
     pub fn from_sorted_disjoint<I: DrawDisjoint<T>>(alloc: A, iter: I) -> Result<Self, AllocError>
         requires { I.can_draw iter }
@@ -26,8 +26,8 @@ impl<T: Integer, A: Allocator + Copy> RangeSetBlaze<T, A> {
         Ok(RangeSetBlaze { map, length, alloc })
     }
 
-    /// The set of the values of a range: the empty set where the range is reversed or was iterated
-    /// to its end. Without memory nothing is made. Of an array, write `from_array`.
+    /// Returns the set of the values of a range. The set is empty if the range is reversed or was
+    /// iterated to its end. If allocation fails, no set is made. For an array, write `from_array`.
     /// (`From<RangeInclusive>` of `RangeSetBlaze`.)
     pub fn from(alloc: A, range: RangeInclusive<T>) -> Result<Self, AllocError>
         ensures members { IfOk result (λ set. IsSetOf set (covers (interval_of T.rank range))) }
@@ -35,7 +35,8 @@ impl<T: Integer, A: Allocator + Copy> RangeSetBlaze<T, A> {
         Self::from_sorted_disjoint(alloc, RangeOnce::new(range))
     }
 
-    /// The set of all values. Without memory nothing is made. (`RangeSetBlaze::universe`.)
+    /// Returns the set of all values of the type. If allocation fails, no set is made.
+    /// (`RangeSetBlaze::universe`.)
     pub fn universe(alloc: A) -> Result<Self, AllocError>
         ensures members { IfOk result (λ set. IsUniversal T.value_count (members set)) }
     {
@@ -44,8 +45,8 @@ impl<T: Integer, A: Allocator + Copy> RangeSetBlaze<T, A> {
 }
 
 impl<T: Integer, A: Allocator> RangeSetBlaze<T, A> {
-    /// The runs in ascending order, from both ends. They own what the set owned, and take no
-    /// memory. (`RangeSetBlaze::into_ranges`.)
+    /// Returns the runs in ascending order, as a double-ended iterator that owns them. Does not
+    /// allocate. (`RangeSetBlaze::into_ranges`.)
     pub fn into_ranges(self) -> IntoRangesIter<T, A>
         ensures ranges { intervals_of T.rank result ≡ self }
         ensures ready { IsCanonicalIn T.value_count (intervals_of T.rank result) }

@@ -1,5 +1,4 @@
-//! Sets that are collected, and extended, as std's collections are. Each answers what the call of
-//! its name does.
+//! `FromIterator` and `Extend` for sets. Each returns what the set's own call returns.
 
 ghost use Rattle.std.specs.Iterator.{ExtendsWithItems};
 ghost use Rattle.std.specs.Prelude.{OnOk};
@@ -12,7 +11,8 @@ use rsb_integer::Integer;
 use std::alloc::{AllocError, Allocator};
 use std::ops::RangeInclusive;
 
-/// `values.collect(alloc)?`: the set of values in any order. Without memory nothing is made.
+/// `values.collect(alloc)?`: returns the set of the values, in any order. If allocation fails, no
+/// set is made.
 impl<T: Integer, A: Allocator + Copy> FromIterator<T> for RangeSetBlaze<T, A> {
     type Alloc = A;
 
@@ -23,8 +23,8 @@ impl<T: Integer, A: Allocator + Copy> FromIterator<T> for RangeSetBlaze<T, A> {
     }
 }
 
-/// `ranges.collect(alloc)?`: the set of the values of ranges in any order, of which some may be
-/// empty. Without memory nothing is made.
+/// `ranges.collect(alloc)?`: returns the set of the values of the ranges, in any order. A range may
+/// be empty. If allocation fails, no set is made.
 impl<T: Integer, A: Allocator + Copy> FromIterator<RangeInclusive<T>> for RangeSetBlaze<T, A> {
     type Alloc = A;
 
@@ -38,8 +38,8 @@ impl<T: Integer, A: Allocator + Copy> FromIterator<RangeInclusive<T>> for RangeS
     }
 }
 
-/// `Extend::extend(&mut set, values)?`: adds values in any order. Without memory those that came
-/// before stay added.
+/// `Extend::extend(&mut set, values)?`: adds the values, in any order. If allocation fails, those
+/// that came before stay added.
 impl<T: Integer, A: Allocator + Clone> Extend<T> for RangeSetBlaze<T, A> {
     ghost extend_gives = { AddsValues T.rank };
 
@@ -54,8 +54,8 @@ impl<T: Integer, A: Allocator + Clone> Extend<T> for RangeSetBlaze<T, A> {
     }
 }
 
-/// `Extend::extend(&mut set, ranges)?`: adds the values of ranges in any order. Without memory those
-/// of the ranges that came before stay added.
+/// `Extend::extend(&mut set, ranges)?`: adds the values of the ranges, in any order. If allocation
+/// fails, those of the ranges that came before stay added.
 impl<T: Integer, A: Allocator + Clone> Extend<RangeInclusive<T>> for RangeSetBlaze<T, A> {
     ghost extend_gives = { AddsItems T.rank };
 

@@ -25,7 +25,8 @@ use std::alloc::{AllocError, Allocator};
 use std::ops::RangeBounds;
 
 impl<T: Integer, A: Allocator> RangeSetBlaze<T, A> {
-    /// The members in ascending order, from both ends. It takes no memory. (`RangeSetBlaze::iter`.)
+    /// Returns the members in ascending order, as a double-ended iterator. Does not allocate.
+    /// (`RangeSetBlaze::iter`.)
     pub fn iter(&self) -> Iter<T, RangesIter<'_, T>>
         ensures runs { runs_left T.rank result ≡ self.now }
         ensures ready { ListedReady T.rank T.value_count result }
@@ -63,9 +64,9 @@ impl<T: Integer, A: Allocator> IntoIterator for RangeSetBlaze<T, A> {
     }
 }
 
-/// What the elements of a set stand for: the set whose runs are left of them. `next` takes out its
-/// least member and `next_back` its greatest, and each answers `None` exactly where it is empty.
-/// (Own.)
+/// States what the elements of a set stand for: the set of the members still to come. `next`
+/// removes its least member and `next_back` its greatest. Each returns `None` exactly if that set
+/// is empty. Not in range-set-blaze.
 pub fn elements_stand_for_sets<'a, T: Integer + 'a>()
     ensures next { (s t : _) (item : _)
         → ⟦<Iter<T, RangesIter<'a, T>> as Iterator>⟧.next_gives s item t
@@ -78,12 +79,12 @@ pub fn elements_stand_for_sets<'a, T: Integer + 'a>()
 {}
 
 impl<T: Integer, A: Allocator + Copy> RangeSetBlaze<T, A> {
-    /// The members between two bounds in ascending order, from both ends, as an iterator that owns
-    /// them. Bounds with nothing between them give nothing. Without memory nothing is made.
-    /// (`RangeSetBlaze::range`.)
+    /// Returns the members between two bounds in ascending order, as a double-ended iterator that
+    /// owns them. Empty and reversed bounds have no member between them. If allocation fails, no
+    /// iterator is made. (`RangeSetBlaze::range`.)
     ///
-    /// Nothing is said of a type that does not tell its bounds, nor of a `RangeInclusive` that was
-    /// iterated to its end.
+    /// The contract is silent about a type that does not report its bounds, and about a
+    /// `RangeInclusive` that was iterated to its end.
     pub fn range<R: RangeBounds<T>>(&self, range: R) -> Result<IntoIter<T, A>, AllocError>
         ensures members { R.has_bounds range → IfOk result (λ elements. IsSetOf elements
             (intersection (members self.now)

@@ -1,4 +1,4 @@
-//! Additions of many ranges and values.
+//! Insertion of many ranges and values.
 
 ghost use Rattle.std.specs.Prelude.{◌≡◌, [], IfOk, OnErr, OnOk};
 ghost use Rattle.std.specs.Iterator.{ExtendsWithItems};
@@ -17,8 +17,8 @@ use std::alloc::{AllocError, Allocator};
 use std::ops::RangeInclusive;
 
 impl<T: Integer, A: Allocator + Clone> RangeSetBlaze<T, A> {
-    /// Adds the values of ranges in any order; an empty one adds nothing. Without memory those of
-    /// the ranges that came before stay added. Of values, write `extend_values`.
+    /// Adds the values of ranges, in any order. An empty range adds nothing. If allocation fails,
+    /// those of the ranges that came before stay added. For values, write `extend_values`.
     /// (`Extend<RangeInclusive>` of `RangeSetBlaze`.)
     pub fn extend<J: IntoIterator<Item = RangeInclusive<T>>>(
         &mut self,
@@ -36,7 +36,7 @@ impl<T: Integer, A: Allocator + Clone> RangeSetBlaze<T, A> {
         Ok(())
     }
 
-    /// Adds values in any order. Without memory those that came before stay added.
+    /// Adds values, in any order. If allocation fails, those that came before stay added.
     /// (`Extend<T>` of `RangeSetBlaze`.)
     pub fn extend_values<J: IntoIterator<Item = T>>(&mut self, values: J) -> Result<(), AllocError>
         requires ready { IsEnding J.into_iter_gives J.IntoIter.can_next J.IntoIter.remaining values }
@@ -51,7 +51,7 @@ impl<T: Integer, A: Allocator + Clone> RangeSetBlaze<T, A> {
         Ok(())
     }
 
-    // Adds the values of a range. Without memory the set is as it was.
+    // Adds the values of a range. If allocation fails, the set is unchanged.
     pub(super) fn add_range(&mut self, range: RangeInclusive<T>) -> Result<(), AllocError>
         ensures members { OnOk result
             (Adds self.old self.new (covers (interval_of T.rank range))) }
@@ -67,9 +67,9 @@ impl<T: Integer, A: Allocator + Clone> RangeSetBlaze<T, A> {
 }
 
 impl<T: Integer, A: Allocator + Copy> RangeSetBlaze<T, A> {
-    /// The set of ranges in any order, of which some may be empty, by one sort and one pass. Without
-    /// memory nothing is made. Of values, write `from_iter_values`, or `values.collect(alloc)?`.
-    /// (`FromIterator<RangeInclusive<T>>` of `RangeSetBlaze`.)
+    /// Returns the set of the values of ranges, in any order, by one sort and one pass. A range may
+    /// be empty. If allocation fails, no set is made. For values, write `from_iter_values` or
+    /// `values.collect(alloc)?`. (`FromIterator<RangeInclusive<T>>` of `RangeSetBlaze`.)
     pub fn from_iter<J: IntoIterator<Item = RangeInclusive<T>>>(
         alloc: A,
         ranges: J,
@@ -86,8 +86,8 @@ impl<T: Integer, A: Allocator + Copy> RangeSetBlaze<T, A> {
         Self::from_sorted_disjoint(alloc, union)
     }
 
-    /// The set of values in any order, by one sort and one pass. Without memory nothing is made.
-    /// (`FromIterator<T>` of `RangeSetBlaze`.)
+    /// Returns the set of values, in any order, by one sort and one pass. If allocation fails, no
+    /// set is made. (`FromIterator<T>` of `RangeSetBlaze`.)
     pub fn from_iter_values<J: IntoIterator<Item = T>>(
         alloc: A,
         values: J,
@@ -104,8 +104,8 @@ impl<T: Integer, A: Allocator + Copy> RangeSetBlaze<T, A> {
         Self::from_iter(alloc, singles)
     }
 
-    /// The set of the values of an array, in any order, which are moved into a list first. Without
-    /// memory nothing is made. (`From<[T; N]>` of `RangeSetBlaze`.)
+    /// Returns the set of the values of an array, in any order. Moves the values into a list first.
+    /// If allocation fails, no set is made. (`From<[T; N]>` of `RangeSetBlaze`.)
     pub fn from_array<const N: usize>(alloc: A, values: [T; N]) -> Result<Self, AllocError>
         ensures members { IfOk result (λ set. IsSetOf set (ranks_of T.rank values)) }
     {
@@ -113,8 +113,8 @@ impl<T: Integer, A: Allocator + Copy> RangeSetBlaze<T, A> {
         Self::from_iter_values(alloc, Vec::from_array(alloc, values)?)
     }
 
-    /// Adds the members of another set: one run after the other where these are few, else by one
-    /// pass over both sets. Without memory a front of the other's runs is added.
+    /// Adds the members of another set. Inserts its runs one by one if they are few, and otherwise
+    /// takes one pass over both sets. If allocation fails, a prefix of the other's runs is added.
     /// (`BitOrAssign` of `RangeSetBlaze`: `a.bitor_assign(&b)?` for `a |= &b`.)
     pub fn bitor_assign<B: Allocator>(
         &mut self,
@@ -130,9 +130,9 @@ impl<T: Integer, A: Allocator + Copy> RangeSetBlaze<T, A> {
         Ok(())
     }
 
-    /// Adds the members of another set, which goes on as this one where it has more runs. Without
-    /// memory a front of the other's runs is added, and the other is gone.
-    /// (`BitOrAssign` of `RangeSetBlaze`, of a set by value.)
+    /// Adds the members of another set, given by value. If the other set has more runs, adds this
+    /// set to it and keeps the result. If allocation fails, a prefix of the other's runs is added,
+    /// and the other set is dropped. (`BitOrAssign` of `RangeSetBlaze`, of a set by value.)
     pub fn bitor_assign_owned(&mut self, other: Self) -> Result<(), AllocError>
         ensures members { OnOk result (Adds self.old self.new (members other)) }
         ensures err { OnErr result (AddsPrefixOf self.old self.new other) }
@@ -146,8 +146,9 @@ impl<T: Integer, A: Allocator + Copy> RangeSetBlaze<T, A> {
         Ok(())
     }
 
-    /// Adds the members of another set, which is empty then. Without memory a front of the other's
-    /// runs is added, and the other is as it was. (`RangeSetBlaze::append`.)
+    /// Moves all members of another set into this one, which leaves the other set empty. If
+    /// allocation fails, a prefix of the other's runs is added, and the other set is unchanged.
+    /// (`RangeSetBlaze::append`.)
     pub fn append(&mut self, other: &mut Self) -> Result<(), AllocError>
         ensures members { OnOk result (Adds self.old self.new (members other.old)) }
         ensures emptied { OnOk result (other.new ≡ []) }
@@ -161,7 +162,8 @@ impl<T: Integer, A: Allocator + Copy> RangeSetBlaze<T, A> {
     }
 }
 
-// Whether to insert some runs one by one among others costs less than one pass over all.
+// Returns whether it costs less to insert `some` runs one by one among `others` than to take one
+// pass over all.
 fn is_few(some: usize, others: usize) -> bool {
     let Some(depth) = others.checked_ilog2() else {
         return some == 0;

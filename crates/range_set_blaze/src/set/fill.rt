@@ -1,6 +1,6 @@
-//! What a set keeps, made of a stream in one pass and of a list in order.
+//! What a set keeps, built from a stream in one pass.
 //!
-//! The list comes first since std builds the map of a list in order in one pass. Each allocation of
+//! The list comes first, since std builds the map of a list in order in one pass. Each allocation of
 //! the list can fail.
 
 ghost use Rattle.std.specs.Prelude.{◌≡◌, IfOk};
@@ -13,7 +13,7 @@ use rsb_streams::DrawDisjoint;
 use std::alloc::{AllocError, Allocator};
 use std::collections::BTreeMap;
 
-/// The runs of a stream as entries, and how many members they have.
+/// Returns the runs of a ready stream as entries, and the number of their members.
 pub(crate) fn gathered<T: Integer, A: Allocator, I: DrawDisjoint<T>>(
     alloc: A,
     iter: I,
@@ -34,7 +34,7 @@ pub(crate) fn gathered<T: Integer, A: Allocator, I: DrawDisjoint<T>>(
     Ok((entries, length))
 }
 
-/// The map of entries that come in order, built in one pass.
+/// Returns the map of entries that are in ascending order, built in one pass.
 pub(crate) fn map_of<T: Integer, A: Allocator + Clone>(
     alloc: A,
     entries: Vec<(T, T), A>,

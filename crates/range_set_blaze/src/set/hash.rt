@@ -1,4 +1,4 @@
-//! What sets feed a hasher.
+//! What a set feeds to a hasher.
 
 ghost use Rattle.std.specs.Prelude.{◌≡◌, ◌++◌, List, flat_map, fold};
 ghost use Rattle.rsb_integer.specs.Runs.{Interval, members, IsCanonicalIn};
@@ -12,8 +12,8 @@ use std::alloc::Allocator;
 use std::collections::BTreeMap;
 use std::hash::{Hash, Hasher};
 
-/// A set feeds its length, and then the start and the end of each run in ascending order. How it is
-/// kept is not fed, and nor is how many runs there are. So equal sets feed the same.
+/// A set feeds its length, and then the start and the end of each run in ascending order. It feeds
+/// neither its representation nor the number of its runs, so equal sets feed the same.
 impl<T: Integer + Hash, A: Allocator> Hash for RangeSetBlaze<T, A> {
     ghost hash_input = { hashed_runs (λ n. T.SafeLen.hash_input (T.SafeLen.length_at n))
         (λ rank. T.hash_input (T.value_at rank)) T.value_count };
@@ -27,8 +27,9 @@ impl<T: Integer + Hash, A: Allocator> Hash for RangeSetBlaze<T, A> {
     }
 }
 
-/// What a set feeds by `run_bounds`, after its length, are the ends of its runs, one run after the
-/// other: of a canonical list, as `ranges` tells it of a set. (Own.)
+/// States that `run_bounds` lists the start and the end of each run, one run after the other. A set
+/// feeds these to a hasher after its length. The list of runs must be canonical, as that of a set
+/// is. Not in range-set-blaze.
 pub fn run_bounds_are_ends<T: Integer>()
     ensures { (runs : List Interval) → IsCanonicalIn T.value_count runs
         → run_bounds T.value_count (members runs) ≡ ends_of_runs runs }

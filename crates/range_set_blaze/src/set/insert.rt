@@ -1,4 +1,4 @@
-//! Insertions.
+//! Insertion of values and of ranges.
 
 ghost use Rattle.std.specs.Prelude.{◌≡◌, ◌↔◌, ℕ, ◌+◌, ◌-◌, ◌<◌, ◌≤◌, max, Some, IfOk, IfSome, IsFalse, IsNone, IsOk, IsSome, IsTrue, MatchOption, OnErr, OnOk};
 ghost use Rattle.std.specs.Range.Bound.{bound_map};
@@ -20,8 +20,9 @@ use std::alloc::{AllocError, Allocator};
 use std::collections::BTreeMap;
 use std::ops::{Bound, RangeBounds};
 
-/// What a run makes with all that it touches, and the runs that it takes in: the first, where that
-/// one reaches its start, and of the others the last, and the one before that.
+/// A new run joined with all runs that it touches, and up to three of those. `first` starts where
+/// `joined` does. `last` is the last run that starts inside `joined`, past its start. `before` is
+/// the one before that, if it starts inside too.
 #[derive(Clone, Copy)]
 struct Joining<T> {
     joined: Run<T>,
@@ -31,12 +32,12 @@ struct Joining<T> {
 }
 
 impl<T: Integer, A: Allocator + Clone> RangeSetBlaze<T, A> {
-    /// Adds the values between two bounds, and says whether one of them was new. Bounds with
-    /// nothing between them add nothing. The set has at most one run more then. Without memory it is
-    /// as it was. (`RangeSetBlaze::ranges_insert`.)
+    /// Inserts the values between two bounds and returns whether one of them was new. Empty and
+    /// reversed bounds have no value, so nothing is inserted. The set gains at most one run. If
+    /// allocation fails, the set is unchanged. (`RangeSetBlaze::ranges_insert`.)
     ///
-    /// Nothing is said of a type that does not tell its bounds, nor of a `RangeInclusive` that was
-    /// iterated to its end.
+    /// The contract is silent about a type that does not report its bounds, and about a
+    /// `RangeInclusive` that was iterated to its end.
     pub fn ranges_insert<R: RangeBounds<T>>(&mut self, range: R) -> Result<bool, AllocError>
         ensures members { R.has_bounds range → OnOk result (Adds self.old self.new
             (ranks_in T.rank T.value_count R.start_bound R.end_bound range)) }
@@ -46,7 +47,8 @@ impl<T: Integer, A: Allocator + Clone> RangeSetBlaze<T, A> {
         ensures run_count { HasOneRunMoreAtMost self.old self.new }
         ensures err { OnErr result (self.new ≡ self.old) }
 
-        // No memory is taken where nothing is to be added, nor where a run can be made longer.
+        // Does not allocate if there is nothing to insert, or if the first value or the one before
+        // it is a member.
         ensures nothing { R.has_bounds range
             → IsEmpty (ranks_in T.rank T.value_count R.start_bound R.end_bound range)
             → IsOk result }
@@ -59,8 +61,8 @@ impl<T: Integer, A: Allocator + Clone> RangeSetBlaze<T, A> {
         self.insert_run(run)
     }
 
-    /// Adds a value, and says whether it was new. The set has at most one run more then. Without
-    /// memory it is as it was. (`RangeSetBlaze::insert`.)
+    /// Inserts a value and returns whether it was new. The set gains at most one run. If allocation
+    /// fails, the set is unchanged. (`RangeSetBlaze::insert`.)
     pub fn insert(&mut self, value: T) -> Result<bool, AllocError>
         ensures members { OnOk result (Adds self.old self.new (only (T.rank value))) }
         ensures added { IfOk result (λ added.
@@ -68,14 +70,15 @@ impl<T: Integer, A: Allocator + Clone> RangeSetBlaze<T, A> {
         ensures run_count { HasOneRunMoreAtMost self.old self.new }
         ensures err { OnErr result (self.new ≡ self.old) }
 
-        // No memory is taken where a run can be made longer.
+        // Does not allocate if the value or the one before it is a member.
         ensures succeeds { IsReached self.old (T.rank value) → IsOk result }
     {
         self.ranges_insert(value..=value)
     }
 
-    /// Adds a value, and gives it back exactly where it was a member. The set has at most one run
-    /// more then. Without memory it is as it was. (`RangeSetBlaze::replace`.)
+    /// Inserts a value, and returns it if it was a member already. Otherwise returns `None`. The
+    /// set gains at most one run. If allocation fails, the set is unchanged.
+    /// (`RangeSetBlaze::replace`.)
     pub fn replace(&mut self, value: T) -> Result<Option<T>, AllocError>
         ensures members { OnOk result (Adds self.old self.new (only (T.rank value))) }
         ensures found { IfOk result (λ found.
@@ -84,7 +87,7 @@ impl<T: Integer, A: Allocator + Clone> RangeSetBlaze<T, A> {
         ensures run_count { HasOneRunMoreAtMost self.old self.new }
         ensures err { OnErr result (self.new ≡ self.old) }
 
-        // No memory is taken where a run can be made longer.
+        // Does not allocate if the value or the one before it is a member.
         ensures succeeds { IsReached self.old (T.rank value) → IsOk result }
     {
         if self.insert(value)? {
@@ -94,7 +97,8 @@ impl<T: Integer, A: Allocator + Clone> RangeSetBlaze<T, A> {
         }
     }
 
-    /// Adds the values of a run, and says whether one of them was new.
+    /// Inserts the values of a run and returns whether one of them was new. If allocation fails,
+    /// the set is unchanged.
     pub(crate) fn insert_run(&mut self, run: Run<T>) -> Result<bool, AllocError>
         requires order { T.rank run.start ≤ T.rank run.end }
         requires value { T.rank run.end < T.value_count }
@@ -115,7 +119,7 @@ impl<T: Integer, A: Allocator + Clone> RangeSetBlaze<T, A> {
     }
 }
 
-// The last value up to an upper bound, or `None` where there is none.
+// Returns the last value that an upper bound allows, or `None` if there is none.
 fn last_to<T: Integer>(bound: Bound<&T>) -> Option<T>
     ensures none { IsNone result
         → past_rank T.rank T.value_count (bound_map (λ value. value.now) bound.entry) ≡ 0 }
@@ -130,7 +134,7 @@ fn last_to<T: Integer>(bound: Bound<&T>) -> Option<T>
     }
 }
 
-// The first value from a lower bound on, or `None` where there is none.
+// Returns the first value that a lower bound allows, or `None` if there is none.
 fn first_from<T: Integer>(bound: Bound<&T>) -> Option<T>
     ensures none { IsNone result
         → T.value_count ≤ first_rank T.rank (bound_map (λ value. value.now) bound.entry) }
@@ -145,7 +149,7 @@ fn first_from<T: Integer>(bound: Bound<&T>) -> Option<T>
     }
 }
 
-// The values between two bounds as a run, or `None` where there are none.
+// Returns the values between two bounds as a run, or `None` if there are none.
 pub(crate) fn run_between<T: Integer, R: RangeBounds<T>>(range: &R) -> Option<Run<T>>
     ensures none { R.has_bounds range.now → IsNone result →
         past_rank T.rank T.value_count (R.end_bound range.now)
@@ -165,8 +169,8 @@ pub(crate) fn run_between<T: Integer, R: RangeBounds<T>>(range: &R) -> Option<Ru
     Some(Run { start, end })
 }
 
-// Adds the values of a run, and says how many members there are then, or `None` where none of the
-// values was new.
+// Inserts the values of a run and returns the new number of members, or `None` if none of the
+// values was new. If allocation fails, the entries are unchanged.
 fn add_run<T: Integer, A: Allocator + Clone>(
     map: &mut BTreeMap<T, T, A>,
     run: Run<T>,
@@ -190,7 +194,7 @@ fn add_run<T: Integer, A: Allocator + Clone>(
     Ok(Some(put(map, joining, total)?))
 }
 
-// What a run makes with the runs that it touches, or `None` where one of them has all its values.
+// Returns a run joined with the runs that it touches, or `None` if one of them has all its values.
 fn touched<T: Integer, A: Allocator>(map: &BTreeMap<T, T, A>, run: Run<T>) -> Option<Joining<T>>
     requires canonical { IsCanonicalIn T.value_count (runs_of T.rank map.now.entries) }
     requires order { T.rank run.start ≤ T.rank run.end }
@@ -221,7 +225,8 @@ fn touched<T: Integer, A: Allocator>(map: &BTreeMap<T, T, A>, run: Run<T>) -> Op
     })
 }
 
-// The last two runs that start at a value or before it (docs/DECISIONS.md, last-reached-first).
+// Returns the last two runs that start at or before `value`, the last one first
+// (docs/DECISIONS.md, last-reached-first).
 fn last_two<T: Integer, A: Allocator>(
     map: &BTreeMap<T, T, A>,
     value: T,
@@ -239,7 +244,9 @@ fn last_two<T: Integer, A: Allocator>(
     (Some(last), last_run(&mut entries))
 }
 
-// The run that starts at a value or before it and reaches it, of the two last up to another value.
+// Returns the run that starts at or before `start` and contains or touches it, or `None` if there
+// is none. `last` and `before` are the last two runs that start at or before some greater or equal
+// value.
 fn reached_at<T: Integer, A: Allocator>(
     map: &BTreeMap<T, T, A>,
     start: T,
@@ -261,7 +268,8 @@ fn reached_at<T: Integer, A: Allocator>(
     }
 }
 
-// The last run that starts at a value or before it, of the two last up to another value.
+// Returns the last run that starts at or before `start`, or `None` if there is none. It looks at
+// `last` and `before` first: the last two runs that start at or before some greater or equal value.
 fn last_up_to<T: Integer, A: Allocator>(
     map: &BTreeMap<T, T, A>,
     start: T,
@@ -287,7 +295,7 @@ fn last_up_to<T: Integer, A: Allocator>(
     run_up_to(map, start)
 }
 
-// Whether a value lies up to the end of the run that was found.
+// Returns whether there is a run and it ends at or past `end`.
 fn ends_in<T: Integer>(first: Option<Run<T>>, end: T) -> bool
     requires value { T.rank end < T.value_count }
     requires first { IfSome first (λ first. T.rank first.end < T.value_count) }
@@ -300,7 +308,7 @@ fn ends_in<T: Integer>(first: Option<Run<T>>, end: T) -> bool
     }
 }
 
-// The start of the run that was found, or else the value.
+// Returns the start of the run if there is one, and otherwise `start`.
 fn start_of<T: Integer>(first: Option<Run<T>>, start: T) -> T
     ensures { MatchOption first (result ≡ start) (λ first. result ≡ first.start) }
 {
@@ -310,7 +318,7 @@ fn start_of<T: Integer>(first: Option<Run<T>>, start: T) -> T
     }
 }
 
-// The greater one of the end of the run that was found and the value.
+// Returns the greater of `end` and the end of the run, if there is one.
 fn end_of<T: Integer>(last: Option<Run<T>>, end: T) -> T
     requires value { T.rank end < T.value_count }
     requires last { IfSome last (λ last. T.rank last.end < T.value_count) }
@@ -323,7 +331,7 @@ fn end_of<T: Integer>(last: Option<Run<T>>, end: T) -> T
     }
 }
 
-// The run that was found, where it starts past a value.
+// Returns the run if it starts past `start`, and otherwise `None`.
 fn past_start<T: Integer>(run: Option<Run<T>>, start: T) -> Option<Run<T>>
     requires value { T.rank start < T.value_count }
     requires run { IfSome run (λ run. T.rank run.start < T.value_count) }
@@ -336,7 +344,8 @@ fn past_start<T: Integer>(run: Option<Run<T>>, start: T) -> Option<Run<T>>
     }
 }
 
-// Puts a run in the place of those that it takes in, and says how many members there are then.
+// Puts the joined run in the place of those that it covers, and returns the new number of members.
+// If allocation fails, the entries are unchanged.
 fn put<T: Integer, A: Allocator + Clone>(
     map: &mut BTreeMap<T, T, A>,
     joining: Joining<T>,
@@ -352,7 +361,7 @@ fn put<T: Integer, A: Allocator + Clone>(
     ensures succeeds { IsSome joining.first → IsOk result }
 {
     let run = joining.joined;
-    // The new entry comes before any other is taken out, since it may find no memory
+    // Inserts the new entry before it removes any other, since this may fail to allocate
     // (docs/DECISIONS.md, put-then-take).
     put_entry(map, run)?;
     let others = without(joining.first, total);
@@ -361,7 +370,7 @@ fn put<T: Integer, A: Allocator + Clone>(
     Ok(length)
 }
 
-// A length without the values of a run, if there is one.
+// Returns a length minus the number of values of the run, if there is one.
 fn without<T: Integer>(first: Option<Run<T>>, total: T::SafeLen) -> T::SafeLen
     requires some { IfSome first (λ first. HasRanks (run_of T.rank first)) }
     requires fits { T.SafeLen.number total ≤ T.value_count }

@@ -1,4 +1,4 @@
-//! Values that are kept by a test.
+//! The members for which a closure returns true.
 
 ghost use Rattle.std.specs.Prelude.{◌≡◌, ◌+◌, ◌<◌, ◌≤◌, ℕ, [], ◌∷◌, None, Some, IfOk, IfSome, IsOk, IsTrue, OnErr, OnOk};
 ghost use Rattle.rsb_integer.specs.Runs.{members, IsCanonicalIn};
@@ -15,8 +15,8 @@ use std::alloc::{AllocError, Allocator};
 use std::collections::BTreeMap;
 use std::collections::btree_map::Iter;
 
-/// The set of the values of some runs that a test is true of. Each is asked about once, in ascending
-/// order.
+/// Returns the set of the values of some runs for which `f` returns true. Calls `f` on each value
+/// once, in ascending order.
 pub(crate) fn kept_values<T: Integer, A: Allocator + Copy, F: FnMut(&T) -> bool>(
     map: &BTreeMap<T, T, A>,
     alloc: A,
@@ -51,7 +51,8 @@ pub(crate) fn kept_values<T: Integer, A: Allocator + Copy, F: FnMut(&T) -> bool>
     Ok(kept)
 }
 
-// What is left of some runs once the first value of the first one is out.
+// Returns a run without its first value. If it has no other, returns the next run, or `None` at the
+// end.
 fn next_left<T: Integer>(entries: &mut Iter<'_, T, T>, run: Run<T>) -> Option<Run<T>>
     requires order { T.rank run.start ≤ T.rank run.end }
     requires value { T.rank run.end < T.value_count }
@@ -68,7 +69,8 @@ fn next_left<T: Integer>(entries: &mut Iter<'_, T, T>, run: Run<T>) -> Option<Ru
     next_run(entries)
 }
 
-// Adds a value to a piece that ends below it. A piece that the value does not touch goes to the set.
+// Adds a value to a piece that ends below it, and returns the piece. If the value does not touch
+// the piece, inserts the piece into the set and returns the value as a new piece.
 fn grow<T: Integer, A: Allocator + Clone>(
     kept: &mut RangeSetBlaze<T, A>,
     piece: Option<Run<T>>,
@@ -101,7 +103,7 @@ fn grow<T: Integer, A: Allocator + Clone>(
     })
 }
 
-// Puts the last piece into the set, where there is one.
+// Inserts the last piece into the set, if there is one.
 fn put_last<T: Integer, A: Allocator + Clone>(
     kept: &mut RangeSetBlaze<T, A>,
     piece: Option<Run<T>>,

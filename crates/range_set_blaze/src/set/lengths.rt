@@ -1,4 +1,4 @@
-//! Lengths of sets, by the values of a run.
+//! The length of a set, as runs come and go.
 
 ghost use Rattle.std.specs.Prelude.{◌≡◌, ◌+◌, ◌≤◌};
 ghost use Rattle.rsb_integer.specs.Runs.{length_of, HasRanks};
@@ -17,7 +17,7 @@ pub(crate) fn add_length<T: Integer>(length: &mut T::SafeLen, run: Run<T>)
     *length += T::safe_len(&(run.start..=run.end));
 }
 
-/// Takes the number of values of a run off a length.
+/// Subtracts the number of values of a run from a length.
 pub(crate) fn take_off_length<T: Integer>(length: &mut T::SafeLen, run: Run<T>)
     requires some { HasRanks (run_of T.rank run) }
     requires fits { T.SafeLen.number length.old ≤ T.value_count }

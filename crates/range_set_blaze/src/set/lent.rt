@@ -1,4 +1,4 @@
-//! Sets that are collected, and extended, from references to values and to ranges.
+//! `FromIterator` and `Extend` for sets, from references to values and to ranges.
 
 ghost use Rattle.std.specs.Iterator.{ExtendsWithItems};
 ghost use Rattle.std.specs.Prelude.{OnOk};
@@ -13,8 +13,8 @@ use rsb_integer::Integer;
 use std::alloc::{AllocError, Allocator};
 use std::ops::RangeInclusive;
 
-/// `values.iter().collect(alloc)?`: returns the set of the values, in any order. If allocation fails,
-/// no set is made.
+/// `values.iter().collect(alloc)?`: returns the set of the values, in any order. If allocation
+/// fails, no set is made.
 impl<'a, T: Integer + 'a, A: Allocator + Copy> FromIterator<&'a T> for RangeSetBlaze<T, A> {
     type Alloc = A;
 
@@ -25,8 +25,8 @@ impl<'a, T: Integer + 'a, A: Allocator + Copy> FromIterator<&'a T> for RangeSetB
     }
 }
 
-/// `ranges.iter().collect(alloc)?`: returns the set of the values of the ranges, in any order. A range
-/// may be empty. If allocation fails, no set is made.
+/// `ranges.iter().collect(alloc)?`: returns the set of the values of the ranges, in any order. A
+/// range may be empty. If allocation fails, no set is made.
 impl<'a, T: Integer + 'a, A: Allocator + Copy> FromIterator<&'a RangeInclusive<T>>
     for RangeSetBlaze<T, A> {
     type Alloc = A;

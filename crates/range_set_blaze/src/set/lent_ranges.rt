@@ -1,4 +1,4 @@
-//! The ranges that an iterator lends, by value.
+//! The ranges that an iterator gives by reference, by value.
 //!
 //! `cloned` would require that each clone succeeds. `T: Copy` says neither that nor that a clone
 //! equals its value.
@@ -10,14 +10,14 @@ use crate::set::run::known;
 use rsb_integer::Integer;
 use std::ops::RangeInclusive;
 
-/// The ranges that an iterator lends, each as one with the same members.
+/// The ranges that an iterator gives by reference, each as a value with the same members.
 #[derive(Drop)]
 pub(crate) struct LentRanges<I> {
     ranges: I,
 }
 
 impl<I> LentRanges<I> {
-    /// What an iterator lends, by value; nothing is drawn yet.
+    /// Returns the ranges of an iterator by value. Draws nothing yet.
     pub(crate) fn new(ranges: I) -> Self
         ensures { result.ranges ≡ ranges }
     {
@@ -40,7 +40,7 @@ impl<'a, T: Integer + 'a, I: Iterator<Item = &'a RangeInclusive<T>>> Iterator fo
     }
 }
 
-/// A range with the same members: an empty one for a range that was iterated to its end.
+/// Returns a range with the same members. It is an empty range if `range` was iterated to its end.
 pub(crate) fn range_like<T: Integer>(range: &RangeInclusive<T>) -> RangeInclusive<T>
     ensures { HaveSameRanks T.rank result range.now }
 {

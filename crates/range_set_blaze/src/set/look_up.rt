@@ -1,4 +1,4 @@
-//! Where a value lies in a set.
+//! Look-ups of a value in a set.
 
 ghost use Rattle.std.specs.Prelude.{◌≡◌, ◌↔◌, ◌<◌, IfSome, IsFalse, IsNone, IsSome, IsTrue};
 ghost use Rattle.rsb_integer.specs.Rank.{interval_of};
@@ -17,14 +17,14 @@ use std::collections::BTreeMap;
 use std::ops::RangeInclusive;
 
 impl<T: Integer, A: Allocator> RangeSetBlaze<T, A> {
-    /// Whether a value is a member. (`RangeSetBlaze::contains`.)
+    /// Returns whether a value is a member. (`RangeSetBlaze::contains`.)
     pub fn contains(&self, value: T) -> bool
         ensures { result ≡ members self.now (T.rank value) }
     {
         run_at(&self.map, known(value)).is_some()
     }
 
-    /// The value, exactly where it is a member. (`RangeSetBlaze::get`.)
+    /// Returns the value if it is a member, and otherwise `None`. (`RangeSetBlaze::get`.)
     pub fn get(&self, value: T) -> Option<T>
         ensures found { IsSome result ↔ IsTrue (members self.now (T.rank value)) }
         ensures value { IfSome result (λ found. found ≡ value) }
@@ -36,7 +36,7 @@ impl<T: Integer, A: Allocator> RangeSetBlaze<T, A> {
         }
     }
 
-    /// The run that has a value, or `None` where the value is no member.
+    /// Returns the run that has a value, or `None` if the value is not a member.
     /// (`RangeSetBlaze::range_at`.)
     pub fn range_at(&self, value: T) -> Option<RangeInclusive<T>>
         ensures none { IsNone result ↔ IsFalse (members self.now (T.rank value)) }
@@ -47,8 +47,9 @@ impl<T: Integer, A: Allocator> RangeSetBlaze<T, A> {
         Some(run.start..=run.end)
     }
 
-    /// The run that has a value and true, or else the gap that it lies in and false. A gap reaches
-    /// the runs beside it or the ends of the type. (`RangeSetBlaze::range_or_gap_at`.)
+    /// Returns the run that has a value, and `true`. If the value is not a member, returns the gap
+    /// that has it, and `false`. A gap extends to the runs beside it, or to the ends of the type.
+    /// (`RangeSetBlaze::range_or_gap_at`.)
     pub fn range_or_gap_at(&self, value: T) -> (RangeInclusive<T>, bool)
         ensures found { result.1 ≡ members self.now (T.rank value) }
         ensures run { IsTrue result.1 → IsRunAround T.value_count (members self.now)
@@ -70,7 +71,7 @@ impl<T: Integer, A: Allocator> RangeSetBlaze<T, A> {
         (start..=end, false)
     }
 
-    /// Whether every value is a member. (`RangeSetBlaze::is_universal`.)
+    /// Returns whether every value of the type is a member. (`RangeSetBlaze::is_universal`.)
     pub fn is_universal(&self) -> bool
         ensures { IsTrue result ↔ IsUniversal T.value_count (members self.now) }
     {
@@ -78,7 +79,7 @@ impl<T: Integer, A: Allocator> RangeSetBlaze<T, A> {
     }
 }
 
-// The run that has the value, or `None` where none has it.
+// Returns the run that has a value, or `None` if the value is not a member.
 pub(crate) fn run_at<T: Integer, A: Allocator>(map: &BTreeMap<T, T, A>, value: T) -> Option<Run<T>>
     requires canonical { IsCanonicalIn T.value_count (runs_of T.rank map.now.entries) }
     requires value { T.rank value < T.value_count }
@@ -94,7 +95,7 @@ pub(crate) fn run_at<T: Integer, A: Allocator>(map: &BTreeMap<T, T, A>, value: T
     Some(run)
 }
 
-// Where the gap ends that has a value.
+// Returns the last value of the gap that has `value`.
 fn gap_end<T: Integer, A: Allocator>(map: &BTreeMap<T, T, A>, value: T) -> T
     requires canonical { IsCanonicalIn T.value_count (runs_of T.rank map.now.entries) }
     requires value { T.rank value < T.value_count }

@@ -7,7 +7,7 @@ use rsb_integer::Integer;
 use std::alloc::{AllocError, Allocator};
 use std::default::{Emptied, MadeWith};
 
-/// `mem::try_take(&mut set)?`: an empty set stays, and no allocation can fail.
+/// `mem::try_take(&mut set)?`: leaves an empty set in its place, and does not allocate.
 impl<T: Integer, A: Allocator + Copy> Emptied for RangeSetBlaze<T, A> {
     ghost is_emptied = { λ set. set ≡ [] };
 
@@ -19,7 +19,7 @@ impl<T: Integer, A: Allocator + Copy> Emptied for RangeSetBlaze<T, A> {
     }
 }
 
-/// `or_default` of a map of sets: an absent key gets the empty set.
+/// `or_default` of a map of sets: gives an absent key the empty set.
 impl<T: Integer, A: Allocator + Copy> MadeWith<A> for RangeSetBlaze<T, A> {
     ghost is_made_with = { λ set. set ≡ [] };
 
@@ -29,7 +29,7 @@ impl<T: Integer, A: Allocator + Copy> MadeWith<A> for RangeSetBlaze<T, A> {
 }
 
 impl<T: Integer, A: Allocator> RangeSetBlaze<T, A> {
-    /// Returns the allocator of the set, with which the calls on the set make others. Not in
+    /// Returns the allocator of the set, which calls on the set use to make other sets. Not in
     /// range-set-blaze.
     pub fn allocator(&self) -> &A {
         &self.alloc

@@ -1,4 +1,4 @@
-//! The operators of std on sets, and `Clone`. Each answers what the call of its name does.
+//! The operators of std on sets, and `Clone`. Each returns what the call of that name returns.
 
 ghost use Rattle.std.specs.Prelude.{◌≡◌, IfOk};
 ghost use Rattle.rsb_integer.specs.Runs.{members};
@@ -11,8 +11,8 @@ use rsb_integer::Integer;
 use std::alloc::{AllocError, Allocator};
 use std::ops::{BitAnd, BitOr, BitXor, Not, Sub};
 
-/// `(&a | &b)?`: what lies in either of two sets. It has at most as many runs as both together.
-/// Without memory nothing is made.
+/// `(&a | &b)?`: returns the values in either set. It has at most as many runs as both sets
+/// together. If allocation fails, no set is made.
 impl<'a, 'b, T: Integer, A: Allocator + Copy, B: Allocator> BitOr<&'b RangeSetBlaze<T, B>>
     for &'a RangeSetBlaze<T, A> {
     type Output = Result<RangeSetBlaze<T, A>, AllocError>;
@@ -29,8 +29,8 @@ impl<'a, 'b, T: Integer, A: Allocator + Copy, B: Allocator> BitOr<&'b RangeSetBl
     }
 }
 
-/// `(&a & &b)?`: what two sets both have. It has no run where one of the sets has none, and else
-/// fewer runs than both together. Without memory nothing is made.
+/// `(&a & &b)?`: returns the values in both sets. If either set is empty, the result is empty;
+/// otherwise it has fewer runs than the two sets together. If allocation fails, no set is made.
 impl<'a, 'b, T: Integer, A: Allocator + Copy, B: Allocator> BitAnd<&'b RangeSetBlaze<T, B>>
     for &'a RangeSetBlaze<T, A> {
     type Output = Result<RangeSetBlaze<T, A>, AllocError>;
@@ -47,8 +47,8 @@ impl<'a, 'b, T: Integer, A: Allocator + Copy, B: Allocator> BitAnd<&'b RangeSetB
     }
 }
 
-/// `(&a - &b)?`: what the first set has and the second lacks. It has at most as many runs as both
-/// together. Without memory nothing is made.
+/// `(&a - &b)?`: returns the values in the first set that are not in the second. It has at most as
+/// many runs as both sets together. If allocation fails, no set is made.
 impl<'a, 'b, T: Integer, A: Allocator + Copy, B: Allocator> Sub<&'b RangeSetBlaze<T, B>>
     for &'a RangeSetBlaze<T, A> {
     type Output = Result<RangeSetBlaze<T, A>, AllocError>;
@@ -65,8 +65,8 @@ impl<'a, 'b, T: Integer, A: Allocator + Copy, B: Allocator> Sub<&'b RangeSetBlaz
     }
 }
 
-/// `(&a ^ &b)?`: what lies in one of two sets alone. It has at most as many runs as both together.
-/// Without memory nothing is made.
+/// `(&a ^ &b)?`: returns the values in exactly one of the sets. It has at most as many runs as both
+/// sets together. If allocation fails, no set is made.
 impl<'a, 'b, T: Integer, A: Allocator + Copy, B: Allocator> BitXor<&'b RangeSetBlaze<T, B>>
     for &'a RangeSetBlaze<T, A> {
     type Output = Result<RangeSetBlaze<T, A>, AllocError>;
@@ -83,8 +83,8 @@ impl<'a, 'b, T: Integer, A: Allocator + Copy, B: Allocator> BitXor<&'b RangeSetB
     }
 }
 
-/// `(!&a)?`: the values that the set lacks. They have at most one run more than the set. Without
-/// memory nothing is made.
+/// `(!&a)?`: returns the values that the set lacks. It has at most one run more than the set. If
+/// allocation fails, no set is made.
 impl<'a, T: Integer, A: Allocator + Copy> Not for &'a RangeSetBlaze<T, A> {
     type Output = Result<RangeSetBlaze<T, A>, AllocError>;
 
@@ -100,7 +100,7 @@ impl<'a, T: Integer, A: Allocator + Copy> Not for &'a RangeSetBlaze<T, A> {
     }
 }
 
-/// `set.clone()?`: a copy has the same runs. Without memory nothing is made.
+/// `set.clone()?`: returns a copy with the same runs. If allocation fails, no set is made.
 impl<T: Integer, A: Allocator + Copy> Clone for RangeSetBlaze<T, A> {
     ghost is_clone = { λ set copy. copy ≡ set };
 

@@ -1,4 +1,4 @@
-//! How sets compare.
+//! Equality and order of sets.
 
 ghost use Rattle.std.specs.Prelude.{◌≡◌, ◌↔◌, ℕ, ◌+◌, ◌≤◌, List, [], length, min, refl, IsTrue, Some, cond, nat_lt};
 ghost use Rattle.std.specs.declared.cmp.Ordering.TheVariants.{Greater, Less};
@@ -16,7 +16,7 @@ use std::cmp::Ordering;
 use std::collections::BTreeMap;
 use std::collections::btree_map::Iter;
 
-/// Two sets are equal where no rank tells them apart.
+/// Two sets are equal if they have the same members.
 impl<T: Integer, A: Allocator> PartialEq for RangeSetBlaze<T, A> {
     ghost eq = { set_eq T.value_count };
 
@@ -41,7 +41,7 @@ impl<T: Integer, A: Allocator> PartialOrd for RangeSetBlaze<T, A> {
     }
 }
 
-/// Sets are ordered as the ascending lists of their members are.
+/// Sets compare as the ascending lists of their members do.
 impl<T: Integer, A: Allocator> Ord for RangeSetBlaze<T, A> {
     ghost cmp = { set_cmp T.value_count };
 
@@ -57,7 +57,7 @@ impl<T: Integer, A: Allocator> Ord for RangeSetBlaze<T, A> {
 }
 
 /// Returns the order of two sets, as `cmp` does, and the number of iterations of its loop. An
-/// iteration looks at one run of each set, and steps to the next one of each at most once. (Own.)
+/// iteration takes at most one run from each set. Not in range-set-blaze.
 pub fn cmp_counted<T: Integer, A: Allocator, B: Allocator>(
     a: &RangeSetBlaze<T, A>,
     b: &RangeSetBlaze<T, B>,
@@ -69,10 +69,10 @@ pub fn cmp_counted<T: Integer, A: Allocator, B: Allocator>(
     compare_runs(&a.map, &b.map)
 }
 
-/// States what `==`, `cmp` and `partial_cmp` of sets return, at every allocator and without lists of
-/// members. Two sets are equal exactly if they agree at every rank. Otherwise one of them has the
-/// least rank in which they differ: it is less if the other has a later member, and greater if not.
-/// (Own.)
+/// States what `==`, `cmp` and `partial_cmp` of sets return, for every allocator and without lists
+/// of members. Two sets are equal exactly if they agree at every rank. Otherwise they differ at a
+/// least rank, which one of them has. That set is less if the other has a later member, and greater
+/// if not. Not in range-set-blaze.
 pub fn order_by_least_difference<T: Integer, A: Allocator>()
     ensures equal { (left right : List Interval)
         → IsTrue (⟦<RangeSetBlaze<T, A> as PartialEq>⟧.eq left right)
@@ -85,7 +85,7 @@ pub fn order_by_least_difference<T: Integer, A: Allocator>()
         ≡ Some (⟦<RangeSetBlaze<T, A> as Ord>⟧.cmp left right) }
 {}
 
-// The order of the sets of two lists of runs, and the number of iterations.
+// Returns the order of the sets of two lists of runs, and the number of iterations.
 fn compare_runs<T: Integer, A: Allocator, B: Allocator>(
     left: &BTreeMap<T, T, A>,
     right: &BTreeMap<T, T, B>,
@@ -126,8 +126,9 @@ fn compare_runs<T: Integer, A: Allocator, B: Allocator>(
     }
 }
 
-// How a set compares whose last run ended before the run of the other that starts alike: what it
-// still has is later than the rest of that run.
+// Returns the order of a set whose last run starts where the other's does, but ends first. If the
+// set has another run, its next member is greater than the other set's, so the set is greater.
+// Otherwise its members are a prefix of the other's, so it is less.
 fn order_by_rest<T>(rest: &mut Iter<'_, T, T>) -> Ordering
     ensures { result ≡ cond (nat_lt 0 (length rest.old)) Greater Less }
 {

@@ -1,4 +1,4 @@
-//! Runs and values that are kept by a test.
+//! Removal of the members and of the runs for which a closure returns false.
 
 ghost use Rattle.std.specs.Prelude.{◌≡◌, Bool, [], IsOk, OnErr, OnOk};
 ghost use Rattle.std.specs.List.{filter};
@@ -19,15 +19,16 @@ use std::collections::BTreeMap;
 use std::ops::RangeInclusive;
 
 impl<T: Integer, A: Allocator + Copy> RangeSetBlaze<T, A> {
-    /// Calls `f` on each member in ascending order, and keeps the members for which it returns true.
-    /// `f` must be callable on each member, one after the other. If allocation fails, the set is
-    /// unchanged, and `f` was called on a prefix of the members. (`RangeSetBlaze::retain`.)
+    /// Calls `f` on each member in ascending order, and keeps the members for which it returns
+    /// true. `f` must be callable on each member, one after the other. If allocation fails, the set
+    /// is unchanged, and `f` was called on a prefix of the members. (`RangeSetBlaze::retain`.)
     pub fn retain<F: FnMut(&T) -> bool>(&mut self, f: F) -> Result<(), AllocError>
         requires { CallableOnMembers T.rank T.value_count F.FnMut f self.old }
         ensures within { OnOk result
             (IsSubset T.value_count (members self.new) (members self.old)) }
 
-        // Where the answers depend on the value alone, the members are those that they select.
+        // If the result of `f` depends only on the value, the members kept are those for which it
+        // is true.
         ensures exact { (keeps : Selection)
             → AnswersByRank T.rank T.value_count F.FnMut keeps f
             → OnOk result (IsSetOf self.new (intersection (members self.old) keeps)) }
@@ -35,7 +36,7 @@ impl<T: Integer, A: Allocator + Copy> RangeSetBlaze<T, A> {
         ensures err { OnErr result (self.new ≡ self.old) }
         ensures asked_some { OnErr result (AsksFront T.rank F.FnMut f self.old) }
 
-        // No memory is taken of the empty set.
+        // An empty set does not allocate.
         ensures empty { self.old ≡ [] → IsOk result }
     {
         let kept = kept_values(&self.map, self.alloc, f)?;
@@ -52,7 +53,8 @@ impl<T: Integer, A: Allocator> RangeSetBlaze<T, A> {
         requires { CallableOnRuns T.rank T.value_count F.FnMut f self.old }
         ensures runs { IsSublist self.new self.old }
 
-        // Where the answers depend on the range alone, the runs are those that they select.
+        // If the result of `f` depends only on the range, the runs kept are those for which it is
+        // true.
         ensures exact { (keeps : Interval → Bool)
             → AnswersByRun T.rank T.value_count F.FnMut keeps f
             → self.new ≡ filter keeps self.old }
@@ -63,8 +65,8 @@ impl<T: Integer, A: Allocator> RangeSetBlaze<T, A> {
     }
 }
 
-// Keeps the runs that a test is true of, and says how many members they have. `total` is how many
-// all have.
+// Keeps the runs for which `f` returns true, and returns the number of their members. `total` is
+// the number of members of all runs.
 fn retain_runs<T: Integer, A: Allocator, F: FnMut(&RangeInclusive<T>) -> bool>(
     map: &mut BTreeMap<T, T, A>,
     f: F,

@@ -1,4 +1,4 @@
-//! A run of values, and comparisons of values in ranks.
+//! A run of values, and comparisons of values that state the ranks.
 //!
 //! In code a run is a `Run`. Pairs are only entries of the map. A `RangeInclusive` has a flag that
 //! a run does not need, and is not `Copy`.
@@ -14,24 +14,25 @@ pub(crate) struct Run<T> {
     pub(crate) end: T,
 }
 
-/// The value itself, which is known for a value from here on.
+/// Returns the value itself. Its clause states that the rank of any value is below the number of
+/// values.
 pub(crate) fn known<T: Integer>(value: T) -> T
     ensures same { result ≡ value }
     ensures value { T.rank value < T.value_count }
 {
-    // Called for its clause alone.
+    // Called only for its clause.
     value.checked_add_one();
     value
 }
 
-/// The value one rank higher, or the greatest value itself.
+/// Returns the value one rank higher, or the greatest value itself.
 pub(crate) fn next_or_greatest<T: Integer>(value: T) -> T
     ensures { T.rank result ≡ min (T.rank value + 1) (T.value_count - 1) }
 {
     value.checked_add_one().unwrap_or(value)
 }
 
-/// The value one rank lower, or `None` of the least value.
+/// Returns the value one rank lower, or `None` for the least value.
 pub(crate) fn previous<T: Integer>(value: T) -> Option<T>
     requires { T.rank value < T.value_count }
     ensures none { IsNone result → T.rank value ≡ 0 }
@@ -44,7 +45,7 @@ pub(crate) fn previous<T: Integer>(value: T) -> Option<T>
     }
 }
 
-/// Whether one value is below another.
+/// Returns whether `left` is below `right`.
 pub(crate) fn is_below<T: Integer>(left: T, right: T) -> bool
     requires left { T.rank left < T.value_count }
     requires right { T.rank right < T.value_count }
@@ -53,7 +54,8 @@ pub(crate) fn is_below<T: Integer>(left: T, right: T) -> bool
     left < right
 }
 
-/// Whether a run that ends at `end` overlaps or touches one that starts at `start` or before it.
+/// Returns whether a run that starts at or before `start`, and ends at `end`, contains or touches
+/// `start`.
 pub(crate) fn reaches<T: Integer>(end: T, start: T) -> bool
     requires { T.rank start < T.value_count }
     ensures { IsTrue result ↔ (T.rank start ≤ T.rank end + 1) }
@@ -64,7 +66,7 @@ pub(crate) fn reaches<T: Integer>(end: T, start: T) -> bool
     }
 }
 
-/// The greater of two values.
+/// Returns the greater of two values.
 pub(crate) fn greater<T: Integer>(left: T, right: T) -> T
     requires left { T.rank left < T.value_count }
     requires right { T.rank right < T.value_count }

@@ -12,7 +12,7 @@ pub(crate) struct Singles<I> {
 }
 
 impl<I> Singles<I> {
-    /// What an iterator gives, as ranges; nothing is drawn yet.
+    /// Returns the values of an iterator as ranges. Draws nothing yet.
     pub(crate) fn new(values: I) -> Self
         ensures { result.values ≡ values }
     {

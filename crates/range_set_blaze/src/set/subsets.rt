@@ -10,24 +10,27 @@ use rsb_streams::DrawDisjoint;
 use std::alloc::Allocator;
 
 impl<T: Integer, A: Allocator> RangeSetBlaze<T, A> {
-    /// Whether each member is one of the other set. It walks both lists of runs once, up to the
-    /// first difference, and takes no memory. (`RangeSetBlaze::is_subset`.)
+    /// Returns whether each member is a member of the other set. Walks each list of runs at most
+    /// once, and stops early if the other set lacks a member. Does not allocate.
+    /// (`RangeSetBlaze::is_subset`.)
     pub fn is_subset<B: Allocator>(&self, other: &RangeSetBlaze<T, B>) -> bool
         ensures { IsTrue result ↔ IsSubset T.value_count (members self.now) (members other.now) }
     {
         self.ranges().is_subset(other.ranges())
     }
 
-    /// Whether each member of the other set is one of this. It walks both lists of runs once, up to
-    /// the first difference, and takes no memory. (`RangeSetBlaze::is_superset`.)
+    /// Returns whether each member of the other set is a member of this one. Walks each list of
+    /// runs at most once, and stops early if this set lacks a member. Does not allocate.
+    /// (`RangeSetBlaze::is_superset`.)
     pub fn is_superset<B: Allocator>(&self, other: &RangeSetBlaze<T, B>) -> bool
         ensures { IsTrue result ↔ IsSubset T.value_count (members other.now) (members self.now) }
     {
         other.is_subset(self)
     }
 
-    /// Whether no member is one of the other set. It walks both lists of runs once, up to the first
-    /// common member, and takes no memory. (`RangeSetBlaze::is_disjoint`.)
+    /// Returns whether the two sets have no member in common. Walks each list of runs at most once,
+    /// and stops early if there is a common member. Does not allocate.
+    /// (`RangeSetBlaze::is_disjoint`.)
     pub fn is_disjoint<B: Allocator>(&self, other: &RangeSetBlaze<T, B>) -> bool
         ensures { IsTrue result ↔ AreDisjoint T.value_count (members self.now) (members other.now) }
     {

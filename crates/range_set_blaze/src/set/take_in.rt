@@ -1,4 +1,4 @@
-//! Runs that a new one takes in.
+//! Removal of the runs that a new run covers.
 
 ghost use Rattle.std.specs.Prelude.{◌≡◌, ℕ, ◌+◌, ◌<◌, ◌≤◌, MatchOption};
 ghost use Rattle.rsb_integer.specs.Runs.{length_of, members, IsCanonicalIn};
@@ -14,8 +14,9 @@ use rsb_integer::Integer;
 use std::alloc::Allocator;
 use std::collections::BTreeMap;
 
-/// Takes out the runs that start inside a run, and says how many members the others have. `last` is
-/// one of them, with another one, and `total` how many members all have but the run itself.
+/// Removes the runs that start inside `run`, and returns the number of members of the other runs.
+/// `last` is one of the runs to remove, if there are any, and `before` is another one before it.
+/// `total` is the number of members of all runs except `run`.
 pub(crate) fn take_in<T: Integer, A: Allocator>(
     map: &mut BTreeMap<T, T, A>,
     run: Run<T>,
@@ -46,7 +47,7 @@ pub(crate) fn take_in<T: Integer, A: Allocator>(
     others
 }
 
-// Takes out a run that starts inside another, and its values off how many the others have.
+// Removes a run that starts inside another, and subtracts its length from `others`.
 fn take_inside<T: Integer, A: Allocator>(
     map: &mut BTreeMap<T, T, A>,
     run: Run<T>,
@@ -69,7 +70,7 @@ fn take_inside<T: Integer, A: Allocator>(
     take_entry(map, taken.start);
 }
 
-// The last run that starts inside another.
+// Returns the last run that starts inside `run`, past its start, or `None` if there is none.
 fn last_inside<T: Integer, A: Allocator>(map: &BTreeMap<T, T, A>, run: Run<T>) -> Option<Run<T>>
     requires ascending { StartsAscendFrom T.value_count 0 (runs_of T.rank map.now.entries) }
     requires order { T.rank run.start ≤ T.rank run.end }

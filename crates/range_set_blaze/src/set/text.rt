@@ -1,4 +1,4 @@
-//! How sets are written.
+//! The text of a set, for `Display` and `Debug`.
 
 ghost use Rattle.std.specs.Prelude.{[]};
 ghost use Rattle.std.specs.Fmt.{DisplaysOnOk, debug_items};
@@ -11,8 +11,8 @@ use std::alloc::Allocator;
 use std::collections::BTreeMap;
 use std::fmt::{self, Debug, Display, Formatter, Write};
 
-/// Each run is written as `start..=end`, with a comma and a space between two of them. A width and
-/// other flags change nothing, as in the Rust crate.
+/// Writes each run as `start..=end`, with a comma and a space between two of them. A width and
+/// other flags change nothing, as in range-set-blaze.
 impl<T: Integer, A: Allocator> Display for RangeSetBlaze<T, A> {
     ghost output = { runs_text (λ rank. T.debug_output (T.value_at rank)) };
 
@@ -21,7 +21,7 @@ impl<T: Integer, A: Allocator> Display for RangeSetBlaze<T, A> {
     }
 }
 
-/// As by `Display`.
+/// Writes the same as `Display`.
 impl<T: Integer, A: Allocator> Debug for RangeSetBlaze<T, A> {
     ghost debug_output = { runs_text (λ rank. T.debug_output (T.value_at rank)) };
 

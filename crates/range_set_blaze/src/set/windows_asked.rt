@@ -1,4 +1,4 @@
-//! Tests of the values between two bounds.
+//! Whether a set has all values between two bounds, or none.
 
 ghost use Rattle.std.specs.Prelude.{◌↔◌, ◌<◌, ◌≤◌, IsTrue};
 ghost use Rattle.rsb_integer.specs.Runs.{covers, members, IsCanonicalIn};
@@ -19,7 +19,7 @@ use std::ops::RangeBounds;
 
 impl<T: Integer, A: Allocator> RangeSetBlaze<T, A> {
     /// Returns whether every value between two bounds is a member. Empty and reversed bounds have
-    /// no value, so the result is `true`. It takes O(log n) time on a set of n runs and does not
+    /// no value, so the result is `true`. Takes O(log n) time on a set of n runs, and does not
     /// allocate.
     ///
     /// The contract is silent about a type that does not report its bounds, and about a
@@ -35,7 +35,7 @@ impl<T: Integer, A: Allocator> RangeSetBlaze<T, A> {
     }
 
     /// Returns whether no value between two bounds is a member. Empty and reversed bounds have no
-    /// value, so the result is `true`. It takes O(log n) time on a set of n runs and does not
+    /// value, so the result is `true`. Takes O(log n) time on a set of n runs, and does not
     /// allocate.
     ///
     /// The contract is silent about a type that does not report its bounds, and about a
@@ -51,7 +51,7 @@ impl<T: Integer, A: Allocator> RangeSetBlaze<T, A> {
     }
 }
 
-// Whether every value of a range is a member.
+// Returns whether every value of a range is a member.
 fn has_run<T: Integer, A: Allocator>(map: &BTreeMap<T, T, A>, range: Run<T>) -> bool
     requires canonical { IsCanonicalIn T.value_count (runs_of T.rank map.now.entries) }
     requires order { T.rank range.start ≤ T.rank range.end }
@@ -64,7 +64,7 @@ fn has_run<T: Integer, A: Allocator>(map: &BTreeMap<T, T, A>, range: Run<T>) -> 
     }
 }
 
-// Whether no value of a range is a member.
+// Returns whether no value of a range is a member.
 fn lacks_run<T: Integer, A: Allocator>(map: &BTreeMap<T, T, A>, range: Run<T>) -> bool
     requires canonical { IsCanonicalIn T.value_count (runs_of T.rank map.now.entries) }
     requires order { T.rank range.start ≤ T.rank range.end }

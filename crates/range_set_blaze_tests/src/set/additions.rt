@@ -8,7 +8,8 @@ use rsb_tables::{Table, set_of};
 use std::alloc::{AllocError, Global};
 use std::test::*;
 
-/// Whether each call adds the second set to the first, and leaves or empties that as it is to.
+/// Whether each call adds the second set to the first, and leaves or empties the second as it
+/// should.
 fn all_add(
     alloc: Global,
     set: Table<'_>,
@@ -25,7 +26,7 @@ fn all_add(
     )
 }
 
-/// A set, another that is added to it, and what it becomes.
+/// A set, another that is added to it, and the result.
 static ADDED: [(Table<'static>, Table<'static>, Table<'static>); 9] = [
     (&[], &[], &[]),
     (&[(1, 4)], &[], &[(1, 4)]),

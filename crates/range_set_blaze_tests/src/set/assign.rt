@@ -40,7 +40,7 @@ fn free<T: Integer, A: Allocator + Copy, B: Allocator>(
     set.sub_assign(other)
 }
 
-/// Adds what another set has and the set lacks, and removes what both have.
+/// Adds what only the other set has, and removes what both have.
 fn toggle<T: Integer, A: Allocator + Copy, B: Allocator>(
     set: &mut RangeSetBlaze<T, A>,
     other: &RangeSetBlaze<T, B>,
@@ -64,7 +64,7 @@ const ONE: Table<'static> = &[(1, 3), (7, 10)];
 
 const OTHER: Table<'static> = &[(4, 4), (9, 20)];
 
-/// A change, a set, another, what the set becomes, and whether it allocates.
+/// A change, a set, another set, what the first becomes, and whether the change allocates.
 static CHANGED: [(Change, Table<'static>, Table<'static>, Table<'static>, bool); 21] = [
     (Change::BitandAssign, ONE, OTHER, &[(9, 10)], true),
     (Change::BitandAssign, OTHER, ONE, &[(9, 10)], true),
@@ -125,8 +125,9 @@ static CHANGED: [(Change, Table<'static>, Table<'static>, Table<'static>, bool);
     (Change::BitxorAssign, &[(LEAST, 0)], &[(1, MOST)], ALL, true),
 ];
 
-/// Whether a change of a set fails if the heap grants too few allocations, which leaves both sets as
-/// they were, and then leaves the set of a table and the other as it was. `None` if it does not pass.
+/// Returns the number of allocations that the heap must grant before a change succeeds. Each failed
+/// try leaves both sets unchanged. The one that succeeds gives the set of a table, and leaves the
+/// other set unchanged. Returns `None` if this does not hold, or if no try succeeds.
 fn failures(
     alloc: Global,
     change: Change,
@@ -162,7 +163,8 @@ fn another_set_changes_a_set_or_leaves_it(rt: HostRuntime) -> Result<(), Fail> {
     Ok(())
 }
 
-/// Whether both sides leave a set of the lower one, which then lacks it.
+/// Whether keeping, removing and toggling what a set in a heap has changes a set of both sides as
+/// it should.
 fn sides_change(alloc: Global, heap: &Heap) -> Result<bool, AllocError> {
     let mut sides = RangeSetBlaze::from(alloc, Side::Lo..=Side::Hi)?;
     let low = RangeSetBlaze::from(heap, Side::Lo..=Side::Lo)?;

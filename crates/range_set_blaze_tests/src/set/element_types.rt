@@ -70,7 +70,7 @@ fn characters_beside_the_surrogates_are_two(rt: HostRuntime) -> Result<(), Fail>
     Ok(())
 }
 
-/// Whether a set has the second of two characters, and the set of the two.
+/// Whether a set has the second of two characters, and the set of both.
 fn has_pair(
     alloc: Global,
     letters: &RangeSetBlaze<char>,
@@ -82,8 +82,8 @@ fn has_pair(
     Ok(pair.len() == 2 && letters.contains(after) && letters.is_superset(&pair))
 }
 
-/// The first character after which the next one is not the end of a pair that a set has, and the
-/// number of pairs that were asked about.
+/// Returns the first character whose pair with the next one is not in the set, and the number of
+/// pairs tried.
 fn first_lacked(
     alloc: Global,
     letters: &RangeSetBlaze<char>,
@@ -100,8 +100,8 @@ fn first_lacked(
     Ok((None, pairs))
 }
 
-// The step over the surrogates is one of the pairs. In the checked build of `rt try --test` it takes
-// more than a minute: `--seconds 900` lets it end.
+// One of the pairs steps over the surrogates. The checked build of `rt try --test` takes more than
+// a minute here: `--seconds 900` lets it finish.
 #[test]
 fn the_universe_has_every_character_and_each_pair_of_neighbors(
     rt: HostRuntime,

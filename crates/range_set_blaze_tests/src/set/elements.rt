@@ -1,4 +1,4 @@
-//! The elements of a set, and of one that is given up, from both ends.
+//! The elements of a set, by reference and by value, from both ends.
 
 ghost use Rattle.std.specs.Prelude.{◌≡◌};
 
@@ -9,10 +9,10 @@ use rsb_tables::{Table, set_of};
 use std::alloc::AllocError;
 use std::test::*;
 
-/// The ends that elements are taken from in turn, and what each then gives.
+/// The ends that elements are taken from, one after the other, and what each call then returns.
 type Steps<'a> = &'a [(End, Option<i32>)];
 
-/// Whether a set gives these elements, and its hints hold of the number that is left.
+/// Whether a set gives these elements, with hints that hold for the number left.
 fn gives(set: &RangeSetBlaze<i32>, count: usize, steps: Steps<'_>) -> bool {
     let mut elements = set.iter();
     let mut left = count;
@@ -30,8 +30,7 @@ fn gives(set: &RangeSetBlaze<i32>, count: usize, steps: Steps<'_>) -> bool {
     is_true_of(elements.size_hint(), left)
 }
 
-/// Whether a set that is given up gives these elements, and its hints hold of the number that is
-/// left.
+/// Whether a set passed by value gives these elements, with hints that hold for the number left.
 fn gives_up(set: RangeSetBlaze<i32>, count: usize, steps: Steps<'_>) -> bool {
     let mut elements = set.into_iter();
     let mut left = count;
@@ -77,7 +76,7 @@ fn owned_elements_come_from_both_ends(rt: HostRuntime) -> Result<(), Fail> {
     Ok(())
 }
 
-/// A set, how many elements it has, and which come from either end in turn.
+/// A set, the number of its elements, and those that come from either end, one after the other.
 static IN_TURN: [(Table<'static>, usize, Steps<'static>); 9] = [
     (&[], 0, &[(Front, None), (Back, None)]),
     (

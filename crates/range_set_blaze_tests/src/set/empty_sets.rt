@@ -3,7 +3,7 @@
 use range_set_blaze::RangeSetBlaze;
 use std::test::*;
 
-/// Whether a set has nothing by any of its calls.
+/// Whether a set is empty by each of its calls.
 fn is_nothing(set: &RangeSetBlaze<i32>) -> bool {
     set.is_empty()
         && set.len() == 0

@@ -1,5 +1,5 @@
-//! The first gap and the first run that have a given length, and tables that take blocks where the
-//! first gap has room for them.
+//! The first gap and the first run of a given length, and tables that take blocks from the first
+//! gap with room for them.
 
 ghost use Rattle.std.specs.Prelude.{◌≡◌, ◌&&◌, ◌+◌, ◌<◌, nat_le, nat_lt, List, IfOk, IfSome, IsNone, OnErr};
 ghost use Rattle.range_set_blaze.specs.FirstFit.{IsFree};
@@ -16,7 +16,7 @@ use std::marker::Model;
 use std::ops::RangeInclusive;
 use std::test::*;
 
-/// Values that are taken block by block.
+/// A table whose values are taken block by block.
 #[derive(Drop)]
 struct Blocks<T: Integer, A: Allocator> {
     taken: RangeSetBlaze<T, A>,
@@ -29,8 +29,8 @@ impl<T: Integer, A: Allocator> Model for Blocks<T, A> {
 }
 
 impl<T: Integer, A: Allocator + Clone> Blocks<T, A> {
-    /// Takes the first free block of `len` values, and returns where it starts, or `None` if no such
-    /// block is free. If allocation fails, nothing is taken.
+    /// Takes the first free block of `len` values, and returns where it starts, or `None` if no
+    /// such block is free. If allocation fails, nothing is taken.
     fn take(&mut self, len: T::SafeLen) -> Result<Option<T>, AllocError>
         requires { 0 < T.SafeLen.number len }
         ensures free { IfOk result (λ found. IfSome found (λ start.
@@ -61,7 +61,7 @@ fn blocks_are_taken_where_they_fit_first(rt: HostRuntime) -> Result<(), Fail> {
     Ok(())
 }
 
-/// The ends of a range, where there is one.
+/// The ends of a range, if there is one.
 type Ends = Option<(i32, i32)>;
 
 /// A set, a length, and the first gap and the first run of at least that length.
@@ -108,7 +108,7 @@ static FITTING: [(Table<'static>, u64, Ends, Ends); 21] = [
         None,
         Some((i32::MIN, 3)),
     ),
-    // Gaps at both ends, of two values, five and one.
+    // Gaps of two, five and one values, at both ends too.
     (
         &[(-2_147_483_646, 9), (15, 2_147_483_646)],
         2,
@@ -139,7 +139,7 @@ static FITTING: [(Table<'static>, u64, Ends, Ends); 21] = [
         Some((i32::MIN, i32::MIN)),
         Some((-2_147_483_647, i32::MAX)),
     ),
-    // Runs of three values, four and nine.
+    // Runs of three, four and nine values.
     (
         &[(1, 3), (7, 10), (12, 20)],
         0,
@@ -162,7 +162,7 @@ static FITTING: [(Table<'static>, u64, Ends, Ends); 21] = [
     (&[(0, 9)], 2_147_483_649, None, None),
 ];
 
-/// Whether an answer is the range with these ends.
+/// Whether a result is the range with these ends.
 fn is_range(answer: Option<RangeInclusive<i32>>, wanted: Ends) -> bool {
     match (answer, wanted) {
         (Some(range), Some((start, end))) => range == (start..=end),
@@ -194,7 +194,7 @@ fn the_first_gap_and_run_that_fit_are_found(rt: HostRuntime) -> Result<(), Fail>
     Ok(())
 }
 
-/// A value, a length, and the first gap of {..=3, 7..=10, 20..} from the value on.
+/// A value, a length, and the first such gap of {..=3, 7..=10, 20..} at or after the value.
 static FROM: [(i32, u64, Ends); 16] = [
     (i32::MIN, 1, Some((4, 6))),
     (3, 1, Some((4, 6))),
@@ -239,7 +239,7 @@ fn all<T: Integer>() -> RangeInclusive<T> {
     T::min_value()..=T::max_value()
 }
 
-/// Whether a whole type is free, and then a run.
+/// Whether a whole type is one gap, and then one run.
 fn whole_type_fits<T: Integer>(alloc: Global, whole: T::SafeLen) -> Result<bool, AllocError> {
     let mut set = RangeSetBlaze::<T>::new(alloc);
     let is_free = set.first_gap(whole) == Some(all()) && set.first_run(whole).is_none();
@@ -274,7 +274,7 @@ fn seventy_thousand_runs_are_searched(rt: HostRuntime) -> Result<(), Fail> {
     Ok(())
 }
 
-/// Searches a set, and says whether its allocator was not asked.
+/// Searches a set, and returns whether its allocator was never called.
 fn is_quiet(heap: &Heap, set: &HeapSet<'_>) -> bool {
     let calls = heap.calls();
     let found = set.first_gap(3).is_some()

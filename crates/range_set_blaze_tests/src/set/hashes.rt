@@ -1,4 +1,4 @@
-//! What sets feed a hasher.
+//! What sets feed to a hasher.
 
 use range_set_blaze::RangeSetBlaze;
 use rsb_commands::outside::{Side, Slot};
@@ -6,7 +6,7 @@ use rsb_tables::{fed_by, fed_by_bytes, slots};
 use std::alloc::{AllocError, Global};
 use std::test::*;
 
-/// The set of the ranges of a table.
+/// Returns the set of the ranges of a table.
 fn bytes_of(alloc: Global, ranges: &[(u8, u8)]) -> Result<RangeSetBlaze<u8>, AllocError> {
     let mut set = RangeSetBlaze::new(alloc);
     for (start, end) in ranges {
@@ -15,7 +15,7 @@ fn bytes_of(alloc: Global, ranges: &[(u8, u8)]) -> Result<RangeSetBlaze<u8>, All
     Ok(set)
 }
 
-/// Ranges put in one after the other, and the bytes that the set then feeds.
+/// Ranges inserted one after the other, and the bytes that the set then feeds.
 static FED: [(&[(u8, u8)], &[u8]); 6] = [
     (&[(1, 3), (7, 10)], &[7, 0, 1, 3, 7, 10]),
     (
@@ -28,8 +28,8 @@ static FED: [(&[(u8, u8)], &[u8]); 6] = [
     (&[], &[0, 0]),
 ];
 
-// The length of a set of bytes takes two bytes, the lower one first. The order of insertions is
-// not fed.
+// The length of a set of bytes takes two bytes, the lower one first. The order of insertions does
+// not matter.
 #[test]
 fn the_length_is_fed_and_the_ends_of_each_run(rt: HostRuntime) -> Result<(), Fail> {
     for (ranges, bytes) in &FED {
@@ -63,7 +63,7 @@ fn letters_feed(alloc: Global) -> Result<bool, AllocError> {
     Ok(fed_by(&letters) == fed_by_bytes(&[3, 0, 0, 0, 97, 0, 0, 0, 99, 0, 0, 0]))
 }
 
-/// The set of both sides, put in one after the other.
+/// Returns the set of both sides, inserted one after the other.
 fn both_sides(alloc: Global) -> Result<RangeSetBlaze<Side>, AllocError> {
     let mut sides = RangeSetBlaze::new(alloc);
     sides.insert(Side::Hi)?;
@@ -71,7 +71,7 @@ fn both_sides(alloc: Global) -> Result<RangeSetBlaze<Side>, AllocError> {
     Ok(sides)
 }
 
-/// Whether both sides feed what every side does.
+/// Whether the set of both sides feeds what the set of every side does.
 fn sides_feed(alloc: Global) -> Result<bool, AllocError> {
     let fed = fed_by(&both_sides(alloc)?);
     Ok(fed == fed_by(&RangeSetBlaze::<Side>::universe(alloc)?))

@@ -1,4 +1,4 @@
-//! The calls on sets that the headline names, at two element types of a user's own.
+//! The calls on sets that the headline names, at two user-defined element types.
 
 use range_set_blaze::laws::cmp_counted;
 use range_set_blaze::{DrawDisjoint, Integer, RangeSetBlaze};
@@ -9,7 +9,7 @@ use std::cmp::Ordering::{Equal, Greater, Less};
 use std::hash::Hash;
 use std::test::*;
 
-/// The set of the least value of a type, and the set of every value.
+/// Returns the set of the least value of a type, and the set of every value.
 fn least_and_all<T: Integer>(
     alloc: Global,
 ) -> Result<(RangeSetBlaze<T>, RangeSetBlaze<T>), AllocError> {
@@ -41,7 +41,7 @@ fn are_listed<T: Integer>(
         && all.ranges().members_len() == lengths.1
 }
 
-/// Whether the least value stands before all, by each comparison.
+/// Whether the set of the least value is less than the set of all, by each comparison.
 fn are_ordered<T: Integer>(least: &RangeSetBlaze<T>, all: &RangeSetBlaze<T>) -> bool {
     least.cmp(all) == Less
         && least != all
@@ -53,7 +53,7 @@ fn are_ordered<T: Integer>(least: &RangeSetBlaze<T>, all: &RangeSetBlaze<T>) -> 
         && !least.ranges().equal(all.ranges())
 }
 
-/// Whether equal sets feed a hasher alike, and these two do not.
+/// Whether equal sets feed a hasher the same, and these two do not.
 fn are_fed<T: Integer + Hash>(
     least: &RangeSetBlaze<T>,
     all: &RangeSetBlaze<T>,
@@ -62,7 +62,8 @@ fn are_fed<T: Integer + Hash>(
     Ok(fed_by(least) == fed_by(&copy) && fed_by(least) != fed_by(all))
 }
 
-/// Whether the set of the least value of a type and that of all are read as they are to be.
+/// Whether every call returns the right values for the set of the least value and for the set of
+/// all.
 fn are_read<T: Integer + Hash>(
     alloc: Global,
     lengths: (T::SafeLen, T::SafeLen),

@@ -8,7 +8,7 @@ use std::alloc::{AllocError, Global};
 use std::ops::Bound;
 use std::test::*;
 
-/// An insertion, the set before, what it answers, and the set after.
+/// An insertion, the set before, what it returns, and the set after.
 static TOLD: [(Change, Table<'static>, Answer, Table<'static>); 13] = [
     (
         Change::RangesInsert(4, 5),
@@ -100,7 +100,7 @@ fn an_insertion_tells_what_was_new(rt: HostRuntime) {
     }
 }
 
-/// Sets that a reversed range is put in.
+/// Sets to insert a reversed range into.
 static WITH_BOUNDS_REVERSED: [Table<'static>; 3] = [&[(1, 1)], &[], &[(i32::MIN, i32::MAX)]];
 
 #[test]
@@ -134,7 +134,8 @@ fn the_full_range_adds_every_value(rt: HostRuntime) -> Result<(), Fail> {
     Ok(())
 }
 
-/// Whether bounds add something to the set of a table or not, and make it that of another.
+/// Whether inserting the values between two bounds into the set of a table reports this, and gives
+/// the set of another.
 fn adds(
     alloc: Global,
     bounds: (Bound<i32>, Bound<i32>),

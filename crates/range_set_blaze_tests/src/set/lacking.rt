@@ -1,4 +1,4 @@
-//! A set of what another one lacks, proved of public contracts alone.
+//! The complement of a set, proved only from public contracts.
 
 ghost use Rattle.rsb_integer.specs.Runs.{members};
 ghost use Rattle.rsb_integer.specs.Selection.{complement_in};
@@ -9,7 +9,7 @@ use range_set_blaze::{DrawDisjoint, Integer, RangeSetBlaze};
 use std::alloc::{AllocError, Global};
 use std::test::*;
 
-/// The set of the values that a set lacks.
+/// Returns the set of the values that a set lacks.
 fn lacking<T: Integer>(
     alloc: Global,
     set: &RangeSetBlaze<T>,

@@ -10,7 +10,7 @@ use range_set_blaze::laws::{
 use rsb_commands::outside::{Side, Slot};
 use std::alloc::Global;
 
-/// Cites each law at a type. The clause of each is proved at any type.
+/// Cites each law at a type. Each clause is proved at any type.
 fn cite<T: Integer>() {
     canonical_lists_are_runs::<T>();
     equal_members_equal_lists::<T>();

@@ -1,4 +1,4 @@
-//! Some thousand changes of two sets, drawn by a fixed seed, beside a cell for each value.
+//! Several thousand changes of two sets, drawn from a fixed seed, beside one cell for each value.
 
 use crate::set::calls::{Answer, Change, carry_out};
 use crate::set::cells::{Cell, agree, cells, reckon};
@@ -7,7 +7,7 @@ use std::alloc::{AllocError, Global};
 use std::mem;
 use std::test::*;
 
-/// A change at the values from one on.
+/// Returns a change at the values from `first` on.
 fn drawn_change(first: i32, drawn: u32) -> Change {
     let [_, more, place, kind] = drawn.to_le_bytes();
     let value = first.saturating_add(i32::from(place));
@@ -46,7 +46,7 @@ fn drawn_change(first: i32, drawn: u32) -> Change {
     changes[usize::from(kind) % 21]
 }
 
-/// Exchanges the two sets that cells tell of.
+/// Exchanges the two sets that the cells describe.
 fn exchange(cells: &mut Vec<Cell>) {
     for cell in cells.iter_mut() {
         let is_member = cell.is_member;
@@ -55,7 +55,7 @@ fn exchange(cells: &mut Vec<Cell>) {
     }
 }
 
-/// Changes cells, and says whether they tell an answer.
+/// Changes cells, and returns whether they give this result.
 fn is_told(
     alloc: Global,
     change: Change,
@@ -65,8 +65,8 @@ fn is_told(
     Ok(reckon(alloc, change, cells)?.is(told))
 }
 
-/// Changes two sets and the cells that tell of them, and says whether the answer and the sets are
-/// what the cells tell.
+/// Changes two sets and the cells that describe them, and returns whether the result and the sets
+/// match the cells.
 fn turns(
     alloc: Global,
     change: Change,
@@ -78,8 +78,8 @@ fn turns(
     Ok(is_told(alloc, change, told, cells)? && agree(alloc, set, other, cells)?)
 }
 
-/// The first turn of some thousand after which a set is not what the cells tell, or at which an
-/// answer is not: every ninth time the sets change places.
+/// Returns the first of several thousand steps at which the result or a set does not match the
+/// cells. At every ninth step the sets are exchanged.
 fn first_wrong(alloc: Global, first: i32) -> Result<Option<u16>, AllocError> {
     let mut cells = cells(alloc, first, 256)?;
     let mut set = RangeSetBlaze::new(alloc);

@@ -1,11 +1,11 @@
-//! What is asked of a set about a value, and about all of it.
+//! Look-ups of a value, and queries about a whole set.
 
 use crate::set::rows::has;
 use range_set_blaze::{Integer, RangeSetBlaze};
 use rsb_tables::{Table, set_of};
 use std::test::*;
 
-/// Whether a value lies in the run or the gap with these ends, by each call that looks for it.
+/// Whether a value is in the run or the gap with these ends, by each call that looks for it.
 pub(crate) fn lies<T: Integer>(
     set: &RangeSetBlaze<T>,
     value: T,

@@ -1,10 +1,11 @@
-//! The macros over streams, as `range_set_blaze` defines them: of none, one, three and five streams.
+//! The macros over streams, as `range_set_blaze` defines them: on none, one, three and five
+//! streams.
 
 use range_set_blaze::prelude::*;
 use rsb_tables::gives;
 use std::test::*;
 
-/// A stream of the range of five values from this one on.
+/// Returns a stream of the range of five values from this one on.
 fn range(start: u8) -> RangeOnce<u8>
     ensures { ⟦<RangeOnce<u8> as Draw<u8>>⟧.can_draw result }
 {

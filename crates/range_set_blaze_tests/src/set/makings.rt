@@ -1,4 +1,4 @@
-//! Sets made of others, of streams and of items, on rows worked by hand.
+//! Sets built from others, from streams and from items, on rows worked by hand.
 
 use crate::set::calls::Making;
 use crate::set::rows::{has, is_byte_run, makes_of_two};
@@ -13,13 +13,13 @@ use std::test::*;
 /// Two runs.
 const TWO: Table<'static> = &[(1, 2), (5, 100)];
 
-/// All but 0.
+/// All values except 0.
 const ENDS: Table<'static> = &[(i32::MIN, -1), (1, i32::MAX)];
 
 /// Every value.
 const UNIVERSE: Table<'static> = &[(i32::MIN, i32::MAX)];
 
-/// A making of {1..=2, 5..=100} and {2..=6}, and what it makes.
+/// A making from {1..=2, 5..=100} and {2..=6}, and its result.
 static OF_TWO: [(Making, Table<'static>); 4] = [
     (Making::Bitand, &[(2, 2), (5, 6)]),
     (Making::Sub, &[(1, 1), (7, 100)]),
@@ -35,8 +35,8 @@ fn two_sets_are_met_told_apart_and_turned(rt: HostRuntime) {
     }
 }
 
-/// An operation and the making by it, of {0..=9, 20..=29} and {5..=24, 26..=40}, and the runs of what
-/// both make: as many as there may be.
+/// An operation and its making from {0..=9, 20..=29} and {5..=24, 26..=40}, and the runs of the
+/// result: as many as are possible.
 static MOST_RUNS: [(Operation, Making, Table<'static>); 3] = [
     (
         Operation::Intersection,
@@ -60,7 +60,8 @@ const LEFT: Table<'static> = &[(0, 9), (20, 29)];
 
 const RIGHT: Table<'static> = &[(5, 24), (26, 40)];
 
-/// Whether an operation on the runs of {0..=9, 20..=29} and {5..=24, 26..=40} gives those of a table.
+/// Whether an operation on the runs of {0..=9, 20..=29} and {5..=24, 26..=40} gives those of a
+/// table.
 fn operation_comes_to(
     alloc: Global,
     operation: Operation,
@@ -80,7 +81,7 @@ fn results_of_two_runs_and_two_have_up_to_four(rt: HostRuntime) {
     }
 }
 
-/// A making, the two sets that it is given, and what it makes.
+/// A making, the two sets that it gets, and its result.
 static MADE: [(Making, Table<'static>, Table<'static>, Table<'static>); 20] = [
     (Making::Clone, TWO, &[], TWO),
     (Making::Bitor, TWO, &[(2, 6)], &[(1, 100)]),
@@ -127,7 +128,7 @@ fn sets_streams_and_items_make_sets(rt: HostRuntime) {
     }
 }
 
-/// Whether the union of the runs of two sets makes one that has these.
+/// Whether the union of the runs of two sets gives a set of these.
 fn union_makes(
     alloc: Global,
     left: &RangeSetBlaze<i32>,

@@ -1,5 +1,5 @@
-//! Every call on sets of seventy thousand runs, more than a length of sixteen bits counts: none gives
-//! up at a size.
+//! Every call on sets of seventy thousand runs, which are more than a length of sixteen bits
+//! counts. No call gives up at a size.
 
 use crate::set::calls::{Change, Making, carry_out, make};
 use crate::set::rows::has;
@@ -10,8 +10,8 @@ use std::alloc::{AllocError, Global};
 use std::cell::Cell;
 use std::test::*;
 
-/// Changes in turn of the set of the first three of each five values from 0 on, beside that of the
-/// fourth, and how many runs and members each leaves.
+/// Changes, one after the other, of the set of the first three of each five values from 0 on,
+/// beside the set of the fourth. Each has the number of runs and of members that it leaves.
 static CHANGED: [(Change, usize, u64); 25] = [
     (Change::Insert(-5), 70_001, 210_001),
     (Change::Insert(170_003), 70_001, 210_002),
@@ -40,7 +40,7 @@ static CHANGED: [(Change, usize, u64); 25] = [
     (Change::Clear, 0, 0),
 ];
 
-/// Changes a set, beside a copy of another where the call takes one.
+/// Changes a set, with a copy of another if the call takes one.
 pub(crate) fn change(
     alloc: Global,
     call: Change,
@@ -55,7 +55,7 @@ pub(crate) fn change(
     Ok(())
 }
 
-/// Whether a set has so many runs and members.
+/// Whether a set has these numbers of runs and of members.
 pub(crate) fn counts(set: &RangeSetBlaze<i32>, count: usize, members: u64) -> bool {
     set.ranges_len() == count && set.len() == members
 }
@@ -71,7 +71,7 @@ fn seventy_thousand_runs_are_changed(rt: HostRuntime) -> Result<(), Fail> {
     Ok(())
 }
 
-/// A making of the same two sets, and how many runs and members it makes.
+/// A making from the same two sets, and the numbers of runs and of members of its result.
 static MADE: [(Making, usize, u64); 10] = [
     (Making::Clone, 70_000, 210_000),
     (Making::Bitor, 70_000, 280_000),
@@ -85,7 +85,7 @@ static MADE: [(Making, usize, u64); 10] = [
     (Making::IntoRangeSetBlaze, 70_000, 210_000),
 ];
 
-/// Whether a making of two sets has so many runs and members.
+/// Whether the result of a making from two sets has these numbers of runs and of members.
 pub(crate) fn makes(
     alloc: Global,
     making: Making,
@@ -96,7 +96,7 @@ pub(crate) fn makes(
     Ok(counts(&made, wanted.0, wanted.1))
 }
 
-/// Whether so many equal values make a set of one.
+/// Whether seventy thousand equal values make a set of one value.
 fn equal_values_are_one(alloc: Global) -> Result<bool, AllocError> {
     let set = RangeSetBlaze::from_array(alloc, [7; 70_000])?;
     Ok(has(&set, &[(7, 7)]))
@@ -113,15 +113,15 @@ fn seventy_thousand_runs_or_values_make_sets(rt: HostRuntime) -> Result<(), Fail
     Ok(())
 }
 
-/// Whether a count of the runs of a set draws each, and counts on to the greatest number.
+/// Whether a count of the runs of a set draws each run, and counts on to the greatest number.
 fn runs_are_counted(set: &RangeSetBlaze<i32>) -> bool {
     let (drawn, full) = (Cell::new(0), Cell::new(usize::MAX - 1));
     let runs = Counted::new(Counted::new(set.ranges(), &drawn), &full);
     runs.count() == 70_000 && drawn.get() == 70_000 && full.get() == usize::MAX
 }
 
-/// Fills the gap of two values after each run, in an order that jumps, and answers whether each was
-/// one.
+/// Fills the gap of two values after each run, in an order that jumps, and returns whether each was
+/// a gap.
 fn gaps_are_filled(set: &mut RangeSetBlaze<i32>) -> Result<bool, AllocError> {
     let mut is_new = true;
     for place in 0..70_000i32 {
@@ -140,7 +140,8 @@ fn seventy_thousand_runs_are_counted_and_their_gaps_filled(rt: HostRuntime) -> R
     Ok(())
 }
 
-/// Whether each seventh value is found in a set just if it is one of the first three of its five.
+/// Whether each seventh value is found in a set exactly if it is one of the first three of its
+/// five.
 fn sevenths_are_found(set: &RangeSetBlaze<i32>) -> bool {
     for place in 0..50_000i32 {
         let value = place.saturating_mul(7);
@@ -161,7 +162,7 @@ fn runs_are_found(set: &RangeSetBlaze<i32>) -> bool {
         && set.range_or_gap_at(150_000) == (150_000..=150_002, true)
 }
 
-/// Whether the elements between two members begin and end with these.
+/// Whether the elements between two bounds start and end with the right ones.
 fn elements_are_found(set: &RangeSetBlaze<i32>) -> Result<bool, AllocError> {
     let mut between = set.range(1..=349_998)?;
     Ok(between.next() == Some(1) && between.next_back() == Some(349_997))
@@ -174,13 +175,14 @@ fn seventy_thousand_runs_are_looked_up(rt: HostRuntime) -> Result<(), Fail> {
     Ok(())
 }
 
-/// Whether the elements of a set hint at no fewer than its runs, whoever owns them.
+/// Whether the lower size hint of the elements of a set is the number of its runs, by reference and
+/// by value.
 fn elements_hint(set: &RangeSetBlaze<i32>) -> Result<bool, AllocError> {
     let owned = set.clone()?.into_iter();
     Ok(owned.size_hint() == (70_000, None) && set.iter().size_hint() == (70_000, None))
 }
 
-/// Whether the runs of a set hint at what is left after one from either end.
+/// Whether the size hint of the runs of a set is what is left after one from either end.
 fn ranges_hint(set: &RangeSetBlaze<i32>) -> bool {
     let mut ranges = set.ranges();
     ranges.next() == Some(0..=2)
@@ -188,7 +190,8 @@ fn ranges_hint(set: &RangeSetBlaze<i32>) -> bool {
         && ranges.size_hint() == (69_998, Some(69_998))
 }
 
-/// Whether the runs that a set gives up hint at what is left after one from either end.
+/// Whether the size hint of the runs of a set passed by value is what is left after one from either
+/// end.
 fn owned_ranges_hint(set: RangeSetBlaze<i32>) -> bool {
     let mut ranges = set.into_ranges();
     ranges.next() == Some(0..=2)

@@ -1,6 +1,6 @@
-//! The loops over sets, at more than a million runs or values: none gives up at a size.
+//! The loops over sets, at more than a million runs or values. No loop gives up at a size.
 //!
-//! In the checked build of `rt try --test` they take minutes: `--seconds 900` lets them end.
+//! The checked build of `rt try --test` takes minutes here: `--seconds 900` lets it finish.
 
 use crate::set::calls::{Change, Making};
 use crate::set::many_runs::{change, counts, makes};
@@ -12,14 +12,14 @@ use rsb_tables::fed_by;
 use std::alloc::{AllocError, Global};
 use std::test::*;
 
-/// A million and a hundred values, four apart, from one on.
+/// Returns a million and a hundred values, four apart, from `first` on.
 fn fourths(alloc: Global, first: i32) -> Result<RangeSetBlaze<i32>, AllocError> {
     let last = first.saturating_add(4_000_396);
     RangeSetBlaze::from_iter_values(alloc, (first..=last).step_by(4))
 }
 
-/// A making of a set of the fourths from 0 on and one of those from 2 on, and how many runs and
-/// members it makes.
+/// A making from the fourths from 0 on and those from 2 on, and the numbers of runs and of members
+/// of its result.
 static MADE: [(Making, usize, u64); 9] = [
     (Making::Clone, 1_000_100, 1_000_100),
     (Making::Bitor, 2_000_200, 2_000_200),
@@ -46,8 +46,8 @@ fn a_million_runs_make_sets(rt: HostRuntime) -> Result<(), Fail> {
     Ok(())
 }
 
-/// Changes one after the other of the fourths from 0 on, beside those from 2 on, and how many runs
-/// and members each leaves.
+/// Changes, one after the other, of the fourths from 0 on, beside those from 2 on. Each has the
+/// numbers of runs and of members that it leaves.
 static CHANGED: [(Change, usize, u64); 8] = [
     (Change::Append, 2_000_200, 2_000_200),
     (Change::Extend, 2_000_200, 2_000_200),
@@ -78,7 +78,7 @@ fn are_listed(set: &RangeSetBlaze<i32>) -> bool {
         && set.ranges().members_len() == 1_000_100
 }
 
-/// How many elements lie between two bounds.
+/// Returns the number of elements between two bounds.
 fn elements_between(set: &RangeSetBlaze<i32>) -> Result<u64, AllocError> {
     let mut between = 0u64;
     for _ in set.range(..)? {
@@ -87,7 +87,7 @@ fn elements_between(set: &RangeSetBlaze<i32>) -> Result<u64, AllocError> {
     Ok(between)
 }
 
-/// Whether two equal sets of a million runs are equal by each call that goes over both.
+/// Whether two equal sets of a million runs are equal by each call that reads both.
 fn are_equal(set: &RangeSetBlaze<i32>, copy: &RangeSetBlaze<i32>) -> bool {
     set == copy
         && set.cmp(copy).is_eq()
@@ -107,7 +107,8 @@ fn a_million_runs_are_listed_compared_and_hashed(rt: HostRuntime) -> Result<(), 
     Ok(())
 }
 
-/// Whether a set of a million runs is split before its last, and all but that are given back.
+/// Whether a set of a million runs can be split after its first run, and the rest before its last
+/// run.
 fn is_split(alloc: Global) -> Result<bool, AllocError> {
     let mut set = fourths(alloc, 0)?;
     let later = set.split_off(4)?;

@@ -1,4 +1,4 @@
-//! Sets that are taken up one after the other, with how many of them have each value.
+//! Sets added one after the other, to count how many of them have each value.
 
 ghost use Rattle.std.specs.Prelude.{map, IfOk, OnOk};
 ghost use Rattle.rsb_integer.specs.Runs.{members};
@@ -11,7 +11,8 @@ use rsb_tables::set_of;
 use std::alloc::{AllocError, Allocator, Global};
 use std::test::*;
 
-/// Takes up a set after others, of which some have what `once` has, and two what `twice` has.
+/// Adds one more set: `once` has what at least one of the sets so far has, and `twice` what at
+/// least two have.
 fn take_up(
     once: &mut RangeSetBlaze<i32>,
     twice: &mut RangeSetBlaze<i32>,
@@ -28,7 +29,7 @@ fn take_up(
     Ok(())
 }
 
-/// Returns the set of what lies in at least two of some sets.
+/// Returns the set of the values in at least two of some sets.
 fn in_two(alloc: Global, sets: &[RangeSetBlaze<i32>]) -> Result<RangeSetBlaze<i32>, AllocError>
     ensures { IfOk result (λ set. IsSetOf set (at_least 2 (map members sets.now))) }
 {
@@ -40,7 +41,7 @@ fn in_two(alloc: Global, sets: &[RangeSetBlaze<i32>]) -> Result<RangeSetBlaze<i3
     Ok(twice)
 }
 
-/// Returns the set of what lies in at least two of the sets of a list, all at once.
+/// Returns the set of the values in at least two of the sets of a list, all at once.
 fn in_two_of_list<T: Integer, A: Allocator + Copy>(
     alloc: A,
     sets: &Vec<RangeSetBlaze<T, A>>,

@@ -25,7 +25,7 @@ fn make(
     }
 }
 
-/// Whether an operator on the runs of two sets that are given up gives these.
+/// Whether an operator on the runs of two sets passed by value gives these.
 fn owned_make(
     operation: Operation,
     left: RangeSetBlaze<i32>,
@@ -58,7 +58,7 @@ const SHORT: Table<'static> = &[(2, 6)];
 
 const ALL: Table<'static> = &[(i32::MIN, i32::MAX)];
 
-/// Two sets, an operation, and what its operator makes of their runs.
+/// Two sets, an operation, and the result of its operator on their runs.
 static OPERATED: [(Table<'static>, Table<'static>, Operation, Table<'static>); 22] = [
     (ONE, OTHER, Union, &[(1, 4), (7, 20)]),
     (ONE, OTHER, Intersection, &[(9, 10)]),
@@ -94,7 +94,8 @@ static OPERATED: [(Table<'static>, Table<'static>, Operation, Table<'static>); 2
     (ALL, &[], Complement, &[]),
 ];
 
-/// Whether an operator on the runs of the sets of two tables gives these, whoever owns them.
+/// Whether an operator on the runs of the sets of two tables gives these, by reference and by
+/// value.
 fn both_make(
     alloc: Global,
     operation: Operation,

@@ -9,7 +9,8 @@ use std::alloc::Allocator;
 use std::cmp::Ordering::{self, Equal, Greater, Less};
 use std::test::*;
 
-// From public contracts alone: at every element type `cmp` answers `Equal` where `==` is true.
+// Returns whether `cmp` and `==` agree. Public contracts alone prove it: at every element type,
+// `cmp` returns `Equal` exactly if `==` is true.
 fn is_equal_both_ways<T: Integer, A: Allocator>(
     one: &RangeSetBlaze<T, A>,
     other: &RangeSetBlaze<T, A>,
@@ -19,14 +20,14 @@ fn is_equal_both_ways<T: Integer, A: Allocator>(
     one.cmp(other).is_eq() == (one == other)
 }
 
-/// Whether two sets have this order by each call, and are equal where it says so.
+/// Whether two sets have this order by each call, and are equal if it is `Equal`.
 fn stand(one: &RangeSetBlaze<i32>, other: &RangeSetBlaze<i32>, order: Ordering) -> bool {
     one.cmp(other) == order
         && one.partial_cmp(other) == Some(order)
         && is_equal_both_ways(one, other)
 }
 
-/// Two sets, their order, and the turns that tell it.
+/// Two sets, their order, and the number of iterations that it takes to find it.
 static ORDERED: [(Table<'static>, Table<'static>, Ordering, u128); 10] = [
     (&[(1, 3)], &[(1, 2), (5, 5)], Less, 2),
     (&[(1, 2), (5, 5)], &[(1, 3)], Greater, 2),

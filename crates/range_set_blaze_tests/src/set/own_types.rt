@@ -1,4 +1,4 @@
-//! Sets over element types of a user's own.
+//! Sets over user-defined element types.
 
 use range_set_blaze::{Integer, RangeSetBlaze};
 use rsb_commands::outside::{Side, Slot};
@@ -7,14 +7,16 @@ use std::alloc::{AllocError, Global};
 use std::cmp::Ordering;
 use std::test::*;
 
-/// Whether the upper side fills a set of the lower one, which leaves nothing then.
+/// Whether adding the upper side to a set of the lower one makes it full and greater, with an empty
+/// complement.
 fn is_filled(low: &RangeSetBlaze<Side>) -> Result<bool, AllocError> {
     let mut sides = low.clone()?;
     let is_new = sides.insert(Side::Hi)? && sides.ranges_len() == 1 && sides.is_universal();
     Ok(is_new && low.cmp(&sides) == Ordering::Less && sides.not()?.is_empty())
 }
 
-/// Whether the upper side alone is added of two ranges, and leaves the lower one.
+/// Whether two ranges, one of them reversed, add only the upper side, and the complement is the
+/// lower one.
 fn is_added(alloc: Global) -> Result<bool, AllocError> {
     let mut high = RangeSetBlaze::<Side>::new(alloc);
     high.extend([Side::Hi..=Side::Lo, Side::Hi..=Side::Hi])?;
@@ -30,12 +32,12 @@ fn two_sides_are_filled_left_out_ordered_and_added(rt: HostRuntime) -> Result<()
     Ok(())
 }
 
-/// The slots from one number to another by their ends, and whether they are booked.
+/// Returns the slots from one number to another by their ends, and whether they are booked.
 fn piece(first: u8, last: u8, is_booked: bool) -> (Slot, Slot, bool) {
     (slot(first), slot(last), is_booked)
 }
 
-/// The runs and gaps of a day of which twelve slots are booked.
+/// Returns the runs and gaps of a day with twelve booked slots.
 fn day() -> [(Slot, Slot, bool); 5] {
     [
         piece(0, 31, false),
@@ -46,23 +48,23 @@ fn day() -> [(Slot, Slot, bool); 5] {
     ]
 }
 
-/// Whether the slots that are booked are told with those between, and how many those are.
+/// Whether the booked slots come with the gaps between them, and the number of free slots is right.
 fn leave_free(booked: &RangeSetBlaze<Slot>) -> Result<bool, AllocError> {
     Ok(fills(booked.ranges(), &day()) && booked.not()?.len() == 84)
 }
 
-/// Whether some slots without those that are booked are the ones between.
+/// Whether some slots minus the booked ones are those in the gaps.
 fn lie_between(alloc: Global, booked: &RangeSetBlaze<Slot>) -> Result<bool, AllocError> {
     let free = RangeSetBlaze::from(alloc, slots(32, 67))?.sub(booked)?;
     Ok(gives(free.ranges(), &[(slot(40), slot(47)), (slot(52), slot(67))]))
 }
 
-/// Whether the text of the slots that are booked is theirs.
+/// Whether the text of the booked slots is right.
 fn are_written(alloc: Global, booked: &RangeSetBlaze<Slot>) -> Result<bool, AllocError> {
     Ok(format!(in alloc; "{booked}")?.as_str() == "32..=39, 48..=51")
 }
 
-/// Whether slots are booked that were not, and the free ones lie between.
+/// Whether free slots become booked, and those still free are in the gaps.
 fn are_booked(alloc: Global) -> Result<bool, AllocError> {
     let mut booked = RangeSetBlaze::<Slot>::from(alloc, slots(32, 39))?;
     let is_changed = booked.ranges_insert(slots(48, 51))? && leave_free(&booked)?;
@@ -76,7 +78,7 @@ fn free_slots_lie_between_those_that_are_booked(rt: HostRuntime) -> Result<(), F
     Ok(())
 }
 
-/// Whether values that a set lacks come into it one by one, and are everything then.
+/// Whether values that a set lacks can be inserted one by one, and make it full.
 fn come<T: Integer>(set: &mut RangeSetBlaze<T>, values: &[T]) -> Result<bool, AllocError> {
     for value in values {
         if set.contains(*value) || !set.insert(*value)? || !set.contains(*value) {
@@ -86,7 +88,7 @@ fn come<T: Integer>(set: &mut RangeSetBlaze<T>, values: &[T]) -> Result<bool, Al
     Ok(set.ranges_len() == 1 && set.is_universal())
 }
 
-/// Whether members of a set go out of it one by one, and leave nothing.
+/// Whether members of a set can be removed one by one, and leave it empty.
 fn go<T: Integer>(set: &mut RangeSetBlaze<T>, values: &[T]) -> Result<bool, AllocError> {
     for value in values {
         if !set.remove(*value)? || set.range_at(*value).is_some() {
@@ -96,13 +98,14 @@ fn go<T: Integer>(set: &mut RangeSetBlaze<T>, values: &[T]) -> Result<bool, Allo
     Ok(set.is_empty())
 }
 
-/// Whether all values of a type, in some order, come into a set one by one, and go.
+/// Whether all values of a type, in some order, can be inserted into a set one by one and then
+/// removed.
 fn come_and_go<T: Integer>(alloc: Global, values: &[T]) -> Result<bool, AllocError> {
     let mut set = RangeSetBlaze::new(alloc);
     Ok(come(&mut set, values)? && go(&mut set, values)?)
 }
 
-/// The slots of a day, in an order that jumps.
+/// Returns the slots of a day, in an order that jumps.
 fn all_slots(alloc: Global) -> Result<Vec<Slot>, AllocError> {
     let mut slots = Vec::new(alloc);
     for turn in 0..96u16 {

@@ -13,16 +13,16 @@ use rsb_tables::{Counting, Table, every_fifth, set_of};
 use std::alloc::{AllocError, Allocator, Global};
 use std::test::*;
 
-/// Texts, and the ranges that they list.
+/// Texts, and the runs of the set that they list.
 static READ: [(&'static str, Table<'static>); 19] = [
     ("", &[]),
     (" \t\r\n", &[]),
     ("1..=3, 7..=8", &[(1, 3), (7, 8)]),
     ("5", &[(5, 5)]),
-    // Blanks may stand around each number, or not.
+    // There may be blanks around each number.
     (" 1 ..= 3 , 7\t..=\n8 ", &[(1, 3), (7, 8)]),
     ("1..=3,7..=8,5", &[(1, 3), (5, 5), (7, 8)]),
-    // Ranges come in any order, overlap, touch and come twice.
+    // Ranges may come in any order, overlap, touch and come twice.
     ("7..=8, 1..=3", &[(1, 3), (7, 8)]),
     ("1..=5, 3..=9, 3..=9", &[(1, 9)]),
     ("4..=6, 1..=3", &[(1, 6)]),
@@ -42,7 +42,7 @@ static READ: [(&'static str, Table<'static>); 19] = [
     ("1, 2, 3, 5, 4", &[(1, 5)]),
 ];
 
-/// Texts that list no ranges, and the place of the first byte that fits nothing.
+/// Texts that are refused, and the place of the first unexpected byte.
 static REFUSED: [(&'static str, usize); 24] = [
     (",", 0),
     (" ,", 1),
@@ -66,7 +66,7 @@ static REFUSED: [(&'static str, usize); 24] = [
     ("--1", 1),
     ("x", 0),
     ("1..=3, é", 7),
-    // The digit that makes a number too large.
+    // This digit makes the number too large.
     ("2147483648", 9),
     ("5, -2147483649..=3", 13),
     ("99999999999", 9),
@@ -177,7 +177,7 @@ fn the_text_of_seventy_thousand_runs_is_read_as_they_are(rt: HostRuntime) -> Res
 }
 
 /// Whether a text is read as the set of these ranges if the heap grants the given number of
-/// allocations, or the allocation that it refuses is told.
+/// allocations, or the failed allocation is reported.
 fn is_tried(
     heap: &Counting<Global>,
     granted: usize,
@@ -207,7 +207,7 @@ fn each_refused_allocation_is_told_and_nothing_is_kept(rt: HostRuntime) -> Resul
     Ok(())
 }
 
-/// The set that a text lists. A caller over any type.
+/// Returns the set that a text lists. This is a caller over any type.
 fn listed<T: ParseInteger, A: Allocator + Copy>(
     alloc: A,
     text: &str,
@@ -220,7 +220,7 @@ fn listed<T: ParseInteger, A: Allocator + Copy>(
     Ok(listed)
 }
 
-/// The set with the members that a text lists too.
+/// Returns the set with the members that a text lists added.
 fn with_listed<T: ParseInteger, A: Allocator + Copy>(
     alloc: A,
     set: &RangeSetBlaze<T, A>,

@@ -1,4 +1,5 @@
-//! What a user writes first: `use range_set_blaze::prelude::*;` and nothing else of this repository.
+//! What a user writes first: `use range_set_blaze::prelude::*;`, and nothing else from this
+//! repository.
 
 use range_set_blaze::prelude::*;
 use std::alloc::Global;
@@ -19,7 +20,7 @@ fn the_prelude_is_enough_for_sets_and_streams(rt: HostRuntime) -> Result<(), Fai
     Ok(())
 }
 
-// Every law has its name in the prelude.
+// The prelude has the name of every law.
 #[test]
 fn the_prelude_has_the_laws() {
     elements_stand_for_sets::<u8>();

@@ -1,4 +1,4 @@
-//! The runs of a set, and of one that is given up, from both ends.
+//! The runs of a set, by reference and by value, from both ends.
 
 use crate::set::steps::End::{self, Back, Front};
 use range_set_blaze::RangeSetBlaze;
@@ -6,10 +6,10 @@ use rsb_tables::{Table, gives, set_of};
 use std::ops::RangeInclusive;
 use std::test::*;
 
-/// The ends that runs are taken from in turn, and what each then gives.
+/// The ends that runs are taken from, one after the other, and what each call then returns.
 type Steps<'a> = &'a [(End, Option<(i32, i32)>)];
 
-/// Whether a range has these ends, or there is none.
+/// Whether a result is the range with these ends, or `None`.
 fn is_run(found: Option<RangeInclusive<i32>>, wanted: Option<(i32, i32)>) -> bool {
     match (found, wanted) {
         (Some(range), Some((start, end))) => range == (start..=end),
@@ -18,7 +18,7 @@ fn is_run(found: Option<RangeInclusive<i32>>, wanted: Option<(i32, i32)>) -> boo
     }
 }
 
-/// Whether a set gives these runs, and always tells how many are left.
+/// Whether a set gives these runs, and always reports the number left.
 fn come(set: &RangeSetBlaze<i32>, steps: Steps<'_>) -> bool {
     let mut ranges = set.ranges();
     let mut left = set.ranges_len();
@@ -36,7 +36,7 @@ fn come(set: &RangeSetBlaze<i32>, steps: Steps<'_>) -> bool {
     ranges.len() == left
 }
 
-/// Whether a set that is given up gives these runs, and always tells how many are left.
+/// Whether a set passed by value gives these runs, and always reports the number left.
 fn owned_come(set: RangeSetBlaze<i32>, steps: Steps<'_>) -> bool {
     let mut left = set.ranges_len();
     let mut ranges = set.into_ranges();
@@ -54,7 +54,7 @@ fn owned_come(set: RangeSetBlaze<i32>, steps: Steps<'_>) -> bool {
     ranges.len() == left
 }
 
-/// A set, and which of its runs come from either end in turn.
+/// A set, and which of its runs come from either end, one after the other.
 static FROM_BOTH_ENDS: [(Table<'static>, Steps<'static>); 5] = [
     (&[], &[(Front, None), (Back, None)]),
     (

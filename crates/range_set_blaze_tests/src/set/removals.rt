@@ -8,7 +8,7 @@ use std::test::*;
 /// Two runs.
 const TWO: Table<'static> = &[(1, 5), (9, 9)];
 
-/// A removal, the set before, what it answers, and the set after.
+/// A removal, the set before, what it returns, and the set after.
 static REMOVED: [(Change, Table<'static>, Answer, Table<'static>); 24] = [
     (
         Change::Remove(3),
@@ -121,7 +121,7 @@ fn removals_and_pops_tell_what_was_a_member(rt: HostRuntime) {
     }
 }
 
-/// A value taken out of {1..=5}, and what is left.
+/// A value removed from {1..=5}, and what is left.
 static CUT: [(i32, Table<'static>); 2] = [(1, &[(2, 5)]), (3, &[(1, 2), (4, 5)])];
 
 #[test]

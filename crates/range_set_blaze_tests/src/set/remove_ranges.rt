@@ -17,7 +17,7 @@ use std::alloc::{AllocError, Allocator, Global};
 use std::ops::{Bound, RangeBounds};
 use std::test::*;
 
-/// What a set has of the values between two bounds, if there are any.
+/// How much a set has of the values between two bounds, if there are any.
 #[derive(Clone, Copy)]
 enum Held {
     All,
@@ -26,7 +26,8 @@ enum Held {
     NoValues,
 }
 
-/// Whether a set tells what it has between two bounds, and removing that makes it the set of a table.
+/// Whether a set reports what it has between two bounds, and is the set of a table once that is
+/// removed.
 fn is_removed(
     alloc: Global,
     bounds: (Bound<i32>, Bound<i32>),
@@ -51,7 +52,7 @@ const FOUR: Table<'static> = &[(1, 2), (5, 6), (9, 10), (13, 20)];
 /// Every value.
 const ALL: Table<'static> = &[(i32::MIN, i32::MAX)];
 
-/// A start and an end, the set before, what it has of them, and the set after.
+/// A start and an end, the set before, what it has between them, and the set after.
 static REMOVED: [(i32, i32, Table<'static>, Held, Table<'static>); 27] = [
     (1, 5, &[], Held::Nothing, &[]),
     (3, 4, TWO, Held::All, &[(1, 2), (5, 5), (9, 9)]),
@@ -150,8 +151,8 @@ fn what_lies_between_open_bounds_is_told_and_removed(rt: HostRuntime) {
     }
 }
 
-/// Removals in turn from the first three of each five values, and how many runs and members each
-/// leaves.
+/// Removals, one after the other, from the first three of each five values. Each has the numbers of
+/// runs and of members that it leaves.
 static OF_MANY: [(Change, usize, u64); 4] = [
     (Change::RangesRemove(150_001, 150_001), 70_001, 209_999),
     (Change::RangesRemove(150_003, 150_004), 70_001, 209_999),
@@ -179,7 +180,7 @@ fn booked_slots_are_freed(rt: HostRuntime) -> Result<(), Fail> {
     Ok(())
 }
 
-/// What a set has outside some bounds.
+/// Returns the members of a set outside some bounds.
 fn outside<T: Integer, A: Allocator + Copy, R: RangeBounds<T>>(
     set: &RangeSetBlaze<T, A>,
     range: R,
@@ -192,7 +193,7 @@ fn outside<T: Integer, A: Allocator + Copy, R: RangeBounds<T>>(
     Ok(rest)
 }
 
-/// Removes the values from a start on, which never fails: no value lies past them.
+/// Removes the values from a start on. It never fails, because no value is past them.
 fn keep_below<T: Integer, A: Allocator + Clone>(set: &mut RangeSetBlaze<T, A>, start: T) -> bool
     ensures succeeds { IsTrue result }
     ensures members { Removes set.old set.new

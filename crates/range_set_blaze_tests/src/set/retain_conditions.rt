@@ -1,4 +1,4 @@
-//! `retain` and `ranges_retain` with tests that may not be called on every value or range.
+//! `retain` and `ranges_retain` with closures that may not be called on every value or range.
 
 ghost use Rattle.std.specs.Prelude.{◌<◌, ℕ, length, IsTrue};
 ghost use Rattle.rsb_integer.specs.Runs.{members};
@@ -8,7 +8,7 @@ use std::alloc::{AllocError, Allocator};
 use std::ops::RangeInclusive;
 use std::test::*;
 
-/// Keeps the members with a mark. The test indexes by its value, and all members have a mark.
+/// Keeps the members with a mark. The closure indexes by its value, and all members have a mark.
 fn keep_marked<A: Allocator + Copy>(
     set: &mut RangeSetBlaze<u8, A>,
     marks: &[bool],
@@ -40,19 +40,19 @@ fn keep_marked_values<A: Allocator + Copy>(
     set.retain(|value| marks[usize::from(*value)])
 }
 
-/// Keeps the runs whose ends are at least the given number apart. The test subtracts, so a range may not end
-/// before it starts.
+/// Keeps the runs whose ends are at least the given number apart. The closure subtracts, so a range
+/// may not end before it starts.
 fn keep_longer<A: Allocator>(set: &mut RangeSetBlaze<u8, A>, least: u8) {
     set.ranges_retain(|range| *range.end() - *range.start() >= least);
 }
 
-/// Keeps the runs of at least the given length. The test asks for a length, so a range may not be
-/// empty.
+/// Keeps the runs of at least the given length. The closure takes the length of a range, so a range
+/// may not be empty.
 fn keep_long<T: Integer, A: Allocator>(set: &mut RangeSetBlaze<T, A>, least: T::SafeLen) {
     set.ranges_retain(|range| T::safe_len(range) >= least);
 }
 
-/// Keeps the members that a test accepts which may be called on every value.
+/// Keeps the members that a closure accepts. The closure may be called on every value.
 fn keep<A: Allocator + Copy, F: FnMut(&u8) -> bool>(
     set: &mut RangeSetBlaze<u8, A>,
     accepts: F,
@@ -62,7 +62,7 @@ fn keep<A: Allocator + Copy, F: FnMut(&u8) -> bool>(
     set.retain(accepts)
 }
 
-/// The same of runs.
+/// Keeps the runs that a closure accepts. The closure may be called on every range.
 fn keep_runs<T: Integer, A: Allocator, F: FnMut(&RangeInclusive<T>) -> bool>(
     set: &mut RangeSetBlaze<T, A>,
     accepts: F,

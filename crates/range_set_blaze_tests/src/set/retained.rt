@@ -10,7 +10,7 @@ use rsb_tables::{Table, set_of};
 use std::alloc::Allocator;
 use std::test::*;
 
-/// Runs of nineteen members.
+/// Four runs with nineteen members.
 const SOME: Table<'static> = &[(1, 9), (11, 14), (20, 24), (30, 30)];
 
 /// Three runs.
@@ -19,7 +19,7 @@ const THREE: Table<'static> = &[(1, 3), (7, 7), (9, 10)];
 /// Every value.
 const UNIVERSE: Table<'static> = &[(i32::MIN, i32::MAX)];
 
-/// A test, the set before, how often it asks, and the set after.
+/// A closure, the set before, how often it is called, and the set after.
 static RETAINED: [(Change, Table<'static>, u64, Table<'static>); 13] = [
     (
         Change::Retain(5, 0),
@@ -51,7 +51,8 @@ static RETAINED: [(Change, Table<'static>, u64, Table<'static>); 13] = [
     (Change::RangesRetain(1, 0), UNIVERSE, 1, &[]),
 ];
 
-// A divisor of 1 leaves the rest 0 alone, so the rest 0 is every value, and 1 is none.
+// A divisor of 1 leaves only the remainder 0, so the remainder 0 selects every value, and 1 selects
+// none.
 #[test]
 fn values_and_runs_are_kept_by_a_test(rt: HostRuntime) {
     for (call, before, asked, after) in &RETAINED {

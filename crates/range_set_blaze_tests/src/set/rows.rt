@@ -1,11 +1,11 @@
-//! What rows worked by hand share: a set against a table of its runs.
+//! What rows worked by hand share: comparisons of a set with a table of its runs.
 
 use crate::set::calls::{Answer, Change, Making, carry_out, make};
 use range_set_blaze::RangeSetBlaze;
 use rsb_tables::{Table, gives, set_of};
 use std::alloc::{AllocError, Allocator, Global};
 
-/// How many values the ranges of a table have.
+/// Returns the number of values of the ranges of a table.
 pub(crate) fn counted(table: Table<'_>) -> u64 {
     let mut members = 0u64;
     for (start, end) in table {
@@ -21,7 +21,7 @@ pub(crate) fn has<A: Allocator>(set: &RangeSetBlaze<i32, A>, wanted: Table<'_>) 
     set.ranges_len() == wanted.len() && set.len() == counted(wanted) && gives(set.ranges(), wanted)
 }
 
-/// The set of the ranges of a table, in any allocator.
+/// Returns the set of the ranges of a table, in any allocator.
 pub(crate) fn set_in<A: Allocator + Copy>(
     alloc: A,
     ranges: Table<'_>,
@@ -33,10 +33,10 @@ pub(crate) fn set_in<A: Allocator + Copy>(
     Ok(set)
 }
 
-/// A set and another beside it: what a change is carried out on, and what it leaves.
+/// A set and another beside it: what a change starts from, or what it leaves.
 pub(crate) type Pair<'a> = (Table<'a>, Table<'a>);
 
-/// Whether a change of two sets gives this answer, and leaves those of two tables.
+/// Whether a change of two sets returns this, and leaves those of two tables.
 fn comes_to(
     alloc: Global,
     call: Change,
@@ -49,7 +49,7 @@ fn comes_to(
     Ok(told.is(answer) && has(set, after.0) && has(other, after.1))
 }
 
-/// Whether a change of the first of two sets gives this answer, and leaves these two.
+/// Whether a change of the first of two sets returns this, and leaves these two.
 pub(crate) fn changes(
     alloc: Global,
     call: Change,
@@ -62,7 +62,7 @@ pub(crate) fn changes(
     comes_to(alloc, call, &mut set, &mut other, (answer, after))
 }
 
-/// Whether a making gives the set of a table, of those of two others.
+/// Whether a making from the sets of two tables gives the set of another.
 pub(crate) fn makes_of_two(
     alloc: Global,
     making: Making,
@@ -76,13 +76,13 @@ pub(crate) fn makes_of_two(
     Ok(has(&set, wanted))
 }
 
-/// Whether a set of bytes is the run of these ends.
+/// Whether a set of bytes is the run with these ends.
 pub(crate) fn is_byte_run(set: &RangeSetBlaze<u8>, start: u8, end: u8) -> bool {
     let length = u16::from(end.abs_diff(start)) + 1;
     set.range_at(start) == Some(start..=end) && set.len() == length && set.ranges_len() == 1
 }
 
-/// How many elements a loop over a set gives.
+/// Returns the number of elements that a loop over a set gives.
 pub(crate) fn elements_given<A: Allocator>(set: &RangeSetBlaze<i32, A>) -> u64 {
     let mut given = 0u64;
     for _ in set.iter() {
@@ -91,7 +91,7 @@ pub(crate) fn elements_given<A: Allocator>(set: &RangeSetBlaze<i32, A>) -> u64 {
     given
 }
 
-/// How many elements a set gives from the last on.
+/// Returns the number of elements that a set gives, from the last to the first.
 pub(crate) fn elements_given_back<A: Allocator>(set: &RangeSetBlaze<i32, A>) -> u64 {
     let mut given = 0u64;
     for _ in set.iter().rev() {
@@ -100,7 +100,7 @@ pub(crate) fn elements_given_back<A: Allocator>(set: &RangeSetBlaze<i32, A>) -> 
     given
 }
 
-/// How many runs a set gives.
+/// Returns the number of runs that a set gives.
 pub(crate) fn ranges_given<A: Allocator>(set: &RangeSetBlaze<i32, A>) -> usize {
     let mut given = 0usize;
     for _ in set.ranges() {
@@ -109,7 +109,7 @@ pub(crate) fn ranges_given<A: Allocator>(set: &RangeSetBlaze<i32, A>) -> usize {
     given
 }
 
-/// How many elements a set passed by value gives.
+/// Returns the number of elements that a set passed by value gives.
 pub(crate) fn elements_given_up<A: Allocator>(set: RangeSetBlaze<i32, A>) -> u64 {
     let mut given = 0u64;
     for _ in set {
@@ -118,7 +118,7 @@ pub(crate) fn elements_given_up<A: Allocator>(set: RangeSetBlaze<i32, A>) -> u64
     given
 }
 
-/// How many runs a set passed by value gives.
+/// Returns the number of runs that a set passed by value gives.
 pub(crate) fn ranges_given_up<A: Allocator>(set: RangeSetBlaze<i32, A>) -> usize {
     let mut given = 0usize;
     for _ in set.into_ranges() {

@@ -11,13 +11,13 @@ const ONE: Table<'static> = &[(1, 5)];
 /// Three runs.
 const THREE: Table<'static> = &[(1, 3), (17, 17), (41, 41)];
 
-/// Runs of sixteen members.
+/// Three runs with sixteen members.
 const SIXTEEN: Table<'static> = &[(1, 5), (9, 9), (20, 29)];
 
 /// Every value.
 const UNIVERSE: Table<'static> = &[(i32::MIN, i32::MAX)];
 
-/// A set, the value that it is parted at, and its two parts.
+/// A set, the value that it is split at, and its two parts.
 static PARTED: [(Table<'static>, i32, Table<'static>, Table<'static>); 15] = [
     (ONE, 6, ONE, &[]),
     (ONE, 5, &[(1, 4)], &[(5, 5)]),
@@ -41,7 +41,7 @@ static PARTED: [(Table<'static>, i32, Table<'static>, Table<'static>); 15] = [
     (UNIVERSE, i32::MIN, &[], UNIVERSE),
 ];
 
-// What is below a value stays, and what is not is parted off, whatever the other set was.
+// The values below the given one stay. The others are split off, whatever the other set was.
 #[test]
 fn a_set_is_parted_at_a_value(rt: HostRuntime) {
     for (before, key, low, high) in &PARTED {
@@ -57,7 +57,7 @@ fn a_set_is_parted_at_a_value(rt: HostRuntime) {
     }
 }
 
-/// A value that {1..=5} is parted at, and its two parts.
+/// A value that {1..=5} is split at, and its two parts.
 static PARTED_RUN: [(i32, Table<'static>, Table<'static>); 2] = [
     (3, &[(1, 2)], &[(3, 5)]),
     (9, &[(1, 5)], &[]),

@@ -12,7 +12,7 @@ use std::alloc::{AllocError, Allocator, Global};
 use std::ops::RangeInclusive;
 use std::test::*;
 
-/// What lies in either of two sets, by a copy of one.
+/// Returns the union of two sets, by a copy of one.
 fn either<T: Integer, A: Allocator + Copy>(
     left: &RangeSetBlaze<T, A>,
     right: &RangeSetBlaze<T, A>,
@@ -23,7 +23,7 @@ fn either<T: Integer, A: Allocator + Copy>(
     &copy | right
 }
 
-/// What both of two sets have.
+/// Returns the intersection of two sets.
 fn both<T: Integer, A: Allocator + Copy>(
     left: &RangeSetBlaze<T, A>,
     right: &RangeSetBlaze<T, A>,
@@ -34,7 +34,7 @@ fn both<T: Integer, A: Allocator + Copy>(
     left & right
 }
 
-/// What the first of two sets has and the second lacks.
+/// Returns the difference of two sets.
 fn rest<T: Integer, A: Allocator + Copy>(
     left: &RangeSetBlaze<T, A>,
     right: &RangeSetBlaze<T, A>,
@@ -45,7 +45,7 @@ fn rest<T: Integer, A: Allocator + Copy>(
     left - right
 }
 
-/// What lies in one of two sets alone.
+/// Returns the symmetric difference of two sets.
 fn alone<T: Integer, A: Allocator + Copy>(
     left: &RangeSetBlaze<T, A>,
     right: &RangeSetBlaze<T, A>,
@@ -56,21 +56,21 @@ fn alone<T: Integer, A: Allocator + Copy>(
     left ^ right
 }
 
-/// The set of the values of a list.
+/// Returns the set of the values of a list.
 fn of_list<T: Integer>(alloc: Global, values: Vec<T>) -> Result<RangeSetBlaze<T>, AllocError>
     ensures { IfOk result (λ set. IsSetOf set (ranks_of T.rank values.items)) }
 {
     values.into_iter().collect(alloc)
 }
 
-/// The set of the values of a slice.
+/// Returns the set of the values of a slice.
 fn of_slice<T: Integer>(alloc: Global, values: &[T]) -> Result<RangeSetBlaze<T>, AllocError>
     ensures { IfOk result (λ set. IsSetOf set (ranks_of T.rank values.now)) }
 {
     values.iter().copied().collect(alloc)
 }
 
-/// The set of the ranges of a list.
+/// Returns the set of the ranges of a list.
 fn of_ranges<T: Integer>(
     alloc: Global,
     ranges: Vec<RangeInclusive<T>>,
@@ -90,7 +90,7 @@ fn add_ranges<T: Integer>(
     Extend::extend(set, ranges)
 }
 
-/// The set of the ranges with these ends.
+/// Returns the set of the ranges with these ends.
 fn of_ends<T: Integer>(alloc: Global, ends: &[(T, T)]) -> Result<RangeSetBlaze<T>, AllocError> {
     ends.iter().map(|(start, end)| *start..=*end).collect(alloc)
 }
@@ -105,8 +105,8 @@ fn add_slice<T: Integer>(set: &mut RangeSetBlaze<T>, values: &[T]) -> Result<(),
 /// The ranges with these ends.
 type Ends<T> = &'static [(T, T)];
 
-/// Two sets, and what they have together, both, the first but not the second, and one alone; and
-/// what the first lacks.
+/// Two sets, their union, intersection, difference and symmetric difference, and the complement of
+/// the first.
 struct Row<T: 'static> {
     left: Ends<T>,
     right: Ends<T>,
@@ -137,7 +137,7 @@ static LETTERS: Row<char> = Row {
     lacking: &[('\0', '`'), ('g', '\u{D7FE}'), ('\u{E000}', char::MAX)],
 };
 
-/// Whether a set was made, with these runs.
+/// Whether a set was made and has these runs.
 fn is_made<T: Integer>(made: Result<RangeSetBlaze<T>, AllocError>, wanted: &[(T, T)]) -> bool {
     match made {
         Ok(set) => gives(set.ranges(), wanted),
@@ -145,7 +145,7 @@ fn is_made<T: Integer>(made: Result<RangeSetBlaze<T>, AllocError>, wanted: &[(T,
     }
 }
 
-/// Whether the operators make of two sets what a row says.
+/// Whether the operators on two sets give what a row states.
 fn make_of<T: Integer + 'static>(
     left: &RangeSetBlaze<T>,
     right: &RangeSetBlaze<T>,
@@ -158,7 +158,7 @@ fn make_of<T: Integer + 'static>(
         && is_made(!left, row.lacking)
 }
 
-/// Whether the operators make of the sets of a row what it says.
+/// Whether the operators on the sets of a row give what it states.
 fn operators_make<T: Integer + 'static>(alloc: Global, row: &Row<T>) -> Result<bool, AllocError> {
     let left = of_ends(alloc, row.left)?;
     let right = of_ends(alloc, row.right)?;
@@ -254,7 +254,7 @@ fn a_list_of_sets_is_copied(rt: HostRuntime) -> Result<(), Fail> {
     Ok(())
 }
 
-/// Whether two sets of twenty thousand values, which share none, make these of each other.
+/// Whether the operators are right for two disjoint sets of twenty thousand values.
 fn are_halves(even: &RangeSetBlaze<i32>, odd: &RangeSetBlaze<i32>) -> Result<bool, AllocError> {
     Ok(
         (even | odd)?.ranges_len() == 1

@@ -1,4 +1,4 @@
-//! What is taken from the two ends of an iterator, step by step.
+//! Items taken from the two ends of an iterator, step by step.
 
 /// An end of an iterator.
 #[derive(Clone, Copy)]
@@ -7,7 +7,7 @@ pub(crate) enum End {
     Back,
 }
 
-/// Whether a hint holds of a number of items.
+/// Whether a size hint holds for a number of items.
 pub(crate) fn is_true_of(hint: (usize, Option<usize>), left: usize) -> bool {
     match hint.1 {
         Some(most) => hint.0 <= left && left <= most,

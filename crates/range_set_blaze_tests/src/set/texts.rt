@@ -10,7 +10,7 @@ fn is(text: String, wanted: &str) -> bool {
     text.as_str() == wanted
 }
 
-/// Whether a set is written so, also for those who debug, and whatever the width and the sign.
+/// Whether this is the text of a set, by `Display` and `Debug`, at any width and sign.
 fn is_written(alloc: Global, set: &RangeSetBlaze<i32>, wanted: &str) -> Result<bool, AllocError> {
     Ok(
         is(format!(in alloc; "{set}")?, wanted)
@@ -30,7 +30,7 @@ fn runs_are_written_with_a_comma_between_two_and_nothing_of_none(
     Ok(())
 }
 
-// A text for which an allocation fails midway is none, and not a shorter one.
+// If an allocation fails midway, there is no text, not even a shorter one.
 #[test]
 fn a_text_is_whole_or_fails(rt: HostRuntime) -> Result<(), Fail> {
     let set = set_of(
@@ -62,7 +62,7 @@ fn characters_are_written_in_quotes(rt: HostRuntime) -> Result<(), Fail> {
     Ok(())
 }
 
-// What the text is is left open.
+// The contents of these texts are left open.
 #[test]
 fn iterators_have_a_text(rt: HostRuntime) -> Result<(), Fail> {
     let set = set_of(rt.alloc(), &[(1, 2)])?;

@@ -1,4 +1,4 @@
-//! What a caller proves of sets made of sets, of public contracts alone.
+//! What a caller proves about sets built from sets, from public contracts alone.
 
 ghost use Rattle.std.specs.Prelude.{◌≡◌, ℕ, IfOk};
 ghost use Rattle.rsb_integer.specs.Runs.{members};
@@ -7,8 +7,8 @@ use range_set_blaze::{Integer, RangeSetBlaze};
 use std::alloc::{AllocError, Allocator};
 use std::test::*;
 
-/// What lies in one of two sets alone, as their union without what both have and as their symmetric
-/// difference.
+/// Returns the values in exactly one of two sets, computed twice: as the union minus the
+/// intersection, and as the symmetric difference.
 fn unshared_twice<T: Integer, A: Allocator + Copy>(
     left: &RangeSetBlaze<T, A>,
     right: &RangeSetBlaze<T, A>,

@@ -1,4 +1,4 @@
-//! What is built of the runs of two sets in a heap: streams, and sets of many sets.
+//! What is built from the runs of two sets in a heap: streams, and sets from many sets.
 
 ghost use Rattle.std.specs.Prelude.{All, IfOk};
 
@@ -15,10 +15,10 @@ use std::alloc::{AllocError, Allocator, Global};
 use std::ops::RangeInclusive;
 use std::vec::IntoIter;
 
-/// A call that builds something of two sets.
+/// A call that builds something from two sets.
 #[derive(Clone, Copy)]
 pub(crate) enum Building {
-    /// Of the first alone, as the next one.
+    /// This and the next one use only the first set.
     UnionOfRanges,
     OneType,
     Merge,
@@ -26,16 +26,16 @@ pub(crate) enum Building {
     Union,
     Intersection,
     SymmetricDifference,
-    /// In at least one.
+    /// The values in at least one.
     AtLeast,
-    /// Of streams whose ranges may touch, as the next one.
+    /// This and the next one use streams whose ranges may touch.
     TouchingSweep,
     TouchingDifference,
-    /// These take all ranges of each stream first.
+    /// These collect all ranges of each stream first.
     DynUnion,
     DynIntersection,
     DynSymmetricDifference,
-    /// These give the sets up.
+    /// These take the sets by value.
     SetsUnion,
     SetsIntersection,
     SetsSymmetricDifference,
@@ -50,7 +50,7 @@ impl Building {
     /// The first of all.
     pub(crate) const FIRST: Building = Building::UnionOfRanges;
 
-    /// The one after it, and none after the last.
+    /// Returns the one after it, or `None` after the last.
     pub(crate) fn after(self) -> Option<Building> {
         let next = match self {
             Building::UnionOfRanges => Building::OneType,
@@ -78,7 +78,7 @@ impl Building {
         Some(next)
     }
 
-    /// The making of the same two sets that comes to the same.
+    /// Returns the making from the same two sets that has the same result.
     pub(crate) fn meaning(self) -> Making {
         match self {
             Building::UnionOfRanges | Building::OneType => Making::Clone,
@@ -104,7 +104,7 @@ impl Building {
         }
     }
 
-    /// The form that it takes, where it is one of a form: what lies in some where it is not.
+    /// Returns its form if it has one, and otherwise the form of a union.
     fn form(self) -> Form {
         match self {
             Building::Intersection | Building::SetsIntersection | Building::LentIntersection => {
@@ -118,7 +118,7 @@ impl Building {
         }
     }
 
-    /// Whether it wants memory for two streams whatever they give.
+    /// Whether it allocates for two streams, whatever they give.
     pub(crate) fn wants_room_for_streams(self) -> bool {
         !matches!(self, Building::UnionOfRanges | Building::OneType)
     }
@@ -127,7 +127,7 @@ impl Building {
 /// A set in ample memory.
 type Set = RangeSetBlaze<i32>;
 
-/// Whether a sweep tells the starts and the ends of so many ranges, and then nothing.
+/// Whether a sweep gives the starts and the ends of the given number of ranges, and then nothing.
 fn tells<I: Draw<i32>, A: Allocator>(sweep: MultiwaySweep<i32, I, A>, ranges: usize) -> bool
     requires { ⟦<MultiwaySweep<i32, I, A> as Iterator>⟧.can_next sweep }
 {
@@ -140,12 +140,12 @@ fn tells<I: Draw<i32>, A: Allocator>(sweep: MultiwaySweep<i32, I, A>, ranges: us
     sweep.next().is_none()
 }
 
-/// How many runs two sets have.
+/// Returns the number of runs of two sets.
 fn runs_of_both(one: &Set, other: &Set) -> usize {
     one.ranges_len().saturating_add(other.ranges_len())
 }
 
-/// Whether a merge, joined, gives these runs, or a sweep tells as many events as it is to.
+/// Whether a merge, joined, gives these runs, or a sweep gives the right number of events.
 fn merged_gives(
     heap: &Heap,
     building: Building,
@@ -193,14 +193,14 @@ fn add_touching(
     Ok(streams)
 }
 
-/// The runs of two sets as streams whose ranges may touch, in ample memory.
+/// Returns the runs of two sets as streams whose ranges may touch, in ample memory.
 fn touching(alloc: Global, one: &Set, other: &Set) -> Result<Vec<Touching>, AllocError>
     ensures { IfOk result (λ streams. All ⟦<Touching as Draw<i32>>⟧.can_draw streams.items) }
 {
     add_touching(alloc, other, add_touching(alloc, one, Vec::new(alloc))?)
 }
 
-/// Whether what lies in an odd number of streams whose ranges may touch is this.
+/// Whether the symmetric difference of streams whose ranges may touch gives these runs.
 fn touching_difference_gives<I: SortedTouching<i32>>(
     heap: &Heap,
     streams: Vec<I>,
@@ -212,7 +212,8 @@ fn touching_difference_gives<I: SortedTouching<i32>>(
     Ok(gives(odd, wanted))
 }
 
-/// Whether a sweep over streams whose ranges may touch tells as many events as so many ranges have.
+/// Whether a sweep over streams whose ranges may touch gives as many events as the given number of
+/// ranges has.
 fn touching_sweep_tells<I: SortedTouching<i32>>(
     heap: &Heap,
     streams: Vec<I>,
@@ -224,8 +225,8 @@ fn touching_sweep_tells<I: SortedTouching<i32>>(
     Ok(tells(sweep, ranges))
 }
 
-/// Whether a symmetric difference of streams whose ranges may touch gives these runs, or a sweep over
-/// them tells as many events as it is to.
+/// Whether a symmetric difference of streams whose ranges may touch gives these runs, or a sweep
+/// over them gives the right number of events.
 fn touching_gives(
     alloc: Global,
     heap: &Heap,
@@ -241,7 +242,7 @@ fn touching_gives(
     touching_sweep_tells(heap, streams, runs_of_both(one, other))
 }
 
-/// Whether all ranges of a set, taken first, give these runs.
+/// Whether the ranges of a set, all collected first, give these runs.
 fn taken_give(
     heap: &Heap,
     building: Building,
@@ -254,7 +255,7 @@ fn taken_give(
     Ok(gives(UnionIter::from_iter(heap, set.ranges())?, wanted))
 }
 
-/// Whether the union of all ranges of two sets, which are taken first, gives these runs.
+/// Whether the union of the ranges of two sets, all collected first, gives these runs.
 fn dyn_union_gives(
     heap: &Heap,
     one: &Set,
@@ -264,7 +265,7 @@ fn dyn_union_gives(
     Ok(gives(some_of_two(heap, (one.ranges(), other.ranges()))?, wanted))
 }
 
-/// Whether their intersection does.
+/// The same for their intersection.
 fn dyn_intersection_gives(
     heap: &Heap,
     one: &Set,
@@ -277,7 +278,7 @@ fn dyn_intersection_gives(
     ))
 }
 
-/// Whether their symmetric difference does.
+/// The same for their symmetric difference.
 fn dyn_difference_gives(
     heap: &Heap,
     one: &Set,
@@ -291,7 +292,7 @@ fn dyn_difference_gives(
     ))
 }
 
-/// The set that a form makes of two sets given up.
+/// Returns the set that a form makes from two sets by value.
 fn made_of_sets<'a>(
     alloc: Global,
     heap: &'a Heap,
@@ -306,7 +307,7 @@ fn made_of_sets<'a>(
     )
 }
 
-/// The set that a form makes of two sets lent.
+/// Returns the set that a form makes from two sets by reference.
 fn made_of_lent<'a>(
     alloc: Global,
     heap: &'a Heap,
@@ -317,7 +318,7 @@ fn made_of_lent<'a>(
     of_lent(heap, form, Vec::from_array(alloc, [one, other])?)
 }
 
-/// Whether what is built of two sets in a heap gives these runs.
+/// Whether what is built from two sets in a heap gives these runs.
 pub(crate) fn built_gives(
     alloc: Global,
     heap: &Heap,

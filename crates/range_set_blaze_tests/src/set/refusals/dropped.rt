@@ -1,4 +1,4 @@
-//! Iterators that are dropped after one item from each end that they have.
+//! Iterators that are dropped after one item from each of their ends.
 
 use crate::set::refusals::built::{Building, built_gives};
 use crate::set::refusals::heaps::{Heap, HeapSet};
@@ -11,7 +11,7 @@ use std::test::*;
 /// Three runs.
 const THREE: Table<'static> = &[(1, 2), (5, 5), (7, 9)];
 
-/// Two runs, each of which shares some values with those.
+/// Two runs, each of which overlaps some of those.
 const TWO: Table<'static> = &[(2, 3), (9, 11)];
 
 /// Whether the elements of a set come from both ends, before they are dropped.
@@ -32,26 +32,26 @@ fn begins_between(set: &HeapSet<'_>) -> Result<bool, AllocError> {
     Ok(elements.next() == Some(2) && elements.next_back() == Some(8))
 }
 
-/// Whether a sweep over the runs of a set tells the first of them, before it is dropped.
+/// Whether a sweep over the runs of a set gives the first event, before it is dropped.
 fn sweep_begins(heap: &Heap, set: &HeapSet<'_>) -> Result<bool, AllocError> {
     let mut sweep = MultiwaySweep::new(heap, [set.ranges(), set.ranges()])?;
     let (range, input) = (1..=2, 0);
     Ok(sweep.next() == Some(SweepEvent::Start { range, input }))
 }
 
-/// Whether the elements of a set that is given up come from both ends, before they are dropped.
+/// Whether the elements of a set passed by value come from both ends, before they are dropped.
 fn elements_begin(set: HeapSet<'_>) -> bool {
     let mut elements = set.into_iter();
     elements.next() == Some(1) && elements.next_back() == Some(9)
 }
 
-/// Whether the runs of a set that is given up come from both ends, before they are dropped.
+/// Whether the runs of a set passed by value come from both ends, before they are dropped.
 fn runs_begin(set: HeapSet<'_>) -> bool {
     let mut runs = set.into_ranges();
     runs.next() == Some(1..=2) && runs.next_back() == Some(7..=9)
 }
 
-/// Whether all of these begin as they are to.
+/// Whether all of these give the right first items.
 fn all_begin(heap: &Heap, set: &HeapSet<'_>) -> Result<bool, AllocError> {
     Ok(
         lent_elements_begin(set)
@@ -63,14 +63,15 @@ fn all_begin(heap: &Heap, set: &HeapSet<'_>) -> Result<bool, AllocError> {
     )
 }
 
-/// Whether a set in a heap is as it was after all of these, and none of them keeps any memory.
+/// Whether all of these leave a set in a heap unchanged, and none of them keeps memory.
 fn are_dropped(heap: &Heap) -> Result<bool, AllocError> {
     let set = set_in(heap, THREE)?;
     let bytes = heap.bytes();
     Ok(all_begin(heap, &set)? && has(&set, THREE) && heap.bytes() == bytes)
 }
 
-/// Builds all that is built of two sets, and drops it at its first item, where no more are wanted.
+/// Builds everything that is built from two sets. It expects no runs, so each result is dropped at
+/// its first item.
 fn begin_others(
     alloc: Global,
     heap: &Heap,
@@ -88,7 +89,7 @@ fn begin_others(
     Ok(())
 }
 
-/// Whether sets that are lent to all that is built of two are as they were.
+/// Whether everything that is built from two sets by reference leaves them unchanged.
 fn others_leave(alloc: Global, heap: &Heap) -> Result<bool, AllocError> {
     let one = set_of(alloc, THREE)?;
     let other = set_of(alloc, TWO)?;
@@ -96,7 +97,7 @@ fn others_leave(alloc: Global, heap: &Heap) -> Result<bool, AllocError> {
     Ok(has(&one, THREE) && has(&other, TWO))
 }
 
-/// Whether the sets are as they were, and nothing is allocated any more.
+/// Whether the sets are unchanged, and no allocation is left.
 fn all_is_left(alloc: Global) -> Result<bool, AllocError> {
     let heap = Counting::new(alloc);
     Ok(are_dropped(&heap)? && others_leave(alloc, &heap)? && heap.bytes() == 0)

@@ -1,4 +1,4 @@
-//! The heap of these tests: it counts its calls, and fails from a given one on.
+//! The heap of these tests. It counts its calls, and fails from a given call on.
 
 use range_set_blaze::RangeSetBlaze;
 use rsb_tables::Counting;

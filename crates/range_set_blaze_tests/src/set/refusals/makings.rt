@@ -1,4 +1,4 @@
-//! What makes a set, a stream or elements.
+//! Calls that make a set, a stream or elements.
 
 use crate::set::calls::{Making, make};
 use crate::set::cells::{Side, runs, runs_made, spaced};
@@ -10,7 +10,7 @@ use rsb_tables::{Counting, Table, set_of};
 use std::alloc::{AllocError, Global};
 use std::test::*;
 
-/// What is made of a set in a heap and of two sets beside it, the first of which is the same.
+/// What is made from a set in a heap and from two sets beside it, the first of which is the same.
 #[derive(Clone, Copy)]
 enum Made {
     /// All elements of the set in the heap.
@@ -20,7 +20,7 @@ enum Made {
 }
 
 impl Made {
-    /// The one after it, and none after the last.
+    /// Returns the one after it, or `None` after the last.
     fn after(self) -> Option<Made> {
         match self {
             Made::Elements => Some(Made::Set(Making::FIRST)),
@@ -32,7 +32,7 @@ impl Made {
         }
     }
 
-    /// The making that comes to the same.
+    /// Returns the making that has the same result.
     fn meaning(self) -> Making {
         match self {
             Made::Elements => Making::Clone,
@@ -41,7 +41,7 @@ impl Made {
         }
     }
 
-    /// Whether it wants memory where it comes to nothing or to something.
+    /// Whether it allocates, given whether its result is empty.
     fn wants(self, is_nothing: bool) -> bool {
         match self {
             Made::Elements | Made::Set(_) => !is_nothing,
@@ -50,7 +50,7 @@ impl Made {
     }
 }
 
-/// Whether a making of a set in a heap and of one beside it makes these runs.
+/// Whether a making from a set in a heap and one beside it gives these runs.
 fn is_made<'a>(
     heap: &'a Heap,
     making: Making,
@@ -67,7 +67,7 @@ fn elements_are(alloc: Global, set: &HeapSet<'_>, wanted: Table<'_>) -> Result<b
     Ok(has(&RangeSetBlaze::from_iter_values(alloc, elements)?, wanted))
 }
 
-/// The sets in ample memory of which something is made, and what it comes to.
+/// The sets in ample memory from which something is made, and its result.
 #[derive(Clone, Copy)]
 struct Given<'a> {
     one: &'a RangeSetBlaze<i32>,
@@ -75,7 +75,7 @@ struct Given<'a> {
     wanted: Table<'a>,
 }
 
-/// Whether what is made is right if the heap grants the given number of allocations, or that it
+/// Whether the result is right if the heap grants the given number of allocations, or the call
 /// fails.
 fn tried<'a>(
     alloc: Global,
@@ -96,8 +96,9 @@ fn tried<'a>(
     answer.ok()
 }
 
-/// Whether what is made fails before it passes if it allocates, is right at last, and keeps no
-/// memory after each try. Each try is granted one allocation more than the one before it.
+/// Whether a call fails until the heap grants enough allocations, if it allocates at all. Its last
+/// result must be right, and no try may keep memory. Each try is granted one allocation more than
+/// the one before it.
 fn is_refused_rightly<'a>(
     alloc: Global,
     heap: &'a Heap,
@@ -118,7 +119,7 @@ fn is_refused_rightly<'a>(
     false
 }
 
-/// Whether what is made of a set of these runs in a heap is refused as it is to be.
+/// Whether a making from a set of these runs in a heap fails and succeeds as it should.
 fn is_right_in_heap(
     alloc: Global,
     made: Made,
@@ -130,7 +131,7 @@ fn is_right_in_heap(
     Ok(is_refused_rightly(alloc, &heap, made, &set, given))
 }
 
-/// Whether what is made of the sets of two tables is refused as it is to be.
+/// Whether a making from the sets of two tables fails and succeeds as it should.
 fn is_right_of(
     alloc: Global,
     made: Made,
@@ -148,7 +149,7 @@ fn is_right_of(
     is_right_in_heap(alloc, made, runs, given)
 }
 
-/// Whether what is made of sets of so many runs is refused as it is to be.
+/// Whether a making from sets of the given number of runs fails and succeeds as it should.
 fn is_right(alloc: Global, made: Made, count: i32) -> Result<bool, AllocError> {
     let cells = spaced(alloc, count, count)?;
     let runs_of_one = runs(alloc, &cells, Side::One)?;
@@ -157,7 +158,7 @@ fn is_right(alloc: Global, made: Made, count: i32) -> Result<bool, AllocError> {
     is_right_of(alloc, made, &runs_of_one, &runs_of_other, &wanted)
 }
 
-/// Whether all that is made of sets of so many runs is refused as it is to be.
+/// Whether all makings from sets of the given number of runs fail and succeed as they should.
 fn all_are_right(alloc: Global, count: i32) -> bool {
     let mut next = Some(Made::Elements);
     for _ in 0..u8::MAX {
@@ -172,7 +173,7 @@ fn all_are_right(alloc: Global, count: i32) -> bool {
     false
 }
 
-/// Of how many runs the sets are.
+/// The numbers of runs of the sets.
 static COUNTS: [i32; 4] = [0, 1, 3, 100];
 
 #[test]

@@ -1,4 +1,4 @@
-//! Rows worked by hand of what fails if an allocation fails, and of what does not.
+//! Rows worked by hand for what fails if an allocation fails, and what does not.
 
 use crate::set::calls::Change;
 use crate::set::refusals::changes::tried;
@@ -28,7 +28,7 @@ const FIFTEEN: Table<'static> = &[
     (141, 145),
 ];
 
-/// Whether a removal in a heap that grants nothing gives this answer, or fails where none is given,
+/// Whether a removal in a heap that grants nothing returns this, or fails if no result is given,
 /// and leaves the set of a table.
 fn removes_with_nothing_granted(
     alloc: Global,
@@ -44,7 +44,7 @@ fn removes_with_nothing_granted(
     Ok(told.ok() == answer && has(&set, after))
 }
 
-// One run has room beside it for a second, so a removal from {1..=5} never allocates. It does where
+// A leaf with one run has room for a second, so a removal from {1..=5} never allocates. It does if
 // fifteen runs fill a leaf, {1..=5} among them.
 #[test]
 fn a_cut_that_fails_leaves_the_runs_and_the_end_of_a_run_never_allocates(
@@ -66,7 +66,7 @@ fn the_only_value_is_popped_if_nothing_can_be_allocated(rt: HostRuntime) -> Resu
     Ok(())
 }
 
-/// The even values from 0 to 198.
+/// Returns the set of the even values from 0 to 198.
 fn even_values(heap: &Heap) -> Result<HeapSet<'_>, AllocError> {
     RangeSetBlaze::from_iter_values(heap, (0..=198).step_by(2))
 }
@@ -82,7 +82,7 @@ fn a_hundred_runs_are_joined_if_nothing_can_be_allocated(rt: HostRuntime) -> Res
     Ok(())
 }
 
-/// Removes 1, 3, 5 and so on up to the first that fails, which is returned.
+/// Removes 1, 3, 5 and so on, up to the first removal that fails, and returns that value.
 fn first_refused(set: &mut HeapSet<'_>) -> Option<i32> {
     for place in 0..1000i32 {
         let value = place.saturating_mul(2).saturating_add(1);
@@ -95,7 +95,7 @@ fn first_refused(set: &mut HeapSet<'_>) -> Option<i32> {
     None
 }
 
-/// The runs of the values from 0 to 1999 but the odd ones below this one.
+/// Returns the runs of the values from 0 to 1999 except the odd ones below this one.
 fn lacking_below(alloc: Global, odd: i32) -> Result<Vec<(i32, i32)>, AllocError> {
     let mut runs = Vec::new(alloc);
     for place in 0..odd / 2 {
@@ -120,7 +120,7 @@ fn every_second_value_is_removed_until_an_allocation_fails(rt: HostRuntime) -> R
     Ok(())
 }
 
-/// {1..=1}, and {10..=10, 20..=20, .., 1000..=1000} behind it.
+/// Returns {1..=1}, and {10..=10, 20..=20, .., 1000..=1000} after it.
 fn one_and_a_hundred(alloc: Global) -> Result<Vec<(i32, i32)>, AllocError> {
     let mut runs = Vec::from_array(alloc, [(1, 1)])?;
     for place in 1..=100i32 {
@@ -130,15 +130,15 @@ fn one_and_a_hundred(alloc: Global) -> Result<Vec<(i32, i32)>, AllocError> {
     Ok(runs)
 }
 
-/// Whether a set has one run at least, and a front of these runs.
+/// Whether a set has at least one run, and its runs are a prefix of these.
 fn has_front(set: &HeapSet<'_>, runs: Table<'_>) -> bool {
     let front = &runs[..set.ranges_len().min(runs.len())];
     !front.is_empty() && has(set, front)
 }
 
-/// Whether `append` of all runs but the first to the set of the first passes if the heap grants the
-/// given number of allocations. `None` where it leaves what it must not: if it fails, it adds a
-/// prefix of those runs, and their set is equal to a clone that was taken before.
+/// Returns whether `append` of all runs except the first, to the set of the first, passes if the
+/// heap grants the given number of allocations. Returns `None` if it leaves anything wrong: a
+/// failed call adds a prefix of those runs, and their set stays equal to an earlier clone.
 fn is_appended(heap: &Heap, granted: usize, runs: Table<'_>) -> Result<Option<bool>, AllocError> {
     let Some((first, others)) = runs.split_first() else {
         return Ok(None);
