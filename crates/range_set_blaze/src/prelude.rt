@@ -1,6 +1,7 @@
 //! Every public name of this crate and of the crates below it, except `UnsortedDisjoint` and what the
 //! macros call. `use range_set_blaze::prelude::*;` imports them all.
 
+pub use crate::gaps_in::GapsIn;
 pub use crate::into_iter::IntoIter;
 pub use crate::into_range_set_blaze::IntoRangeSetBlaze;
 pub use crate::into_ranges_iter::IntoRangesIter;
@@ -17,7 +18,6 @@ pub use crate::ranges_in::RangesIn;
 pub use crate::ranges_iter::RangesIter;
 pub use crate::set::RangeSetBlaze;
 pub use crate::set::parse::ParseError;
-pub use crate::set::windows::GapsIn;
 pub use crate::{intersection_dyn, symmetric_difference_dyn, union_dyn};
 pub use rsb_integer::Integer;
 pub use rsb_length::{SafeLength, UInt, UIntPlusOne};

@@ -88,7 +88,7 @@ impl<T: Integer, A: Allocator + Clone> RangeSetBlaze<T, A> {
         ensures takes { TakesGreatest T.rank T.value_count (members self.old) result (members self.new) }
     {
         let last = self.last()?;
-        // No run goes on past the last value, so no memory is wanted.
+        // No run goes on past the last value, so this needs no allocation.
         self.remove(last).unwrap();
         Some(last)
     }
@@ -150,7 +150,7 @@ pub(crate) fn cut<T: Integer, A: Allocator + Clone>(
     ensures err { OnErr result (map.new.entries ≡ map.old.entries) }
     ensures succeeds { T.rank run.end ≤ T.rank piece.end → IsOk result }
 {
-    // What lies above the piece comes first, since it may find no memory.
+    // What lies above the piece comes first, since it may need an allocation.
     put_above(map, run, piece.end)?;
     if is_below(run.start, piece.start) {
         let end = piece.start.sub_one();
