@@ -3,6 +3,7 @@
 pub mod Algebra
 pub mod BothEnds
 pub mod FirstFit
+pub mod GapsIn
 pub mod Hash
 pub mod HashLaws
 pub mod Joining

@@ -1,6 +1,7 @@
 //! Sets of integers, kept as their maximal runs.
 #![tactic(auto)]
 
+pub mod gaps_in;
 pub mod into_iter;
 pub mod into_range_set_blaze;
 pub mod into_ranges_iter;

@@ -2,6 +2,7 @@
 //! macros call. `use range_set_blaze::prelude::*;` imports them all.
 //! (docs/DECISIONS.md, names-listed)
 
+pub use crate::gaps_in::GapsIn;
 pub use crate::into_iter::IntoIter;
 pub use crate::into_range_set_blaze::IntoRangeSetBlaze;
 pub use crate::into_ranges_iter::IntoRangesIter;
@@ -18,7 +19,6 @@ pub use crate::ranges_in::RangesIn;
 pub use crate::ranges_iter::RangesIter;
 pub use crate::set::RangeSetBlaze;
 pub use crate::set::parse::ParseError;
-pub use crate::set::windows::GapsIn;
 pub use crate::{intersection_dyn, symmetric_difference_dyn, union_dyn};
 pub use rsb_integer::Integer;
 pub use rsb_length::{SafeLength, UInt, UIntPlusOne};

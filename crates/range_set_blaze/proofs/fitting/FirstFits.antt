@@ -12,11 +12,11 @@ use Rattle.rsb_integer.proofs.MaximalLemmas.{maximal-around}
 use Rattle.rsb_integer.proofs.MembersLemmas.{covers-bounds, covers-inside, members-below, members-head, members-tail}
 use Rattle.rsb_integer.proofs.RunsLemmas.{canonical-runs}
 use Rattle.range_set_blaze.specs.FirstFit.{AllShorter, AllShorterBefore, HasAllFrom, IsFirstFit, IsFirstFree, IsFree}
-use Rattle.range_set_blaze.specs.Set.{IsRunAround}
 use Rattle.range_set_blaze.specs.Split.{from_on}
 use Rattle.range_set_blaze.specs.Starts.{past}
 use Rattle.range_set_blaze.proofs.runs.Apart.{contained-maximal, contained-members, starting-members}
 use Rattle.range_set_blaze.proofs.runs.Starts.{starting-canonical_in, starting-contains}
+use Rattle.range_set_blaze.proofs.windows.Parts.{canonical-raise}
 
 -- ---- runs
 
@@ -253,19 +253,12 @@ module _ (n : ℕ) (free : Selection) (len start : ℕ) where
 
 -- ---- gaps of a set
 
--- a canonical list may be asked to start later, where its runs do
-canonical-higher : (low higher : ℕ) (runs : List Interval) → IsCanonicalFrom low runs
-    → ((run : Interval) → Contains runs run → higher ≤ run.first) → IsCanonicalFrom higher runs
-canonical-higher low higher [] canonical later = tt
-canonical-higher low higher (run ∷ runs) canonical later =
-    (later run (Contains-head run runs), canonical.1, canonical.2)
-
 module _ (n : ℕ) (runs : List Interval) (canonical : IsCanonicalIn n runs) where
   module _ (start : ℕ) (gap : members runs start ≡ false) where
     -- the runs past a free rank are canonical from the next one on
     pub past-later : IsCanonicalFrom (start + 1) (past start runs)
     past-later =
-        canonical-higher 0 (start + 1) (past start runs)
+        canonical-raise 0 (start + 1) (past start runs)
         (starting-canonical_in (λ first. nat_lt start first) n runs canonical).0
         (λ run found.
         let is = (starting-contains (λ first. nat_lt start first) runs run found).1 in
@@ -315,39 +308,6 @@ module _ (n : ℕ) (runs : List Interval) (canonical : IsCanonicalIn n runs) whe
         | inl before ↦ grind (arith, nat_tests, before)
         | inr from ↦ let member = has rank from less in grind (arith, nat_tests, from, member)
       ])
-
--- ---- the first free rank
-
-module _ (n : ℕ) (runs : List Interval) (value : ℕ) where
-  -- the rank itself, where it is no member
-  pub free-itself : value < n → members runs value ≡ false → IsFirstFree n runs value value
-  free-itself known free = record {
-    later = omega arith;
-    in_type = known;
-    free = free;
-    before = λ rank from less. absurd (omega (arith, from, less));
-  }
-
-  module _ (run : Interval) (around : IsRunAround n (members runs) value run) where
-    within : (rank : ℕ) → value ≤ rank → rank ≤ run.last → members runs rank ≡ true
-    within rank from to =
-        let bounds = covers-bounds run value around.around in
-        around.maximal.whole rank (covers-inside run rank (omega (arith, from, bounds.0)) to)
-
-    -- or the one after the run that has it
-    pub free-after : (next : ℕ) → next ≡ run.last + 1 → next < n → IsFirstFree n runs value next
-    free-after next past known =
-        let bounds = covers-bounds run value around.around in
-        record {
-          later = omega (arith, past, bounds.1);
-          in_type = known;
-          free = ap (members runs) past ∙ around.maximal.ends_here (omega (arith, past, known));
-          before = λ rank from less. within rank from (omega (arith, less, past));
-        }
-
-    -- or none, where the type ends with that
-    pub free-none : run.last + 1 ≡ n → HasAllFrom n runs value
-    free-none ends rank from less = within rank from (omega (arith, less, ends))
 
 -- from 0 on all is free that no run has
 pub free_from-0 : (runs : List Interval) → free_from 0 runs ≡ complement (members runs)

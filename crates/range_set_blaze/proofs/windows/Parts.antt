@@ -11,7 +11,6 @@ use Rattle.rsb_integer.proofs.ListLemmas.{not_both, Contains-cases, Contains-hea
 use Rattle.rsb_integer.proofs.MembersLemmas.{covers-bounds, covers-inside, covers-outside, members-cons}
 use Rattle.range_set_blaze.specs.Set.{IsSetOf}
 use Rattle.range_set_blaze.specs.Split.{NoneOver}
-use Rattle.range_set_blaze.specs.Starts.{IsLastBelow}
 use Rattle.range_set_blaze.specs.Windows.{starting_within, up_to, IsWindow, ReachesIn}
 use Rattle.range_set_blaze.proofs.runs.Apart.{contained-after, contained-maximal, contained-members, contained-one, starting-members}
 use Rattle.range_set_blaze.proofs.runs.Starts.{starting-canonical, starting-canonical_in, starting-contains}
@@ -78,13 +77,8 @@ module _ (n : ℕ) (runs : List Interval) (first last : ℕ) (parts : List Inter
 
 -- ---- from a rank on
 
--- the last run that starts up to the rank before one is the last before that one
-pub last-before : (runs : List Interval) (before point : ℕ) (run : Interval) → before + 1 ≡ point
-    → IsLastBelow runs (before + 1) run → IsLastBelow runs point run
-last-before runs before point run is found = subst (λ bound. IsLastBelow runs bound run) is found
-
 -- canonical intervals that all start at a rank or past it are canonical from there on
-canonical-raise : (low from : ℕ) (runs : List Interval) → IsCanonicalFrom low runs
+pub canonical-raise : (low from : ℕ) (runs : List Interval) → IsCanonicalFrom low runs
     → ((run : Interval) → Contains runs run → from ≤ run.first) → IsCanonicalFrom from runs
 canonical-raise low from [] canonical starts = tt
 canonical-raise low from (run ∷ runs) canonical starts =
@@ -93,7 +87,7 @@ canonical-raise low from (run ∷ runs) canonical starts =
 module _ (n : ℕ) (runs : List Interval) (canonical : IsCanonicalIn n runs) (first last : ℕ)
     (order : first ≤ last) where
   -- those that start in the window are runs that do
-  within-contains : (run : Interval) → Contains (starting_within first last runs) run
+  pub within-contains : (run : Interval) → Contains (starting_within first last runs) run
       → Contains runs run × (first ≤ run.first) × (run.first ≤ last)
   within-contains run found =
       let is = starting-contains (λ start. nat_le first start && nat_le start last) runs run found in

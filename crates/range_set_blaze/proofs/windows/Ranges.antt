@@ -62,35 +62,32 @@ module _ {T : Type 0} (rank : T → ℕ) (last : T) where
       ranges_up_to rank last others
       ++ (record { start = sym starts i; end = sym ends i; exhausted = sym more i }) ∷ []
 
-module _ {T : Type 0} (rank : T → ℕ) (n : ℕ) (last : T) where
+-- the ranges of some items
+module _ {T X : Type 0} (rank : T → ℕ) (n : ℕ) (range : X → RangeInclusive T) where
   -- canonical ranges are left, so a call that takes one makes progress
   abbrev Goes : List (RangeInclusive T) → RangeInclusive T → List (RangeInclusive T) → Type 0
   Goes ranges item rest = MakesProgress (λ each. IsCanonicalIn n (intervals_of rank each))
       (item_count (λ (each : List (RangeInclusive T)). each)) ranges (Some item) rest
 
   -- where it takes the first
-  pub window-goes_first : {ranges : List (RangeInclusive T)} {entries others : List (T × T)}
-      {entry : T × T} {item : RangeInclusive T} → ranges_up_to rank last entries ≡ ranges
-      → IsCanonicalIn n (intervals_of rank ranges) → entries ≡ entry ∷ others
-      → Goes ranges item (ranges_up_to rank last others)
-  window-goes_first are canonical is =
-      canonical-goes rank n _ _ _ _ (sym are ∙ ap (ranges_up_to rank last) is) canonical
+  pub mapped-goes_first : {ranges : List (RangeInclusive T)} {items others : List X} {first : X}
+      {item : RangeInclusive T} → map range items ≡ ranges
+      → IsCanonicalIn n (intervals_of rank ranges) → items ≡ first ∷ others
+      → Goes ranges item (map range others)
+  mapped-goes_first are canonical is =
+      canonical-goes rank n _ _ _ _ (sym are ∙ ap (map range) is) canonical
 
   -- and where it takes the last
-  pub window-goes_last : {ranges : List (RangeInclusive T)} {entries : List (T × T)}
-      {item : RangeInclusive T} (others : List (T × T)) (entry : T × T)
-      → ranges_up_to rank last entries ≡ ranges
-      → IsCanonicalIn n (intervals_of rank ranges) → entries ≡ others ++ entry ∷ []
-      → Goes ranges item (ranges_up_to rank last others)
-  window-goes_last others entry are canonical is =
-      let parts = sym are ∙ ap (ranges_up_to rank last) is
-      ∙ map-append (range_up_to rank last) others (entry ∷ []) in
-      let rest = canonical-front n (intervals_of rank (ranges_up_to rank last others)) _
+  pub mapped-goes_last : {ranges : List (RangeInclusive T)} {items : List X}
+      {item : RangeInclusive T} (others : List X) (last : X) → map range items ≡ ranges
+      → IsCanonicalIn n (intervals_of rank ranges) → items ≡ others ++ last ∷ []
+      → Goes ranges item (map range others)
+  mapped-goes_last others last are canonical is =
+      let parts = sym are ∙ ap (map range) is ∙ map-append range others (last ∷ []) in
+      let rest = canonical-front n (intervals_of rank (map range others)) _
       (subst (IsCanonicalIn n) (ap (intervals_of rank) parts
-      ∙ map-append (interval_of rank) (ranges_up_to rank last others)
-      (range_up_to rank last entry ∷ [])) canonical) in
-      let count = ap length parts
-      ∙ length-append (ranges_up_to rank last others) (range_up_to rank last entry ∷ []) in
+      ∙ map-append (interval_of rank) (map range others) (range last ∷ [])) canonical) in
+      let count = ap length parts ∙ length-append (map range others) (range last ∷ []) in
       record { on = λ finite. (rest, tt, omega (arith, count)); keeps = rest; rests = λ finite. tt }
 
 -- ---- ranges of a map

@@ -4,6 +4,7 @@ ghost use Rattle.std.specs.Prelude.{◌≡◌, [], ◌∷◌, ◌++◌, MatchOpt
 ghost use Rattle.range_set_blaze.specs.Kept.{entry_of};
 ghost use Rattle.range_set_blaze.specs.Windows.{lesser_of, with_held};
 
+use crate::set::entries::{last_run, next_in_range};
 use crate::set::run::{Run, is_below, known};
 use rsb_integer::Integer;
 use std::collections::btree_map::Range;
@@ -21,11 +22,8 @@ pub(crate) fn take_first<T: Integer>(
     if let Some(run) = held.take() {
         return Some(run);
     }
-    let (start, end) = entries.next()?;
-    Some(Run {
-        start: *start,
-        end: *end,
-    })
+    let run = next_in_range(entries)?;
+    Some(run)
 }
 
 /// Takes off the last entry, or else the run that is held.
@@ -37,13 +35,10 @@ pub(crate) fn take_last<T: Integer>(
         ((with_held held.old entries.old ≡ []) × (with_held held.new entries.new ≡ []))
         (λ run. with_held held.old entries.old ≡ with_held held.new entries.new ++ entry_of run ∷ []) }
 {
-    let Some((start, end)) = entries.next_back() else {
+    let Some(run) = last_run(entries) else {
         return held.take();
     };
-    Some(Run {
-        start: *start,
-        end: *end,
-    })
+    Some(run)
 }
 
 /// The lesser of two values.

@@ -1,6 +1,6 @@
 //! Runs as entries of an ordered map, from starts to ends.
 
-ghost use Rattle.std.specs.Prelude.{◌≡◌, ℕ, ◌+◌, ◌<◌, [], ◌∷◌, ◌++◌, Contains, IfOk, IsOk, MatchOption, OnErr, OnOk};
+ghost use Rattle.std.specs.Prelude.{◌≡◌, ℕ, ◌+◌, ◌<◌, [], ◌∷◌, ◌++◌, Contains, IfOk, IsNone, IsOk, MatchOption, OnErr, OnOk};
 ghost use Rattle.rsb_integer.specs.Runs.{Interval};
 ghost use Rattle.range_set_blaze.specs.Kept.{entry_of, run_of, runs_of};
 ghost use Rattle.range_set_blaze.specs.Starts.{below, past, starting_from, with_run, without_start, StartsAscendFrom, IsLastBelow, NoneBelow, StartsWith};
@@ -14,8 +14,9 @@ use std::ops::Bound;
 
 /// Takes the last run off some entries.
 pub(crate) fn last_run<T: Integer>(entries: &mut Range<'_, T, T>) -> Option<Run<T>>
-    ensures { MatchOption result (entries.old ≡ [])
+    ensures run { MatchOption result (entries.old ≡ [])
         (λ run. entries.old ≡ entries.new ++ entry_of run ∷ []) }
+    ensures none { IsNone result → entries.new ≡ [] }
 {
     let (start, end) = entries.next_back()?;
     Some(Run {
@@ -28,6 +29,20 @@ pub(crate) fn last_run<T: Integer>(entries: &mut Range<'_, T, T>) -> Option<Run<
 pub(crate) fn next_run<T: Copy>(entries: &mut Iter<'_, T, T>) -> Option<Run<T>>
     ensures { MatchOption result (entries.old ≡ [])
         (λ run. entries.old ≡ entry_of run ∷ entries.new) }
+{
+    let (start, end) = entries.next()?;
+    Some(Run {
+        start: *start,
+        end: *end,
+    })
+}
+
+/// Takes the first run off some entries of a range.
+#[inline(always)]
+pub(crate) fn next_in_range<T: Integer>(entries: &mut Range<'_, T, T>) -> Option<Run<T>>
+    ensures run { MatchOption result (entries.old ≡ [])
+        (λ run. entries.old ≡ entry_of run ∷ entries.new) }
+    ensures none { IsNone result → entries.new ≡ [] }
 {
     let (start, end) = entries.next()?;
     Some(Run {

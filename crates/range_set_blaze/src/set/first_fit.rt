@@ -1,18 +1,18 @@
 //! The first gap, or the first run, that has a given length.
 
-ghost use Rattle.std.specs.Prelude.{◌≡◌, ◌↔◌, ℕ, ◌+◌, ◌<◌, ◌≤◌, [], ◌∷◌, IfSome, IsFalse, IsNone, IsTrue, MatchOption};
+ghost use Rattle.std.specs.Prelude.{◌≡◌, ◌↔◌, ℕ, ◌+◌, ◌<◌, ◌≤◌, IfSome, IsFalse, IsNone, IsTrue, MatchOption};
 ghost use Rattle.std.specs.Range.{range_inclusive_end, range_inclusive_start};
 ghost use Rattle.rsb_integer.specs.Rank.{interval_of};
 ghost use Rattle.rsb_integer.specs.Runs.{covers, from_to, length_of, members, AllEndBelow, IsCanonicalFrom, IsCanonicalIn, IsMaximalRun};
 ghost use Rattle.rsb_integer.specs.Selection.{complement, intersection};
-ghost use Rattle.range_set_blaze.specs.FirstFit.{AllShorter, AllShorterBefore, HasAllFrom, IsFirstFit, IsFirstFree, IsFree};
-ghost use Rattle.range_set_blaze.specs.Kept.{entry_of, run_of, runs_of};
+ghost use Rattle.range_set_blaze.specs.FirstFit.{AllShorter, AllShorterBefore, IsFirstFit, IsFree};
+ghost use Rattle.range_set_blaze.specs.Kept.{run_of, runs_of};
 ghost use Rattle.range_set_blaze.specs.Split.{from_on};
 ghost use Rattle.range_set_blaze.specs.Starts.{past, StartsAscendFrom};
 
 use crate::set::RangeSetBlaze;
-use crate::set::entries::next_run;
-use crate::set::look_up::run_at;
+use crate::set::entries::{next_in_range, next_run};
+use crate::set::gaps::first_free;
 use crate::set::run::{Run, known};
 use rsb_integer::Integer;
 use std::alloc::Allocator;
@@ -153,22 +153,6 @@ fn gap_from<T: Integer, A: Allocator>(
     first_between(&mut runs_after(map, start), start, len)
 }
 
-// The first value from one on that is no member.
-fn first_free<T: Integer, A: Allocator>(map: &BTreeMap<T, T, A>, value: T) -> Option<T>
-    requires canonical { IsCanonicalIn T.value_count (runs_of T.rank map.now.entries) }
-    requires value { T.rank value < T.value_count }
-    ensures { MatchOption result (HasAllFrom T.value_count (runs_of T.rank map.now.entries)
-        (T.rank value))
-        (λ free. IsFirstFree T.value_count (runs_of T.rank map.now.entries) (T.rank value)
-        (T.rank free)) }
-{
-    let Some(run) = run_at(map, value) else {
-        return Some(value);
-    };
-    let free = run.end.checked_add_one()?;
-    Some(free)
-}
-
 // The first gap that is long enough, of those that runs leave from a value on. The runs start after
 // the value, and do not touch it.
 fn first_between<T: Integer>(
@@ -187,7 +171,7 @@ fn first_between<T: Integer>(
         (run_of T.rank gap)) }
 {
     let mut start = from;
-    while let Some(run) = next_of(entries) {
+    while let Some(run) = next_in_range(entries) {
         let end = run.start.sub_one();
         let gap = Run { start, end };
         if is_long(gap, len) {
@@ -215,16 +199,4 @@ fn runs_after<'a, T: Integer, A: Allocator>(map: &'a BTreeMap<T, T, A>, value: T
     ensures { runs_of T.rank result ≡ past (T.rank value) (runs_of T.rank map.now.entries) }
 {
     map.range((Bound::Excluded(value), Bound::Unbounded))
-}
-
-// Takes the first run off some entries.
-fn next_of<T: Integer>(entries: &mut Range<'_, T, T>) -> Option<Run<T>>
-    ensures { MatchOption result (entries.old ≡ [])
-        (λ run. entries.old ≡ entry_of run ∷ entries.new) }
-{
-    let (start, end) = entries.next()?;
-    Some(Run {
-        start: *start,
-        end: *end,
-    })
 }

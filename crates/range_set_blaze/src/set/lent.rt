@@ -14,7 +14,7 @@ use std::alloc::{AllocError, Allocator};
 use std::ops::RangeInclusive;
 
 /// `values.iter().collect(alloc)?`: returns the set of the values, in any order. If allocation
-/// fails, no set is made.
+/// fails, no set is made. (`FromIterator<&T>` of `RangeSetBlaze`.)
 impl<'a, T: Integer + 'a, A: Allocator + Copy> FromIterator<&'a T> for RangeSetBlaze<T, A> {
     type Alloc = A;
 
@@ -27,6 +27,7 @@ impl<'a, T: Integer + 'a, A: Allocator + Copy> FromIterator<&'a T> for RangeSetB
 
 /// `ranges.iter().collect(alloc)?`: returns the set of the values of the ranges, in any order. A
 /// range may be empty. If allocation fails, no set is made.
+/// (`FromIterator<&RangeInclusive<T>>` of `RangeSetBlaze`.)
 impl<'a, T: Integer + 'a, A: Allocator + Copy> FromIterator<&'a RangeInclusive<T>>
     for RangeSetBlaze<T, A> {
     type Alloc = A;

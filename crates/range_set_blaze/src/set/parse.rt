@@ -91,7 +91,7 @@ impl<T: ParseInteger, A: Allocator + Copy> RangeSetBlaze<T, A> {
             → runs_text (λ rank. T.debug_output (T.value_at rank)) runs ≡ Some text.now
             → result ≢ Err (ParseError.Unexpected place) }
     {
-        let ranges = ranges_in(alloc, text.as_bytes())?;
+        let ranges = spelled_ranges(alloc, text.as_bytes())?;
         let set = set_of(alloc, ranges)?;
         Ok(set)
     }
@@ -127,7 +127,7 @@ enum Place<T> {
 }
 
 // The ranges that a text spells.
-fn ranges_in<T: ParseInteger, A: Allocator>(
+fn spelled_ranges<T: ParseInteger, A: Allocator>(
     alloc: A,
     text: &[u8],
 ) -> Result<Vec<RangeInclusive<T>, A>, ParseError>

@@ -150,7 +150,7 @@ pub(crate) fn cut<T: Integer, A: Allocator + Clone>(
     ensures err { OnErr result (map.new.entries ≡ map.old.entries) }
     ensures succeeds { T.rank run.end ≤ T.rank piece.end → IsOk result }
 {
-    // What lies above the piece comes first, since it may find no memory
+    // What lies above the piece comes first, since it may need an allocation
     // (docs/DECISIONS.md, insert-at-start).
     put_above(map, run, piece.end)?;
     if is_below(run.start, piece.start) {

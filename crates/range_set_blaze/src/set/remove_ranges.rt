@@ -103,7 +103,7 @@ fn take_range<T: Integer, A: Allocator + Clone>(
         return Ok(None);
     };
     let mut length = total;
-    // The last run comes first, since what it has past the range may find no memory.
+    // The last run comes first, since what it has past the range may need an allocation.
     take_common(map, last, range, &mut length)?;
     Ok(Some(take_others(map, range, length)))
 }
@@ -146,7 +146,7 @@ fn take_others<T: Integer, A: Allocator + Clone>(
 {
     let mut length = total;
     while let Some(run) = last_meeting(map, range) {
-        // No run goes on past the range, so no memory is wanted.
+        // No run goes on past the range, so this needs no allocation.
         take_common(map, run, range, &mut length).unwrap();
     }
     length

@@ -81,8 +81,8 @@ fn part<T: Integer, A: Allocator + Clone>(
     Ok(high)
 }
 
-// The run that starts below a value and goes on to it.
-fn run_over<T: Integer, A: Allocator>(map: &BTreeMap<T, T, A>, key: T) -> Option<Run<T>>
+/// The run that starts below a value and goes on to it.
+pub(super) fn run_over<T: Integer, A: Allocator>(map: &BTreeMap<T, T, A>, key: T) -> Option<Run<T>>
     requires canonical { IsCanonicalIn T.value_count (runs_of T.rank map.now.entries) }
     requires value { T.rank key < T.value_count }
     ensures { MatchOption result (NoneOver (runs_of T.rank map.now.entries) (T.rank key))
@@ -112,7 +112,7 @@ fn part_within<T: Integer, A: Allocator + Clone>(
     ensures err { OnErr result
         (runs_of T.rank map.new.entries ≡ runs_of T.rank map.old.entries) }
 {
-    // The part of the run from the value on becomes an entry first, since it may find no memory.
+    // The part of the run from the value on becomes an entry first, since it may need an allocation.
     let start = key;
     let end = run.end;
     put_entry(map, Run { start, end })?;

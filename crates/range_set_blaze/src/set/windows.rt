@@ -4,26 +4,24 @@ ghost use Rattle.std.specs.Prelude.{◌≡◌, [], ◌<◌, ◌≤◌, MatchOpti
 ghost use Rattle.rsb_integer.specs.Rank.{intervals_of};
 ghost use Rattle.rsb_integer.specs.Runs.{covers, members, AreRuns, IsCanonicalIn};
 ghost use Rattle.rsb_integer.specs.Selection.{count, difference, intersection};
-ghost use Rattle.rsb_streams.specs.Stream.{◌⊆◌};
 ghost use Rattle.range_set_blaze.specs.Kept.{run_of, runs_of};
 ghost use Rattle.range_set_blaze.specs.Set.{ranks_in, IsSetOf};
 ghost use Rattle.range_set_blaze.specs.Split.{NoneOver};
 ghost use Rattle.range_set_blaze.specs.Windows.{starting_within, ReachesIn};
 
+use crate::gaps_in::GapsIn;
 use crate::ranges_in::RangesIn;
 use crate::set::RangeSetBlaze;
-use crate::set::entries::run_up_to;
+use crate::set::gaps::{gaps_between, no_gaps};
 use crate::set::insert::run_between;
-use crate::set::run::{Run, is_below, known, previous};
+use crate::set::run::{Run, known};
+use crate::set::split::run_over;
 use rsb_integer::Integer;
-use rsb_streams::{Difference, Draw, DrawDisjoint, RangeOnce};
+use rsb_streams::DrawDisjoint;
 use std::alloc::Allocator;
 use std::collections::BTreeMap;
 use std::collections::btree_map::Range;
 use std::ops::RangeBounds;
-
-/// The gaps of a set between two bounds: what `gaps_in` returns. Not in range-set-blaze.
-pub type GapsIn<'a, T> = Difference<T, RangeOnce<T>, RangesIn<'a, T>>;
 
 impl<T: Integer, A: Allocator> RangeSetBlaze<T, A> {
     /// Returns the runs between two bounds in ascending order, from both ends. A run that goes on
@@ -55,31 +53,21 @@ impl<T: Integer, A: Allocator> RangeSetBlaze<T, A> {
         self.ranges_in(range).members_len()
     }
 
-    /// Returns the gaps between two bounds in ascending order: the values there that are not
-    /// members. It does not allocate. Not in range-set-blaze.
+    /// Returns the gaps between two bounds in ascending order, from both ends: the values there that
+    /// are not members. Reversed bounds have no gaps. It does not allocate, and finds its ends in
+    /// O(log n) for n runs. Not in range-set-blaze.
     pub fn gaps_in<'a, R: RangeBounds<T>>(&'a self, range: R) -> GapsIn<'a, T>
-        ensures ready { ⟦<GapsIn<'a, T> as Draw<T>>⟧.can_draw result }
-        ensures members { R.has_bounds range → ⟦<GapsIn<'a, T> as Draw<T>>⟧.may_give result
-            ⊆ (λ gaps. IsSetOf gaps (difference
-            (ranks_in T.rank T.value_count R.start_bound R.end_bound range) (members self.now))) }
-        ensures runs { R.has_bounds range → ⟦<GapsIn<'a, T> as Draw<T>>⟧.may_give result
-            ⊆ AreRuns T.value_count (difference
+        ensures members { R.has_bounds range → IsSetOf (intervals_of T.rank result) (difference
             (ranks_in T.rank T.value_count R.start_bound R.end_bound range) (members self.now)) }
+        ensures ready { IsCanonicalIn T.value_count (intervals_of T.rank result) }
+        ensures runs { R.has_bounds range → AreRuns T.value_count (difference
+            (ranks_in T.rank T.value_count R.start_bound R.end_bound range) (members self.now))
+            (intervals_of T.rank result) }
     {
-        values_between(&range).difference(self.ranges_in(range))
-    }
-}
-
-// The values between two bounds, as a stream.
-fn values_between<T: Integer, R: RangeBounds<T>>(range: &R) -> RangeOnce<T>
-    ensures ready { ⟦<RangeOnce<T> as Draw<T>>⟧.can_draw result }
-    ensures gives { R.has_bounds range.now → ⟦<RangeOnce<T> as Draw<T>>⟧.may_give result
-        ⊆ (λ runs. IsSetOf runs
-        (ranks_in T.rank T.value_count R.start_bound R.end_bound range.now)) }
-{
-    match run_between(range) {
-        Some(run) => RangeOnce::new(run.start..=run.end),
-        None => RangeOnce::new(T::exhausted_range()),
+        match run_between(&range) {
+            Some(window) => gaps_between(&self.map, window),
+            None => no_gaps(&self.map),
+        }
     }
 }
 
@@ -107,11 +95,10 @@ fn runs_between<'a, T: Integer, A: Allocator>(
 fn no_runs<'a, T: Integer, A: Allocator>(map: &'a BTreeMap<T, T, A>) -> RangesIn<'a, T>
     ensures { result ≡ [] }
 {
-    let start = known(T::min_value());
     RangesIn {
         first: None,
-        entries: map.range(start..start),
-        last: start,
+        entries: no_entries(map),
+        last: T::min_value(),
     }
 }
 
@@ -123,19 +110,13 @@ fn reaching_in<T: Integer, A: Allocator>(map: &BTreeMap<T, T, A>, start: T) -> O
         (λ part. ReachesIn (runs_of T.rank map.now.entries) (T.rank start)
         (run_of T.rank part)) }
 {
-    let before = previous(start)?;
-    let run = run_up_to(map, before)?;
-    if is_below(run.end, start) {
-        return None;
-    }
-    Some(Run {
-        start,
-        end: run.end,
-    })
+    let run = run_over(map, start)?;
+    let end = run.end;
+    Some(Run { start, end })
 }
 
-// The runs that start between the ends of a run.
-fn starting_in<'a, T: Integer, A: Allocator>(
+/// The runs that start between the ends of a run.
+pub(super) fn starting_in<'a, T: Integer, A: Allocator>(
     map: &'a BTreeMap<T, T, A>,
     window: Run<T>,
 ) -> Range<'a, T, T>
@@ -146,4 +127,14 @@ fn starting_in<'a, T: Integer, A: Allocator>(
         (runs_of T.rank map.now.entries) }
 {
     map.range(window.start..=window.end)
+}
+
+/// No entries.
+pub(super) fn no_entries<'a, T: Integer, A: Allocator>(
+    map: &'a BTreeMap<T, T, A>,
+) -> Range<'a, T, T>
+    ensures { result ≡ [] }
+{
+    let start = known(T::min_value());
+    map.range(start..start)
 }

@@ -1,6 +1,6 @@
 //! The part of a set between two bounds: its runs, its gaps, and how many members it has.
 
-ghost use Rattle.std.specs.Prelude.{◌≡◌, ◌^◌, IfOk};
+ghost use Rattle.std.specs.Prelude.{◌≡◌, IfOk};
 ghost use Rattle.std.specs.declared.ops.Bound.TheVariants.{Included};
 ghost use Rattle.range_set_blaze.specs.Runs.{members};
 ghost use Rattle.range_set_blaze.specs.Selection.{count, difference, intersection};
@@ -11,20 +11,34 @@ use range_set_blaze::{Integer, IntoRangeSetBlaze, RangeSetBlaze};
 use rsb_commands::outside::Slot;
 use rsb_tables::{Table, every_fifth, gives, set_of, slot, slots};
 use std::alloc::{AllocError, Global};
-use std::ops::Bound;
+use std::ops::{Bound, RangeInclusive};
 use std::test::*;
 
-/// Returns the set of the numbers from one to another that a set lacks.
-fn missing(
+/// Returns the set of the values from one to another that a set lacks.
+fn missing<T: Integer>(
     alloc: Global,
-    set: &RangeSetBlaze<u32>,
-    a: u32,
-    b: u32,
-) -> Result<RangeSetBlaze<u32>, AllocError>
+    set: &RangeSetBlaze<T>,
+    a: T,
+    b: T,
+) -> Result<RangeSetBlaze<T>, AllocError>
     ensures { IfOk result (λ gaps. IsSetOf gaps
-        (difference (between (λ n. n) (2 ^ 32) (Included a) (Included b)) (members set.now))) }
+        (difference (between T.rank T.value_count (Included a) (Included b)) (members set.now))) }
 {
     set.gaps_in(a..=b).into_range_set_blaze(alloc)
+}
+
+/// Returns how many gaps lie from one value to another.
+fn gaps_between<T: Integer>(set: &RangeSetBlaze<T>, a: T, b: T) -> usize {
+    let mut count = 0usize;
+    for _ in set.gaps_in(a..=b) {
+        count = count.saturating_add(1);
+    }
+    count
+}
+
+/// Returns the last gap that lies from one value to another.
+fn last_gap<T: Integer>(set: &RangeSetBlaze<T>, a: T, b: T) -> Option<RangeInclusive<T>> {
+    set.gaps_in(a..=b).next_back()
 }
 
 /// Returns the set of the members from one value to another.
@@ -229,11 +243,26 @@ static ROWS: [Row; 17] = [
     },
 ];
 
+/// Whether the gaps between the bounds come from the back in the reverse of their order.
+fn come_back(set: &RangeSetBlaze<i32>, bounds: (Bound<i32>, Bound<i32>), gaps: Table) -> bool {
+    let mut back = set.gaps_in(bounds).rev();
+    for pair in gaps.iter().rev() {
+        let Some(gap) = back.next() else {
+            return false;
+        };
+        if gap != (pair.0..=pair.1) {
+            return false;
+        }
+    }
+    back.next().is_none()
+}
+
 /// Whether these runs, gaps and members lie between the bounds.
 fn lie_between(set: &RangeSetBlaze<i32>, row: &Row) -> bool {
     let bounds = (row.start, row.end);
     gives(set.ranges_in(bounds), row.runs)
         && gives(set.gaps_in(bounds), row.gaps)
+        && come_back(set, bounds, row.gaps)
         && set.len_in(bounds) == row.members
         && pieces(set, bounds) == (row.runs.len(), row.runs.len(), row.gaps.len())
 }
@@ -258,6 +287,25 @@ fn come_from_both_ends(set: &RangeSetBlaze<i32>) -> bool {
         && ranges.next_back().is_none()
 }
 
+/// Whether the gaps between two values come from either end, those in the middle last.
+fn gaps_come_from_both_ends(set: &RangeSetBlaze<i32>) -> bool {
+    let mut gaps = set.gaps_in(0..=25);
+    gaps.next_back() == Some(21..=25)
+        && gaps.next() == Some(0..=0)
+        && gaps.next_back() == Some(14..=19)
+        && gaps.next() == Some(5..=7)
+        && gaps.next_back().is_none()
+        && gaps.next().is_none()
+}
+
+/// Whether the gaps between two values are these at any type: how many, and which comes last.
+fn gaps_are_counted(set: &RangeSetBlaze<i32>) -> bool {
+    gaps_between(set, 3, 25) == 3
+        && last_gap(set, 3, 25) == Some(21..=25)
+        && last_gap(set, 3, 13) == Some(5..=7)
+        && last_gap(set, 9, 12).is_none()
+}
+
 /// Whether the sets of what lies between two values are these.
 fn make_sets(alloc: Global, set: &RangeSetBlaze<i32>) -> Result<bool, AllocError> {
     let mut numbers = RangeSetBlaze::from(alloc, 1..=4)?;
@@ -279,7 +327,8 @@ fn nests(alloc: Global, set: &RangeSetBlaze<i32>) -> Result<bool, AllocError> {
 #[test]
 fn windows_are_streams(rt: HostRuntime) -> Result<(), Fail> {
     let set = set_of(rt.alloc(), THREE)?;
-    assert!(rt; come_from_both_ends(&set));
+    assert!(rt; come_from_both_ends(&set) && gaps_come_from_both_ends(&set));
+    assert!(rt; gaps_are_counted(&set));
     assert!(rt; make_sets(rt.alloc(), &set)? && nests(rt.alloc(), &set)?);
     Ok(())
 }

@@ -1,7 +1,7 @@
 use Rattle.std.proofs.Common.{◌∙◌, sym}
 use Rattle.range_set_blaze.specs.Kept.{entry_of}
-use Rattle.range_set_blaze.specs.Windows.{with_held}
-use Rattle.range_set_blaze.proofs.windows.Ranges.{window-last, window-goes_last}
+use Rattle.range_set_blaze.specs.Windows.{range_up_to, with_held}
+use Rattle.range_set_blaze.proofs.windows.Ranges.{mapped-goes_last, window-last}
 use Rattle.range_set_blaze.proofs.ranges_in.RangesInDoubleEndedIterator.next_back.Goals as goal
 
 -- the range of the last run comes last
@@ -14,6 +14,7 @@ returns-clause-steps g c =
 
 -- what is left of canonical ranges is canonical
 pub returns-clause-goes : goal.returns-clause-goes
-returns-clause-goes g c = window-goes_last g.T.Integer.rank g.T.Integer.value_count
-    c.self.inside.last (with_held c.take_last.new.held c.take_last.new.entries)
-    (entry_of c.in_ok-run.run') c.self.view_is c.requires c.in_ok-run.ensures
+returns-clause-goes g c = mapped-goes_last g.T.Integer.rank g.T.Integer.value_count
+    (range_up_to g.T.Integer.rank c.self.inside.last)
+    (with_held c.take_last.new.held c.take_last.new.entries) (entry_of c.in_ok-run.run')
+    c.self.view_is c.requires c.in_ok-run.ensures

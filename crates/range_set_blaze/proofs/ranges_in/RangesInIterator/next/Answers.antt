@@ -1,5 +1,6 @@
 use Rattle.std.proofs.Common.{◌∙◌, sym}
-use Rattle.range_set_blaze.proofs.windows.Ranges.{window-first, window-goes_first}
+use Rattle.range_set_blaze.specs.Windows.{range_up_to}
+use Rattle.range_set_blaze.proofs.windows.Ranges.{mapped-goes_first, window-first}
 use Rattle.range_set_blaze.proofs.ranges_in.RangesInIterator.next.Goals as goal
 
 -- the range of the first run comes first
@@ -11,5 +12,6 @@ returns-clause-steps g c =
 
 -- what is left of canonical ranges is canonical
 pub returns-clause-goes : goal.returns-clause-goes
-returns-clause-goes g c = window-goes_first g.T.Integer.rank g.T.Integer.value_count
-    c.self.inside.last c.self.view_is c.requires c.in_ok-run.ensures
+returns-clause-goes g c = mapped-goes_first g.T.Integer.rank g.T.Integer.value_count
+    (range_up_to g.T.Integer.rank c.self.inside.last) c.self.view_is c.requires
+    c.in_ok-run.ensures

@@ -1,19 +1,25 @@
-use Rattle.std.proofs.Common.{refl}
-use Rattle.rsb_integer.specs.Rank.{intervals_of}
-use Rattle.range_set_blaze.proofs.windows.Gaps.{gaps-set, window-gaps}
+use Rattle.std.proofs.Common.{not, ◌&&◌, [], ◌<◌, ◌∙◌, ap, arith, refl}
+use Rattle.std.proofs.lemmas.Bool.Decides.{nat_tests}
+use Rattle.std.proofs.lemmas.List.Elements.{All-nil}
+use Rattle.rsb_integer.specs.Runs.{members, Interval}
+use Rattle.rsb_integer.proofs.RunsLemmas.{runs-from_canonical}
+use Rattle.range_set_blaze.specs.Kept.{runs_of}
 use Rattle.range_set_blaze.proofs.set.RangeSetBlaze.gaps_in.Goals as goal
 
--- the gaps are the runs of what lies between the bounds and is in no run there
+-- canonical ranges with these members are the runs of them
+pub returns-in-Some-clause-runs : goal.returns-in-Some-clause-runs
+returns-in-Some-clause-runs g c = λ has.
+    let gaps = c.gaps_between.ensures in
+    let runs = runs_of g.T.Integer.rank c.self.inside.map.entries in
+    rw (← c.self.view_is) (runs-from_canonical g.T.Integer.value_count _ _ gaps.canonical.0
+    gaps.canonical.1 (λ point below. gaps.members point
+    ∙ ap (λ test. test && not (members runs point))
+    (grind (arith, nat_tests, c.in-Some.ensures.start has, c.in-Some.ensures.end has))))
+
+-- and no ranges those of nothing
 pub returns-clause-runs : goal.returns-clause-runs
 returns-clause-runs g c = λ has.
-    window-gaps g.T.Integer.value_count _ _ _ _ (c.values_between.ensures.gives has)
-    (λ runs at. at) (c.ranges_in.ensures.members has) c.difference.ensures.made.gives
-
--- and the set of it
-pub returns-clause-members : goal.returns-clause-members
-returns-clause-members g c = λ has.
-    let values = intervals_of g.T.Integer.rank c.values_between.result in
-    gaps-set g.T.Integer.value_count _ _ values _ c.values_between.ensures.ready
-    (c.values_between.ensures.gives has values refl)
-    (window-gaps g.T.Integer.value_count _ _ _ _ (c.values_between.ensures.gives has)
-    (λ runs at. at) (c.ranges_in.ensures.members has) c.difference.ensures.made.gives)
+    let below = c.in-None.ensures.none has refl in
+    rw c.no_gaps.ensures (runs-from_canonical g.T.Integer.value_count _ [] tt
+    (All-nil (λ (run : Interval). run.last < g.T.Integer.value_count))
+    (λ point within. grind (arith, nat_tests, below)))

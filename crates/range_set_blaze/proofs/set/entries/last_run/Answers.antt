@@ -1,9 +1,9 @@
 use Rattle.range_set_blaze.proofs.set.entries.last_run.Goals as goal
 
 -- there is none
-pub returns-in_err-start : goal.returns-in_err-start
-returns-in_err-start g c = rw c.from_residual.ensures c.in_err-start.ensures.steps.0
+pub returns-in_err-start-clause-run : goal.returns-in_err-start-clause-run
+returns-in_err-start-clause-run g c = rw c.from_residual.ensures c.in_err-start.ensures.steps.0
 
 -- or it is taken off
-pub returns : goal.returns
-returns g c = c.in_ok-start.ensures.steps
+pub returns-clause-run : goal.returns-clause-run
+returns-clause-run g c = c.in_ok-start.ensures.steps

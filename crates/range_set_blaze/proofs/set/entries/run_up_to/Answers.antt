@@ -15,4 +15,4 @@ returns g c =
     (ap (runs_of rank) (c.range-entries.ensures.between tt)
     ∙ runs-up_to g.T.Ord.cmp rank n laws.in_order c.args.value c.requires.value
     c.args.map.now.entries c.requires.ascending)
-    c.last_run.ensures
+    c.last_run.ensures.run

@@ -10,7 +10,7 @@ pub returns-then-is_long : goal.returns-then-is_long
 returns-then-is_long g c =
     let rank = g.T.Integer.rank in
     gaps-fit _ _ _ (rank c.loop-run.start) (run_of rank c.in-Some.run')
-    (runs_of rank c.next_of.new.entries) (rw c.in-Some.ensures at c.loop-run.invariant)
+    (runs_of rank c.next_in_range.new.entries) (rw c.in-Some.ensures.run at c.loop-run.invariant)
     (rank c.sub_one-end.result) c.sub_one-end.ensures (c.is_long.ensures.0 c.if-is_long.true)
 
 -- or the type ends with that run
@@ -19,7 +19,7 @@ returns-in_err-start g c =
     let rank = g.T.Integer.rank in
     rw c.from_residual.ensures
     (gaps-done _ _ _ (rank c.loop-run.start) (run_of rank c.in-Some.run')
-    (runs_of rank c.next_of.new.entries) (rw c.in-Some.ensures at c.loop-run.invariant)
+    (runs_of rank c.next_in_range.new.entries) (rw c.in-Some.ensures.run at c.loop-run.invariant)
     (rank c.sub_one-end.result) c.sub_one-end.ensures
     (le-fails c.is_long.result _ _ c.is_long.ensures c.if-is_long.false)
     (c.in_err-start.ensures.none.0 refl))
@@ -39,7 +39,7 @@ loop-run-preserved g c =
           absurd (cc)
     ] in
     gaps-next _ _ _ (rank c.loop-run.start) (run_of rank c.in-Some.run')
-    (runs_of rank c.next_of.new.entries) (rw c.in-Some.ensures at c.loop-run.invariant)
+    (runs_of rank c.next_in_range.new.entries) (rw c.in-Some.ensures.run at c.loop-run.invariant)
     (rank c.sub_one-end.result) c.sub_one-end.ensures
     (le-fails c.is_long.result _ _ c.is_long.ensures c.if-is_long.false) (rank c.in_ok-start.start)
     next less

@@ -15,7 +15,7 @@ returns-in_default-clause-two g c =
     (ap (runs_of rank) (c.range-entries.ensures.between tt)
     ∙ runs-up_to g.T.Ord.cmp rank n laws.in_order c.args.value c.requires.value
     c.args.map.now.entries c.requires.ascending)
-    c.in_default.ensures
+    c.in_default.ensures.run
 
 -- the last two of the range are the last two up to the value
 pub returns-clause-two : goal.returns-clause-two
@@ -29,4 +29,4 @@ returns-clause-two g c =
     (ap (runs_of rank) (c.range-entries.ensures.between tt)
     ∙ runs-up_to g.T.Ord.cmp rank n laws.in_order c.args.value c.requires.value
     c.args.map.now.entries c.requires.ascending)
-    c.in-Some.ensures c.last_run-2.ensures
+    c.in-Some.ensures.run c.last_run-2.ensures.run

@@ -1,8 +1,7 @@
 use Rattle.std.proofs.Common.{◌∙◌, ◌<◌, ap, arith}
 use Rattle.std.specs.Ordering.{is_le}
-use Rattle.range_set_blaze.specs.Windows.{ranges_up_to}
 use Rattle.range_set_blaze.proofs.windows.Ranges.{filter-neither, order-forward}
-use Rattle.range_set_blaze.proofs.set.windows.no_runs.Goals as goal
+use Rattle.range_set_blaze.proofs.set.windows.no_entries.Goals as goal
 
 -- a value is not past itself
 pub range-requires : goal.range-requires
@@ -17,5 +16,5 @@ range-requires g c =
 -- no entry is from it on and before it
 pub returns : goal.returns
 returns g c =
-    ap (ranges_up_to g.T.Integer.rank c.known-start.result) (c.range.ensures.between tt
-    ∙ filter-neither (λ key. is_le (g.T.Ord.cmp c.known-start.result key)) c.args.map.now.entries)
+    c.range.ensures.between tt
+    ∙ filter-neither (λ key. is_le (g.T.Ord.cmp c.known-start.result key)) c.args.map.now.entries

@@ -1,6 +1,6 @@
 use Rattle.std.proofs.Common.{take}
 use Rattle.range_set_blaze.specs.Reading.{HasRead}
-use Rattle.range_set_blaze.proofs.set.parse.ranges_in.Given as goal
+use Rattle.range_set_blaze.proofs.set.parse.spelled_ranges.Given as goal
 
 -- what was read leads to the place
 abbrev pub invariant-loop-at : goal.invariant-loop-at
