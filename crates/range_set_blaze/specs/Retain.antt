@@ -31,8 +31,8 @@ module _ {F T : Type 0} (rank : T → ℕ) (n : ℕ) (g : Mut F (Bor T × Unit {
 
 -- Whether each call from `f` on returns what `keeps` gives for the ranks of the range. The range is
 -- of values of a type of n values, and was not iterated to its end. (A test such as
--- `r.start() < r.end()` reads the ends of an emptied range too, and all emptied ranges have the same
--- ranks: none.)
+-- `r.start() < r.end()` reads the ends of an emptied range too, and all emptied ranges have the
+-- same ranks: none.)
 abbrev pub AnswersByRun : {F T : Type 0} (rank : T → ℕ) (n : ℕ)
     (g : Mut F (Bor (RangeInclusive T) × Unit {0}) Bool) → (Interval → Bool) → F → Type 0
 AnswersByRun rank n g keeps = AlwaysReturns g (λ a r.

@@ -2,8 +2,8 @@
 --
 -- A text of no ranges is empty, or has only blanks. Any other text is its ranges, with a comma
 -- between two. A range is a number, or two numbers with `..=` between them. Blanks may be around
--- each number. A number is an optional sign and decimal digits, and is one of the type; `-0` is 0 at
--- each type. At `u8`:
+-- each number. A number is an optional sign and decimal digits, and is one of the type; `-0` is 0
+-- at each type. At `u8`:
 --
 --   "" and "  "            no ranges
 --   "1..=3, 7..=8"         1..=3 and 7..=8

@@ -1,6 +1,6 @@
-//! Every public name of this crate and of the crates below it, except `UnsortedDisjoint` and what the
-//! macros call. `use range_set_blaze::prelude::*;` imports them all.
-//! (docs/DECISIONS.md, names-listed)
+//! Every public name of this crate and of the crates below it, except `UnsortedDisjoint` and what
+//! the macros call. `use range_set_blaze::prelude::*;` imports them all
+//! (docs/DECISIONS.md, names-listed).
 
 pub use crate::gaps_in::GapsIn;
 pub use crate::into_iter::IntoIter;

@@ -1,7 +1,7 @@
 //! What a set keeps, built from a stream in one pass.
 //!
-//! The list comes first, since std builds the map of a list in order in one pass. Each allocation of
-//! the list can fail.
+//! The list comes first, since std builds the map of a list in order in one pass. Each allocation
+//! of the list can fail.
 
 ghost use Rattle.std.specs.Prelude.{◌≡◌, IfOk};
 ghost use Rattle.rsb_integer.specs.Runs.{IsCanonicalIn};
