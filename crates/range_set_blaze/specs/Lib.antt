@@ -1,5 +1,5 @@
--- The definitions of this crate, and those of the crates below it that clauses of sets and streams cite:
--- a user's crate names no other.
+-- The definitions of this crate, and those of the crates below it that clauses of sets and streams
+-- cite: a user's crate names no other.
 pub mod Algebra
 pub mod BothEnds
 pub mod FirstFit

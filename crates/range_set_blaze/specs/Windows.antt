@@ -45,8 +45,8 @@ pub record ReachesIn (runs : List Interval) (point : ℕ) (part : Interval) : Ty
   pub starts : part.first ≡ point
   pub ends : part.last ≡ run.last
 
--- the parts are canonical, start up to the last rank, and have up to it the members of the runs from
--- the first rank on
+-- the parts are canonical, start up to the last rank, and have up to it the members of the runs
+-- from the first rank on
 pub record IsWindow (n : ℕ) (runs : List Interval) (first last : ℕ) (parts : List Interval) : Type 0
   where
     pub canonical : IsCanonicalIn n parts

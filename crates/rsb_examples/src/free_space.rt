@@ -24,8 +24,8 @@ pub fn show(alloc: Global, rt: &impl Print) -> io::Result<()> {
     println!(rt; "12 to 14 are given back; taken: {taken}")
 }
 
-/// Takes the first free block of the given number of pages, and returns where it starts, or `None` if
-/// there is none. If allocation fails, the table is unchanged.
+/// Takes the first free block of the given number of pages, and returns where it starts, or `None`
+/// if there is none. If allocation fails, the table is unchanged.
 pub fn take_block(taken: &mut RangeSetBlaze<u16>, pages: u16) -> Result<Option<u16>, AllocError>
     requires { 0 < pages }
     ensures free { IfOk result (λ found. IfSome found (λ start.

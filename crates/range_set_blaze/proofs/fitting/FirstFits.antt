@@ -136,8 +136,8 @@ module _ (n : ℕ) (selected : Selection) where
 
 -- ---- gaps
 
--- the gaps that start before the rank are too short, the next one starts there, and the runs that are
--- left lie past it
+-- the gaps that start before the rank are too short, the next one starts there, and the runs that
+-- are left lie past it
 pub record AreGapsPassed (n : ℕ) (free : Selection) (len start : ℕ) (rest : List Interval) : Type 0
   where
     pub later : IsCanonicalFrom (start + 1) rest

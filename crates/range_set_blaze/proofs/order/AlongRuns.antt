@@ -7,8 +7,8 @@ use Rattle.rsb_integer.proofs.CanonicalLemmas.{canonical-lower}
 use Rattle.rsb_integer.proofs.MembersLemmas.{members-below, members-tail}
 use Rattle.rsb_integer.proofs.RunsLemmas.{canonical-maximal}
 
--- what is made of so many ranks from a rank on: those outside a canonical list add nothing, and each
--- run of it adds a list of its own
+-- what is made of so many ranks from a rank on: those outside a canonical list add nothing, and
+-- each run of it adds a list of its own
 module _ (made : ℕ → ℕ → List ℕ) (n : ℕ) (whole : List Interval) (of : Interval → List ℕ)
     (canonical : IsCanonicalIn n whole) (ended : (low : ℕ) → made low 0 ≡ [])
     (outside : (rank left : ℕ) → members whole rank ≡ false

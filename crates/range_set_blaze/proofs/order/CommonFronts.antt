@@ -168,8 +168,8 @@ passing-tells {n} {whole} {total} {left} {right} one two passing apart is told =
       };
     }
 
--- what some iterations tell, by how the last two runs compare by their ends: that no run told, or the
--- order, of which the next iteration is the last
+-- what some iterations tell, by how the last two runs compare by their ends: that no run told, or
+-- the order, of which the next iteration is the last
 abbrev pub TellsBy : {T : Type 0} → (T → ℕ) → ℕ → List Interval → List Interval → Ordering
     → List (T × T) → List (T × T) → ℕ → Type 0
 TellsBy rank n whole total Less left right turns =

@@ -54,9 +54,9 @@ impl<T: Integer, A: Allocator> RangeSetBlaze<T, A> {
     }
 
     /// Returns the first gap that has at least `len` values starting at `value`, or `None` if there
-    /// is none. Of a gap that has `value` in it, only the part from `value` on counts, and only that
-    /// part is returned. Does not allocate. The cost is one look-up, and then linear in the number of
-    /// runs between `value` and the gap. Not in range-set-blaze.
+    /// is none. Of a gap that has `value` in it, only the part from `value` on counts, and only
+    /// that part is returned. Does not allocate. The cost is one look-up, and then linear in the
+    /// number of runs between `value` and the gap. Not in range-set-blaze.
     pub fn first_gap_from(&self, value: T, len: T::SafeLen) -> Option<RangeInclusive<T>>
         ensures gap { IfSome result (λ range. IsMaximalRun T.value_count
             (intersection (complement (members self.now)) (from_on (T.rank value)))
@@ -92,8 +92,8 @@ impl<T: Integer, A: Allocator> RangeSetBlaze<T, A> {
         Some(gap.start..=gap.end)
     }
 
-    /// Returns the first run that has at least `len` values, or `None` if every run is shorter. Does
-    /// not allocate. The cost is linear in the number of runs up to the one returned. Not in
+    /// Returns the first run that has at least `len` values, or `None` if every run is shorter.
+    /// Does not allocate. The cost is linear in the number of runs up to the one returned. Not in
     /// range-set-blaze.
     pub fn first_run(&self, len: T::SafeLen) -> Option<RangeInclusive<T>>
         ensures run { IfSome result (λ range. IsMaximalRun T.value_count (members self.now)

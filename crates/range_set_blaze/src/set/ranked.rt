@@ -30,8 +30,8 @@ impl<T: Integer, A: Allocator> RangeSetBlaze<T, A> {
         nth_of(&self.map, n)
     }
 
-    /// Returns how many members are below a value, which need not be a member. Does not allocate. The
-    /// cost is linear in the number of runs up to the value. Not in range-set-blaze.
+    /// Returns how many members are below a value, which need not be a member. Does not allocate.
+    /// The cost is linear in the number of runs up to the value. Not in range-set-blaze.
     pub fn rank(&self, value: T) -> T::SafeLen
         ensures { T.SafeLen.number result ≡ count (T.rank value) (members self.now) }
     {

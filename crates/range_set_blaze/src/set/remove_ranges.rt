@@ -37,8 +37,8 @@ impl<T: Integer, A: Allocator + Clone> RangeSetBlaze<T, A> {
         ensures run_count { HasOneRunMoreAtMost self.old self.new }
         ensures err { OnErr result (self.new ≡ self.old) }
 
-        // It does not allocate if no member lies between the bounds, nor if the value right past the
-        // upper bound is no member or there is no such value.
+        // It does not allocate if no member lies between the bounds, nor if the value right past
+        // the upper bound is no member or there is no such value.
         ensures nothing { R.has_bounds range → IsEmpty (intersection (members self.old)
             (ranks_in T.rank T.value_count R.start_bound R.end_bound range)) → IsOk result }
         ensures succeeds { R.has_bounds range → Lacks T.value_count self.old
@@ -152,7 +152,8 @@ fn take_others<T: Integer, A: Allocator + Clone>(
     length
 }
 
-// Takes out what the last run that meets a range has in common with it, and its values off a length.
+// Takes out what the last run that meets a range has in common with it, and its values off a
+// length.
 fn take_common<T: Integer, A: Allocator + Clone>(
     map: &mut BTreeMap<T, T, A>,
     run: Run<T>,

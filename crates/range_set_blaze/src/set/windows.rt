@@ -53,9 +53,9 @@ impl<T: Integer, A: Allocator> RangeSetBlaze<T, A> {
         self.ranges_in(range).members_len()
     }
 
-    /// Returns the gaps between two bounds in ascending order, from both ends: the values there that
-    /// are not members. Reversed bounds have no gaps. It does not allocate, and finds its ends in
-    /// O(log n) for n runs. Not in range-set-blaze.
+    /// Returns the gaps between two bounds in ascending order, from both ends: the values there
+    /// that are not members. Reversed bounds have no gaps. It does not allocate, and finds its ends
+    /// in O(log n) for n runs. Not in range-set-blaze.
     pub fn gaps_in<'a, R: RangeBounds<T>>(&'a self, range: R) -> GapsIn<'a, T>
         ensures members { R.has_bounds range → IsSetOf (intervals_of T.rank result) (difference
             (ranks_in T.rank T.value_count R.start_bound R.end_bound range) (members self.now)) }

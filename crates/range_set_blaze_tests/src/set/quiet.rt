@@ -1,5 +1,6 @@
 //! The calls that never allocate, on sets of no run, of one, of three and of a hundred: those that
-//! read a set make no call of its allocator, and those that change one or take it by value only free.
+//! read a set make no call of its allocator, and those that change one or take it by value only
+//! free.
 
 use crate::set::calls::{Change, carry_out};
 use crate::set::cells::{Side, runs, spaced};
@@ -40,8 +41,8 @@ static READINGS: [Reading; 9] = [
     Reading::Text,
 ];
 
-/// How many values from -8 to 815 are members, by each call that looks for one: 0 where two of these
-/// calls do not agree.
+/// How many values from -8 to 815 are members, by each call that looks for one: 0 where two of
+/// these calls do not agree.
 fn members_found(set: &HeapSet<'_>) -> u64 {
     let mut found = 0u64;
     for value in -8..816i32 {

@@ -1,5 +1,5 @@
-//! Sets as a user of std's collections writes them: collected and extended from references, taken out
-//! of their place, made as the default of a map, and with their allocator.
+//! Sets as a user of std's collections writes them: collected and extended from references, taken
+//! out of their place, made as the default of a map, and with their allocator.
 
 ghost use Rattle.std.specs.Prelude.{◌≡◌, [], IfOk, OnOk};
 ghost use Rattle.range_set_blaze.specs.Algebra.{ranks_of, AddsItems, AddsValues, IsSetOfItems};

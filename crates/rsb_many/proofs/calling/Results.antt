@@ -1,5 +1,5 @@
--- What a caller of operations on any number of streams needs: their results on lists that are known,
--- and on none, and how few ranges the first answer of a union draws.
+-- What a caller of operations on any number of streams needs: their results on lists that are
+-- known, and on none, and how few ranges the first answer of a union draws.
 use Rattle.std.proofs.Common.{◌≡◌, ℕ, ◌+◌, ◌-◌, ◌<◌, List, [], ◌∷◌, ◌++◌, length, map, refl, subst, append_assoc, arith}
 use Rattle.std.proofs.lemmas.List.{length-append}
 use Rattle.std.proofs.lemmas.List.Elements.{All-cons, All-nil}

@@ -1,4 +1,5 @@
--- What a caller of operations on a list of streams needs: the operation was on the streams of the list.
+-- What a caller of operations on a list of streams needs: the operation was on the streams of the
+-- list.
 use Rattle.std.proofs.Common.{List}
 use Rattle.std.specs.Vec.Iter.{into_iter_steps}
 use Rattle.rsb_streams.specs.Items.{GaveRun}

@@ -1,5 +1,5 @@
--- What a caller of the macros needs: if the streams taken give known lists, the result gives the runs
--- of what the operation selects on these lists.
+-- What a caller of the macros needs: if the streams taken give known lists, the result gives the
+-- runs of what the operation selects on these lists.
 use Rattle.std.proofs.Common.{◌≡◌, ℕ, List, [], ◌∷◌, ◌++◌, map, subst, sym, Vec}
 use Rattle.std.specs.Prelude.{Result, Ok, Err, IfOk, IsOkAnd}
 use Rattle.rsb_integer.specs.Runs.{Interval, members, AreRuns}

@@ -1,4 +1,5 @@
--- What lies in an odd number of lists has an odd number of the edges of their events at or before it.
+-- What lies in an odd number of lists has an odd number of the edges of their events at or before
+-- it.
 use Rattle.std.proofs.Common.{◌≡◌, inl, ℕ, zero, suc, ◌+◌, ◌-◌, ◌<◌, ◌≤◌, Bool, true, false, not, cond, ◌||◌, nat_le, List, [], ◌∷◌, ◌++◌, map, refl, sym, ap, ◌∙◌, arith, All, AllPairs, sum_by, IsPermutation, None}
 use Rattle.std.proofs.lemmas.Bool.Decides.{nat_tests}
 use Rattle.std.proofs.lemmas.List.{map-append}

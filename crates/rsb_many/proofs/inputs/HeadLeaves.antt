@@ -1,5 +1,5 @@
--- What a merge and a sweep of many streams hold when the least head leaves, when it is put back, and
--- when there is none.
+-- What a merge and a sweep of many streams hold when the least head leaves, when it is put back,
+-- and when there is none.
 use Rattle.std.proofs.Common.{◌≡◌, inl, inr, ℕ, ◌+◌, ◌*◌, ◌<◌, ◌≤◌, true, false, cond, nat_lt, List, [], ◌∷◌, ◌++◌, length, slice_get, refl, sym, ap, subst, ◌∙◌, arith, All, None}
 use Rattle.std.proofs.lemmas.Bool.{ltb-false}
 use Rattle.std.proofs.lemmas.List.{append-nil}

@@ -34,7 +34,8 @@ module _ {T N I : Type 0} (integer : Elements T N) (iterator : Iteration I (Rang
   abbrev left : Joining → ℕ
   left s = size (joins.remaining s)
 
-  -- since the entry some items were drawn, and what is held is the span of the piece that they go on
+  -- since the entry some items were drawn, and what is held is the span of the piece that they go
+  -- on
   pub record SoFar (entry now : Joining) : Type 0 where
     pub ready : joins.can_next now
     pub drawn : List (RangeInclusive T)

@@ -45,8 +45,8 @@ fn after(change: Change) -> Option<Change> {
 }
 
 /// Whether a change wants memory at one place at least, of a set of so many runs, where it adds
-/// another of so many. A leaf of the map has room for fifteen runs, so no insertion beside one run or
-/// three and no removal from them wants more.
+/// another of so many. A leaf of the map has room for fifteen runs, so no insertion beside one run
+/// or three and no removal from them wants more.
 fn wants(change: Change, count: i32, others: i32) -> bool {
     match change {
         Change::Insert(_) | Change::Replace(_) | Change::RangesInsert(4, _) => {
@@ -100,8 +100,8 @@ pub(crate) fn tried<'a>(
     told.ok()
 }
 
-/// Whether two sets are what a refused change leaves: the first has a front of what was to be added,
-/// and the other is as it was. One that was given up is given anew.
+/// Whether two sets are what a refused change leaves: the first has a front of what was to be
+/// added, and the other is as it was. One that was given up is given anew.
 fn are_left<'a>(
     alloc: Global,
     heap: &'a Heap,
@@ -138,8 +138,8 @@ fn leaves_bytes(change: Change) -> bool {
 }
 
 /// How many tries of a change fail before one passes: each is granted one allocation more than the
-/// one before it. `None` if a failed one leaves what it must not, or keeps memory for nothing, or if
-/// the one that passes is wrong.
+/// one before it. `None` if a failed one leaves what it must not, or keeps memory for nothing, or
+/// if the one that passes is wrong.
 fn refusals<'a>(
     alloc: Global,
     heap: &'a Heap,
@@ -164,8 +164,8 @@ fn refusals<'a>(
     Ok(None)
 }
 
-/// At how many places a change of so many runs is tried: at each run and past the last, but over all
-/// runs once, and a pop at each value.
+/// At how many places a change of so many runs is tried: at each run and past the last, but over
+/// all runs once, and a pop at each value.
 fn places(change: Change, count: i32) -> i32 {
     match change {
         Change::PopFirst | Change::PopLast => count.saturating_mul(3).saturating_add(1),

@@ -1,4 +1,5 @@
--- `into_box` has a pointer and the right to free what lies there, which is what `from_raw` asks for.
+-- `into_box` has a pointer and the right to free what lies there, which is what `from_raw` asks
+-- for.
 use mathlib.Core.Path.{◌≡◌, refl, sym, subst, ap}
 use mathlib.Core.List.{List, [], ◌∷◌, ◌++◌}
 use lib.Dec.{T}

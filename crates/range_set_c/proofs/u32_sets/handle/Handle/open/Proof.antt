@@ -133,7 +133,8 @@ module _ {M : Type 1} {𝓤 : Ura M} (𝓛 : Logic 𝓤) (𝓜 : Model 𝓤 𝓛
       rewrite ! 0 (λ (r : Ptr). ‵ (handle_owns h.alloc r h.kept)) e refl $ fsplit ! $ move ! (1 ∷ []) $
       use1 𝓛 (given (Testable p) (‵ (token E.al h.alloc (bare (τ E)) p))) (fact_use 𝓤 _ (dealloc_token-Testable 𝓛 h.alloc (bare (τ E)) p) (guard_i 𝓤 (Testable p) (sem 𝓛 (token E.al h.alloc (bare (τ E)) p)))) $ learn ! (λ test.
       rewrite ! 3 (λ (ws : List Val). ‵ (cell_at full_share R.mir ws b o)) is_w refl $
-      -- [the right to free; the set; the allocator; the handle's cell; the open borrow, in three entries]
+      -- [the right to free; the set; the allocator; the handle's cell; the open borrow, in three
+      -- entries]
       sets ! (is ! (of_opd ! (load ! (through ! refl (fld ! refl (stop !))) (look_in ! 3 (sub ! 0 refl (whole !))))) (ap ptr_val e)) refl (tt, tt) $
       sets ! (bin ! (get ! refl) (lit ! tt) (tests_null p test)) refl (tt, tt) $ first ! $ branches ! (get ! refl) (λ wrong. absurd wrong)
       (λ _. skips ! $ exec ! 𝓣.C 𝓣.Λ (env code.function.locals l) (after 3 code.function.body) (at_ret (env code.function.locals l) Post) $
