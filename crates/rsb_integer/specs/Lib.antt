@@ -1,3 +1,5 @@
+pub mod Enumerated
+pub mod EnumeratedLaws
 pub mod Prefix
 pub mod Rank
 pub mod RankLaws

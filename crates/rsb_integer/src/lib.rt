@@ -1,8 +1,10 @@
 //! Element types: finitely many values in a row, with their ranks, steps and lengths.
 #![tactic(auto)]
 
+pub mod enumerated;
 mod impls;
 pub mod integer;
 pub mod laws;
 
+pub use enumerated::Enumerated;
 pub use integer::Integer;

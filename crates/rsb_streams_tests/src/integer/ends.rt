@@ -70,7 +70,7 @@ fn exhausted_gives_nothing<T: Integer>() -> bool {
 }
 
 /// Whether all calls end well at both ends of a type, of which these are two lengths.
-fn calls_end_well<T: Integer>(two: T::SafeLen, whole: T::SafeLen) -> bool {
+pub(crate) fn calls_end_well<T: Integer>(two: T::SafeLen, whole: T::SafeLen) -> bool {
     let least = T::min_value();
     let greatest = T::max_value();
     let second = least.add_one();
