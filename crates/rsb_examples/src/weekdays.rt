@@ -8,7 +8,7 @@ ghost use Rattle.range_set_blaze.specs.Selection.{complement_in};
 ghost use Rattle.range_set_blaze.specs.Set.{IsSetOf};
 ghost use Rattle.rsb_examples.specs.declared.weekdays.Weekday.TheVariants.{Monday, Tuesday, Wednesday, Thursday, Friday, Saturday, Sunday};
 
-use range_set_blaze::{Enumerated, Integer, RangeSetBlaze};
+use range_set_blaze::{Element, Enumerated, Integer, RangeSetBlaze};
 use std::alloc::{AllocError, Global};
 use std::io;
 
@@ -51,40 +51,37 @@ impl Enumerated for Weekday {
     ghost two_ends_fit = { λ end. have_room _ (lit< tt) };
 }
 
-/// The days on which a shop is open and closed, and when it opens next.
+/// A set of days.
+type Days = RangeSetBlaze<Element<Weekday>>;
+
+/// The days on which a shop is open and closed.
 pub fn show(alloc: Global, rt: &impl Print) -> io::Result<()> {
-    let mut open = RangeSetBlaze::from(alloc, Weekday::Monday..=Weekday::Friday)?;
-    println!(rt; "open: {open}; closed: {}", days_off(&open)?)?;
-    open.insert(Weekday::Saturday)?;
-    open.remove(Weekday::Wednesday)?;
+    let week = Element(Weekday::Monday)..=Element(Weekday::Friday);
+    let mut days: Days = RangeSetBlaze::from(alloc, week)?;
+    println!(rt; "open: {days}; closed: {}", days_off(&days)?)?;
+    days.insert(Element(Weekday::Saturday))?;
+    days.remove(Element(Weekday::Wednesday))?;
     println!(rt;
-        "open: {open}, {} days; closed: {}",
-        open.len(),
-        days_off(&open)?
+        "open: {days}, {} days; closed: {}",
+        days.len(),
+        days_off(&days)?
     )?;
     for day in [Weekday::Wednesday, Weekday::Saturday] {
-        println!(rt;
-            "on {day:?}: {}",
-            if is_open(&open, day) {
-                "open"
-            } else {
-                "closed"
-            }
-        )?;
+        println!(rt; "open on {day:?}: {}", is_open(&days, day))?;
     }
     Ok(())
 }
 
 /// Returns the days of the week that a set lacks.
-pub fn days_off(open: &RangeSetBlaze<Weekday>) -> Result<RangeSetBlaze<Weekday>, AllocError>
-    ensures { IfOk result (λ closed. IsSetOf closed (complement_in 7 (members open.now))) }
+pub fn days_off(days: &Days) -> Result<Days, AllocError>
+    ensures { IfOk result (λ others. IsSetOf others (complement_in 7 (members days.now))) }
 {
-    open.not()
+    days.not()
 }
 
 /// Returns whether a day is in a set.
-pub fn is_open(open: &RangeSetBlaze<Weekday>, day: Weekday) -> bool
-    ensures { result ≡ members open.now (⟦<Weekday as Integer>⟧.rank day) }
+pub fn is_open(days: &Days, day: Weekday) -> bool
+    ensures { result ≡ members days.now (⟦<Element<Weekday> as Integer>⟧.rank day) }
 {
-    open.contains(day)
+    days.contains(Element(day))
 }

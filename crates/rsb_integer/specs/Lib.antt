@@ -1,3 +1,4 @@
+pub mod ElementRoom
 pub mod Enumerated
 pub mod EnumeratedLaws
 pub mod Prefix

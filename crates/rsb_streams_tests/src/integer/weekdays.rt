@@ -6,7 +6,7 @@ ghost use Rattle.rsb_integer.specs.Room.{have_room};
 ghost use Rattle.rsb_streams_tests.specs.declared.integer.weekdays.Weekday.TheVariants.{Monday, Tuesday, Wednesday, Thursday, Friday, Saturday, Sunday};
 
 use crate::integer::ends::{are_neighbors, calls_end_well, leads_across};
-use rsb_integer::Enumerated;
+use rsb_integer::{Element, Enumerated};
 use rsb_streams::RangeOnce;
 use rsb_tables::{Operation, operation_gives};
 
@@ -52,71 +52,58 @@ impl Enumerated for Weekday {
 
 #[test]
 fn days_are_counted_and_stepped_at_both_ends(rt: HostRuntime) {
-    assert!(rt; calls_end_well::<Weekday>(2, 7));
-    assert!(rt; are_neighbors(Wednesday, Thursday) && leads_across(Tuesday, Friday, 4));
+    assert!(rt; calls_end_well::<Element<Weekday>>(2, 7));
+    assert!(rt; are_neighbors(Element(Wednesday), Element(Thursday)));
+    assert!(rt; leads_across(Element(Tuesday), Element(Friday), 4));
 }
 
-/// The days of two ranges, and what an operation makes of them.
-type Row = (
-    Operation,
-    (Weekday, Weekday),
-    (Weekday, Weekday),
-    &'static [(Weekday, Weekday)],
-);
+/// The ends of a range of days.
+type Ends = (Element<Weekday>, Element<Weekday>);
 
-static ROWS: [Row; 7] = [
-    (
-        Operation::Union,
-        (Monday, Friday),
-        (Saturday, Sunday),
-        &[(Monday, Sunday)],
-    ),
-    (
-        Operation::Union,
-        (Monday, Tuesday),
-        (Thursday, Friday),
-        &[(Monday, Tuesday), (Thursday, Friday)],
-    ),
-    (
-        Operation::Intersection,
-        (Monday, Friday),
-        (Thursday, Sunday),
-        &[(Thursday, Friday)],
-    ),
-    (
-        Operation::Difference,
-        (Monday, Sunday),
-        (Wednesday, Wednesday),
-        &[(Monday, Tuesday), (Thursday, Sunday)],
-    ),
-    (
-        Operation::SymmetricDifference,
-        (Monday, Friday),
-        (Thursday, Sunday),
-        &[(Monday, Wednesday), (Saturday, Sunday)],
-    ),
-    (
-        Operation::Complement,
-        (Monday, Friday),
-        (Monday, Monday),
-        &[(Saturday, Sunday)],
-    ),
-    (
-        Operation::Complement,
-        (Monday, Sunday),
-        (Monday, Monday),
-        &[],
-    ),
-];
+/// The days from one to another, by these.
+const fn days(first: Weekday, last: Weekday) -> Ends {
+    (Element(first), Element(last))
+}
+
+/// Whether an operation on two ranges of days gives these.
+fn makes(operation: Operation, left: Ends, right: Ends, wanted: &[Ends]) -> bool {
+    let (left_days, right_days) = (left.0..=left.1, right.0..=right.1);
+    operation_gives(
+        operation,
+        RangeOnce::new(left_days),
+        RangeOnce::new(right_days),
+        wanted,
+    )
+}
 
 #[test]
-fn operations_on_days_give_rows_worked_by_hand(rt: HostRuntime) {
-    for (operation, left, right, wanted) in &ROWS {
-        let (left_days, right_days) = (left.0..=left.1, right.0..=right.1);
-        let (left, right) = (RangeOnce::new(left_days), RangeOnce::new(right_days));
-        assert!(rt;
-            operation_gives(*operation, left, right, wanted),
-            "{operation:?}"
-        );
-    }
+fn days_that_touch_are_joined(rt: HostRuntime) {
+    let (week, end) = (days(Monday, Friday), days(Saturday, Sunday));
+    assert!(rt; makes(Operation::Union, week, end, &[days(Monday, Sunday)]));
+    assert!(rt; makes(Operation::Complement, week, end, &[end]));
+    assert!(rt; makes(Operation::Complement, days(Monday, Sunday), end, &[]));
+}
+
+#[test]
+fn days_that_lie_apart_stay_apart(rt: HostRuntime) {
+    let (first, second) = (days(Monday, Tuesday), days(Thursday, Friday));
+    assert!(rt; makes(Operation::Union, first, second, &[first, second]));
+    let middle = days(Wednesday, Wednesday);
+    let others = [first, days(Thursday, Sunday)];
+    assert!(rt; makes(Operation::Difference, days(Monday, Sunday), middle, &others));
+}
+
+#[test]
+fn days_that_overlap_are_shared(rt: HostRuntime) {
+    let (left, right) = (days(Monday, Friday), days(Thursday, Sunday));
+    assert!(rt;
+        makes(
+            Operation::Intersection,
+            left,
+            right,
+            &[days(Thursday, Friday)]
+        )
+    );
+    let apart = [days(Monday, Wednesday), days(Saturday, Sunday)];
+    assert!(rt; makes(Operation::SymmetricDifference, left, right, &apart));
 }

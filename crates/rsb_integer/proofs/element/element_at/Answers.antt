@@ -1,7 +1,7 @@
 use Rattle.std.proofs.Common.{◌≡◌, ◌∷◌, get_or, subst, sym}
 use Rattle.rsb_integer.specs.Enumerated.{place_in}
 use Rattle.rsb_integer.specs.EnumeratedLaws.{listed-ranks}
-use Rattle.rsb_integer.proofs.enumerated.value_at.Goals as goal
+use Rattle.rsb_integer.proofs.element.element_at.Goals as goal
 
 -- the value at a place of the list has that place
 pub returns : goal.returns
