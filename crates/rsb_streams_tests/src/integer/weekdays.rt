@@ -76,34 +76,35 @@ fn makes(operation: Operation, left: Ends, right: Ends, wanted: &[Ends]) -> bool
     )
 }
 
+/// Whether an operation on the working days and on those from Thursday on gives these.
+fn of_working_days(operation: Operation, wanted: &[Ends]) -> bool {
+    makes(
+        operation,
+        days(Monday, Friday),
+        days(Thursday, Sunday),
+        wanted,
+    )
+}
+
+#[test]
+fn days_that_overlap_are_operated_on(rt: HostRuntime) {
+    assert!(rt; of_working_days(Operation::Union, &[days(Monday, Sunday)]));
+    assert!(rt; of_working_days(Operation::Intersection, &[days(Thursday, Friday)]));
+    assert!(rt; of_working_days(Operation::Difference, &[days(Monday, Wednesday)]));
+    assert!(rt; of_working_days(Operation::Complement, &[days(Saturday, Sunday)]));
+    let apart = [days(Monday, Wednesday), days(Saturday, Sunday)];
+    assert!(rt; of_working_days(Operation::SymmetricDifference, &apart));
+}
+
+/// Whether the union of two ranges of days gives these.
+fn union_is(left: Ends, right: Ends, wanted: &[Ends]) -> bool {
+    makes(Operation::Union, left, right, wanted)
+}
+
 #[test]
 fn days_that_touch_are_joined(rt: HostRuntime) {
-    let (week, end) = (days(Monday, Friday), days(Saturday, Sunday));
-    assert!(rt; makes(Operation::Union, week, end, &[days(Monday, Sunday)]));
-    assert!(rt; makes(Operation::Complement, week, end, &[end]));
-    assert!(rt; makes(Operation::Complement, days(Monday, Sunday), end, &[]));
-}
-
-#[test]
-fn days_that_lie_apart_stay_apart(rt: HostRuntime) {
-    let (first, second) = (days(Monday, Tuesday), days(Thursday, Friday));
-    assert!(rt; makes(Operation::Union, first, second, &[first, second]));
-    let middle = days(Wednesday, Wednesday);
-    let others = [first, days(Thursday, Sunday)];
-    assert!(rt; makes(Operation::Difference, days(Monday, Sunday), middle, &others));
-}
-
-#[test]
-fn days_that_overlap_are_shared(rt: HostRuntime) {
-    let (left, right) = (days(Monday, Friday), days(Thursday, Sunday));
-    assert!(rt;
-        makes(
-            Operation::Intersection,
-            left,
-            right,
-            &[days(Thursday, Friday)]
-        )
-    );
-    let apart = [days(Monday, Wednesday), days(Saturday, Sunday)];
-    assert!(rt; makes(Operation::SymmetricDifference, left, right, &apart));
+    let all = [days(Monday, Sunday)];
+    assert!(rt; union_is(days(Monday, Friday), days(Saturday, Sunday), &all));
+    let apart = [days(Monday, Tuesday), days(Thursday, Friday)];
+    assert!(rt; union_is(days(Monday, Tuesday), days(Thursday, Friday), &apart));
 }
