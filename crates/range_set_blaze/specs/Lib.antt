@@ -28,6 +28,7 @@ pub mod Windows
 pub mod Written
 pub use Rattle.rsb_length.specs.SafeLength
 pub use Rattle.rsb_length.specs.UIntPlusOne
+pub use Rattle.rsb_integer.specs.Enumerated
 pub use Rattle.rsb_integer.specs.Prefix
 pub use Rattle.rsb_integer.specs.Rank
 pub use Rattle.rsb_integer.specs.Room

@@ -20,7 +20,7 @@ pub use crate::ranges_iter::RangesIter;
 pub use crate::set::RangeSetBlaze;
 pub use crate::set::parse::ParseError;
 pub use crate::{intersection_dyn, symmetric_difference_dyn, union_dyn};
-pub use rsb_integer::Integer;
+pub use rsb_integer::{Element, Enumerated, Integer};
 pub use rsb_length::{SafeLength, UInt, UIntPlusOne};
 pub use rsb_many::{
     DynSortedDisjoint, KMerge, MultiwayAtLeast, MultiwayIntersection, MultiwaySortedDisjoint,

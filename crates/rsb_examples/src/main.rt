@@ -11,6 +11,7 @@ pub mod many_sets;
 pub mod packets;
 pub mod shifts;
 pub mod votes;
+pub mod weekdays;
 
 use std::{env, io};
 
@@ -36,6 +37,8 @@ fn main(rt: HostRuntime) -> io::Result<()> {
     shifts::show(rt.alloc(), &rt)?;
     println!(rt; "# votes")?;
     votes::show(rt.alloc(), &rt)?;
+    println!(rt; "# weekdays")?;
+    weekdays::show(rt.alloc(), &rt)?;
     println!(rt; "# many sets")?;
     many_sets::show(rt.alloc(), &rt)
 }

@@ -1,3 +1,6 @@
+pub mod ElementRoom
+pub mod Enumerated
+pub mod EnumeratedLaws
 pub mod Prefix
 pub mod Rank
 pub mod RankLaws

@@ -3,3 +3,4 @@
 mod characters;
 mod ends;
 mod safe_len;
+mod weekdays;

@@ -74,7 +74,7 @@ fn exhausted_gives_nothing<T: Integer>() -> bool {
 
 /// Returns whether every call gives the right result at both ends of a type. `two` is the length of
 /// two values, and `whole` that of the type.
-fn calls_end_well<T: Integer>(two: T::SafeLen, whole: T::SafeLen) -> bool {
+pub(crate) fn calls_end_well<T: Integer>(two: T::SafeLen, whole: T::SafeLen) -> bool {
     let least = T::min_value();
     let greatest = T::max_value();
     let second = least.add_one();
