@@ -32,7 +32,11 @@ pub fn take_block(taken: &mut RangeSetBlaze<u16>, pages: u16) -> Result<Option<u
         IsFree (2 ^ 16) taken.old start pages)) }
     ensures taken { IfOk result (λ found. IfSome found (λ start.
         Adds taken.old taken.new (λ page. nat_le start page && nat_lt page (start + pages)))) }
-    ensures full { IfOk result (λ found. IsNone found → taken.new ≡ taken.old) }
+    ensures lowest { IfOk result (λ found. IfSome found (λ start. (lower : ℕ) → lower < start
+        → ¬ (IsFree (2 ^ 16) taken.old lower pages))) }
+    ensures full { IfOk result (λ found. IsNone found
+        → (start : ℕ) → ¬ (IsFree (2 ^ 16) taken.old start pages)) }
+    ensures unchanged { IfOk result (λ found. IsNone found → taken.new ≡ taken.old) }
     ensures err { OnErr result (taken.new ≡ taken.old) }
 {
     let Some(start) = first_fit(&*taken, pages) else {

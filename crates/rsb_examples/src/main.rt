@@ -3,10 +3,12 @@
 #![tactic(auto)]
 
 pub mod allow_list;
+pub mod any_streams;
 pub mod calendar;
 pub mod character_classes;
 pub mod first_steps;
 pub mod free_space;
+pub mod logs;
 pub mod many_sets;
 pub mod packets;
 pub mod shifts;
@@ -39,6 +41,10 @@ fn main(rt: HostRuntime) -> io::Result<()> {
     votes::show(rt.alloc(), &rt)?;
     println!(rt; "# weekdays")?;
     weekdays::show(rt.alloc(), &rt)?;
+    println!(rt; "# logs")?;
+    logs::show(rt.alloc(), &rt)?;
+    println!(rt; "# any streams")?;
+    any_streams::show(rt.alloc(), &rt)?;
     println!(rt; "# many sets")?;
     many_sets::show(rt.alloc(), &rt)
 }

@@ -1,11 +1,16 @@
 //! Acknowledged packets: they come in any order, and what is missing is asked for again.
 
-ghost use Rattle.std.specs.Prelude.{◌↔◌, ℕ, ◌^◌, ◌<◌, IfOk, IfSome, IsFalse, IsNone, IsTrue};
+ghost use Rattle.std.specs.Prelude.{◌↔◌, ℕ, ◌^◌, ◌<◌, List, IfOk, IfSome, IsFalse, IsNone, IsTrue};
+ghost use Rattle.std.specs.declared.ops.RangeInclusive.{RangeInclusive as Range};
+ghost use Rattle.range_set_blaze.specs.Rank.{intervals_of};
 ghost use Rattle.range_set_blaze.specs.Runs.{members};
 ghost use Rattle.range_set_blaze.specs.Selection.{difference, IsUniversal};
 ghost use Rattle.range_set_blaze.specs.Set.{IsSetOf};
+ghost use Rattle.range_set_blaze.specs.Text.{Spells};
 
-use range_set_blaze::{Draw, DrawDisjoint, GapsIn, IntoRangeSetBlaze, RangeSetBlaze};
+use range_set_blaze::{
+    Draw, DrawDisjoint, GapsIn, IntoRangeSetBlaze, ParseError, ParseInteger, RangeSetBlaze,
+};
 use std::alloc::{AllocError, Global};
 use std::io;
 
@@ -26,7 +31,29 @@ pub fn show(alloc: Global, rt: &impl Print) -> io::Result<()> {
     for gap in missing_below(&acked, 10) {
         println!(rt; "ask again for {} to {}", gap.start(), gap.end())?;
     }
-    Ok(())
+    show_reread(alloc, &acked, rt)
+}
+
+// Writes whether the text of a set is read as that set.
+fn show_reread(alloc: Global, acked: &RangeSetBlaze<u32>, rt: &impl Print) -> io::Result<()> {
+    let text = format!(in alloc; "{acked}")?;
+    match listed(alloc, text.as_str()) {
+        Ok(again) => println!(rt;
+            "the text \"{text}\" is read as it was: {}",
+            again == *acked
+        ),
+        Err(error) => println!(rt; "{error}"),
+    }
+}
+
+/// Returns the set of the ranges that a text lists.
+pub fn listed<T: ParseInteger>(alloc: Global, text: &str) -> Result<RangeSetBlaze<T>, ParseError>
+    ensures { IfOk result (λ listed. (ranges : List (Range T))
+        → Spells T.number T.fits text.now ranges
+        → IsSetOf listed (members (intervals_of T.rank ranges))) }
+{
+    let listed = RangeSetBlaze::parse(alloc, text)?;
+    Ok(listed)
 }
 
 /// The first number that is missing, or `None` where all have come.

@@ -1,4 +1,5 @@
-//! The values of a listed type, as elements of sets and streams.
+//! The values of a listed type, as elements of sets and streams
+//! (docs/DECISIONS.md, elements-of-enums).
 
 ghost use Rattle.std.specs.Prelude.{◌≡◌, ◌<◌, ◌∷◌, length, slice_index_or};
 ghost use Rattle.std.proofs.Common.{le_trans, lit≤};

@@ -1,4 +1,4 @@
-//! Sets from their texts.
+//! Sets from their texts (docs/DECISIONS.md, no-from-str).
 
 ghost use Rattle.std.specs.Prelude.{◌≡◌, ◌≢◌, ℕ, ◌<◌, List, IfOk, Some, SomeIff, alloc_error, false};
 ghost use Rattle.std.specs.Char.{digit_value};

@@ -1,6 +1,6 @@
 //! The calls that change a set and those that make one, by their names: what a row of a table says.
 
-use range_set_blaze::{IntoRangeSetBlaze, RangeSetBlaze};
+use range_set_blaze::{IntoRangeSetBlaze, ParseError, RangeSetBlaze};
 use std::alloc::{AllocError, Allocator};
 use std::mem;
 
@@ -32,6 +32,10 @@ pub(crate) enum Change {
     StdExtend,
     /// Adds each fourth value from the one to the other.
     StdExtendValues(i32, i32),
+    /// By reference, as the next one: of a list in the same allocator.
+    LentExtend,
+    /// Adds each fourth value from the one to the other.
+    LentExtendValues(i32, i32),
     BitandAssign,
     SubAssign,
     BitxorAssign,
@@ -62,6 +66,8 @@ impl Change {
                 | Change::BitorAssignOwned
                 | Change::StdExtend
                 | Change::StdExtendValues(_, _)
+                | Change::LentExtend
+                | Change::LentExtendValues(_, _)
         )
     }
 
@@ -121,6 +127,27 @@ fn add_by_std<A: Allocator + Copy>(
     Extend::extend(set, (start..=end).step_by(4))
 }
 
+/// Adds each fourth value from one to another, by reference.
+fn add_lent_values<A: Allocator + Copy>(
+    alloc: A,
+    set: &mut RangeSetBlaze<i32, A>,
+    start: i32,
+    end: i32,
+) -> Result<(), AllocError> {
+    let values = Vec::from_iter(alloc, (start..=end).step_by(4))?;
+    Extend::extend(set, values.iter())
+}
+
+/// Adds the ranges of another set, by reference.
+fn add_lent_ranges<A: Allocator + Copy>(
+    alloc: A,
+    set: &mut RangeSetBlaze<i32, A>,
+    other: &RangeSetBlaze<i32, A>,
+) -> Result<(), AllocError> {
+    let ranges = Vec::from_iter(alloc, other.ranges())?;
+    Extend::extend(set, ranges.iter())
+}
+
 /// Adds each fourth value from one to another.
 fn add_fourths<A: Allocator + Copy>(
     set: &mut RangeSetBlaze<i32, A>,
@@ -141,6 +168,8 @@ fn add<A: Allocator + Copy>(
         Change::Extend => set.extend(other.ranges()),
         Change::StdExtend => Extend::extend(set, other.ranges()),
         Change::StdExtendValues(start, end) => add_by_std(set, start, end),
+        Change::LentExtend => add_lent_ranges(alloc, set, other),
+        Change::LentExtendValues(start, end) => add_lent_values(alloc, set, start, end),
         Change::ExtendValues(start, end) => add_fourths(set, start, end),
         Change::Append => set.append(other),
         Change::BitorAssign => set.bitor_assign(other),
@@ -273,6 +302,13 @@ pub(crate) enum Making {
     Collect,
     /// Of each fourth value from the one to the other.
     CollectValues(i32, i32),
+    /// These by reference, of lists in the same allocator.
+    CollectLent,
+    CollectLentValues(i32, i32),
+    /// Of a text of 7, 1, 4 and 9.
+    Parse,
+    /// Of a clone that is taken out of its place.
+    Taken,
 }
 
 impl Making {
@@ -302,10 +338,31 @@ impl Making {
             Making::StdBitxor => Making::StdNot,
             Making::StdNot => Making::Collect,
             Making::Collect => Making::CollectValues(2, 800),
-            Making::CollectValues(_, _) => return None,
+            Making::CollectValues(_, _) => Making::CollectLent,
+            Making::CollectLent => Making::CollectLentValues(2, 800),
+            Making::CollectLentValues(_, _) => Making::Parse,
+            Making::Parse => Making::Taken,
+            Making::Taken => return None,
         };
         Some(next)
     }
+}
+
+/// The set of 1, 4, 7 and 9, read from a text.
+fn parse<A: Allocator + Copy>(alloc: A) -> Result<RangeSetBlaze<i32, A>, AllocError> {
+    match RangeSetBlaze::parse(alloc, "7, 1..=1, 4, 9..=9") {
+        Ok(set) => Ok(set),
+        Err(ParseError::NoMemory(error)) => Err(error),
+        Err(ParseError::Unexpected(_)) => Ok(RangeSetBlaze::new(alloc)),
+    }
+}
+
+/// The set that is taken out of the place of a clone.
+fn taken<A: Allocator + Copy>(
+    set: &RangeSetBlaze<i32, A>,
+) -> Result<RangeSetBlaze<i32, A>, AllocError> {
+    let mut place = set.clone()?;
+    mem::try_take(&mut place)
 }
 
 /// Makes a set that takes another's values or none.
@@ -323,8 +380,30 @@ fn make_one<A: Allocator + Copy>(
         Making::From(start, end) => RangeSetBlaze::from(alloc, start..=end),
         Making::StdClone => Clone::clone(set),
         Making::StdNot => !set,
+        Making::Parse => parse(alloc),
+        Making::Taken => taken(set),
         _ => RangeSetBlaze::universe(alloc),
     }
+}
+
+/// Makes a set of the ranges of two, by reference.
+fn collect_lent<A: Allocator + Copy, B: Allocator>(
+    alloc: A,
+    set: &RangeSetBlaze<i32, A>,
+    other: &RangeSetBlaze<i32, B>,
+) -> Result<RangeSetBlaze<i32, A>, AllocError> {
+    let ranges = Vec::from_iter(alloc, other.ranges().chain(set.ranges()))?;
+    ranges.iter().collect(alloc)
+}
+
+/// Makes a set of each fourth value from one to another, by reference.
+fn collect_lent_values<A: Allocator + Copy>(
+    alloc: A,
+    start: i32,
+    end: i32,
+) -> Result<RangeSetBlaze<i32, A>, AllocError> {
+    let values = Vec::from_iter(alloc, (start..=end).step_by(4))?;
+    values.iter().collect(alloc)
 }
 
 /// Makes a set of two by an operator, or by a loop over both.
@@ -360,6 +439,8 @@ pub(crate) fn make<A: Allocator + Copy, B: Allocator>(
             RangeSetBlaze::from_iter_values(alloc, (start..=end).step_by(4))
         }
         Making::CollectValues(start, end) => (start..=end).step_by(4).collect(alloc),
+        Making::CollectLent => collect_lent(alloc, set, other),
+        Making::CollectLentValues(start, end) => collect_lent_values(alloc, start, end),
         Making::StdBitor
         | Making::StdBitand
         | Making::StdSub

@@ -94,6 +94,7 @@ fn is_added(change: Change, cell: &Cell) -> bool {
     match change {
         Change::ExtendValues(start, end) => is_fourth(cell, start, end),
         Change::StdExtendValues(start, end) => is_fourth(cell, start, end),
+        Change::LentExtendValues(start, end) => is_fourth(cell, start, end),
         _ => cell.is_other,
     }
 }
@@ -120,7 +121,9 @@ fn is_meant(change: Change, cell: &Cell, first: i32, last: i32, begin: i32) -> b
         | Change::BitorAssign
         | Change::BitorAssignOwned
         | Change::StdExtend
-        | Change::StdExtendValues(_, _) => is_added(change, cell),
+        | Change::StdExtendValues(_, _)
+        | Change::LentExtend
+        | Change::LentExtendValues(_, _) => is_added(change, cell),
         Change::BitandAssign => !cell.is_other,
         Change::SubAssign | Change::BitxorAssign => cell.is_other,
     }
@@ -204,18 +207,26 @@ pub(crate) fn reckon(
 fn selects(making: Making, cell: &Cell) -> bool {
     let (one, other) = (cell.is_member, cell.is_other);
     match making {
-        Making::Bitor | Making::FromIter | Making::StdBitor | Making::Collect => one || other,
+        Making::Bitor
+        | Making::FromIter
+        | Making::StdBitor
+        | Making::Collect
+        | Making::CollectLent => one || other,
         Making::Bitand | Making::StdBitand => one && other,
         Making::Sub | Making::StdSub => one && !other,
         Making::Bitxor | Making::StdBitxor => one != other,
         Making::Not | Making::StdNot => !one,
         Making::FromIterValues(start, end) => is_fourth(cell, start, end),
         Making::CollectValues(start, end) => is_fourth(cell, start, end),
-        Making::FromArray => matches!(cell.start, 1 | 4 | 7 | 9),
+        Making::CollectLentValues(start, end) => is_fourth(cell, start, end),
+        Making::FromArray | Making::Parse => matches!(cell.start, 1 | 4 | 7 | 9),
         Making::From(start, end) => start <= cell.start && cell.end <= end,
         Making::Universe => true,
-        Making::Clone | Making::FromSortedDisjoint | Making::IntoRangeSetBlaze | Making::StdClone =>
-            one,
+        Making::Clone
+        | Making::FromSortedDisjoint
+        | Making::IntoRangeSetBlaze
+        | Making::StdClone
+        | Making::Taken => one,
     }
 }
 

@@ -12,6 +12,8 @@ use range_set_blaze::laws::cmp_counted;
 use range_set_blaze::{DrawDisjoint, RangeSetBlaze};
 use rsb_tables::{Counting, fed_by};
 use std::alloc::{AllocError, Global};
+use std::default::MadeWith;
+use std::mem;
 use std::test::*;
 
 /// Calls that read two sets.
@@ -26,10 +28,12 @@ enum Reading {
     Streams,
     Questions,
     Text,
+    Windows,
+    Places,
 }
 
 /// All of them.
-static READINGS: [Reading; 9] = [
+static READINGS: [Reading; 11] = [
     Reading::LookUps,
     Reading::Whole,
     Reading::Relations,
@@ -39,6 +43,8 @@ static READINGS: [Reading; 9] = [
     Reading::Streams,
     Reading::Questions,
     Reading::Text,
+    Reading::Windows,
+    Reading::Places,
 ];
 
 /// How many values from -8 to 815 are members, by each call that looks for one: 0 where two of
@@ -162,6 +168,39 @@ fn is_written(alloc: Global, set: &HeapSet<'_>) -> bool {
     }
 }
 
+/// Whether the runs and the gaps between two bounds, each to its end, have the members there and
+/// the other values.
+fn windows_come(set: &HeapSet<'_>) -> bool {
+    let (mut members, mut others) = (0u64, 0u64);
+    for run in set.ranges_in(2..=801) {
+        let more = run.end().abs_diff(*run.start());
+        members = members.saturating_add(u64::from(more)).saturating_add(1);
+    }
+    for gap in set.gaps_in(2..=801) {
+        let more = gap.end().abs_diff(*gap.start());
+        others = others.saturating_add(u64::from(more)).saturating_add(1);
+    }
+    members == set.len_in(2..=801) && members.saturating_add(others) == 800
+}
+
+/// Whether tests of the values between two bounds agree with the number of members there.
+fn windows_are_asked(set: &HeapSet<'_>) -> bool {
+    set.contains_range(16..=18) == (set.len_in(16..=18) == 3)
+        && set.contains_range(16..=24) == (set.len_in(16..=24) == 9)
+        && set.is_disjoint_range(3..=9) == (set.len_in(3..=9) == 0)
+        && set.is_disjoint_range(3..=7) == (set.len_in(3..=7) == 0)
+}
+
+/// Whether gaps, runs and members are found by their lengths and numbers.
+fn places_are_found(set: &HeapSet<'_>) -> bool {
+    set.first_gap(5).is_some()
+        && set.first_gap_from(801, 2_147_482_847).is_some()
+        && set.first_run(2).is_some() == !set.is_empty()
+        && set.nth(0) == set.first()
+        && set.nth(set.len()).is_none()
+        && set.rank(i32::MAX) == set.len()
+}
+
 /// Whether calls that read two sets with no common member answer as they are to.
 fn reads<'a>(alloc: Global, reading: Reading, set: &HeapSet<'a>, other: &HeapSet<'a>) -> bool {
     match reading {
@@ -176,6 +215,8 @@ fn reads<'a>(alloc: Global, reading: Reading, set: &HeapSet<'a>, other: &HeapSet
         }
         Reading::Questions => are_asked(set, other),
         Reading::Text => is_written(alloc, set),
+        Reading::Windows => windows_come(set) && windows_are_asked(set),
+        Reading::Places => places_are_found(set),
     }
 }
 
@@ -220,7 +261,7 @@ fn what_reads_a_set_never_calls_its_allocator(rt: HostRuntime) -> Result<(), Fai
     for count in &COUNTS {
         for others in &COUNTS {
             let quiet = quiet_at(rt.alloc(), *count, *others)?;
-            assert!(rt; quiet == 9, "{quiet} readings, {count} runs, {others}");
+            assert!(rt; quiet == 11, "{quiet} readings, {count} runs, {others}");
         }
     }
     Ok(())
@@ -237,10 +278,12 @@ enum Freeing {
     Ranges,
     LastRange,
     New,
+    Taken,
+    MadeWith,
 }
 
 /// All of them.
-static FREEINGS: [Freeing; 8] = [
+static FREEINGS: [Freeing; 10] = [
     Freeing::PopLast,
     Freeing::RangesRetain,
     Freeing::Clear,
@@ -249,6 +292,8 @@ static FREEINGS: [Freeing; 8] = [
     Freeing::Ranges,
     Freeing::LastRange,
     Freeing::New,
+    Freeing::Taken,
+    Freeing::MadeWith,
 ];
 
 /// Whether the greatest member is popped as often as a set has members.
@@ -296,6 +341,20 @@ fn gives_last_range(set: HeapSet<'_>) -> bool {
     ranges.next_back().is_none() == is_empty
 }
 
+/// Whether a set is taken out of its place, and leaves the empty set there.
+fn is_taken(set: HeapSet<'_>) -> Result<bool, AllocError> {
+    let mut set = set;
+    let length = set.len();
+    let taken = mem::try_take(&mut set)?;
+    Ok(set.is_empty() && taken.len() == length)
+}
+
+/// Whether what a map makes for a key that it lacks is empty.
+fn is_made_empty(heap: &Heap) -> bool {
+    let set: HeapSet<'_> = MadeWith::made_with(heap);
+    set.is_empty()
+}
+
 /// Whether a call that gives a set up answers as it is to.
 fn frees<'a>(freeing: Freeing, heap: &'a Heap, set: HeapSet<'a>) -> Result<bool, AllocError> {
     match freeing {
@@ -309,6 +368,8 @@ fn frees<'a>(freeing: Freeing, heap: &'a Heap, set: HeapSet<'a>) -> Result<bool,
         Freeing::New => Ok(
             RangeSetBlaze::<i32, &Heap>::new(heap) == RangeSetBlaze::<i32, &Heap>::default(heap),
         ),
+        Freeing::Taken => is_taken(set),
+        Freeing::MadeWith => Ok(is_made_empty(heap)),
     }
 }
 

@@ -126,10 +126,10 @@ fn booked_slots_are_numbered(rt: HostRuntime) -> Result<(), Fail> {
     Ok(())
 }
 
-/// Whether each member of seventy thousand runs has its number: every seven-thousandth.
+/// Whether each member of seventy thousand runs has its number: every seven-hundredth.
 fn are_numbered(set: &RangeSetBlaze<i32>) -> bool {
-    for place in 0..30i32 {
-        let number = place.saturating_mul(7_000);
+    for place in 0..300i32 {
+        let number = place.saturating_mul(700);
         let wanted = (number / 3).saturating_mul(5).saturating_add(number % 3);
         let n = number.unsigned_abs();
         if set.nth(u64::from(n)) != Some(wanted) || set.rank(wanted) != u64::from(n) {

@@ -5,10 +5,11 @@ ghost use Rattle.std.specs.Prelude.{◌≡◌, [], IfOk, OnOk};
 ghost use Rattle.range_set_blaze.specs.Algebra.{ranks_of, AddsItems, AddsValues, IsSetOfItems};
 ghost use Rattle.range_set_blaze.specs.Set.{IsSetOf};
 
+use crate::set::refusals::heaps::{Heap, HeapSet};
 use crate::set::rows::set_in;
-use range_set_blaze::{Integer, RangeSetBlaze};
+use range_set_blaze::{DrawDisjoint, Integer, RangeSetBlaze};
 use rsb_commands::outside::Side;
-use rsb_tables::gives;
+use rsb_tables::{Counting, gives, list_of};
 use std::alloc::{AllocError, Allocator, Global};
 use std::collections::BTreeMap;
 use std::mem;
@@ -16,17 +17,20 @@ use std::ops::RangeInclusive;
 use std::test::*;
 
 /// Returns the set of the values of a slice.
-fn of_values<T: Integer>(alloc: Global, values: &[T]) -> Result<RangeSetBlaze<T>, AllocError>
+fn of_values<T: Integer, A: Allocator + Copy>(
+    alloc: A,
+    values: &[T],
+) -> Result<RangeSetBlaze<T, A>, AllocError>
     ensures { IfOk result (λ set. IsSetOf set (ranks_of T.rank values.now)) }
 {
     values.iter().collect(alloc)
 }
 
 /// Returns the set of the ranges of a slice.
-fn of_ranges<T: Integer>(
-    alloc: Global,
+fn of_ranges<T: Integer, A: Allocator + Copy>(
+    alloc: A,
     ranges: &[RangeInclusive<T>],
-) -> Result<RangeSetBlaze<T>, AllocError>
+) -> Result<RangeSetBlaze<T, A>, AllocError>
     ensures { IfOk result (IsSetOfItems T.rank ranges.now) }
 {
     ranges.iter().collect(alloc)
@@ -41,15 +45,18 @@ fn of_list<T: Integer>(
 }
 
 /// Adds the values of a slice.
-fn add_values<T: Integer>(set: &mut RangeSetBlaze<T>, values: &[T]) -> Result<(), AllocError>
+fn add_values<T: Integer, A: Allocator + Clone>(
+    set: &mut RangeSetBlaze<T, A>,
+    values: &[T],
+) -> Result<(), AllocError>
     ensures { OnOk result (AddsValues T.rank set.old values.now set.new) }
 {
     Extend::extend(set, values)
 }
 
 /// Adds the ranges of a list.
-fn add_ranges<T: Integer>(
-    set: &mut RangeSetBlaze<T>,
+fn add_ranges<T: Integer, A: Allocator + Clone>(
+    set: &mut RangeSetBlaze<T, A>,
     ranges: &Vec<RangeInclusive<T>>,
 ) -> Result<(), AllocError>
     ensures { OnOk result (AddsItems T.rank set.old ranges.now.items set.new) }
@@ -189,5 +196,116 @@ fn seventy_thousand_references_are_collected(rt: HostRuntime) -> Result<(), Fail
     let set = of_values(alloc, &values)?;
     let ranges: Vec<RangeInclusive<i32>> = set.ranges().collect(alloc)?;
     assert!(rt; set.ranges_len() == 70_000 && of_list(alloc, &ranges)? == set);
+    Ok(())
+}
+
+#[test]
+fn seventy_thousand_references_are_added(rt: HostRuntime) -> Result<(), Fail> {
+    let alloc = rt.alloc();
+    let values: Vec<i32> = (0..140_000).step_by(2).collect(alloc)?;
+    let all = of_values(alloc, &values)?;
+    let ranges: Vec<RangeInclusive<i32>> = all.ranges().collect(alloc)?;
+    let mut set = set_in(alloc, &[(1, 1)])?;
+    let mut other = set_in(alloc, &[(1, 1)])?;
+    add_values(&mut set, &values)?;
+    add_ranges(&mut other, &ranges)?;
+    assert!(rt; set.ranges_len() == 69_999 && set.len() == 70_001 && set == other);
+    Ok(())
+}
+
+/// Twenty values in no order, of which no two touch: more than a leaf of the map has room for.
+static APART: [i32; 20] = [
+    0, 14, 28, 2, 16, 30, 4, 18, 32, 6, 20, 34, 8, 22, 36, 10, 24, 38, 12, 26,
+];
+
+/// A call that takes values or ranges by reference.
+#[derive(Clone, Copy)]
+enum Call {
+    CollectValues,
+    CollectRanges,
+    AddValues,
+    AddRanges,
+}
+
+/// Carries out a call on values, or on the range of each of them.
+fn carry_out<'a>(
+    heap: &'a Heap,
+    call: Call,
+    set: &mut HeapSet<'a>,
+    values: &[i32],
+    ranges: &Vec<RangeInclusive<i32>>,
+) -> Result<(), AllocError> {
+    match call {
+        Call::CollectValues => *set = of_values(heap, values)?,
+        Call::CollectRanges => *set = of_ranges(heap, ranges)?,
+        Call::AddValues => add_values(set, values)?,
+        Call::AddRanges => add_ranges(set, ranges)?,
+    }
+    Ok(())
+}
+
+/// Whether so many runs may stand after a call: all if it passed. If it failed, a collection makes
+/// none, and an extension keeps those before.
+fn may_stand(call: Call, is_passed: bool, runs: usize) -> bool {
+    if is_passed {
+        return runs == 20;
+    }
+    match call {
+        Call::CollectValues | Call::CollectRanges => runs == 0,
+        Call::AddValues | Call::AddRanges => runs < 20,
+    }
+}
+
+/// Whether a set has the first of the values that stand apart, as many as it has runs.
+fn has_first(alloc: Global, set: &HeapSet<'_>) -> Result<bool, AllocError> {
+    let first = of_values(alloc, &APART[..set.ranges_len().min(20)])?;
+    Ok(set.ranges().equal(first.ranges()))
+}
+
+/// Whether a call passes if the heap grants the given number of allocations. `None` if it leaves
+/// what it must not.
+fn passes(
+    alloc: Global,
+    heap: &Heap,
+    call: Call,
+    granted: usize,
+) -> Result<Option<bool>, AllocError> {
+    let ends = APART.iter().map(|value| (*value, *value));
+    let ranges = list_of(alloc, &Vec::from_iter(alloc, ends)?)?;
+    let mut set = RangeSetBlaze::new(heap);
+    heap.fail_after(granted);
+    let is_passed = carry_out(heap, call, &mut set, &APART, &ranges).is_ok();
+    heap.fail_never();
+    let is_right = may_stand(call, is_passed, set.ranges_len()) && has_first(alloc, &set)?;
+    Ok(is_right.then_some(is_passed))
+}
+
+/// How many of thirty tries of a call fail, each granted one allocation more than the one before
+/// it. `None` if one leaves what it must not, or keeps memory.
+fn refusals(alloc: Global, call: Call) -> Result<Option<u32>, AllocError> {
+    let heap = Counting::new(alloc);
+    let mut refusals = 0u32;
+    for granted in 0..30usize {
+        match passes(alloc, &heap, call, granted)? {
+            Some(is_passed) if heap.bytes() == 0 => {
+                refusals = refusals.saturating_add(u32::from(!is_passed));
+            }
+            _ => return Ok(None),
+        }
+    }
+    Ok(Some(refusals))
+}
+
+#[test]
+fn calls_by_reference_leave_a_prefix_if_an_allocation_fails(rt: HostRuntime) -> Result<(), Fail> {
+    for call in [
+        Call::CollectValues,
+        Call::CollectRanges,
+        Call::AddValues,
+        Call::AddRanges,
+    ] {
+        let refusals = refusals(rt.alloc(), call)?.unwrap_or(0);
+        assert!(rt; refusals > 1 && refusals < 30, "{refusals} refusals");
+    }
     Ok(())
 }

@@ -13,3 +13,11 @@ fn sets_may_cross_threads(rt: HostRuntime) -> Result<(), Fail> {
     may_cross(&RangeSetBlaze::<u128>::new(rt.alloc()));
     Ok(())
 }
+
+#[test]
+fn windows_may_cross_threads(rt: HostRuntime) -> Result<(), Fail> {
+    let set = set_of(rt.alloc(), &[(1, 2)])?;
+    may_cross(&set.ranges_in(1..));
+    may_cross(&set.gaps_in(1..));
+    Ok(())
+}

@@ -33,7 +33,9 @@ fn after(change: Change) -> Option<Change> {
         Change::ExtendValues(_, _) => Change::StdExtendValues(4, 800),
         Change::StdExtendValues(_, _) => Change::Extend,
         Change::Extend => Change::StdExtend,
-        Change::StdExtend => Change::Append,
+        Change::StdExtend => Change::LentExtendValues(4, 800),
+        Change::LentExtendValues(_, _) => Change::LentExtend,
+        Change::LentExtend => Change::Append,
         Change::Append => Change::BitorAssign,
         Change::BitorAssign => Change::BitorAssignOwned,
         Change::BitorAssignOwned => Change::BitandAssign,
@@ -61,7 +63,11 @@ fn wants(change: Change, count: i32, others: i32) -> bool {
         Change::RangesRemove(_, _) => false,
         Change::SplitOff(_) | Change::Retain(_, _) => count > 0,
         Change::PopLast | Change::RangesRetain(_, _) | Change::Clear => false,
-        Change::ExtendValues(_, _) | Change::StdExtendValues(_, _) => true,
+        Change::ExtendValues(_, _)
+        | Change::StdExtendValues(_, _)
+        | Change::LentExtendValues(_, _) => true,
+        // The list of the ranges.
+        Change::LentExtend => others > 0,
         Change::Extend | Change::StdExtend => grows(count, others),
         Change::Append | Change::BitorAssign => grows(count, others) || is_anew(count, others),
         // The larger set goes on.

@@ -1,0 +1,80 @@
+//! Logs of several machines: a loop collects a stream of each log, and a sweep or a union merges
+//! them.
+
+use range_set_blaze::{
+    CheckSortedDisjoint, DrawDisjoint, IntoRangeSetBlaze, MultiwaySortedDisjoint, MultiwaySweep,
+    RangeSetBlaze, Streams, SweepEvent,
+};
+use std::alloc::{AllocError, Global};
+use std::io;
+use std::ops::RangeInclusive;
+use std::vec::IntoIter;
+
+/// The minutes of a log whose ranges were found to be in order.
+type Log = CheckSortedDisjoint<u32, IntoIter<RangeInclusive<u32>>>;
+
+/// The minutes at which each of four machines was up. The third log is not in order.
+static LOGS: [&[(u32, u32)]; 4] = [
+    &[(0, 14), (20, 39)],
+    &[(10, 24)],
+    &[(50, 59), (30, 31)],
+    &[(40, 44)],
+];
+
+/// What the logs that are in order tell, minute by minute, and when some machine was up.
+pub fn show(alloc: Global, rt: &impl Print) -> io::Result<()> {
+    show_events(alloc, in_order(alloc, &LOGS)?, rt)?;
+    println!(rt;
+        "some machine is up: {}",
+        in_some(alloc, in_order(alloc, &LOGS)?)?
+    )
+}
+
+/// Returns the logs that are in order, as streams.
+pub fn in_order(alloc: Global, logs: &[&[(u32, u32)]]) -> Result<Streams<u32, Log>, AllocError> {
+    let mut streams = Streams::new(alloc);
+    for log in logs {
+        if let Ok(stream) = CheckSortedDisjoint::try_new(ranges(alloc, log)?) {
+            streams.push(stream)?;
+        }
+    }
+    Ok(streams)
+}
+
+// The ranges with these ends.
+fn ranges(alloc: Global, ends: &[(u32, u32)]) -> Result<Vec<RangeInclusive<u32>>, AllocError> {
+    let mut ranges = Vec::new(alloc);
+    for (start, end) in ends {
+        ranges.push(*start..=*end)?;
+    }
+    Ok(ranges)
+}
+
+/// Writes each start and each end of the ranges of any streams, in order.
+pub fn show_events<I: DrawDisjoint<u32>>(
+    alloc: Global,
+    logs: Streams<u32, I>,
+    rt: &impl Print,
+) -> io::Result<()> {
+    for event in MultiwaySweep::new(alloc, logs)? {
+        match event {
+            SweepEvent::Start { range, input } => {
+                println!(rt;
+                    "{}: log {input} starts, until {}",
+                    range.start(),
+                    range.end()
+                )?;
+            }
+            SweepEvent::End { at, input } => println!(rt; "{at}: log {input} ends")?,
+        }
+    }
+    Ok(())
+}
+
+/// Returns the set of what lies in some of the streams. If allocation fails, nothing is made.
+pub fn in_some<I: DrawDisjoint<u32>>(
+    alloc: Global,
+    logs: Streams<u32, I>,
+) -> Result<RangeSetBlaze<u32>, AllocError> {
+    logs.union(alloc)?.into_range_set_blaze(alloc)
+}
