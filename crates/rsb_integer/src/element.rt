@@ -104,7 +104,9 @@ impl<E: Enumerated> Integer for Element<E> {
         element_at(place(self) - (b - 1))
     }
 
-    ghost ranks = { listed-ranks E.eq E.cmp E.total (E.least ∷ E.others) E.ascending E.complete E.least };
+    ghost ranks = { λ place below.
+        listed-ranks E.eq E.cmp E.total (E.least ∷ E.others) E.ascending E.complete E.least place
+        below };
 
     ghost exact = { listed-exact E.eq E.cmp E.total (E.least ∷ E.others) E.ascending E.complete };
 
