@@ -1,9 +1,14 @@
 //! Logs of several machines: a loop collects a stream of each log, and a sweep or a union merges
 //! them.
 
+ghost use Rattle.std.specs.Prelude.{length, map, IfOk};
+ghost use Rattle.range_set_blaze.specs.Many.{may_give_at, SomeOfEach};
+ghost use Rattle.range_set_blaze.specs.Runs.{members, AreRuns};
+ghost use Rattle.range_set_blaze.specs.Selection.{any_of};
+
 use range_set_blaze::{
-    CheckSortedDisjoint, DrawDisjoint, IntoRangeSetBlaze, MultiwaySortedDisjoint, MultiwaySweep,
-    RangeSetBlaze, Streams, SweepEvent,
+    CheckSortedDisjoint, DrawDisjoint, Integer, IntoRangeSetBlaze, MultiwaySortedDisjoint,
+    MultiwaySweep, RangeSetBlaze, Streams, SweepEvent,
 };
 use std::alloc::{AllocError, Global};
 use std::io;
@@ -72,9 +77,13 @@ pub fn show_events<I: DrawDisjoint<u32>>(
 }
 
 /// Returns the set of what lies in some of the streams. If allocation fails, nothing is made.
-pub fn in_some<I: DrawDisjoint<u32>>(
+pub fn in_some<T: Integer, I: DrawDisjoint<T>>(
     alloc: Global,
-    logs: Streams<u32, I>,
-) -> Result<RangeSetBlaze<u32>, AllocError> {
-    logs.union(alloc)?.into_range_set_blaze(alloc)
+    logs: Streams<T, I>,
+) -> Result<RangeSetBlaze<T>, AllocError>
+    ensures { IfOk result (λ set. SomeOfEach (length logs) (may_give_at I.may_give logs)
+        (λ lists. AreRuns T.value_count (any_of (map members lists)) set)) }
+{
+    let union = logs.union(alloc)?;
+    union.into_range_set_blaze(alloc)
 }

@@ -10,6 +10,7 @@ mod memory;
 mod merges;
 mod nested;
 mod operators;
+mod over_any;
 mod own_types;
 pub(crate) mod sets;
 mod stream_lists;
