@@ -1,5 +1,5 @@
-//! Callers over any streams and any element type: lists that a loop fills, what lemmas tell of a list
-//! and of a loop, and a loop over a stream that another function returned by its type.
+//! Callers over any streams and any element type: lists that a loop fills, what lemmas tell of a
+//! list and of a loop, and a loop over a stream that another function returned by its type.
 
 ghost use Rattle.std.specs.Prelude.{All, IfOk, IfSome};
 ghost use Rattle.rsb_integer.specs.Rank.{interval_of};
@@ -42,8 +42,8 @@ fn union_of<T: Integer, I: DrawDisjoint<T>>(
     streams.union(alloc)
 }
 
-/// Returns the run of a set that starts at a value, or `None`. The lemma `given-run` tells that it is
-/// a run.
+/// Returns the run of a set that starts at a value, or `None`. The lemma `given-run` tells that it
+/// is a run.
 fn run_from<T: Integer>(set: &RangeSetBlaze<T>, start: T) -> Option<RangeInclusive<T>>
     ensures { IfSome result (λ run.
         IsMaximalRun T.value_count (members set.now) (interval_of T.rank run)) }
@@ -66,8 +66,8 @@ fn lacking<'a, T: Integer>(
     RangeOnce::new(range).difference(set.ranges())
 }
 
-/// Returns how many ranges of a range of numbers a set lacks, by a loop over what a generic function
-/// returned.
+/// Returns how many ranges of a range of numbers a set lacks, by a loop over what a generic
+/// function returned.
 fn lacking_count(set: &RangeSetBlaze<i32>, range: RangeInclusive<i32>) -> usize {
     let mut count = 0usize;
     for _ in lacking(set, range) {
