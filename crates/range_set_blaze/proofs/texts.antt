@@ -3,3 +3,4 @@ pub mod Pieces
 pub mod Places
 pub mod Read
 pub mod Reread
+pub mod Rewritten

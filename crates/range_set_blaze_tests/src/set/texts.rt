@@ -1,8 +1,10 @@
 //! The texts of sets, and of their iterators.
 
-use range_set_blaze::RangeSetBlaze;
-use rsb_tables::{Counting, is_shown, set_of};
-use std::alloc::{AllocError, Global};
+ghost use Rattle.std.specs.Prelude.{◌≡◌, IfOk};
+
+use range_set_blaze::{ParseError, ParseInteger, RangeSetBlaze};
+use rsb_tables::{Counting, Table, is_shown, set_of};
+use std::alloc::{AllocError, Allocator, Global};
 use std::test::*;
 
 /// Whether a text is this one.
@@ -18,6 +20,20 @@ fn is_written(alloc: Global, set: &RangeSetBlaze<i32>, wanted: &str) -> Result<b
             && is(format!(in alloc; "{set:40}")?, wanted)
             && is(format!(in alloc; "{set:+}")?, wanted),
     )
+}
+
+/// Returns the set that is read from the text of a set.
+fn reread<T: ParseInteger, A: Allocator + Copy>(
+    alloc: A,
+    set: &RangeSetBlaze<T, A>,
+) -> Result<RangeSetBlaze<T, A>, ParseError>
+    ensures { IfOk result (λ read. read ≡ set.now) }
+{
+    // Called for its clause alone.
+    set.ranges();
+    let text = set.to_string(alloc)?;
+    let read = RangeSetBlaze::parse(alloc, text.as_str())?;
+    Ok(read)
 }
 
 #[test]
@@ -59,6 +75,24 @@ fn characters_are_written_in_quotes(rt: HostRuntime) -> Result<(), Fail> {
     set.insert('\n')?;
     let text = format!(in rt.alloc(); "{set}")?;
     assert!(rt; text.as_str() == "'\\n'..='\\n', 'a'..='c'");
+    Ok(())
+}
+
+// At two types, and for sets with no run, one and several.
+#[test]
+fn the_text_of_a_set_is_read_as_the_set(rt: HostRuntime) -> Result<(), Fail> {
+    let tables: [Table<'static>; 4] = [
+        &[],
+        &[(0, 0)],
+        &[(-9, -3), (4, 4)],
+        &[(i32::MIN, i32::MAX)],
+    ];
+    for table in &tables {
+        let set = set_of(rt.alloc(), table)?;
+        assert!(rt; reread(rt.alloc(), &set)? == set);
+    }
+    let bytes = RangeSetBlaze::<u8>::from(rt.alloc(), 3..=255)?;
+    assert!(rt; reread(rt.alloc(), &bytes)? == bytes);
     Ok(())
 }
 

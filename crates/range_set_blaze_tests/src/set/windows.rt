@@ -245,16 +245,16 @@ static ROWS: [Row; 17] = [
 
 /// Whether the gaps between the bounds come from the back in the reverse of their order.
 fn come_back(set: &RangeSetBlaze<i32>, bounds: (Bound<i32>, Bound<i32>), gaps: Table) -> bool {
-    let mut back = set.gaps_in(bounds).rev();
-    for pair in gaps.iter().rev() {
-        let Some(gap) = back.next() else {
+    let mut rest = gaps.iter().rev();
+    for gap in set.gaps_in(bounds).rev() {
+        let Some(pair) = rest.next() else {
             return false;
         };
         if gap != (pair.0..=pair.1) {
             return false;
         }
     }
-    back.next().is_none()
+    rest.next().is_none()
 }
 
 /// Whether these runs, gaps and members lie between the bounds.
