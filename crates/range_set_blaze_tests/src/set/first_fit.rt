@@ -1,7 +1,7 @@
 //! The first gap and the first run of a given length, and tables that take blocks from the first
 //! gap with room for them.
 
-ghost use Rattle.std.specs.Prelude.{◌≡◌, ◌&&◌, ◌+◌, ◌<◌, nat_le, nat_lt, List, IfOk, IfSome, IsNone, OnErr};
+ghost use Rattle.std.specs.Prelude.{◌≡◌, ℕ, ◌&&◌, ◌+◌, ◌<◌, nat_le, nat_lt, List, IfOk, IfSome, IsNone, OnErr};
 ghost use Rattle.range_set_blaze.specs.FirstFit.{IsFree};
 ghost use Rattle.range_set_blaze.specs.Runs.{Interval};
 ghost use Rattle.range_set_blaze.specs.Set.{Adds};
@@ -38,6 +38,11 @@ impl<T: Integer, A: Allocator + Clone> Blocks<T, A> {
         ensures taken { IfOk result (λ found. IfSome found (λ start. Adds self.old self.new
             (λ rank. nat_le (T.rank start) rank
             && nat_lt rank (T.rank start + T.SafeLen.number len)))) }
+        ensures lowest { IfOk result (λ found. IfSome found (λ start. (lower : ℕ)
+            → lower < T.rank start
+            → ¬ (IsFree T.value_count self.old lower (T.SafeLen.number len)))) }
+        ensures full { IfOk result (λ found. IsNone found → (start : ℕ)
+            → ¬ (IsFree T.value_count self.old start (T.SafeLen.number len))) }
         ensures none { IfOk result (λ found. IsNone found → self.new ≡ self.old) }
         ensures err { OnErr result (self.new ≡ self.old) }
     {
