@@ -76,6 +76,15 @@ fn lacking_count(set: &RangeSetBlaze<i32>, range: RangeInclusive<i32>) -> usize 
     count
 }
 
+/// Returns how many ranges of a range a set lacks, at any element type without references.
+fn lacking_any<T: Integer + 'static>(set: &RangeSetBlaze<T>, range: RangeInclusive<T>) -> usize {
+    let mut count = 0usize;
+    for _ in lacking(set, range) {
+        count = count.saturating_add(1);
+    }
+    count
+}
+
 /// Two sets, the second of which touches no run of the first.
 static ONE: Table<'static> = &[(1, 6), (8, 9), (11, 15)];
 
@@ -106,5 +115,6 @@ fn a_loop_takes_what_a_function_returned(rt: HostRuntime) -> Result<(), Fail> {
     assert!(rt; gives(lacking(&set, 5..=12), &[(7, 7), (10, 10)]));
     assert!(rt; lacking_count(&set, 5..=12) == 2 && lacking_count(&set, 8..=9) == 0);
     assert!(rt; lacking_count(&set_of(rt.alloc(), OTHER)?, 5..=12) == 1);
+    assert!(rt; lacking_any(&set, 5..=12) == 2 && lacking_any(&set, 8..=9) == 0);
     Ok(())
 }
