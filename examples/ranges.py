@@ -1,11 +1,13 @@
-"""The sets from Python, by ctypes: python3 examples/ranges.py LIBRARY, a shared object of librange_set.a."""
+"""Uses the sets from Python, with ctypes: python3 examples/ranges.py LIBRARY,
+where LIBRARY is a shared object built from librange_set.a.
+"""
 
 import ctypes
 import sys
 
 
 class Set(ctypes.Structure):
-    """A set of 64-bit numbers. Zeros are the empty set."""
+    """A set of 64-bit numbers. If all bytes are zero, it is empty."""
 
     _fields_ = [("rsb_private", ctypes.c_void_p)]
 

@@ -1,4 +1,5 @@
-//! The sets from Rust: rustc examples/ranges.rs -L out/lib -l static=range_set.
+//! Uses the sets from Rust. To build it, run
+//! `rustc examples/ranges.rs -L out/lib -l static=range_set`.
 
 /// A set of 64-bit numbers. Null is the empty set.
 #[repr(C)]
@@ -31,9 +32,9 @@ impl Set {
         Set(core::ptr::null_mut())
     }
 
-    /// Adds first..=last, and says whether one of them was new.
+    /// Adds `first..=last` and returns whether one of its values was new.
     pub fn insert(&mut self, first: u64, last: u64) -> Result<bool, NoMemory> {
-        // A `&mut` is a handle that is used by this call alone.
+        // The `&mut` guarantees that no other call uses the handle.
         match unsafe { calls::rsb_u64_insert_range(self, first, last) } {
             0 => Ok(false),
             1 => Ok(true),
@@ -45,7 +46,7 @@ impl Set {
         unsafe { calls::rsb_u64_contains(self, value) }
     }
 
-    /// What this set has and the other lacks.
+    /// Returns the values in this set that are not in the other.
     pub fn difference(&self, other: &Set) -> Result<Set, NoMemory> {
         if core::ptr::eq(self, other) {
             return Ok(Set::new());
@@ -57,7 +58,7 @@ impl Set {
         }
     }
 
-    /// The runs in ascending order.
+    /// Returns the runs in ascending order.
     pub fn runs(&self) -> impl Iterator<Item = Run> + '_ {
         let mut from = Some(0);
         core::iter::from_fn(move || {

@@ -1,7 +1,9 @@
-// A thin C++ class over the sets of range_set.h: it owns its handle, moves, and is not copied but by clone().
+// A thin C++ class over the sets of range_set.h. It owns its handle and can be moved. Only clone()
+// copies it.
 //
-// What C owes, the class sees to, but for threads: one call at a time changes a set, and none reads it meanwhile. A call
-// that memory is refused throws std::bad_alloc and leaves each set as it was.
+// The class keeps the duties of range_set.h that are about handles and pointers. You keep the
+// others, such as this one on threads: while a call changes a set, no other call uses that set. A
+// call whose allocation fails throws std::bad_alloc and leaves each set unchanged.
 #ifndef RANGE_SET_HPP
 #define RANGE_SET_HPP
 
@@ -67,7 +69,7 @@ public:
         return *this;
     }
 
-    // Whether the call changed the set.
+    // Each insert or remove returns whether it changed the set.
     bool insert(Number value) { return changed(c::insert(&handle_, value)); }
     bool insert(Number first, Number last) { return changed(c::insert_range(&handle_, first, last)); }
     bool remove(Number value) { return changed(c::remove(&handle_, value)); }
@@ -84,7 +86,7 @@ public:
     bool empty() const noexcept { return run_count() == 0; }
     std::size_t run_count() const noexcept { return c::run_count(&handle_); }
 
-    // How many members there are: rsb_u64_count, or std::uint64_t.
+    // The number of members: an rsb_u64_count for std::uint64_t, a std::uint64_t for std::uint32_t.
     auto len() const noexcept { return c::len(&handle_); }
 
     std::optional<Number> first() const noexcept {
@@ -97,14 +99,14 @@ public:
         return c::last(&handle_, &value) ? std::optional<Number>(value) : std::nullopt;
     }
 
-    // The run that has the value and true, or the gap that it lies in and false.
+    // The run that contains the value, and true; or the gap that contains it, and false.
     std::pair<run, bool> run_or_gap(Number value) const noexcept {
         run block{};
         bool member = c::run_or_gap(&handle_, value, &block);
         return {block, member};
     }
 
-    // Hands each run to `each`, in ascending order.
+    // Calls `each` on each run, in ascending order.
     template <class Each> void runs(Each each) const {
         run at{};
         Number from = 0;
@@ -130,7 +132,7 @@ public:
         return this == &other ? empty() : c::is_disjoint(&handle_, &other.handle_);
     }
 
-    // Negative, 0 or positive, as the ascending lists of members compare.
+    // A number below 0, equal to 0 or above 0, as the ascending lists of members compare.
     int order(const set &other) const noexcept { return this == &other ? 0 : c::order(&handle_, &other.handle_); }
 
     friend bool operator==(const set &left, const set &right) noexcept {
@@ -154,7 +156,7 @@ private:
         return out;
     }
 
-    // No call takes one set twice, so a set beside itself is cloned.
+    // No call may get the same set twice, so a set that is combined with itself is cloned first.
     template <class Call> static set combined(Call call, const set &left, const set &right) {
         if (&left == &right) {
             return combined(call, left, right.clone());

@@ -1,4 +1,4 @@
--- The first run, or the first gap, of at least some length.
+-- The first run, or the first gap, that has at least a given length.
 use Rattle.std.specs.Prelude.{ℕ, ◌+◌, ◌<◌, ◌≤◌, List, IsFalse, IsTrue}
 use Rattle.rsb_integer.specs.Runs.{Interval, length_of, members, IsMaximalRun}
 use Rattle.rsb_integer.specs.Selection.{Selection}
@@ -13,22 +13,23 @@ module _ (n : ℕ) (selected : Selection) (len : ℕ) where
   AllShorterBefore rank = (run : Interval) → IsMaximalRun n selected run → run.first < rank
       → length_of run < len
 
-  -- Whether the run is the first maximal one of at least this length.
+  -- Whether `run` is the first maximal run of at least this length.
   pub record IsFirstFit (run : Interval) : Type 0 where
     pub maximal : IsMaximalRun n selected run
     pub long : len ≤ length_of run
     pub first : AllShorterBefore run.first
 
--- Whether the block of `len` ranks from `start` on is in the type, and none of them is a member.
+-- Whether the block of `len` ranks that starts at `start` is within the type, and none of its ranks
+-- is a member.
 pub record IsFree (n : ℕ) (set : List Interval) (start len : ℕ) : Type 0 where
   pub in_type : start + len ≤ n
   pub free : (rank : ℕ) → start ≤ rank → rank < start + len → IsFalse (members set rank)
 
--- Whether every rank of the type from `from` on is a member.
+-- Whether every rank of the type that is at or above `from` is a member.
 abbrev pub HasAllFrom : ℕ → List Interval → ℕ → Type 0
 HasAllFrom n set from = (rank : ℕ) → from ≤ rank → rank < n → IsTrue (members set rank)
 
--- Whether the rank is the first from `from` on that is no member.
+-- Whether `rank` is the first rank at or above `from` that is not a member.
 pub record IsFirstFree (n : ℕ) (set : List Interval) (from rank : ℕ) : Type 0 where
   pub later : from ≤ rank
   pub in_type : rank < n

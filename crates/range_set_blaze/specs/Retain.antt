@@ -12,7 +12,7 @@ use Rattle.rsb_integer.specs.Selection.{Selection}
 use Rattle.range_set_blaze.specs.Kept.{run_of, runs_of}
 use Rattle.range_set_blaze.specs.declared.set.run.Run.{Run}
 
--- The given number of ranks, from `first` on.
+-- The given number of consecutive ranks, starting at `first`.
 unfoldable pub ranks_from : ℕ → ℕ → List ℕ
 ranks_from first zero = []
 ranks_from first (suc more) = first ∷ ranks_from (first + 1) more
@@ -23,23 +23,24 @@ ascending_ranks [] = []
 ascending_ranks (run ∷ runs) = ranks_from run.first (length_of run) ++ ascending_ranks runs
 
 module _ {F T : Type 0} (rank : T → ℕ) (n : ℕ) (g : Mut F (Bor T × Unit {0}) Bool) where
-  -- Whether each call from `f` on returns, for a value of a type of n values, what `keeps` gives
-  -- for its rank. (It is about values only: a test of signed numbers need not go by rank at numbers
-  -- that do not fit.)
+  -- Whether each call, starting with the closure `f`, returns what `keeps` gives for the rank of
+  -- its argument. This is about arguments that are values of a type of n values. (For a signed
+  -- number that does not fit, a test need not depend on the rank.)
   abbrev pub AnswersByRank : Selection → F → Type 0
   AnswersByRank keeps = AlwaysReturns g (λ a r. rank a.0.now < n → r ≡ keeps (rank a.0.now))
 
--- Whether each call from `f` on returns what `keeps` gives for the ranks of the range. The range is
--- of values of a type of n values, and was not iterated to its end. (A test such as
--- `r.start() < r.end()` reads the ends of an emptied range too, and all emptied ranges have the
--- same ranks: none.)
+-- Whether each call, starting with the closure `f`, returns what `keeps` gives for the ranks of its
+-- argument. This is about ranges of values, in a type of n values, that were not iterated to their
+-- end. (All ranges that were have the same ranks, namely none, but a test such as
+-- `r.start() < r.end()` still reads their ends.)
 abbrev pub AnswersByRun : {F T : Type 0} (rank : T → ℕ) (n : ℕ)
     (g : Mut F (Bor (RangeInclusive T) × Unit {0}) Bool) → (Interval → Bool) → F → Type 0
 AnswersByRun rank n g keeps = AlwaysReturns g (λ a r.
     range_inclusive_exhausted a.0.now ≡ false → rank (range_inclusive_start a.0.now) < n
     → rank (range_inclusive_end a.0.now) < n → r ≡ keeps (interval_of rank a.0.now))
 
--- Whether calls from `f` on for these items, one after the other, lead to the state `last`.
+-- Whether calls on these items, one after the other, lead from the closure `f` to the closure
+-- `last`.
 abbrev pub IsAsked : {F X : Type 0} → Mut F (Bor X × Unit {0}) Bool → F → List X → F → Type 0
 IsAsked g f items last =
     FoldsTo (λ before item after. (answer : Bool) × CalledAt g before item answer after) f items last
@@ -48,9 +49,8 @@ IsAsked g f items last =
 
 module _ {F T : Type 0} (rank : T → ℕ) (n : ℕ) where
   module _ (g : Mut F (Bor T × Unit {0}) Bool) (f : F) (set : List Interval) where
-    -- Whether calls from `f` on for the members before the value, in ascending order, led to the
-    -- closure `now`. So the value is a member, and the closure can still be called if it always
-    -- could.
+    -- Whether calls on the members before the value, in ascending order, led from `f` to the
+    -- closure `now`. The value is then a member. If `f` can always be called, so can `now`.
     pub record IsNextMember (now : F) (value : T) : Type 0 where
       pub asked : List T
       pub calls : IsAsked g f asked now
@@ -64,8 +64,8 @@ module _ {F T : Type 0} (rank : T → ℕ) (n : ℕ) where
       pub at : (now : F) (shown : Bor T) → IsNextMember now shown.now → Takes g now (shown, tt)
 
   module _ (g : Mut F (Bor (RangeInclusive T) × Unit {0}) Bool) (f : F) (set : List Interval) where
-    -- Whether calls from `f` on for the runs before the range, in ascending order, led to the
-    -- closure `now`. So the range is a run, and the closure can still be called if it always could.
+    -- Whether calls on the runs before the range, in ascending order, led from `f` to the closure
+    -- `now`. The range is then a run. If `f` can always be called, so can `now`.
     pub record IsNextRun (now : F) (range : RangeInclusive T) : Type 0 where
       pub asked : List (RangeInclusive T)
       pub calls : IsAsked g f asked now
@@ -80,28 +80,29 @@ module _ {F T : Type 0} (rank : T → ℕ) (n : ℕ) where
       pub at : (now : F) (shown : Bor (RangeInclusive T)) → IsNextRun now shown.now
           → Takes g now (shown, tt)
 
--- ---- what it was called on
+-- ---- what a closure was called on
 
--- Whether the closure, from `f` on, was called on each run of the set once, in ascending order.
+-- Whether the closure `f` was called on each run of the set once, in ascending order.
 abbrev pub AsksRuns : {F T : Type 0} (rank : T → ℕ)
     (g : Mut F (Bor (RangeInclusive T) × Unit {0}) Bool) → F → List Interval → Type 0
 AsksRuns {F} {T} rank g f set = (ranges : List (RangeInclusive T)) × (last : F)
     × IsAsked g f ranges last × (intervals_of rank ranges ≡ set)
 
 module _ {F T : Type 0} (rank : T → ℕ) (g : Mut F (Bor T × Unit {0}) Bool) where
-  -- Whether the closure, from `f` on, was called on each member of the set once, in ascending
-  -- order.
+  -- Whether the closure `f` was called on each member of the set once, in ascending order.
   abbrev pub AsksAll : F → List Interval → Type 0
   AsksAll f set = (values : List T) × (last : F) × IsAsked g f values last
       × (map rank values ≡ ascending_ranks set)
 
-  -- Whether it was called so on a prefix of the members.
+  -- Whether the closure `f` was called once on each of some prefix of the members, in ascending
+  -- order.
   abbrev pub AsksFront : F → List Interval → Type 0
   AsksFront f set = (values : List T) × (last : F) × IsAsked g f values last
       × IsPrefix (map rank values) (ascending_ranks set)
 
 module _ {T : Type 0} (rank : T → ℕ) where
-  -- The runs that are left: the rest of one run, if there is any, and those of the entries.
+  -- The runs that are left: the rest of the current run, followed by the runs of the entries. If
+  -- there is no current run, none is left.
   abbrev pub left_runs : Option (Run T) → List (T × T) → List Interval
   left_runs None entries = []
   left_runs (Some run) entries = run_of rank run ∷ runs_of rank entries
@@ -122,8 +123,8 @@ IsCanonicalBelow n low [] = Unit {0}
 IsCanonicalBelow n low (run ∷ runs) = (low ≤ run.first) × (run.first ≤ run.last) × (run.last < n)
     × IsCanonicalBelow n (run.last + 2) runs
 
--- Whether `first` is the first member of the old runs, and the new runs are canonical and have the
--- others.
+-- Whether `first` is the first member of the old runs, and the new runs are canonical and have
+-- exactly the other members.
 pub record IsPastFirst (n : ℕ) (old new : List Interval) (first : ℕ) : Type 0 where
   pub canonical : IsCanonicalBelow n (first + 1) new
   pub listed : ascending_ranks old ≡ first ∷ ascending_ranks new

@@ -1,5 +1,5 @@
--- The words of the contracts of a set. Contracts see a set as the list of its runs, each as the
--- interval of its ranks.
+-- The definitions that the contracts of a set use. Contracts see a set as the list of its runs,
+-- each as the interval of its ranks.
 use Rattle.std.specs.Prelude.{◌≡◌, ℕ, ◌&&◌, ◌==◌, ◌+◌, ◌<◌, ◌≤◌, nat_le, nat_lt, List, IsTrue}
 use Rattle.std.specs.declared.ops.Bound.{Bound}
 use Rattle.std.specs.declared.ops.Bound.TheVariants.{Included, Excluded, Unbounded}
@@ -47,8 +47,8 @@ Removes old new removed = (rank : ℕ) → members new rank ≡ difference (memb
 abbrev pub IsSetOf : List Interval → Selection → Type 0
 IsSetOf set selected = (rank : ℕ) → members set rank ≡ selected rank
 
--- Whether the rank or the one before it is a member, so that a run that starts there or earlier
--- reaches the rank.
+-- Whether the rank or the one before it is a member. If so, some run contains the rank or ends
+-- right before it.
 abbrev pub IsReached : List Interval → ℕ → Type 0
 IsReached set rank = (member : ℕ) × IsTrue (members set member) × (member ≤ rank)
     × (rank ≤ member + 1)

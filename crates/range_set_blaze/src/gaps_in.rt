@@ -1,4 +1,4 @@
-//! The gaps of a set between two bounds, one after the other.
+//! An iterator over the gaps of a set between two bounds.
 
 ghost use Rattle.std.specs.Prelude.{⊤, ◌≡◌};
 ghost use Rattle.std.specs.Iterator.{YieldsFirst, YieldsLast, item_count};
@@ -21,14 +21,14 @@ use std::iter::FusedIterator;
 use std::marker::Model;
 use std::ops::RangeInclusive;
 
-/// The gaps of a set between two bounds, in ascending order, from both ends. The first and the last
-/// have only their values between the bounds. Contracts see it as the list of the ranges still to
-/// come. Not in range-set-blaze.
+/// A double-ended iterator over the gaps of a set between two bounds, in ascending order. A gap
+/// that crosses a bound is shortened to its values between the bounds. Contracts see it as the list
+/// of the ranges still to come. Not in range-set-blaze.
 #[derive(Debug, Drop)]
 pub struct GapsIn<'a, T: Integer> {
-    // From the first value that is still to come to the last, or `None` if none is.
+    // The first and the last value still to come, or `None` if there is none.
     pub(crate) rest: Option<Run<T>>,
-    // The runs that lie between these values.
+    // The runs between those two values.
     pub(crate) entries: Range<'a, T, T>,
 }
 
@@ -44,7 +44,7 @@ impl<'a, T: Integer> Model for GapsIn<'a, T> {
     ghost invariant = { λ s. AreGapsLeft T.rank T.value_count s.rest s.entries };
 }
 
-/// `gaps.clone()?`: a copy has the same ranges still to come. It never fails.
+/// `gaps.clone()?`: returns a copy with the same ranges still to come. It never fails.
 impl<'a, T: Integer> Clone for GapsIn<'a, T> {
     ghost is_clone = { λ gaps copy. copy ≡ gaps };
 

@@ -12,8 +12,9 @@ use std::alloc::{Allocator, Global};
 use std::iter::FusedIterator;
 use std::marker::Model;
 
-/// The elements of a set in ascending order, from both ends. It owns them. Contracts see it as the
-/// list of the runs of the elements still to come. (`IntoIter` in range-set-blaze.)
+/// A double-ended iterator over the elements of a set, in ascending order, that owns them.
+/// Contracts see it as the list of the runs that the elements still to come form. (`IntoIter` in
+/// range-set-blaze.)
 #[derive(Drop)]
 #[derive_where(Debug)]
 pub struct IntoIter<T: Integer, A: Allocator = Global> {

@@ -8,9 +8,10 @@ use rsb_streams::DrawDisjoint;
 use std::alloc::{AllocError, Allocator};
 
 /// Collects a stream of ranges into a set. A file must import this trait to call its method. Not in
-/// range-set-blaze, where the method is one of `SortedDisjoint`.
+/// range-set-blaze, where this is a method of `SortedDisjoint`.
 pub trait IntoRangeSetBlaze<T: Integer>: DrawDisjoint<T> {
-    /// Returns the set of the ranges of a ready stream. If allocation fails, no set is made.
+    /// Returns the set whose runs are the ranges of a ready stream. If allocation fails, no set is
+    /// made.
     final fn into_range_set_blaze<A: Allocator + Copy>(
         self,
         alloc: A,

@@ -15,8 +15,8 @@ use std::iter::FusedIterator;
 use std::marker::Model;
 use std::ops::RangeInclusive;
 
-/// The runs of a set in ascending order, from both ends. It owns them. Contracts see it as the list
-/// of the ranges still to come. (`IntoRangesIter` in range-set-blaze.)
+/// A double-ended iterator over the runs of a set, in ascending order, that owns them. Contracts
+/// see it as the list of the ranges still to come. (`IntoRangesIter` in range-set-blaze.)
 #[derive(Drop)]
 #[derive_where(Debug)]
 pub struct IntoRangesIter<T: Integer, A: Allocator = Global> {

@@ -18,14 +18,14 @@ use rsb_streams::{Draw, SortedDisjoint};
 use std::iter::FusedIterator;
 use std::ops::RangeInclusive;
 
-/// The elements of a stream of ranges in ascending order. It goes from both ends if the stream
-/// does. (`Iter` in range-set-blaze.)
+/// An iterator over the elements of a stream of ranges, in ascending order. It is double-ended if
+/// the stream is. (`Iter` in range-set-blaze.)
 #[derive(Clone, Debug, Drop)]
 pub struct Iter<T, I> {
     pub(crate) ranges: I,
     // Whether the stream has ended. If so, it is not called again.
     pub(crate) done: bool,
-    // What is left of the ranges taken from each end.
+    // What is left of the ranges last taken from the front and from the back.
     pub(crate) front: RangeInclusive<T>,
     pub(crate) back: RangeInclusive<T>,
 }

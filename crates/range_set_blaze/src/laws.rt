@@ -1,5 +1,5 @@
 //! Laws that callers rely on. Each is a function that does nothing, with the law as its clause.
-//! Here too is `cmp_counted`, which returns the order of two sets and the number of iterations it
+//! `cmp_counted` is here too: it returns the order of two sets and the number of iterations it
 //! takes.
 
 pub use crate::set::elements::elements_stand_for_sets;

@@ -31,5 +31,5 @@ pub use crate::prelude::{
     order_by_least_difference, run_bounds_are_ends, some_list_of_events, symmetric_by_union,
 };
 
-/// What the macros call.
+/// The functions that the macros call.
 pub use rsb_many::taken;

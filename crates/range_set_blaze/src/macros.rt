@@ -1,9 +1,10 @@
 //! Set algebra over any number of streams of any types. These are the macros of `rsb_many`, defined
-//! again: a crate that calls a macro has to list the crate that defines it.
+//! again, because a crate that calls a macro must depend on the crate that defines it.
 
-/// Returns the union of the given streams: `union_dyn!(alloc, a, b, ..)`. The streams may have
-/// different types; it collects the ranges of each into a list. Of no streams, the result is empty.
-/// If allocation fails, it still evaluates the arguments that follow, and drops every stream.
+/// Returns the union of the given streams: `union_dyn!(alloc, a, b, ..)`. The streams must be ready
+/// and may have different types. It collects the ranges of each into a list. If there are no
+/// streams, the result is empty. If allocation fails, it still evaluates the arguments that follow,
+/// and drops every stream.
 #[macro_export]
 macro_rules! union_dyn {
     ($alloc:expr $(, $stream:expr)* $(,)?) => {{
@@ -14,9 +15,9 @@ macro_rules! union_dyn {
 }
 
 /// Returns the intersection of the given streams: `intersection_dyn!(alloc, a, b, ..)`. The streams
-/// may have different types; it collects the ranges of each into a list. Of no streams, the result
-/// is every value. If allocation fails, it still evaluates the arguments that follow, and drops
-/// every stream.
+/// must be ready and may have different types. It collects the ranges of each into a list. If there
+/// are no streams, the result is every value. If allocation fails, it still evaluates the arguments
+/// that follow, and drops every stream.
 #[macro_export]
 macro_rules! intersection_dyn {
     ($alloc:expr $(, $stream:expr)* $(,)?) => {{
@@ -27,9 +28,9 @@ macro_rules! intersection_dyn {
 }
 
 /// Returns the values in an odd number of the given streams:
-/// `symmetric_difference_dyn!(alloc, a, b, ..)`. The streams may have different types; it collects
-/// the ranges of each into a list. Of no streams, the result is empty. If allocation fails, it
-/// still evaluates the arguments that follow, and drops every stream.
+/// `symmetric_difference_dyn!(alloc, a, b, ..)`. The streams must be ready and may have different
+/// types. It collects the ranges of each into a list. If there are no streams, the result is empty.
+/// If allocation fails, it still evaluates the arguments that follow, and drops every stream.
 #[macro_export]
 macro_rules! symmetric_difference_dyn {
     ($alloc:expr $(, $stream:expr)* $(,)?) => {{
@@ -39,9 +40,9 @@ macro_rules! symmetric_difference_dyn {
     }};
 }
 
-/// Applies the operation to the streams taken so far and those that follow. It expands to calls
-/// inside one another, which evaluate every stream in order and leave no `match` in the caller's
-/// body. For the macros above; not in range-set-blaze.
+/// Applies the operation to the streams collected so far and those that follow. It expands to
+/// nested calls, which evaluate every stream in order and leave no `match` in the caller's body.
+/// Only for the macros above. Not in range-set-blaze.
 #[macro_export]
 macro_rules! with_all_taken {
     ($operation:ident, $alloc:ident, $taken:expr) => {

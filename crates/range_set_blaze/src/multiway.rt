@@ -23,8 +23,8 @@ use std::alloc::{AllocError, Allocator};
 pub trait MultiwayRangeSetBlaze<T: Integer, S: Allocator>: IntoIterator<
     Item = RangeSetBlaze<T, S>,
 > {
-    /// Returns the union: the values in some of the sets. Of no sets, the result is empty.
-    /// (`MultiwayRangeSetBlaze::union`.)
+    /// Returns the union: the values in at least one of the sets. If there are no sets, the result
+    /// is empty. (`MultiwayRangeSetBlaze::union`.)
     final fn union<A: Allocator + Copy>(self, alloc: A) -> Result<RangeSetBlaze<T, A>, AllocError>
     where
         Self: Sized,
@@ -36,8 +36,8 @@ pub trait MultiwayRangeSetBlaze<T: Integer, S: Allocator>: IntoIterator<
         union_of(alloc, self)
     }
 
-    /// Returns the intersection: the values in all of the sets. Of no sets, the result is every
-    /// value. (`MultiwayRangeSetBlaze::intersection`.)
+    /// Returns the intersection: the values in all of the sets. If there are no sets, the result is
+    /// every value. (`MultiwayRangeSetBlaze::intersection`.)
     final fn intersection<A: Allocator + Copy>(
         self,
         alloc: A,
@@ -52,7 +52,7 @@ pub trait MultiwayRangeSetBlaze<T: Integer, S: Allocator>: IntoIterator<
         intersection_of(alloc, self)
     }
 
-    /// Returns the values in an odd number of the sets. Of no sets, the result is empty.
+    /// Returns the values in an odd number of the sets. If there are no sets, the result is empty.
     /// (`MultiwayRangeSetBlaze::symmetric_difference`.)
     final fn symmetric_difference<A: Allocator + Copy>(
         self,
@@ -82,7 +82,7 @@ pub trait MultiwayRangeSetBlaze<T: Integer, S: Allocator>: IntoIterator<
         ensures members { IfOk result (λ set.
             GaveRun Self.into_iter_gives Self.IntoIter.next_gives self
             (λ sets. IsMadeOf T.value_count (at_least k) sets set)) }
-        // For `k` of 0 every rank is selected, past the type too. Else this holds at every rank.
+        // If `k` is 0, even ranks past the type are selected. Otherwise this holds at every rank.
         ensures exactly { 0 < k → IfOk result (λ set.
             GaveRun Self.into_iter_gives Self.IntoIter.next_gives self
             (λ sets. IsSetOf set (at_least k (map members sets)))) }
@@ -104,8 +104,8 @@ impl<T: Integer, S: Allocator, K: IntoIterator<Item = RangeSetBlaze<T, S>>> Mult
 pub trait MultiwayRangeSetBlazeRef<'a, T: Integer + 'a, S: Allocator + 'a>: IntoIterator<
     Item = &'a RangeSetBlaze<T, S>,
 > {
-    /// Returns the union: the values in some of the sets. Of no sets, the result is empty.
-    /// (`MultiwayRangeSetBlazeRef::union`.)
+    /// Returns the union: the values in at least one of the sets. If there are no sets, the result
+    /// is empty. (`MultiwayRangeSetBlazeRef::union`.)
     final fn union<A: Allocator + Copy>(self, alloc: A) -> Result<RangeSetBlaze<T, A>, AllocError>
     where
         Self: Sized,
@@ -117,8 +117,8 @@ pub trait MultiwayRangeSetBlazeRef<'a, T: Integer + 'a, S: Allocator + 'a>: Into
         union_of(alloc, self)
     }
 
-    /// Returns the intersection: the values in all of the sets. Of no sets, the result is every
-    /// value. (`MultiwayRangeSetBlazeRef::intersection`.)
+    /// Returns the intersection: the values in all of the sets. If there are no sets, the result is
+    /// every value. (`MultiwayRangeSetBlazeRef::intersection`.)
     final fn intersection<A: Allocator + Copy>(
         self,
         alloc: A,
@@ -133,7 +133,7 @@ pub trait MultiwayRangeSetBlazeRef<'a, T: Integer + 'a, S: Allocator + 'a>: Into
         intersection_of(alloc, self)
     }
 
-    /// Returns the values in an odd number of the sets. Of no sets, the result is empty.
+    /// Returns the values in an odd number of the sets. If there are no sets, the result is empty.
     /// (`MultiwayRangeSetBlazeRef::symmetric_difference`.)
     final fn symmetric_difference<A: Allocator + Copy>(
         self,
@@ -163,7 +163,7 @@ pub trait MultiwayRangeSetBlazeRef<'a, T: Integer + 'a, S: Allocator + 'a>: Into
         ensures members { IfOk result (λ set.
             GaveRun Self.into_iter_gives Self.IntoIter.next_gives self
             (λ sets. IsMadeOf T.value_count (at_least k) (map (λ lent. lent.now) sets) set)) }
-        // For `k` of 0 every rank is selected, past the type too. Else this holds at every rank.
+        // If `k` is 0, even ranks past the type are selected. Otherwise this holds at every rank.
         ensures exactly { 0 < k → IfOk result (λ set.
             GaveRun Self.into_iter_gives Self.IntoIter.next_gives self
             (λ sets. IsSetOf set (at_least k (map members (map (λ lent. lent.now) sets))))) }
@@ -182,7 +182,7 @@ impl<
     K: IntoIterator<Item = &'a RangeSetBlaze<T, S>>,
 > MultiwayRangeSetBlazeRef<'a, T, S> for K {}
 
-// A set, by value or by reference, whose runs come as a stream.
+// A set, by value or by reference, that gives its runs as a stream.
 trait GivesRuns<T: Integer>: Sized {
     type Stream: DrawDisjoint<T>;
 
@@ -263,7 +263,7 @@ fn streams_of<T: Integer, S: GivesRuns<T>, A: Allocator, K: IntoIterator<Item = 
     Ok(streams)
 }
 
-// Returns the set of the values in some of the sets.
+// Returns the set of the values in at least one of the sets.
 fn union_of<T: Integer, S: GivesRuns<T>, A: Allocator + Copy, K: IntoIterator<Item = S>>(
     alloc: A,
     sets: K,

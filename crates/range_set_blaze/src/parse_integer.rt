@@ -24,8 +24,8 @@ pub trait ParseInteger: Integer {
         ensures { number result ≡ pos 0 };
 
     /// Appends a decimal digit and returns the number, which is negative or 0 if `negative` is
-    /// true. The sign of this number does not matter. Returns `None` if the result is not a number
-    /// of the type.
+    /// true. The sign of `self` does not matter. Returns `None` if the result is not a number of
+    /// the type.
     fn with_digit(self, negative: bool, digit: u8) -> Option<Self>
         ensures none { IsNone result → ¬ fits
             (signed_by negative (unsigned_abs (number self) * 10 + digit)) }

@@ -19,12 +19,12 @@ use std::iter::FusedIterator;
 use std::marker::Model;
 use std::ops::RangeInclusive;
 
-/// The runs of a set between two bounds, in ascending order, from both ends. The first and the last
-/// run have only their values between the bounds. Contracts see it as the list of the ranges still
-/// to come. Not in range-set-blaze.
+/// A double-ended iterator over the runs of a set between two bounds, in ascending order. A run
+/// that crosses a bound is shortened to its values between the bounds. Contracts see it as the list
+/// of the ranges still to come. Not in range-set-blaze.
 #[derive(Clone, Debug, Drop)]
 pub struct RangesIn<'a, T: Integer> {
-    // The part, from the lower bound on, of a run that starts before it.
+    // The part at or above the lower bound of a run that starts before it, if there is such a run.
     pub(crate) first: Option<Run<T>>,
     // The runs that start between the bounds.
     pub(crate) entries: Range<'a, T, T>,

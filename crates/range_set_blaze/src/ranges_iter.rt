@@ -14,8 +14,8 @@ use std::iter::FusedIterator;
 use std::marker::Model;
 use std::ops::RangeInclusive;
 
-/// The runs of a set in ascending order, from both ends. Contracts see it as the list of the ranges
-/// still to come. (`RangesIter` in range-set-blaze.)
+/// A double-ended iterator over the runs of a set, in ascending order. Contracts see it as the list
+/// of the ranges still to come. (`RangesIter` in range-set-blaze.)
 #[derive(Clone, Debug, Drop)]
 pub struct RangesIter<'a, T: Integer> {
     pub(crate) entries: Iter<'a, T, T>,

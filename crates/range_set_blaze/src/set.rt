@@ -53,7 +53,7 @@ use std::marker::Model;
 /// (`RangeSetBlaze` in range-set-blaze.)
 #[derive(Drop)]
 pub struct RangeSetBlaze<T: Integer, A: Allocator = Global> {
-    // From the start of each run to its end (docs/DECISIONS.md, tree-map).
+    // Maps the start of each run to its end (docs/DECISIONS.md, tree-map).
     map: BTreeMap<T, T, A>,
     length: T::SafeLen,
     // The map's allocator, which calls on this set use to make other sets

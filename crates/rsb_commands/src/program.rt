@@ -55,10 +55,10 @@ pub fn finish<W: Write>(errors: &mut W, outcome: Result<(), Fault>) -> ExitCode
 /// Reads all of the input, runs the commands that its lines spell, and writes a line for each
 /// reply.
 ///
-/// After `BadLine` nothing was written. After `NoMemory` the replies before the command that failed
-/// were written, and nothing else. After `Io` a prefix of the replies was written, shorter than the
-/// whole unless that is empty. `Io` is also returned for an input of 2^64 lines or more. If a line
-/// is bad, nothing is written, whatever the fault is.
+/// After `BadLine`, nothing has been written. After `NoMemory`, exactly the replies before the
+/// command that failed have been written. After `Io`, a prefix of the text of the replies has been
+/// written, and not all of it unless the text is empty. `Io` is also returned for an input of 2^64
+/// lines or more. If a line is bad, nothing is written, whatever the fault is.
 pub fn run<A: Allocator + Copy, R: Read, W: Write>(
     alloc: A,
     input: &mut R,

@@ -25,7 +25,7 @@ impl<E> Model for Element<E> {
     ghost inverse = { λ value. record { 0 = value } };
 }
 
-/// The text for debugging of the value.
+/// Writes the `Debug` text of the value.
 impl<E: Debug> Debug for Element<E> {
     ghost debug_output = { E.debug_output };
 
@@ -34,14 +34,14 @@ impl<E: Debug> Debug for Element<E> {
     }
 }
 
-// The number of values.
+// Returns the number of values of the type.
 fn count<E: Enumerated>() -> u16
     ensures { result ≡ length (E.least ∷ E.others) }
 {
     E::values().len() as u16
 }
 
-// The place of a value, which is below the number of values.
+// Returns the place of a value in the list, which is below the number of values.
 fn place<E: Enumerated>(element: Element<E>) -> u16
     ensures place { result ≡ place_in E.eq (E.least ∷ E.others) element }
     ensures below { result < length (E.least ∷ E.others) }
@@ -50,7 +50,7 @@ fn place<E: Enumerated>(element: Element<E>) -> u16
     element.0.number()
 }
 
-// The value at a place.
+// Returns the value at a place of the list.
 fn element_at<E: Enumerated>(place: u16) -> Element<E>
     requires { place < length (E.least ∷ E.others) }
     ensures { place_in E.eq (E.least ∷ E.others) result ≡ place }

@@ -36,7 +36,7 @@ pub trait Enumerated: Copy + PartialEq + PartialOrd + Ord + Debug {
     // There are at least two values.
     ghost some_values: { 2 ≤ length (least ∷ others) };
 
-    // Their number is a `u16`.
+    // Their number fits in a `u16`.
     ghost few_values: { length (least ∷ others) ≤ 65_535 };
 
     // Two ends of ranges, each of which may be missing, fit in memory.

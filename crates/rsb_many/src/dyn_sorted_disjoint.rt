@@ -18,9 +18,9 @@ use std::marker::Model;
 use std::ops::RangeInclusive;
 use std::vec::IntoIter;
 
-/// All ranges of a stream, collected when it was built. Its own type does not depend on the type of
-/// that stream. Contracts see it as the list of the ranges still to come. (`DynSortedDisjoint` of
-/// the Rust crate, which keeps the stream.)
+/// A stream of all ranges of another stream, which it collects when it is built. Its type does not
+/// depend on the type of the other stream. Contracts see it as the list of the ranges still to
+/// come. (`DynSortedDisjoint` in range-set-blaze, which keeps the other stream.)
 #[derive(Drop)]
 pub struct DynSortedDisjoint<T, A: Allocator = Global> {
     ranges: IntoIter<RangeInclusive<T>, A>,

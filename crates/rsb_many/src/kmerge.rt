@@ -16,8 +16,8 @@ use std::ops::RangeInclusive;
 
 /// The ranges of any number of streams, ordered by their starts. Ranges with equal starts come in
 /// an unspecified order. It draws the next range of a stream only after it has returned the
-/// previous one and another is asked for. It allocates only when it is built. (`KMerge` of the Rust
-/// crate.)
+/// previous one and another is asked for. It allocates only when it is built. (`KMerge` in
+/// range-set-blaze.)
 #[derive(Debug, Drop)]
 pub struct KMerge<T: Integer, I, A: Allocator = Global> {
     inputs: Drawn<T, I, A>,

@@ -22,7 +22,7 @@ use std::alloc::{AllocError, Allocator};
 
 /// Set algebra over finitely many streams of one type, each of which must be ready. Each call
 /// allocates only to build its result, and then draws the first range of each stream. If allocation
-/// fails, the streams are dropped. (`MultiwaySortedDisjoint` of the Rust crate.)
+/// fails, the streams are dropped. (`MultiwaySortedDisjoint` in range-set-blaze.)
 pub trait MultiwaySortedDisjoint<T: Integer, I: DrawDisjoint<T>>: IntoIterator<Item = I> {
     /// Returns the union of the streams, which is empty if there are none. It looks ahead by at
     /// most one range of each. (`MultiwaySortedDisjoint::union`.)

@@ -21,10 +21,10 @@ use rsb_streams::{Draw, DrawDisjoint, SortedTouching};
 use std::alloc::{AllocError, Allocator, Global};
 use std::iter::FusedIterator;
 
-/// The events of any number of streams, ordered by value: each range of each stream starts and
-/// ends. At one value, starts come before ends, and inputs come in the order of their numbers. It
-/// holds at most one range of each stream. It allocates only when it is built. (`MultiwaySweep` of
-/// the Rust crate.)
+/// The events of any number of streams, ordered by value: the start and the end of each range of
+/// each stream. At the same value, starts come before ends, and streams come in the order of their
+/// numbers. It holds at most one range of each stream. It allocates only when it is built.
+/// (`MultiwaySweep` in range-set-blaze.)
 #[derive(Debug, Drop)]
 pub struct MultiwaySweep<T: Integer, I, A: Allocator = Global> {
     inputs: Drawn<T, I, A>,
@@ -80,8 +80,8 @@ impl<T: Integer, I: Draw<T>, A: Allocator> MultiwaySweep<T, I, A> {
 }
 
 impl<T: Integer, I: Draw<T>, A: Allocator> MultiwaySweep<T, I, A> {
-    /// Returns the number of streams, including those that have ended. (`input_count` of the Rust
-    /// crate.)
+    /// Returns the number of streams, including those that have ended. (`input_count` in
+    /// range-set-blaze.)
     pub fn input_count(&self) -> usize
         ensures { result ≡ stream_count self.now }
     {

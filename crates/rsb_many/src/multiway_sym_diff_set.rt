@@ -19,7 +19,7 @@ use std::ops::RangeInclusive;
 
 /// What lies in an odd number of the streams: nothing if there are none. It draws the first range
 /// of each stream when it is built, and holds at most one range of each. It allocates only when it
-/// is built. (`MultiwaySymmetricDifference` of the Rust crate.)
+/// is built. (`MultiwaySymmetricDifference` in range-set-blaze.)
 #[derive(Debug, Drop)]
 pub struct MultiwaySymmetricDifference<T: Integer, I, A: Allocator = Global> {
     iter: UnionIter<T, SweepPieces<T, I, A>>,

@@ -9,7 +9,7 @@ use std::alloc::{AllocError, Allocator, Global};
 use std::marker::{Model, PhantomData};
 use std::vec::IntoIter;
 
-/// Ready streams of one type, in the order in which they were added. A loop can fill it without an
+/// Ready streams of one type, in the order in which they were added. A loop that fills it needs no
 /// invariant. Every operation on many streams takes it by value, such as `streams.union(alloc)?` or
 /// `MultiwaySweep::new(alloc, streams)?`. Contracts see it as the list of its streams. Not in
 /// range-set-blaze.

@@ -2,8 +2,8 @@
 
 use crate::set_no::SetNo;
 
-/// A command to the sets in the given slots. A target may also be a source: it becomes the result
-/// for the sets as they were before the command.
+/// A command to the sets in the given slots. A target may also be a source: the result is computed
+/// from the sets as they were before the command.
 #[derive(Clone, Copy, Debug, PartialEq, Eq)]
 pub enum Command<T> {
     /// Adds the values from `first` to `last`, and reports whether one of them was new.

@@ -26,7 +26,7 @@ pub trait Draw<T: Integer>: Drop {
     // The greatest number of ranges that may be left.
     ghost draws_left: { Self → Count };
 
-    // The lists that may still come, as intervals of ranks.
+    // The lists of ranges that may still come, each range as an interval of ranks.
     ghost may_give: { Self → Outcomes };
 
     /// Returns the next range of a ready stream, or `None` at the end.
@@ -35,11 +35,13 @@ pub trait Draw<T: Integer>: Drop {
         ensures steps { draw_gives self.old result self.new }
         ensures goes { MakesProgress can_draw draws_left self.old result self.new };
 
-    // A draw returns what may come next, and leaves what may come after it.
+    // A draw returns a range that may come next, and leaves a source that gives only what may come
+    // after it.
     ghost answers: { (s t : Self) (item : Option (RangeInclusive T))
         → draw_gives s item t → Answers T.rank may_give s item t };
 
-    // A ready source may give something, it is sorted by start, and it ends.
+    // At least one list may come from a ready source. Each such list has non-empty ranges, sorted
+    // by start, and the draws end.
     ghost sorted: { (s : Self) → can_draw s
         → Keeps (HasSortedStarts T.value_count) (may_give s) (draws_left s) };
 }

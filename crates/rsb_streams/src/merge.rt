@@ -14,8 +14,8 @@ use std::iter::FusedIterator;
 use std::ops::RangeInclusive;
 
 /// The ranges of two streams, sorted by start. The order of two ranges with the same start is
-/// unspecified. It draws a range from a stream only when it is asked for one more and has given the
-/// one that it held. (`Merge` in range-set-blaze.)
+/// unspecified. It holds at most one range of each stream. When asked for a range, it draws from a
+/// stream only if it holds none of that stream. (`Merge` in range-set-blaze.)
 #[derive(Clone, Debug, Drop)]
 pub struct Merge<T, L, R> {
     left: PutBack<T, L>,

@@ -11,8 +11,8 @@ use rsb_integer::Integer;
 use std::iter::FusedIterator;
 use std::ops::RangeInclusive;
 
-/// The gaps of a stream, to both ends of the type. It holds no range of the stream. (`NotIter` in
-/// range-set-blaze.)
+/// The gaps of a stream, from the least value of the type to the greatest. It holds no range of the
+/// stream. (`NotIter` in range-set-blaze.)
 #[derive(Clone, Debug, Drop)]
 pub struct NotIter<T, I> {
     iter: I,
@@ -31,7 +31,7 @@ impl<T: Integer, I: DrawDisjoint<T>> NotIter<T, I> {
 }
 
 impl<T: Integer, I: DrawDisjoint<T>> From<I> for NotIter<T, I> {
-    // From a ready stream, this makes its complement. Nothing is drawn yet.
+    // Makes the complement of a ready stream. Draws nothing yet.
     ghost from_gives = { λ iter result. I.can_draw iter
         → MakesComplement T.Integer.own I.Draw ⟦<NotIter<T, I> as Draw<T>>⟧ iter result };
 

@@ -6,8 +6,8 @@ use std::fmt;
 use std::ops::RangeInclusive;
 
 /// A list of ranges that is not canonical, with its first bad position, counted from 0. The range
-/// there is empty, or does not start more than one past the end of the range before. Not in
-/// range-set-blaze, which panics.
+/// there is empty, or starts at most one past the end of the range before. Not in range-set-blaze,
+/// which panics.
 #[derive(Debug, Drop, PartialEq, Eq)]
 pub struct NotSortedDisjoint<T, A: Allocator = Global> {
     /// The first bad position, counted from 0.

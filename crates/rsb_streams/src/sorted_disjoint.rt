@@ -44,13 +44,14 @@ use std::ops::RangeInclusive;
 
 /// A stream of non-empty ranges, sorted by start. (`SortedStarts` in range-set-blaze.)
 ///
-/// Your own stream states what it may give in its `Draw`, whose `draw` is its `next`, and gives
-/// `drawn-itself` for the law here. After `None`, the streams of this crate return `None` again. No
-/// law says so for other streams, so this crate holds each stream in a way that never calls it
+/// For a stream of your own, `Draw` states what it may give. Its `draw` must do what its `next`
+/// does; the law here is then `drawn-itself`. After `None`, the streams of this crate return `None`
+/// again. No law says so for other streams, so the streams of this crate never call another stream
 /// again after its end.
 pub trait SortedStarts<T: Integer>: Iterator<Item = RangeInclusive<T>> + FusedIterator + Draw<T> {
-    /// Does nothing. An implementation for a type that contains a closure needs a function of its
-    /// own, and this can be it. Not in range-set-blaze.
+    /// Does nothing. In an implementation for a type that contains a closure, the bound on the
+    /// closure is known only if the implementation has a function of its own. This can be that
+    /// function. Not in range-set-blaze.
     fn mark_sorted(&self) {}
 
     // `next` does what `draw` does.
@@ -59,11 +60,13 @@ pub trait SortedStarts<T: Integer>: Iterator<Item = RangeInclusive<T>> + FusedIt
 }
 
 /// A source of ranges in ascending order that neither overlap nor touch, with the operations on it.
-/// Not in range-set-blaze; every `SortedDisjoint` is one. A call of an operation passes the
-/// dictionaries of all its bounds, so the only supertrait is `Draw`.
+/// Not in range-set-blaze; every `SortedDisjoint` is one. `Draw` is its only supertrait, because a
+/// call of an operation passes a dictionary for each of its bounds and for each supertrait of
+/// those.
 pub trait DrawDisjoint<T: Integer>: Draw<T> {
-    /// Returns the gaps of a ready stream, to both ends of the type: at most one more than it has
-    /// runs. Does not allocate, and draws nothing yet. (`SortedDisjoint::complement`.)
+    /// Returns the gaps of a ready stream, from the least value of the type to the greatest. It has
+    /// at most one run more than the stream. Does not allocate, and draws nothing yet.
+    /// (`SortedDisjoint::complement`.)
     final fn complement(self) -> NotIter<T, Self>
     where
         Self: Sized,
@@ -76,7 +79,7 @@ pub trait DrawDisjoint<T: Integer>: Draw<T> {
     }
 
     /// Returns the union of two ready streams. It has at most as many runs as both together, and
-    /// looks at most one range ahead in each. Does not allocate, and draws nothing yet.
+    /// looks ahead by at most one range in each. Does not allocate, and draws nothing yet.
     /// (`SortedDisjoint::union`.)
     final fn union<R: DrawDisjoint<T>>(self, other: R) -> Union<T, Self, R>
     where
@@ -155,9 +158,9 @@ pub trait DrawDisjoint<T: Integer>: Draw<T> {
         FillGapsIter::over(self, T::min_value())
     }
 
-    /// Returns the number of members of a ready stream, from one of the lists that it may give.
-    /// Draws to the end, and does not allocate. Not in range-set-blaze: iterators already have
-    /// `len` and `count`.
+    /// Returns the number of members of a ready stream. If the stream may give several lists, the
+    /// number is that of one of them. Draws to the end, and does not allocate. Not in
+    /// range-set-blaze. It is not called `len` or `count`, since iterators already have those.
     final fn members_len(self) -> T::SafeLen
     where
         Self: Sized,
@@ -230,8 +233,8 @@ pub trait DrawDisjoint<T: Integer>: Draw<T> {
     }
 
     /// Returns whether each member of `self` is a member of `other`. Both must be ready. If some
-    /// are not, it draws from both at most as far as the second run of those members, and one more
-    /// range from each. Otherwise it draws to both ends. Does not allocate.
+    /// members are not, it draws from each stream no further than the second run of such members,
+    /// and one more range. Otherwise it draws to both ends. Does not allocate.
     /// (`SortedDisjoint::is_subset`.)
     final fn is_subset<R: DrawDisjoint<T>>(self, other: R) -> bool
     where
@@ -245,7 +248,7 @@ pub trait DrawDisjoint<T: Integer>: Draw<T> {
     }
 
     /// Returns whether each member of `other` is a member of `self`. Both must be ready. Draws as
-    /// `other.is_subset(self)` does. (`SortedDisjoint::is_superset`.)
+    /// much as `other.is_subset(self)` does. (`SortedDisjoint::is_superset`.)
     final fn is_superset<R: DrawDisjoint<T>>(self, other: R) -> bool
     where
         Self: Sized,
@@ -258,8 +261,8 @@ pub trait DrawDisjoint<T: Integer>: Draw<T> {
     }
 
     /// Returns whether two ready streams have no member in common. If they have some, it draws from
-    /// both at most as far as the second run of those members, and one more range from each.
-    /// Otherwise it draws to both ends. Does not allocate. (`SortedDisjoint::is_disjoint`.)
+    /// each stream no further than the second run of common members, and one more range. Otherwise
+    /// it draws to both ends. Does not allocate. (`SortedDisjoint::is_disjoint`.)
     final fn is_disjoint<R: DrawDisjoint<T>>(self, other: R) -> bool
     where
         Self: Sized,
@@ -271,8 +274,9 @@ pub trait DrawDisjoint<T: Integer>: Draw<T> {
         self.intersection(other).is_empty()
     }
 
-    /// Does nothing. An implementation for a type that contains a closure needs a function of its
-    /// own, and this can be it. Not in range-set-blaze.
+    /// Does nothing. In an implementation for a type that contains a closure, the bound on the
+    /// closure is known only if the implementation has a function of its own. This can be that
+    /// function. Not in range-set-blaze.
     fn mark_disjoint(&self) {}
 
     // Whatever a ready stream may give is canonical.

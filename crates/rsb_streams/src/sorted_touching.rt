@@ -29,8 +29,9 @@ pub trait SortedTouching<T: Integer>: SortedStarts<T> {
         UnionIter::new(self)
     }
 
-    /// Does nothing. An implementation for a type that contains a closure needs a function of its
-    /// own, and this can be it. Not in range-set-blaze.
+    /// Does nothing. In an implementation for a type that contains a closure, the bound on the
+    /// closure is known only if the implementation has a function of its own. This can be that
+    /// function. Not in range-set-blaze.
     fn mark_touching(&self) {}
 
     // Whatever a ready stream may give ascends, and no two ranges of it overlap.

@@ -24,9 +24,9 @@ pub struct SymDiffIter<T, L, R> {
 }
 
 impl<T, L, R> SymDiffIter<T, L, R> {
-    /// Returns the number of ends that it holds of ranges that have begun and not ended: at most
-    /// one. During a call, the end of the range just drawn is beside it, in a vector of two that
-    /// never has to hold a third. Not in range-set-blaze.
+    /// Returns the number of pending ends: the ends, held between calls, of ranges that have begun
+    /// and not ended. It is at most one. During a call, the end of the range just drawn is pending
+    /// too, so there are at most two. Not in range-set-blaze.
     pub fn pending_ends(&self) -> usize
         ensures ends { result ≡ length (ends_held self.now) }
         ensures bound { result ≤ 1 }
@@ -36,7 +36,7 @@ impl<T, L, R> SymDiffIter<T, L, R> {
 }
 
 impl<T: Integer, L: DrawDisjoint<T>, R: DrawDisjoint<T>> From<(L, R)> for SymDiffIter<T, L, R> {
-    // From two ready streams, this makes their symmetric difference.
+    // Makes the symmetric difference of two ready streams.
     ghost from_gives = { λ streams result. L.can_draw streams.0 → R.can_draw streams.1
         → MakesSymmetricDifference T.Integer.own L.Draw R.Draw ⟦<SymDiffIter<T, L, R> as Draw<T>>⟧
         streams.0 streams.1 result };

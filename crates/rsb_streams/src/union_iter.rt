@@ -57,7 +57,7 @@ impl<T: Integer, SS: Draw<T>> UnionIter<T, SS> {
 }
 
 impl<T: Integer, L: Draw<T>, R: Draw<T>> From<(L, R)> for UnionIter<T, Merge<T, L, R>> {
-    // From two ready streams, this makes their union. Nothing is drawn yet. Not in range-set-blaze.
+    // Makes the union of two ready streams. Draws nothing yet. Not in range-set-blaze.
     ghost from_gives = { λ streams result. L.can_draw streams.0 → R.can_draw streams.1
         → MakesUnionIter T.Integer.own L.Draw R.Draw ⟦<UnionIter<T, Merge<T, L, R>> as Draw<T>>⟧
         streams.0 streams.1 result };

@@ -18,11 +18,11 @@ use rsb_integer::Integer;
 use std::iter::{Fuse, FusedIterator};
 use std::ops::RangeInclusive;
 
-/// The ranges of an iterator, in its order, joined one after the other. If a range overlaps or
-/// touches the range gathered so far, it is joined to it. Otherwise the gathered range is given,
-/// and the new one takes its place. So ranges that are nearly in order, or in clusters, become few.
-/// Empty ranges are skipped. It holds at most one range. (`UnsortedDisjoint` in range-set-blaze,
-/// where it is private.)
+/// The ranges of an iterator, in its order, with neighbors joined. A range that overlaps or touches
+/// the one gathered so far is joined to it. Otherwise the gathered range is returned, and the new
+/// one takes its place. So ranges that are nearly in order, or in clusters, become few. Empty
+/// ranges are skipped. It holds at most one range. (`UnsortedDisjoint` in range-set-blaze, where it
+/// is private.)
 #[derive(Drop)]
 pub struct UnsortedDisjoint<T, I> {
     iter: Fuse<I>,
@@ -31,8 +31,8 @@ pub struct UnsortedDisjoint<T, I> {
 }
 
 impl<T: Integer, I: Iterator<Item = RangeInclusive<T>>> UnsortedDisjoint<T, I> {
-    /// Returns the joined ranges of an iterator that may be called and ends. Does not allocate, and
-    /// draws nothing yet. (`UnsortedDisjoint::new`.)
+    /// Returns the joined ranges of an iterator that ends and whose `next` can be called. Does not
+    /// allocate, and draws nothing yet. (`UnsortedDisjoint::new`.)
     pub fn new(iter: I) -> Self
         requires callable { I.can_next iter }
         requires finite { IsFinite (I.remaining iter) }

@@ -1,4 +1,4 @@
-//! The gaps that are left, by the runs between the first and the last of their values.
+//! Takes gaps off both ends of a `GapsIn`.
 
 ghost use Rattle.std.specs.Prelude.{◌≡◌, [], ◌∷◌, ◌++◌, MatchOption};
 ghost use Rattle.range_set_blaze.specs.GapsIn.{gaps_left, AreGapsLeft};
@@ -9,7 +9,7 @@ use crate::set::run::Run;
 use rsb_integer::Integer;
 use std::collections::btree_map::Range;
 
-/// Takes off the first gap.
+/// Removes the first gap and returns it, or returns `None` if there is none.
 #[inline(always)]
 pub(crate) fn take_first<T: Integer>(
     rest: &mut Option<Run<T>>,
@@ -37,7 +37,7 @@ pub(crate) fn take_first<T: Integer>(
     })
 }
 
-/// Takes off the last gap.
+/// Removes the last gap and returns it, or returns `None` if there is none.
 pub(crate) fn take_last<T: Integer>(
     rest: &mut Option<Run<T>>,
     entries: &mut Range<'_, T, T>,

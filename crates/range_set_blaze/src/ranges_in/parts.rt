@@ -1,4 +1,4 @@
-//! What a window is made of: a run that is held, and entries of a map.
+//! Takes runs off both ends of a `RangesIn`, which has a run that is held and entries of a map.
 
 ghost use Rattle.std.specs.Prelude.{◌≡◌, [], ◌∷◌, ◌++◌, MatchOption};
 ghost use Rattle.range_set_blaze.specs.Kept.{entry_of};
@@ -9,7 +9,8 @@ use crate::set::run::{Run, is_below, known};
 use rsb_integer::Integer;
 use std::collections::btree_map::Range;
 
-/// Takes off the run that is held, or else the first entry.
+/// Removes the held run and returns it. If no run is held, removes the first entry and returns its
+/// run, or returns `None` if there is none.
 #[inline(always)]
 pub(crate) fn take_first<T: Integer>(
     held: &mut Option<Run<T>>,
@@ -26,7 +27,8 @@ pub(crate) fn take_first<T: Integer>(
     Some(run)
 }
 
-/// Takes off the last entry, or else the run that is held.
+/// Removes the last entry and returns its run. If there is none, removes the held run and returns
+/// it, or returns `None` if no run is held.
 pub(crate) fn take_last<T: Integer>(
     held: &mut Option<Run<T>>,
     entries: &mut Range<'_, T, T>,
@@ -41,7 +43,7 @@ pub(crate) fn take_last<T: Integer>(
     Some(run)
 }
 
-/// The lesser of two values.
+/// Returns the lesser of two values.
 #[inline(always)]
 pub(crate) fn lesser<T: Integer>(left: T, right: T) -> T
     ensures { result ≡ lesser_of T.rank left right }

@@ -12,8 +12,8 @@ use rsb_integer::Integer;
 use std::alloc::{AllocError, Allocator};
 
 impl<T: Integer, A: Allocator + Copy> RangeSetBlaze<T, A> {
-    /// Keeps the members that another set has too, by one pass over both sets. If allocation fails,
-    /// the set is unchanged. Does not allocate if one of the sets is empty. Write
+    /// Keeps only the members that are also in another set, in one pass over both sets. If
+    /// allocation fails, the set is unchanged. Does not allocate if one of the sets is empty. Write
     /// `a.bitand_assign(&b)?` for `a &= &b`. Not in range-set-blaze.
     pub fn bitand_assign<B: Allocator>(
         &mut self,
@@ -34,7 +34,7 @@ impl<T: Integer, A: Allocator + Copy> RangeSetBlaze<T, A> {
         Ok(())
     }
 
-    /// Removes the members of another set, by one pass over both sets. If allocation fails, the set
+    /// Removes the members of another set, in one pass over both sets. If allocation fails, the set
     /// is unchanged. Does not allocate if one of the sets is empty. Write `a.sub_assign(&b)?` for
     /// `a -= &b`. Not in range-set-blaze.
     pub fn sub_assign<B: Allocator>(
@@ -55,7 +55,7 @@ impl<T: Integer, A: Allocator + Copy> RangeSetBlaze<T, A> {
         Ok(())
     }
 
-    /// Keeps the members that another set lacks, and adds those that only the other set has, by one
+    /// Keeps the members that another set lacks, and adds those that only the other set has, in one
     /// pass over both sets. If allocation fails, the set is unchanged. Does not allocate if the
     /// other set is empty. Write `a.bitxor_assign(&b)?` for `a ^= &b`. Not in range-set-blaze.
     pub fn bitxor_assign<B: Allocator>(

@@ -15,8 +15,8 @@ use std::alloc::{AllocError, Allocator};
 use std::ops::RangeInclusive;
 
 impl<T: Integer, A: Allocator + Copy> RangeSetBlaze<T, A> {
-    /// Returns the set of the ranges of a ready stream. If allocation fails, no set is made.
-    /// (`RangeSetBlaze::from_sorted_disjoint`.)
+    /// Returns the set whose runs are the ranges of a ready stream. If allocation fails, no set is
+    /// made. (`RangeSetBlaze::from_sorted_disjoint`.)
     pub fn from_sorted_disjoint<I: DrawDisjoint<T>>(alloc: A, iter: I) -> Result<Self, AllocError>
         requires { I.can_draw iter }
         ensures runs { IfOk result (λ set. I.may_give iter set) }

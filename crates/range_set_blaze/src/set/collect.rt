@@ -1,4 +1,5 @@
-//! `FromIterator` and `Extend` for sets. Each returns what the set's own call returns.
+//! `FromIterator` and `Extend` for sets. Each calls the inherent method of the set and returns its
+//! result.
 
 ghost use Rattle.std.specs.Iterator.{ExtendsWithItems};
 ghost use Rattle.std.specs.Prelude.{OnOk};
@@ -11,8 +12,8 @@ use rsb_integer::Integer;
 use std::alloc::{AllocError, Allocator};
 use std::ops::RangeInclusive;
 
-/// `values.collect(alloc)?`: returns the set of the values, in any order. If allocation fails, no
-/// set is made.
+/// `values.collect(alloc)?`: returns the set of the values, which may come in any order. If
+/// allocation fails, no set is made.
 impl<T: Integer, A: Allocator + Copy> FromIterator<T> for RangeSetBlaze<T, A> {
     type Alloc = A;
 
@@ -23,8 +24,8 @@ impl<T: Integer, A: Allocator + Copy> FromIterator<T> for RangeSetBlaze<T, A> {
     }
 }
 
-/// `ranges.collect(alloc)?`: returns the set of the values of the ranges, in any order. A range may
-/// be empty. If allocation fails, no set is made.
+/// `ranges.collect(alloc)?`: returns the set of the values of the ranges, which may come in any
+/// order and may be empty. If allocation fails, no set is made.
 impl<T: Integer, A: Allocator + Copy> FromIterator<RangeInclusive<T>> for RangeSetBlaze<T, A> {
     type Alloc = A;
 
@@ -38,8 +39,8 @@ impl<T: Integer, A: Allocator + Copy> FromIterator<RangeInclusive<T>> for RangeS
     }
 }
 
-/// `Extend::extend(&mut set, values)?`: adds the values, in any order. If allocation fails, those
-/// that came before stay added.
+/// `Extend::extend(&mut set, values)?`: adds the values, which may come in any order. If allocation
+/// fails, a prefix of the values has been added.
 impl<T: Integer, A: Allocator + Clone> Extend<T> for RangeSetBlaze<T, A> {
     ghost extend_gives = { AddsValues T.rank };
 
@@ -54,8 +55,8 @@ impl<T: Integer, A: Allocator + Clone> Extend<T> for RangeSetBlaze<T, A> {
     }
 }
 
-/// `Extend::extend(&mut set, ranges)?`: adds the values of the ranges, in any order. If allocation
-/// fails, those of the ranges that came before stay added.
+/// `Extend::extend(&mut set, ranges)?`: adds the values of the ranges, which may come in any order.
+/// If allocation fails, a prefix of the ranges has been added.
 impl<T: Integer, A: Allocator + Clone> Extend<RangeInclusive<T>> for RangeSetBlaze<T, A> {
     ghost extend_gives = { AddsItems T.rank };
 

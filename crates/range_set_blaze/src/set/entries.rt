@@ -1,4 +1,4 @@
-//! Runs as entries of an ordered map, from starts to ends.
+//! Runs as entries of a `BTreeMap`, which maps the start of each run to its end.
 
 ghost use Rattle.std.specs.Prelude.{◌≡◌, ℕ, ◌+◌, ◌<◌, [], ◌∷◌, ◌++◌, Contains, IfOk, IsNone, IsOk, MatchOption, OnErr, OnOk};
 ghost use Rattle.rsb_integer.specs.Runs.{Interval};
@@ -12,7 +12,7 @@ use std::collections::BTreeMap;
 use std::collections::btree_map::{Iter, Range};
 use std::ops::Bound;
 
-/// Takes the last run off some entries.
+/// Removes the last of some entries and returns its run, or returns `None` if there is none.
 pub(crate) fn last_run<T: Integer>(entries: &mut Range<'_, T, T>) -> Option<Run<T>>
     ensures run { MatchOption result (entries.old ≡ [])
         (λ run. entries.old ≡ entries.new ++ entry_of run ∷ []) }
@@ -25,7 +25,7 @@ pub(crate) fn last_run<T: Integer>(entries: &mut Range<'_, T, T>) -> Option<Run<
     })
 }
 
-/// Takes the first run off some entries.
+/// Removes the first of some entries and returns its run, or returns `None` if there is none.
 pub(crate) fn next_run<T: Copy>(entries: &mut Iter<'_, T, T>) -> Option<Run<T>>
     ensures { MatchOption result (entries.old ≡ [])
         (λ run. entries.old ≡ entry_of run ∷ entries.new) }
@@ -37,7 +37,7 @@ pub(crate) fn next_run<T: Copy>(entries: &mut Iter<'_, T, T>) -> Option<Run<T>>
     })
 }
 
-/// Takes the first run off some entries of a range.
+/// Does the same as `next_run`, for the entries of a range of keys.
 #[inline(always)]
 pub(crate) fn next_in_range<T: Integer>(entries: &mut Range<'_, T, T>) -> Option<Run<T>>
     ensures run { MatchOption result (entries.old ≡ [])
@@ -51,7 +51,7 @@ pub(crate) fn next_in_range<T: Integer>(entries: &mut Range<'_, T, T>) -> Option
     })
 }
 
-/// The first of all runs.
+/// Returns the first run of a map, or `None` if there is none.
 pub(crate) fn first_run<T: Integer, A: Allocator>(map: &BTreeMap<T, T, A>) -> Option<Run<T>>
     ensures { MatchOption result (runs_of T.rank map.now.entries ≡ [])
         (λ run. StartsWith (runs_of T.rank map.now.entries) (run_of T.rank run)) }
@@ -59,7 +59,7 @@ pub(crate) fn first_run<T: Integer, A: Allocator>(map: &BTreeMap<T, T, A>) -> Op
     next_run(&mut map.iter())
 }
 
-/// The last run that starts at a value or before it.
+/// Returns the last run that starts at or before a value, or `None` if there is none.
 pub(crate) fn run_up_to<T: Integer, A: Allocator>(
     map: &BTreeMap<T, T, A>,
     value: T,
@@ -74,7 +74,7 @@ pub(crate) fn run_up_to<T: Integer, A: Allocator>(
     last_run(&mut entries)
 }
 
-/// The first run that starts after a value.
+/// Returns the first run that starts after a value, or `None` if there is none.
 pub(crate) fn run_after<T: Integer, A: Allocator>(
     map: &BTreeMap<T, T, A>,
     value: T,
@@ -94,8 +94,8 @@ pub(crate) fn run_after<T: Integer, A: Allocator>(
     })
 }
 
-/// Puts a run at its place, and takes out one that starts where it does. Without memory nothing is
-/// changed.
+/// Inserts a run, in place of any run with the same start. It does not allocate if there is such a
+/// run. If allocation fails, the entries are unchanged.
 pub(crate) fn put_entry<T: Integer, A: Allocator + Clone>(
     map: &mut BTreeMap<T, T, A>,
     run: Run<T>,
@@ -108,12 +108,12 @@ pub(crate) fn put_entry<T: Integer, A: Allocator + Clone>(
     ensures succeeds { (other : Interval) → Contains (runs_of T.rank map.old.entries) other
         → other.first ≡ T.rank run.start → IsOk result }
 {
-    // A run that starts here gets a new end so, too (docs/DECISIONS.md, insert-at-start).
+    // This also gives a new end to a run that starts here (docs/DECISIONS.md, insert-at-start).
     map.insert(run.start, run.end)?;
     Ok(())
 }
 
-/// Takes out the run that starts at a value.
+/// Removes the run that starts at a value, if there is one.
 pub(crate) fn take_entry<T: Integer, A: Allocator>(map: &mut BTreeMap<T, T, A>, start: T)
     requires ascending { StartsAscendFrom T.value_count 0 (runs_of T.rank map.old.entries) }
     requires value { T.rank start < T.value_count }
@@ -123,8 +123,8 @@ pub(crate) fn take_entry<T: Integer, A: Allocator>(map: &mut BTreeMap<T, T, A>, 
     map.remove(&start);
 }
 
-/// Takes out the runs that start at a value or past it, and gives them. Without memory nothing is
-/// changed.
+/// Removes and returns the runs that start at a value or past it. If allocation fails, the entries
+/// are unchanged.
 pub(crate) fn split_entries<T: Integer, A: Allocator + Clone>(
     map: &mut BTreeMap<T, T, A>,
     key: T,

@@ -17,8 +17,8 @@ use std::alloc::{AllocError, Allocator};
 use std::ops::RangeInclusive;
 
 impl<T: Integer, A: Allocator + Clone> RangeSetBlaze<T, A> {
-    /// Adds the values of ranges, in any order. An empty range adds nothing. If allocation fails,
-    /// those of the ranges that came before stay added. For values, write `extend_values`.
+    /// Adds the values of ranges, which may come in any order. An empty range adds nothing. If
+    /// allocation fails, a prefix of the ranges has been added. For values, write `extend_values`.
     /// (`Extend<RangeInclusive>` of `RangeSetBlaze`.)
     pub fn extend<J: IntoIterator<Item = RangeInclusive<T>>>(
         &mut self,
@@ -36,8 +36,8 @@ impl<T: Integer, A: Allocator + Clone> RangeSetBlaze<T, A> {
         Ok(())
     }
 
-    /// Adds values, in any order. If allocation fails, those that came before stay added.
-    /// (`Extend<T>` of `RangeSetBlaze`.)
+    /// Adds values, which may come in any order. If allocation fails, a prefix of the values has
+    /// been added. (`Extend<T>` of `RangeSetBlaze`.)
     pub fn extend_values<J: IntoIterator<Item = T>>(&mut self, values: J) -> Result<(), AllocError>
         requires ready { IsEnding J.into_iter_gives J.IntoIter.can_next J.IntoIter.remaining values }
         ensures members { ExtendsWithItems J.into_iter_gives J.IntoIter.next_gives
@@ -67,9 +67,10 @@ impl<T: Integer, A: Allocator + Clone> RangeSetBlaze<T, A> {
 }
 
 impl<T: Integer, A: Allocator + Copy> RangeSetBlaze<T, A> {
-    /// Returns the set of the values of ranges, in any order, by one sort and one pass. A range may
-    /// be empty. If allocation fails, no set is made. For values, write `from_iter_values` or
-    /// `values.collect(alloc)?`. (`FromIterator<RangeInclusive<T>>` of `RangeSetBlaze`.)
+    /// Returns the set of the values of ranges, which may come in any order and may be empty. Takes
+    /// one sort and one pass. If allocation fails, no set is made. For values, write
+    /// `from_iter_values` or `values.collect(alloc)?`. (`FromIterator<RangeInclusive<T>>` of
+    /// `RangeSetBlaze`.)
     pub fn from_iter<J: IntoIterator<Item = RangeInclusive<T>>>(
         alloc: A,
         ranges: J,
@@ -86,8 +87,8 @@ impl<T: Integer, A: Allocator + Copy> RangeSetBlaze<T, A> {
         Self::from_sorted_disjoint(alloc, union)
     }
 
-    /// Returns the set of values, in any order, by one sort and one pass. If allocation fails, no
-    /// set is made. (`FromIterator<T>` of `RangeSetBlaze`.)
+    /// Returns the set of the given values, which may come in any order. Takes one sort and one
+    /// pass. If allocation fails, no set is made. (`FromIterator<T>` of `RangeSetBlaze`.)
     pub fn from_iter_values<J: IntoIterator<Item = T>>(
         alloc: A,
         values: J,
@@ -104,18 +105,18 @@ impl<T: Integer, A: Allocator + Copy> RangeSetBlaze<T, A> {
         Self::from_iter(alloc, singles)
     }
 
-    /// Returns the set of the values of an array, in any order. Moves the values into a list first.
-    /// If allocation fails, no set is made. (`From<[T; N]>` of `RangeSetBlaze`.)
+    /// Returns the set of the values of an array, which may be in any order. Moves the values into
+    /// a list first. If allocation fails, no set is made. (`From<[T; N]>` of `RangeSetBlaze`.)
     pub fn from_array<const N: usize>(alloc: A, values: [T; N]) -> Result<Self, AllocError>
         ensures members { IfOk result (λ set. IsSetOf set (ranks_of T.rank values)) }
     {
-        // (docs/DECISIONS.md, lists-for-arrays)
+        // The values go through a list (docs/DECISIONS.md, lists-for-arrays).
         Self::from_iter_values(alloc, Vec::from_array(alloc, values)?)
     }
 
     /// Adds the members of another set. Inserts its runs one by one if they are few, and otherwise
-    /// takes one pass over both sets. If allocation fails, a prefix of the other's runs is added.
-    /// (`BitOrAssign` of `RangeSetBlaze`: `a.bitor_assign(&b)?` for `a |= &b`.)
+    /// takes one pass over both sets. If allocation fails, a prefix of the other set's runs has
+    /// been added. (`BitOrAssign` of `RangeSetBlaze`: `a.bitor_assign(&b)?` for `a |= &b`.)
     pub fn bitor_assign<B: Allocator>(
         &mut self,
         other: &RangeSetBlaze<T, B>,
@@ -131,8 +132,9 @@ impl<T: Integer, A: Allocator + Copy> RangeSetBlaze<T, A> {
     }
 
     /// Adds the members of another set, given by value. If the other set has more runs, adds this
-    /// set to it and keeps the result. If allocation fails, a prefix of the other's runs is added,
-    /// and the other set is dropped. (`BitOrAssign` of `RangeSetBlaze`, of a set by value.)
+    /// set to the other one and keeps that one, with its allocator. If allocation fails, a prefix
+    /// of the other set's runs has been added, and the other set is dropped. (`BitOrAssign` of
+    /// `RangeSetBlaze`, for a set by value.)
     pub fn bitor_assign_owned(&mut self, other: Self) -> Result<(), AllocError>
         ensures members { OnOk result (Adds self.old self.new (members other)) }
         ensures err { OnErr result (AddsPrefixOf self.old self.new other) }
@@ -146,8 +148,8 @@ impl<T: Integer, A: Allocator + Copy> RangeSetBlaze<T, A> {
         Ok(())
     }
 
-    /// Moves all members of another set into this one, which leaves the other set empty. If
-    /// allocation fails, a prefix of the other's runs is added, and the other set is unchanged.
+    /// Moves all members of another set into this one and leaves the other set empty. If allocation
+    /// fails, a prefix of the other set's runs has been added, and the other set is unchanged.
     /// (`RangeSetBlaze::append`.)
     pub fn append(&mut self, other: &mut Self) -> Result<(), AllocError>
         ensures members { OnOk result (Adds self.old self.new (members other.old)) }
@@ -155,15 +157,15 @@ impl<T: Integer, A: Allocator + Copy> RangeSetBlaze<T, A> {
         ensures err { OnErr result (AddsPrefixOf self.old self.new other.old) }
         ensures other { OnErr result (other.new ≡ other.old) }
     {
-        // If allocation fails, the other set stays whole (docs/DECISIONS.md, append-direction).
+        // If allocation fails, the other set is unchanged (docs/DECISIONS.md, append-direction).
         self.bitor_assign(&*other)?;
         other.clear();
         Ok(())
     }
 }
 
-// Returns whether it costs less to insert `some` runs one by one among `others` than to take one
-// pass over all.
+// Returns whether it costs less to insert `some` runs one by one into a set of `others` runs than
+// to take one pass over all of them.
 fn is_few(some: usize, others: usize) -> bool {
     let Some(depth) = others.checked_ilog2() else {
         return some == 0;

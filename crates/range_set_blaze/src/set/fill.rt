@@ -1,7 +1,7 @@
-//! What a set keeps, built from a stream in one pass.
+//! The map and the length of a set, built from a stream in one pass.
 //!
-//! The list comes first, since std builds the map of a list in order in one pass. Each allocation
-//! of the list can fail.
+//! The runs are collected into a list first, since std builds a map from a sorted list in one pass.
+//! Both steps may fail to allocate.
 
 ghost use Rattle.std.specs.Prelude.{◌≡◌, IfOk};
 ghost use Rattle.rsb_integer.specs.Runs.{IsCanonicalIn};
@@ -34,7 +34,7 @@ pub(crate) fn gathered<T: Integer, A: Allocator, I: DrawDisjoint<T>>(
     Ok((entries, length))
 }
 
-/// Returns the map of entries that are in ascending order, built in one pass.
+/// Returns the map of a list of entries in ascending order, built in one pass.
 pub(crate) fn map_of<T: Integer, A: Allocator + Clone>(
     alloc: A,
     entries: Vec<(T, T), A>,

@@ -1,4 +1,4 @@
-//! The first gap, or the first run, that has a given length.
+//! The first gap, or the first run, that has at least a given length.
 
 ghost use Rattle.std.specs.Prelude.{◌≡◌, ◌↔◌, ℕ, ◌+◌, ◌<◌, ◌≤◌, IfSome, IsFalse, IsNone, IsTrue, MatchOption};
 ghost use Rattle.std.specs.Range.{range_inclusive_end, range_inclusive_start};
@@ -22,8 +22,9 @@ use std::ops::{Bound, RangeInclusive};
 
 impl<T: Integer, A: Allocator> RangeSetBlaze<T, A> {
     /// Returns the first gap that has at least `len` values, or `None` if every gap is shorter. It
-    /// returns the whole gap, which reaches the runs beside it or the ends of the type. Does not
-    /// allocate. The cost is linear in the number of runs up to the gap. Not in range-set-blaze.
+    /// returns the whole gap, which extends to the runs beside it or to the ends of the type. Does
+    /// not allocate. The cost is linear in the number of runs up to the gap. Not in
+    /// range-set-blaze.
     pub fn first_gap(&self, len: T::SafeLen) -> Option<RangeInclusive<T>>
         ensures gap { IfSome result (λ range. IsMaximalRun T.value_count
             (complement (members self.now)) (interval_of T.rank range)) }
@@ -44,7 +45,7 @@ impl<T: Integer, A: Allocator> RangeSetBlaze<T, A> {
         ensures nowhere { IsNone result → (start : ℕ) → 0 < T.SafeLen.number len
             → ¬ (IsFree T.value_count self.now start (T.SafeLen.number len)) }
 
-        // The values of the range, by its ends.
+        // The range in terms of its two ends, and the fact that none of its values is a member.
         ensures ends { IfSome result (λ range. interval_of T.rank range
             ≡ from_to (T.rank (range_inclusive_start range)) (T.rank (range_inclusive_end range))) }
         ensures free { IfSome result (λ range. (rank : ℕ)
@@ -53,8 +54,8 @@ impl<T: Integer, A: Allocator> RangeSetBlaze<T, A> {
         self.first_gap_from(T::min_value(), len)
     }
 
-    /// Returns the first gap that has at least `len` values starting at `value`, or `None` if there
-    /// is none. Of a gap that has `value` in it, only the part from `value` on counts, and only
+    /// Returns the first gap with at least `len` values at or above `value`, or `None` if there is
+    /// none. If the gap starts below `value`, only its part at or above `value` counts, and only
     /// that part is returned. Does not allocate. The cost is one look-up, and then linear in the
     /// number of runs between `value` and the gap. Not in range-set-blaze.
     pub fn first_gap_from(&self, value: T, len: T::SafeLen) -> Option<RangeInclusive<T>>
@@ -70,7 +71,7 @@ impl<T: Integer, A: Allocator> RangeSetBlaze<T, A> {
             (intersection (complement (members self.now)) (from_on (T.rank value)))
             (T.SafeLen.number len) }
 
-        // The same of blocks of `len` values, as a table of free space needs it.
+        // The same facts about blocks of `len` values, as a table of free space needs them.
         ensures fits { IfSome result (λ range. IsFree T.value_count self.now
             (T.rank (range_inclusive_start range)) (T.SafeLen.number len)) }
         ensures lowest { IfSome result (λ range. (start : ℕ) → T.rank value ≤ start
@@ -80,7 +81,7 @@ impl<T: Integer, A: Allocator> RangeSetBlaze<T, A> {
             → 0 < T.SafeLen.number len
             → ¬ (IsFree T.value_count self.now start (T.SafeLen.number len)) }
 
-        // The values of the range, by its ends.
+        // The range in terms of its two ends, and the fact that none of its values is a member.
         ensures from { IfSome result (λ range.
             T.rank value ≤ T.rank (range_inclusive_start range)) }
         ensures ends { IfSome result (λ range. interval_of T.rank range
@@ -105,7 +106,7 @@ impl<T: Integer, A: Allocator> RangeSetBlaze<T, A> {
         ensures none { IsNone result → AllShorter T.value_count (members self.now)
             (T.SafeLen.number len) }
 
-        // The values of the range, by its ends.
+        // The range in terms of its two ends, and the fact that each of its values is a member.
         ensures ends { IfSome result (λ range. interval_of T.rank range
             ≡ from_to (T.rank (range_inclusive_start range)) (T.rank (range_inclusive_end range))) }
         ensures has { IfSome result (λ range. (rank : ℕ)
@@ -116,7 +117,7 @@ impl<T: Integer, A: Allocator> RangeSetBlaze<T, A> {
     }
 }
 
-// The first run of a map that is long enough.
+// Returns the first run that has at least `len` values, or `None` if every run is shorter.
 fn long_run<T: Integer, A: Allocator>(map: &BTreeMap<T, T, A>, len: T::SafeLen) -> Option<Run<T>>
     requires { IsCanonicalIn T.value_count (runs_of T.rank map.now.entries) }
     ensures { MatchOption result
@@ -133,7 +134,8 @@ fn long_run<T: Integer, A: Allocator>(map: &BTreeMap<T, T, A>, len: T::SafeLen) 
     None
 }
 
-// The first gap that is long enough, of the gaps cut to the values from `value` on.
+// Returns the first gap with at least `len` values at or above `value`, shortened to those values,
+// or `None` if there is none.
 fn gap_from<T: Integer, A: Allocator>(
     map: &BTreeMap<T, T, A>,
     value: T,
@@ -153,8 +155,8 @@ fn gap_from<T: Integer, A: Allocator>(
     first_between(&mut runs_after(map, start), start, len)
 }
 
-// The first gap that is long enough, of those that runs leave from a value on. The runs start after
-// the value, and do not touch it.
+// Returns the first gap with at least `len` values that the runs leave at or above `from`, or
+// `None` if there is none. The runs start after `from` and do not touch it.
 fn first_between<T: Integer>(
     entries: &mut Range<'_, T, T>,
     from: T,
@@ -184,7 +186,7 @@ fn first_between<T: Integer>(
     if is_long(gap, len) { Some(gap) } else { None }
 }
 
-// Whether a run has at least so many values.
+// Returns whether a run has at least `len` values.
 fn is_long<T: Integer>(run: Run<T>, len: T::SafeLen) -> bool
     requires { T.rank run.start ≤ T.rank run.end }
     ensures { IsTrue result ↔ (T.SafeLen.number len ≤ length_of (run_of T.rank run)) }
@@ -192,7 +194,7 @@ fn is_long<T: Integer>(run: Run<T>, len: T::SafeLen) -> bool
     len <= T::safe_len(&(run.start..=run.end))
 }
 
-// The runs that start after a value.
+// Returns the runs that start after a value.
 fn runs_after<'a, T: Integer, A: Allocator>(map: &'a BTreeMap<T, T, A>, value: T) -> Range<'a, T, T>
     requires ascending { StartsAscendFrom T.value_count 0 (runs_of T.rank map.now.entries) }
     requires value { T.rank value < T.value_count }

@@ -1,4 +1,4 @@
-//! The gaps between the ends of a run of values.
+//! The gaps of a set within a window, which is given by its first and last values.
 
 ghost use Rattle.std.specs.Prelude.{◌≡◌, ◌<◌, ◌≤◌, [], MatchOption};
 ghost use Rattle.rsb_integer.specs.Rank.{intervals_of};
@@ -17,7 +17,7 @@ use rsb_integer::Integer;
 use std::alloc::Allocator;
 use std::collections::BTreeMap;
 
-/// The gaps between the ends of a run.
+/// Returns the gaps within a window.
 pub(super) fn gaps_between<'a, T: Integer, A: Allocator>(
     map: &'a BTreeMap<T, T, A>,
     window: Run<T>,
@@ -39,7 +39,7 @@ pub(super) fn gaps_between<'a, T: Integer, A: Allocator>(
     }
 }
 
-/// No gaps.
+/// Returns an iterator over no gaps.
 pub(super) fn no_gaps<'a, T: Integer, A: Allocator>(map: &'a BTreeMap<T, T, A>) -> GapsIn<'a, T>
     ensures { result ≡ [] }
 {
@@ -49,7 +49,8 @@ pub(super) fn no_gaps<'a, T: Integer, A: Allocator>(map: &'a BTreeMap<T, T, A>) 
     }
 }
 
-// The part of a run from its first value that is no member to its last.
+// Returns the part of a window from its first value that is not a member to its last one, or `None`
+// if every value is a member.
 fn free_part<T: Integer, A: Allocator>(map: &BTreeMap<T, T, A>, window: Run<T>) -> Option<Run<T>>
     requires canonical { IsCanonicalIn T.value_count (runs_of T.rank map.now.entries) }
     requires order { T.rank window.start ≤ T.rank window.end }
@@ -67,7 +68,8 @@ fn free_part<T: Integer, A: Allocator>(map: &BTreeMap<T, T, A>, window: Run<T>) 
     Some(Run { start, end })
 }
 
-/// The first value from one on that is no member.
+/// Returns the first value at or above the given one that is not a member, or `None` if there is
+/// none.
 pub(super) fn first_free<T: Integer, A: Allocator>(map: &BTreeMap<T, T, A>, value: T) -> Option<T>
     requires canonical { IsCanonicalIn T.value_count (runs_of T.rank map.now.entries) }
     requires value { T.rank value < T.value_count }
@@ -83,7 +85,8 @@ pub(super) fn first_free<T: Integer, A: Allocator>(map: &BTreeMap<T, T, A>, valu
     Some(free)
 }
 
-// The last value up to one that is no member.
+// Returns the last value at or below the given one that is not a member, or `None` if there is
+// none.
 fn last_free<T: Integer, A: Allocator>(map: &BTreeMap<T, T, A>, value: T) -> Option<T>
     requires canonical { IsCanonicalIn T.value_count (runs_of T.rank map.now.entries) }
     requires value { T.rank value < T.value_count }

@@ -12,8 +12,9 @@ use std::alloc::Allocator;
 use std::collections::BTreeMap;
 use std::hash::{Hash, Hasher};
 
-/// A set feeds its length, and then the start and the end of each run in ascending order. It feeds
-/// neither its representation nor the number of its runs, so equal sets feed the same.
+/// A set feeds the hasher its length, and then the start and the end of each run in ascending
+/// order. It feeds neither its representation nor the number of its runs, so equal sets feed it the
+/// same input.
 impl<T: Integer + Hash, A: Allocator> Hash for RangeSetBlaze<T, A> {
     ghost hash_input = { hashed_runs (λ n. T.SafeLen.hash_input (T.SafeLen.length_at n))
         (λ rank. T.hash_input (T.value_at rank)) T.value_count };
@@ -28,8 +29,8 @@ impl<T: Integer + Hash, A: Allocator> Hash for RangeSetBlaze<T, A> {
 }
 
 /// States that `run_bounds` lists the start and the end of each run, one run after the other. A set
-/// feeds these to a hasher after its length. The list of runs must be canonical, as that of a set
-/// is. Not in range-set-blaze.
+/// feeds these to a hasher after its length. The list of runs must be canonical, as that of every
+/// set is. Not in range-set-blaze.
 pub fn run_bounds_are_ends<T: Integer>()
     ensures { (runs : List Interval) → IsCanonicalIn T.value_count runs
         → run_bounds T.value_count (members runs) ≡ ends_of_runs runs }

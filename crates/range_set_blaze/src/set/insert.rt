@@ -20,9 +20,9 @@ use std::alloc::{AllocError, Allocator};
 use std::collections::BTreeMap;
 use std::ops::{Bound, RangeBounds};
 
-/// A new run joined with all runs that it touches, and up to three of those. `first` starts where
-/// `joined` does. `last` is the last run that starts inside `joined`, past its start. `before` is
-/// the one before that, if it starts inside too.
+/// A new run joined with all runs that it touches, and up to three of those runs. `first` starts
+/// where `joined` does. `last` is the last run that starts inside `joined`, past its start.
+/// `before` is the run before `last`, if it starts inside `joined` too.
 #[derive(Clone, Copy)]
 struct Joining<T> {
     joined: Run<T>,
@@ -194,7 +194,8 @@ fn add_run<T: Integer, A: Allocator + Clone>(
     Ok(Some(put(map, joining, total)?))
 }
 
-// Returns a run joined with the runs that it touches, or `None` if one of them has all its values.
+// Returns a run joined with the runs that it touches, or `None` if some run already has all its
+// values.
 fn touched<T: Integer, A: Allocator>(map: &BTreeMap<T, T, A>, run: Run<T>) -> Option<Joining<T>>
     requires canonical { IsCanonicalIn T.value_count (runs_of T.rank map.now.entries) }
     requires order { T.rank run.start ≤ T.rank run.end }
@@ -245,8 +246,8 @@ fn last_two<T: Integer, A: Allocator>(
 }
 
 // Returns the run that starts at or before `start` and contains or touches it, or `None` if there
-// is none. `last` and `before` are the last two runs that start at or before some greater or equal
-// value.
+// is none. `last` and `before` are the last two runs that start at or before some value that is at
+// least `start`.
 fn reached_at<T: Integer, A: Allocator>(
     map: &BTreeMap<T, T, A>,
     start: T,
@@ -268,8 +269,9 @@ fn reached_at<T: Integer, A: Allocator>(
     }
 }
 
-// Returns the last run that starts at or before `start`, or `None` if there is none. It looks at
-// `last` and `before` first: the last two runs that start at or before some greater or equal value.
+// Returns the last run that starts at or before `start`, or `None` if there is none. It looks first
+// at `last` and `before`, the last two runs that start at or before some value that is at least
+// `start`.
 fn last_up_to<T: Integer, A: Allocator>(
     map: &BTreeMap<T, T, A>,
     start: T,
@@ -344,8 +346,8 @@ fn past_start<T: Integer>(run: Option<Run<T>>, start: T) -> Option<Run<T>>
     }
 }
 
-// Puts the joined run in the place of those that it covers, and returns the new number of members.
-// If allocation fails, the entries are unchanged.
+// Puts the joined run in place of those that it covers, and returns the new number of members. If
+// allocation fails, the entries are unchanged.
 fn put<T: Integer, A: Allocator + Clone>(
     map: &mut BTreeMap<T, T, A>,
     joining: Joining<T>,
@@ -361,8 +363,8 @@ fn put<T: Integer, A: Allocator + Clone>(
     ensures succeeds { IsSome joining.first → IsOk result }
 {
     let run = joining.joined;
-    // Inserts the new entry before it removes any other, since this may fail to allocate
-    // (docs/DECISIONS.md, put-then-take).
+    // The new entry is inserted before any other is removed, since the insertion may fail to
+    // allocate (docs/DECISIONS.md, put-then-take).
     put_entry(map, run)?;
     let others = without(joining.first, total);
     let mut length = take_in(map, run, joining.last, joining.before, others);
@@ -370,7 +372,7 @@ fn put<T: Integer, A: Allocator + Clone>(
     Ok(length)
 }
 
-// Returns a length minus the number of values of the run, if there is one.
+// Returns `total` minus the number of values of `first`, or `total` if there is no such run.
 fn without<T: Integer>(first: Option<Run<T>>, total: T::SafeLen) -> T::SafeLen
     requires some { IfSome first (λ first. HasRanks (run_of T.rank first)) }
     requires fits { T.SafeLen.number total ≤ T.value_count }

@@ -1,4 +1,4 @@
-//! The length of a set, as runs come and go.
+//! Adds the length of a run to the length of a set, or subtracts it.
 
 ghost use Rattle.std.specs.Prelude.{◌≡◌, ◌+◌, ◌≤◌};
 ghost use Rattle.rsb_integer.specs.Runs.{length_of, HasRanks};

@@ -13,8 +13,8 @@ use rsb_integer::Integer;
 use std::alloc::{AllocError, Allocator};
 use std::ops::RangeInclusive;
 
-/// `values.iter().collect(alloc)?`: returns the set of the values, in any order. If allocation
-/// fails, no set is made. (`FromIterator<&T>` of `RangeSetBlaze`.)
+/// `values.iter().collect(alloc)?`: returns the set of the values, which may come in any order. If
+/// allocation fails, no set is made. (`FromIterator<&T>` of `RangeSetBlaze`.)
 impl<'a, T: Integer + 'a, A: Allocator + Copy> FromIterator<&'a T> for RangeSetBlaze<T, A> {
     type Alloc = A;
 
@@ -25,8 +25,8 @@ impl<'a, T: Integer + 'a, A: Allocator + Copy> FromIterator<&'a T> for RangeSetB
     }
 }
 
-/// `ranges.iter().collect(alloc)?`: returns the set of the values of the ranges, in any order. A
-/// range may be empty. If allocation fails, no set is made.
+/// `ranges.iter().collect(alloc)?`: returns the set of the values of the ranges, which may come in
+/// any order and may be empty. If allocation fails, no set is made.
 /// (`FromIterator<&RangeInclusive<T>>` of `RangeSetBlaze`.)
 impl<'a, T: Integer + 'a, A: Allocator + Copy> FromIterator<&'a RangeInclusive<T>>
     for RangeSetBlaze<T, A> {
@@ -42,8 +42,8 @@ impl<'a, T: Integer + 'a, A: Allocator + Copy> FromIterator<&'a RangeInclusive<T
     }
 }
 
-/// `Extend::extend(&mut set, values.iter())?`: adds the values, in any order. If allocation fails,
-/// those that came before stay added. Not in range-set-blaze.
+/// `Extend::extend(&mut set, values.iter())?`: adds the values, which may come in any order. If
+/// allocation fails, a prefix of the values has been added. Not in range-set-blaze.
 impl<'a, T: Integer + 'a, A: Allocator + Clone> Extend<&'a T> for RangeSetBlaze<T, A> {
     ghost extend_gives = { λ old values new. AddsValues T.rank old (pointed_to values) new };
 
@@ -62,8 +62,8 @@ impl<'a, T: Integer + 'a, A: Allocator + Clone> Extend<&'a T> for RangeSetBlaze<
     }
 }
 
-/// `Extend::extend(&mut set, ranges.iter())?`: adds the values of the ranges, in any order. If
-/// allocation fails, those of the ranges that came before stay added. Not in range-set-blaze.
+/// `Extend::extend(&mut set, ranges.iter())?`: adds the values of the ranges, which may come in any
+/// order. If allocation fails, a prefix of the ranges has been added. Not in range-set-blaze.
 impl<'a, T: Integer + 'a, A: Allocator + Clone> Extend<&'a RangeInclusive<T>>
     for RangeSetBlaze<T, A> {
     ghost extend_gives = { λ old ranges new. AddsItems T.rank old (pointed_to ranges) new };

@@ -1,7 +1,7 @@
-//! The ranges that an iterator gives by reference, by value.
+//! An adapter that turns an iterator over references to ranges into one over ranges.
 //!
-//! `cloned` would require that each clone succeeds. `T: Copy` says neither that nor that a clone
-//! equals its value.
+//! The contract of `cloned` would require that each clone succeeds. The bound `T: Copy` guarantees
+//! neither that nor that a clone equals its original.
 
 ghost use Rattle.std.specs.Prelude.{◌≡◌};
 ghost use Rattle.range_set_blaze.specs.Lent.{lent_steps, HaveSameRanks};
@@ -10,14 +10,15 @@ use crate::set::run::known;
 use rsb_integer::Integer;
 use std::ops::RangeInclusive;
 
-/// The ranges that an iterator gives by reference, each as a value with the same members.
+/// An iterator over ranges, each with the members of a range that the iterator inside gives by
+/// reference.
 #[derive(Drop)]
 pub(crate) struct LentRanges<I> {
     ranges: I,
 }
 
 impl<I> LentRanges<I> {
-    /// Returns the ranges of an iterator by value. Draws nothing yet.
+    /// Wraps an iterator over references to ranges. Draws nothing yet.
     pub(crate) fn new(ranges: I) -> Self
         ensures { result.ranges ≡ ranges }
     {

@@ -1,4 +1,4 @@
-//! Empty sets in place of others, as std's collections make them, and the allocator of a set.
+//! `Emptied` and `MadeWith` for sets, as std's collections have them, and the allocator of a set.
 
 ghost use Rattle.std.specs.Prelude.{◌≡◌, [], IfOk, IsOk};
 
@@ -19,7 +19,7 @@ impl<T: Integer, A: Allocator + Copy> Emptied for RangeSetBlaze<T, A> {
     }
 }
 
-/// `or_default` of a map of sets: gives an absent key the empty set.
+/// `or_default` of a map of sets: inserts the empty set for an absent key.
 impl<T: Integer, A: Allocator + Copy> MadeWith<A> for RangeSetBlaze<T, A> {
     ghost is_made_with = { λ set. set ≡ [] };
 

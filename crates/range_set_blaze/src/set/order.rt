@@ -56,7 +56,7 @@ impl<T: Integer, A: Allocator> Ord for RangeSetBlaze<T, A> {
     }
 }
 
-/// Returns the order of two sets, as `cmp` does, and the number of iterations of its loop. An
+/// Returns the order of two sets, as `cmp` does, and the number of iterations that it takes. An
 /// iteration takes at most one run from each set. Not in range-set-blaze.
 pub fn cmp_counted<T: Integer, A: Allocator, B: Allocator>(
     a: &RangeSetBlaze<T, A>,
@@ -69,10 +69,10 @@ pub fn cmp_counted<T: Integer, A: Allocator, B: Allocator>(
     compare_runs(&a.map, &b.map)
 }
 
-/// States what `==`, `cmp` and `partial_cmp` of sets return, for every allocator and without lists
-/// of members. Two sets are equal exactly if they agree at every rank. Otherwise they differ at a
-/// least rank, which one of them has. That set is less if the other has a later member, and greater
-/// if not. Not in range-set-blaze.
+/// States what `==`, `cmp` and `partial_cmp` of sets return, for every allocator, without listing
+/// members. Two sets are equal exactly if they agree at every rank. Otherwise there is a least rank
+/// at which they differ, and one of them has it. That set is less if the other has a greater
+/// member, and greater if not. Not in range-set-blaze.
 pub fn order_by_least_difference<T: Integer, A: Allocator>()
     ensures equal { (left right : List Interval)
         → IsTrue (⟦<RangeSetBlaze<T, A> as PartialEq>⟧.eq left right)
@@ -85,7 +85,7 @@ pub fn order_by_least_difference<T: Integer, A: Allocator>()
         ≡ Some (⟦<RangeSetBlaze<T, A> as Ord>⟧.cmp left right) }
 {}
 
-// Returns the order of the sets of two lists of runs, and the number of iterations.
+// Returns the order of two sets, given by their maps, and the number of iterations.
 fn compare_runs<T: Integer, A: Allocator, B: Allocator>(
     left: &BTreeMap<T, T, A>,
     right: &BTreeMap<T, T, B>,
@@ -100,7 +100,7 @@ fn compare_runs<T: Integer, A: Allocator, B: Allocator>(
     let mut left = left.iter();
     let mut right = right.iter();
     let mut turns = 0;
-    // How the last two runs compare by their ends. All runs before them are in both sets.
+    // How the two runs taken last compare by their ends. All runs before them are in both sets.
     let mut ends = Ordering::Equal;
     loop {
         turns += 1;
@@ -126,9 +126,10 @@ fn compare_runs<T: Integer, A: Allocator, B: Allocator>(
     }
 }
 
-// Returns the order of a set whose last run starts where the other's does, but ends first. If the
-// set has another run, its next member is greater than the other set's, so the set is greater.
-// Otherwise its members are a prefix of the other's, so it is less.
+// Returns the order of two sets if the runs taken last start alike and the run of this set ends
+// first. `rest` holds the later runs of this set. If there is one, its first member is greater than
+// the other set's next member, so this set is greater. Otherwise its members are a prefix of the
+// other's, so it is less.
 fn order_by_rest<T>(rest: &mut Iter<'_, T, T>) -> Ordering
     ensures { result ≡ cond (nat_lt 0 (length rest.old)) Greater Less }
 {

@@ -1,4 +1,4 @@
-//! Sets from their texts (docs/DECISIONS.md, no-from-str).
+//! Reads a set from a text (docs/DECISIONS.md, no-from-str).
 
 ghost use Rattle.std.specs.Prelude.{◌≡◌, ◌≢◌, ℕ, ◌<◌, List, IfOk, Some, SomeIff, alloc_error, false};
 ghost use Rattle.std.specs.Char.{digit_value};
@@ -21,14 +21,14 @@ use std::error::Error;
 use std::fmt;
 use std::ops::RangeInclusive;
 
-/// Why a text was not read as a set. Not in range-set-blaze.
+/// Why a text could not be read as a set. Not in range-set-blaze.
 #[derive(Clone, Copy, Debug, PartialEq, Eq)]
 pub enum ParseError {
     /// An allocation failed.
     NoMemory(AllocError),
-    /// The place of the first byte that fits nothing, in bytes from 0. If the text ends too early,
-    /// it is the length of the text. Of a number outside the type it is the first digit that makes
-    /// the number too large.
+    /// The position of the first unexpected byte, counted from 0. If the text ends too early, this
+    /// is the length of the text. If a number is outside the type, it is the position of the first
+    /// digit that takes the number out of the type.
     Unexpected(usize),
 }
 
@@ -60,16 +60,16 @@ impl<T: Drop> From<AllocFailed<T>> for ParseError {
 }
 
 impl<T: ParseInteger, A: Allocator + Copy> RangeSetBlaze<T, A> {
-    /// Returns the set of the ranges that a text lists, such as `1..=3, 7..=8`, which is how
-    /// `Display` writes a set.
+    /// Returns the set of the ranges that a text lists, such as `1..=3, 7..=8`. `Display` writes a
+    /// set in this form.
     ///
-    /// The ranges may come in any order and overlap. A single value such as `5` is the range of
-    /// itself. A range whose start is past its end has no members. Blanks may stand around each
-    /// number: spaces, tabs and ends of lines. A number may have a sign. A text of blanks, or the
-    /// empty text, is the empty set.
+    /// The ranges may come in any order and may overlap. A single value such as `5` means `5..=5`.
+    /// A range whose start is past its end has no members. Blanks are allowed around each number:
+    /// spaces, tabs, line feeds and carriage returns. A number may have a sign. A text that is
+    /// empty, or has only blanks, is the empty set.
     ///
-    /// Returns `Unexpected` with the place of the first byte that fits nothing, and `NoMemory` if
-    /// allocation fails. Not in range-set-blaze.
+    /// Returns `Unexpected` with the position of the first unexpected byte if the text does not
+    /// list ranges, and `NoMemory` if allocation fails. Not in range-set-blaze.
     pub fn parse(alloc: A, text: &str) -> Result<Self, ParseError>
         ensures spelled { IfOk result (λ set. (ranges : List (Range T))
             × Spells T.number T.fits text.now ranges
@@ -83,7 +83,7 @@ impl<T: ParseInteger, A: Allocator + Copy> RangeSetBlaze<T, A> {
             → Spells T.number T.fits text.now ranges
             → result ≢ Err (ParseError.Unexpected place) }
 
-        // What `Display` writes of a set is read as that set.
+        // If the text is what `Display` writes for a set, the result is that set.
         ensures written { (runs : List Interval) → IsCanonicalIn T.value_count runs
             → runs_text (λ rank. T.debug_output (T.value_at rank)) runs ≡ Some text.now
             → IfOk result (λ set. set ≡ runs) }
@@ -97,36 +97,36 @@ impl<T: ParseInteger, A: Allocator + Copy> RangeSetBlaze<T, A> {
     }
 }
 
-// Where in a text of ranges the next byte stands, and what was read of its range.
+// A position in a text of ranges: what comes before the next byte, and what was read of its range.
 #[derive(Clone, Copy)]
 enum Place<T> {
     // Before the first byte that is not blank.
     Start,
-    // Before a number, which ends the range if another one has begun it.
+    // Before a number. It ends the range if there is a `start`, and starts one otherwise.
     Before(Option<T>),
-    // Behind the sign of such a number.
+    // After the sign of such a number.
     Signed {
         start: Option<T>,
         negative: bool,
     },
-    // Behind a digit of such a number.
+    // After a digit of such a number.
     Digits {
         start: Option<T>,
         negative: bool,
         value: T,
     },
-    // Behind a blank that follows such a number.
+    // After a blank that follows such a number.
     Behind {
         start: Option<T>,
         value: T,
     },
-    // Behind a dot that follows the start of a range.
+    // After one dot that follows the start of a range.
     Dot(T),
-    // Behind two.
+    // After two dots that follow the start of a range.
     Dots(T),
 }
 
-// The ranges that a text spells.
+// Returns the ranges that a text spells.
 fn spelled_ranges<T: ParseInteger, A: Allocator>(
     alloc: A,
     text: &[u8],
@@ -163,7 +163,7 @@ fn spelled_ranges<T: ParseInteger, A: Allocator>(
     Ok(ranges)
 }
 
-// The place after a byte that is no comma, or `None` if the byte fits nothing there.
+// Returns the place after a byte that is not a comma, or `None` if the byte is unexpected there.
 fn after<T: ParseInteger>(place: Place<T>, byte: u8) -> Option<Place<T>>
     requires { byte ≢ 44 }
     ensures { Steps T.number T.fits place byte result }
@@ -207,7 +207,7 @@ fn after<T: ParseInteger>(place: Place<T>, byte: u8) -> Option<Place<T>>
     }
 }
 
-// The place after the first byte of a number.
+// Returns the place after the first byte of a number, or `None` if the byte is unexpected there.
 fn after_blanks<T: ParseInteger>(start: Option<T>, byte: u8) -> Option<Place<T>>
     requires { is_blank_byte byte ≡ false }
     ensures { Steps T.number T.fits (Before start) byte result }
@@ -227,8 +227,9 @@ fn after_blanks<T: ParseInteger>(start: Option<T>, byte: u8) -> Option<Place<T>>
     after_sign(start, false, byte)
 }
 
-// The place after the first digit of a number. Numbers are read digit by digit, since the contract
-// of `str::parse` does not say where a text goes wrong.
+// Returns the place after the first digit of a number, or `None` if the byte is unexpected there.
+// Numbers are read digit by digit, since the contract of `str::parse` does not say where a text
+// goes wrong.
 fn after_sign<T: ParseInteger>(start: Option<T>, negative: bool, byte: u8) -> Option<Place<T>>
     ensures { Steps T.number T.fits (Signed start negative) byte result }
 {
@@ -241,7 +242,7 @@ fn after_sign<T: ParseInteger>(start: Option<T>, negative: bool, byte: u8) -> Op
     })
 }
 
-// The place after a byte that follows a digit.
+// Returns the place after a byte that follows a digit, or `None` if the byte is unexpected there.
 fn after_digit<T: ParseInteger>(
     start: Option<T>,
     negative: bool,
@@ -262,7 +263,7 @@ fn after_digit<T: ParseInteger>(
     })
 }
 
-// The place after a byte that follows a number.
+// Returns the place after a byte that follows a number, or `None` if the byte is unexpected there.
 fn after_number<T: ParseInteger>(start: Option<T>, value: T, byte: u8) -> Option<Place<T>>
     requires { byte ≢ 44 }
     ensures { Steps T.number T.fits (Behind start value) byte result }
@@ -279,7 +280,7 @@ fn after_number<T: ParseInteger>(start: Option<T>, value: T, byte: u8) -> Option
     }
 }
 
-// The range that may end at a place.
+// Returns the range that may end at a place, or `None` if no range may end there.
 fn finished<T: ParseInteger>(place: Place<T>) -> Option<RangeInclusive<T>>
     ensures { Finishes T.number T.fits place result }
 {
@@ -290,7 +291,7 @@ fn finished<T: ParseInteger>(place: Place<T>) -> Option<RangeInclusive<T>>
     }
 }
 
-// The range that ends with a number, and has begun with another one, or else with itself.
+// Returns the range from `start` to `value`, or the range of only `value` if there is no `start`.
 fn range_to<T: Copy>(start: Option<T>, value: T) -> RangeInclusive<T>
     ensures { result ≡ range_of (start_or start value, value) }
 {
@@ -300,7 +301,7 @@ fn range_to<T: Copy>(start: Option<T>, value: T) -> RangeInclusive<T>
     }
 }
 
-// The set of ranges in any order.
+// Returns the set of the values of ranges, which may be in any order.
 fn set_of<T: Integer, A: Allocator + Copy>(
     alloc: A,
     ranges: Vec<RangeInclusive<T>, A>,
@@ -310,19 +311,19 @@ fn set_of<T: Integer, A: Allocator + Copy>(
     ensures runs { IfOk result (λ set. AreRuns T.value_count (members set) set) }
 {
     let set = RangeSetBlaze::from_iter(alloc, ranges)?;
-    // Called for its clause alone.
+    // Called only for its clause.
     set.ranges_len();
     Ok(set)
 }
 
-// Whether a byte is a space, a tab or an end of a line.
+// Returns whether a byte is a space, a tab, a line feed or a carriage return.
 fn is_blank(byte: u8) -> bool
     ensures { result ≡ is_blank_byte byte }
 {
     byte == b' ' || byte == b'\t' || byte == b'\n' || byte == b'\r'
 }
 
-// What a decimal digit counts.
+// Returns the value of a decimal digit, or `None` for any other byte.
 fn value_of(byte: u8) -> Option<u8>
     ensures { SomeIff result (digit_value byte < 10) (digit_value byte) }
 {

@@ -1,4 +1,4 @@
-//! Members by how many lie below them.
+//! The n-th member of a set, and the number of members below a value.
 
 ghost use Rattle.std.specs.Prelude.{◌≡◌, ◌↔◌, ◌+◌, ◌<◌, ◌≤◌, IfSome, IsNone, IsTrue, MatchOption};
 ghost use Rattle.rsb_integer.specs.Runs.{length_of, members, HasRanks, IsCanonicalIn};
@@ -18,7 +18,7 @@ use std::collections::BTreeMap;
 
 impl<T: Integer, A: Allocator> RangeSetBlaze<T, A> {
     /// Returns the member that has exactly `n` members below it, or `None` if there are at most `n`
-    /// members. So the least member is the one at 0. Does not allocate. The cost is linear in the
+    /// members. For `n` of 0 it is the least member. Does not allocate. The cost is linear in the
     /// number of runs up to the member. Not in range-set-blaze.
     pub fn nth(&self, n: T::SafeLen) -> Option<T>
         ensures none { IsNone result
@@ -30,7 +30,7 @@ impl<T: Integer, A: Allocator> RangeSetBlaze<T, A> {
         nth_of(&self.map, n)
     }
 
-    /// Returns how many members are below a value, which need not be a member. Does not allocate.
+    /// Returns the number of members below a value, which need not be a member. Does not allocate.
     /// The cost is linear in the number of runs up to the value. Not in range-set-blaze.
     pub fn rank(&self, value: T) -> T::SafeLen
         ensures { T.SafeLen.number result ≡ count (T.rank value) (members self.now) }
@@ -39,7 +39,8 @@ impl<T: Integer, A: Allocator> RangeSetBlaze<T, A> {
     }
 }
 
-// The value of some runs that has so many below it.
+// Returns the value of some runs that has `n` values of the runs below it, or `None` if there is
+// none.
 fn nth_of<T: Integer, A: Allocator>(map: &BTreeMap<T, T, A>, n: T::SafeLen) -> Option<T>
     requires { IsCanonicalIn T.value_count (runs_of T.rank map.now.entries) }
     ensures none { IsNone result ↔ (count T.value_count (members (runs_of T.rank map.now.entries))
@@ -61,14 +62,14 @@ fn nth_of<T: Integer, A: Allocator>(map: &BTreeMap<T, T, A>, n: T::SafeLen) -> O
     None
 }
 
-// Whether a length is less than another.
+// Returns whether a length is less than another.
 fn is_less<L: SafeLength>(left: L, right: L) -> bool
     ensures { IsTrue result ↔ (L.number left < L.number right) }
 {
     left < right
 }
 
-// Takes a length off another.
+// Subtracts a length from another.
 fn take_off<L: SafeLength>(length: &mut L, taken: L)
     requires { L.number taken ≤ L.number length.old }
     ensures { L.number length.new + L.number taken ≡ L.number length.old }
@@ -76,7 +77,7 @@ fn take_off<L: SafeLength>(length: &mut L, taken: L)
     *length -= taken;
 }
 
-// How many values a run has.
+// Returns the number of values of a run.
 fn length_of_run<T: Integer>(run: Run<T>) -> T::SafeLen
     requires { HasRanks (run_of T.rank run) }
     ensures { T.SafeLen.number result ≡ length_of (run_of T.rank run) }
@@ -84,7 +85,7 @@ fn length_of_run<T: Integer>(run: Run<T>) -> T::SafeLen
     T::safe_len(&(run.start..=run.end))
 }
 
-// The value of a run that has so many of the run below it.
+// Returns the value of a run that has `index` values of the run below it.
 fn value_at<T: Integer>(run: Run<T>, index: T::SafeLen) -> T
     requires value { T.rank run.end < T.value_count }
     requires index { T.rank run.start + T.SafeLen.number index ≤ T.rank run.end }
@@ -95,7 +96,7 @@ fn value_at<T: Integer>(run: Run<T>, index: T::SafeLen) -> T
     run.start.inclusive_end_from_start(length)
 }
 
-// How many members of some runs are below a value.
+// Returns the number of values of some runs that are below a value.
 fn count_below<T: Integer, A: Allocator>(map: &BTreeMap<T, T, A>, value: T) -> T::SafeLen
     requires canonical { IsCanonicalIn T.value_count (runs_of T.rank map.now.entries) }
     requires value { T.rank value < T.value_count }
@@ -113,7 +114,7 @@ fn count_below<T: Integer, A: Allocator>(map: &BTreeMap<T, T, A>, value: T) -> T
     below
 }
 
-// The part of a run that is below a value, or `None` if no value of the run is.
+// Returns the part of a run that is below a value, or `None` if there is none.
 fn part_below<T: Integer>(run: Run<T>, value: T) -> Option<Run<T>>
     requires order { T.rank run.start ≤ T.rank run.end }
     requires run { T.rank run.end < T.value_count }

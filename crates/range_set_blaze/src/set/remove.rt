@@ -1,4 +1,4 @@
-//! Removals.
+//! Removal of values.
 
 ghost use Rattle.std.specs.Prelude.{◌≡◌, ◌↔◌, ◌+◌, ◌<◌, ◌≤◌, ℕ, [], Contains, IfOk, IfSome, IsFalse, IsNone, IsOk, IsSome, IsTrue, OnErr, OnOk};
 ghost use Rattle.rsb_integer.specs.Runs.{members, IsCanonicalIn};
@@ -17,8 +17,8 @@ use std::alloc::{AllocError, Allocator};
 use std::collections::BTreeMap;
 
 impl<T: Integer, A: Allocator + Clone> RangeSetBlaze<T, A> {
-    /// Takes a value out, and says whether it was a member. The set has at most one run more then.
-    /// Without memory it is as it was. (`RangeSetBlaze::remove`.)
+    /// Removes a value and returns whether it was a member. The set gains at most one run. If
+    /// allocation fails, the set is unchanged. (`RangeSetBlaze::remove`.)
     pub fn remove(&mut self, value: T) -> Result<bool, AllocError>
         ensures members { OnOk result (Removes self.old self.new (only (T.rank value))) }
         ensures removed { IfOk result (λ removed.
@@ -26,7 +26,7 @@ impl<T: Integer, A: Allocator + Clone> RangeSetBlaze<T, A> {
         ensures run_count { HasOneRunMoreAtMost self.old self.new }
         ensures err { OnErr result (self.new ≡ self.old) }
 
-        // No memory is taken where the value is no member, nor where it is the last of its run.
+        // Does not allocate if the value is not a member, or if it is the last value of its run.
         ensures absent { IsFalse (members self.old (T.rank value)) → IsOk result }
         ensures succeeds { IsFalse (members self.old (T.rank value + 1)) → IsOk result }
     {
@@ -38,8 +38,8 @@ impl<T: Integer, A: Allocator + Clone> RangeSetBlaze<T, A> {
         Ok(true)
     }
 
-    /// Takes a value out, and gives it back exactly where it was a member. The set has at most one
-    /// run more then. Without memory it is as it was. (`RangeSetBlaze::take`.)
+    /// Removes a value and returns it if it was a member. Otherwise returns `None`. The set gains
+    /// at most one run. If allocation fails, the set is unchanged. (`RangeSetBlaze::take`.)
     pub fn take(&mut self, value: T) -> Result<Option<T>, AllocError>
         ensures members { OnOk result (Removes self.old self.new (only (T.rank value))) }
         ensures found { IfOk result (λ found.
@@ -48,7 +48,7 @@ impl<T: Integer, A: Allocator + Clone> RangeSetBlaze<T, A> {
         ensures run_count { HasOneRunMoreAtMost self.old self.new }
         ensures err { OnErr result (self.new ≡ self.old) }
 
-        // No memory is taken where the value is no member, nor where it is the last of its run.
+        // Does not allocate if the value is not a member, or if it is the last value of its run.
         ensures absent { IsFalse (members self.old (T.rank value)) → IsOk result }
         ensures succeeds { IsFalse (members self.old (T.rank value + 1)) → IsOk result }
     {
@@ -59,8 +59,8 @@ impl<T: Integer, A: Allocator + Clone> RangeSetBlaze<T, A> {
         }
     }
 
-    /// Takes the least member out and gives it, or `None` of the empty set. Without memory the set
-    /// is as it was. (`RangeSetBlaze::pop_first`.)
+    /// Removes the least member and returns it, or returns `None` if the set is empty. If
+    /// allocation fails, the set is unchanged. (`RangeSetBlaze::pop_first`.)
     pub fn pop_first(&mut self) -> Result<Option<T>, AllocError>
         ensures none { IfOk result (λ found. IsNone found ↔ (self.old ≡ [])) }
         ensures unchanged { IfOk result (λ found. IsNone found → self.new ≡ self.old) }
@@ -68,7 +68,7 @@ impl<T: Integer, A: Allocator + Clone> RangeSetBlaze<T, A> {
             TakesLeast T.rank T.value_count (members self.old) found (members self.new)) }
         ensures err { OnErr result (self.new ≡ self.old) }
 
-        // No memory is taken of the empty set, nor where the first run has one member.
+        // Does not allocate if the set is empty, or if its first run has only one member.
         ensures empty { self.old ≡ [] → IsOk result }
         ensures succeeds { (rank : ℕ) → IsLeast T.value_count (members self.old) rank
             → IsFalse (members self.old (rank + 1)) → IsOk result }
@@ -80,22 +80,22 @@ impl<T: Integer, A: Allocator + Clone> RangeSetBlaze<T, A> {
         Ok(Some(first))
     }
 
-    /// Takes the greatest member out and gives it, or `None` of the empty set. It takes no memory.
-    /// (`RangeSetBlaze::pop_last`.)
+    /// Removes the greatest member and returns it, or returns `None` if the set is empty. Does not
+    /// allocate. (`RangeSetBlaze::pop_last`.)
     pub fn pop_last(&mut self) -> Option<T>
         ensures none { IsNone result ↔ (self.old ≡ []) }
         ensures unchanged { IsNone result → self.new ≡ self.old }
         ensures takes { TakesGreatest T.rank T.value_count (members self.old) result (members self.new) }
     {
         let last = self.last()?;
-        // No run goes on past the last value, so no memory is wanted.
+        // No run extends past the last value, so this does not allocate.
         self.remove(last).unwrap();
         Some(last)
     }
 }
 
-// Takes a value out of the run that has it, and says how many members are left; `None` where it is
-// no member. `total` is how many there were.
+// Removes a value and returns the number of members that are left, or `None` if the value is not a
+// member. `total` is the number of members before. If allocation fails, the entries are unchanged.
 fn take_value<T: Integer, A: Allocator + Clone>(
     map: &mut BTreeMap<T, T, A>,
     value: T,
@@ -134,7 +134,8 @@ fn take_value<T: Integer, A: Allocator + Clone>(
     Ok(Some(length))
 }
 
-/// Takes some values in a row out of the run that has them.
+/// Removes consecutive values, given as `piece`, from the run that has them. If allocation fails,
+/// the entries are unchanged.
 pub(crate) fn cut<T: Integer, A: Allocator + Clone>(
     map: &mut BTreeMap<T, T, A>,
     run: Run<T>,
@@ -150,7 +151,7 @@ pub(crate) fn cut<T: Integer, A: Allocator + Clone>(
     ensures err { OnErr result (map.new.entries ≡ map.old.entries) }
     ensures succeeds { T.rank run.end ≤ T.rank piece.end → IsOk result }
 {
-    // What lies above the piece comes first, since it may need an allocation
+    // The part above the piece is inserted first, since this may fail to allocate
     // (docs/DECISIONS.md, insert-at-start).
     put_above(map, run, piece.end)?;
     if is_below(run.start, piece.start) {
@@ -163,7 +164,8 @@ pub(crate) fn cut<T: Integer, A: Allocator + Clone>(
     Ok(())
 }
 
-// Puts in what a run has above one of its values.
+// Inserts the part of a run above one of its values, if there is such a part. If allocation fails,
+// the entries are unchanged.
 fn put_above<T: Integer, A: Allocator + Clone>(
     map: &mut BTreeMap<T, T, A>,
     run: Run<T>,

@@ -1,4 +1,4 @@
-//! Removals of the values between two bounds.
+//! Removal of the values between two bounds.
 
 ghost use Rattle.std.specs.Prelude.{◌≡◌, ◌↔◌, ◌+◌, ◌<◌, ◌≤◌, IfOk, IfSome, IsFalse, IsNone, IsOk, IsSome, IsTrue, MatchOption, OnErr, OnOk};
 ghost use Rattle.rsb_integer.specs.Runs.{covers, members, IsCanonicalIn};
@@ -21,8 +21,8 @@ use std::ops::RangeBounds;
 
 impl<T: Integer, A: Allocator + Clone> RangeSetBlaze<T, A> {
     /// Removes the values between two bounds and returns whether one of them was a member. Empty
-    /// and reversed bounds remove nothing. The set then has at most one run more than before. If
-    /// allocation fails, the set is unchanged.
+    /// and reversed bounds remove nothing. The set gains at most one run. If allocation fails, the
+    /// set is unchanged.
     ///
     /// It takes O(log n) time on a set of n runs, and as much again for each run that it removes.
     ///
@@ -37,8 +37,8 @@ impl<T: Integer, A: Allocator + Clone> RangeSetBlaze<T, A> {
         ensures run_count { HasOneRunMoreAtMost self.old self.new }
         ensures err { OnErr result (self.new ≡ self.old) }
 
-        // It does not allocate if no member lies between the bounds, nor if the value right past
-        // the upper bound is no member or there is no such value.
+        // Does not allocate if no member lies between the bounds, or if the value right past the
+        // upper bound is not a member or does not exist.
         ensures nothing { R.has_bounds range → IsEmpty (intersection (members self.old)
             (ranks_in T.rank T.value_count R.start_bound R.end_bound range)) → IsOk result }
         ensures succeeds { R.has_bounds range → Lacks T.value_count self.old
@@ -50,7 +50,8 @@ impl<T: Integer, A: Allocator + Clone> RangeSetBlaze<T, A> {
         self.remove_run(run)
     }
 
-    /// Removes the values of a run, and returns whether one of them was a member.
+    /// Removes the values of a run, and returns whether one of them was a member. If allocation
+    /// fails, the set is unchanged.
     pub(crate) fn remove_run(&mut self, run: Run<T>) -> Result<bool, AllocError>
         requires order { T.rank run.start ≤ T.rank run.end }
         requires value { T.rank run.end < T.value_count }
@@ -73,8 +74,9 @@ impl<T: Integer, A: Allocator + Clone> RangeSetBlaze<T, A> {
     }
 }
 
-// Takes out the values of a range, and returns how many members are left, or `None` if no value of
-// the range is a member. `total` is how many there were.
+// Removes the values of a range and returns the number of members that are left, or `None` if no
+// value of the range is a member. `total` is the number of members before. If allocation fails, the
+// entries are unchanged.
 fn take_range<T: Integer, A: Allocator + Clone>(
     map: &mut BTreeMap<T, T, A>,
     range: Run<T>,
@@ -103,12 +105,12 @@ fn take_range<T: Integer, A: Allocator + Clone>(
         return Ok(None);
     };
     let mut length = total;
-    // The last run comes first, since what it has past the range may need an allocation.
+    // The last run comes first, since keeping its part past the range may fail to allocate.
     take_common(map, last, range, &mut length)?;
     Ok(Some(take_others(map, range, length)))
 }
 
-/// The last run that has a value of a range.
+/// Returns the last run that has a value of a range, or `None` if there is none.
 pub(crate) fn last_meeting<T: Integer, A: Allocator>(
     map: &BTreeMap<T, T, A>,
     range: Run<T>,
@@ -127,8 +129,8 @@ pub(crate) fn last_meeting<T: Integer, A: Allocator>(
     Some(run)
 }
 
-// Takes out what the runs have in common with a range that none of them goes on past, and returns
-// how many members are left.
+// Removes the values of a range whose last value is not a member, and returns the number of members
+// that are left.
 fn take_others<T: Integer, A: Allocator + Clone>(
     map: &mut BTreeMap<T, T, A>,
     range: Run<T>,
@@ -146,14 +148,14 @@ fn take_others<T: Integer, A: Allocator + Clone>(
 {
     let mut length = total;
     while let Some(run) = last_meeting(map, range) {
-        // No run goes on past the range, so this needs no allocation.
+        // No run extends past the range, so this does not allocate.
         take_common(map, run, range, &mut length).unwrap();
     }
     length
 }
 
-// Takes out what the last run that meets a range has in common with it, and its values off a
-// length.
+// Removes the values that a range has in common with the last run that it meets, and subtracts
+// their number from `length`.
 fn take_common<T: Integer, A: Allocator + Clone>(
     map: &mut BTreeMap<T, T, A>,
     run: Run<T>,
@@ -177,7 +179,7 @@ fn take_common<T: Integer, A: Allocator + Clone>(
     Ok(())
 }
 
-// What a run and a range have in common.
+// Returns the values that a run and a range have in common.
 fn common<T: Integer>(run: Run<T>, range: Run<T>) -> Run<T>
     requires run { (T.rank run.start < T.value_count) × (T.rank run.end < T.value_count) }
     requires range { (T.rank range.start < T.value_count) × (T.rank range.end < T.value_count) }

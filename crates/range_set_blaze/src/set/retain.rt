@@ -36,7 +36,7 @@ impl<T: Integer, A: Allocator + Copy> RangeSetBlaze<T, A> {
         ensures err { OnErr result (self.new ≡ self.old) }
         ensures asked_some { OnErr result (AsksFront T.rank F.FnMut f self.old) }
 
-        // An empty set does not allocate.
+        // Does not allocate if the set is empty.
         ensures empty { self.old ≡ [] → IsOk result }
     {
         let kept = kept_values(&self.map, self.alloc, f)?;
@@ -90,7 +90,8 @@ fn retain_runs<T: Integer, A: Allocator, F: FnMut(&RangeInclusive<T>) -> bool>(
             take_off_length(&mut length, run);
             take_entry(map, run.start);
         }
-        // The map's own `retain` does not say what a closure that changes a capture leaves there.
+        // The contract of the map's own `retain` does not say how a closure leaves the variables
+        // that it captures and changes.
         next = run_after(map, run.end);
     }
     length

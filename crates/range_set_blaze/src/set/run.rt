@@ -1,7 +1,7 @@
-//! A run of values, and comparisons of values that state the ranks.
+//! A run of values, and comparisons of values with contracts about their ranks.
 //!
-//! In code a run is a `Run`. Pairs are only entries of the map. A `RangeInclusive` has a flag that
-//! a run does not need, and is not `Copy`.
+//! Code uses `Run` for a run, and pairs only for entries of the map. It does not use
+//! `RangeInclusive`, which has a flag that a run does not need, and is not `Copy`.
 
 ghost use Rattle.std.specs.Prelude.{◌≡◌, ◌↔◌, ◌+◌, ◌-◌, ◌<◌, ◌≤◌, max, min, IfSome, IsNone, IsTrue};
 
@@ -14,7 +14,7 @@ pub(crate) struct Run<T> {
     pub(crate) end: T,
 }
 
-/// Returns the value itself. Its clause states that the rank of any value is below the number of
+/// Returns the value itself. Its clause states that the rank of the value is below the number of
 /// values.
 pub(crate) fn known<T: Integer>(value: T) -> T
     ensures same { result ≡ value }

@@ -1,4 +1,4 @@
-//! A set that is parted at a value.
+//! Splits a set at a value.
 
 ghost use Rattle.std.specs.Prelude.{◌≡◌, ◌+◌, ◌<◌, ◌≤◌, Contains, IfOk, IsFalse, IsOk, MatchOption, OnErr, OnOk};
 ghost use Rattle.rsb_integer.specs.Runs.{members, IsCanonicalIn};
@@ -17,15 +17,15 @@ use std::alloc::{AllocError, Allocator};
 use std::collections::BTreeMap;
 
 impl<T: Integer, A: Allocator + Copy> RangeSetBlaze<T, A> {
-    /// Takes out the members at a value or above it, and gives the set of them. Without memory the
-    /// set is as it was. (`RangeSetBlaze::split_off`.)
+    /// Removes the members at or above a value, and returns the set of them. If allocation fails,
+    /// the set is unchanged. (`RangeSetBlaze::split_off`.)
     pub fn split_off(&mut self, key: T) -> Result<Self, AllocError>
         ensures below { OnOk result (Removes self.old self.new (from_on (T.rank key))) }
         ensures from { IfOk result (λ split.
             IsSetOf split (intersection (members self.old) (from_on (T.rank key)))) }
         ensures err { OnErr result (self.new ≡ self.old) }
 
-        // No memory is taken where no member is at the value or above it.
+        // Does not allocate if no member is at or above the value.
         ensures succeeds { IsEmpty (intersection (members self.old) (from_on (T.rank key)))
             → IsOk result }
     {
@@ -47,7 +47,7 @@ impl<T: Integer, A: Allocator + Copy> RangeSetBlaze<T, A> {
 }
 
 impl<T: Integer, A: Allocator> RangeSetBlaze<T, A> {
-    // Whether some member is at a value or above it.
+    // Returns whether some member is at or above a value.
     fn has_from(&self, key: T) -> bool
         requires { T.rank key < T.value_count }
         ensures none { IsFalse result
@@ -62,7 +62,8 @@ impl<T: Integer, A: Allocator> RangeSetBlaze<T, A> {
     }
 }
 
-// Takes out what lies at a value or above it, and gives the runs of that.
+// Removes the values at or above `key` and returns the runs of those. If allocation fails, the runs
+// of the map are unchanged.
 fn part<T: Integer, A: Allocator + Clone>(
     map: &mut BTreeMap<T, T, A>,
     key: T,
@@ -81,7 +82,7 @@ fn part<T: Integer, A: Allocator + Clone>(
     Ok(high)
 }
 
-/// The run that starts below a value and goes on to it.
+/// Returns the run that starts below a value and contains it, or `None` if there is none.
 pub(super) fn run_over<T: Integer, A: Allocator>(map: &BTreeMap<T, T, A>, key: T) -> Option<Run<T>>
     requires canonical { IsCanonicalIn T.value_count (runs_of T.rank map.now.entries) }
     requires value { T.rank key < T.value_count }
@@ -97,7 +98,7 @@ pub(super) fn run_over<T: Integer, A: Allocator>(map: &BTreeMap<T, T, A>, key: T
     Some(run)
 }
 
-// The same, where a run starts below the value and goes on to it.
+// Does the same as `part`, for a `run` that starts below `key` and contains it.
 fn part_within<T: Integer, A: Allocator + Clone>(
     map: &mut BTreeMap<T, T, A>,
     run: Run<T>,
@@ -112,8 +113,8 @@ fn part_within<T: Integer, A: Allocator + Clone>(
     ensures err { OnErr result
         (runs_of T.rank map.new.entries ≡ runs_of T.rank map.old.entries) }
 {
-    // The part of the run from the value on becomes an entry first, since it may need an
-    // allocation.
+    // The part of the run at or above `key` becomes an entry first, since this may fail to
+    // allocate.
     let start = key;
     let end = run.end;
     put_entry(map, Run { start, end })?;
@@ -131,8 +132,8 @@ fn part_within<T: Integer, A: Allocator + Clone>(
     }
 }
 
-// How many members the runs of two maps have, of which there are as many as `total`. The shorter
-// one is counted.
+// Returns the number of members in the runs of each map. The two numbers add up to `total`, so only
+// the map with fewer runs is counted.
 fn lengths<T: Integer, A: Allocator>(
     low: &BTreeMap<T, T, A>,
     high: &BTreeMap<T, T, A>,
@@ -160,7 +161,7 @@ fn lengths<T: Integer, A: Allocator>(
     }
 }
 
-// How many members some runs have.
+// Returns the number of members in the runs of a map.
 fn length_of_runs<T: Integer, A: Allocator>(map: &BTreeMap<T, T, A>) -> T::SafeLen
     requires { IsCanonicalIn T.value_count (runs_of T.rank map.now.entries) }
     ensures { T.SafeLen.number result

@@ -11,8 +11,8 @@ use std::alloc::Allocator;
 use std::collections::BTreeMap;
 use std::fmt::{self, Debug, Display, Formatter, Write};
 
-/// Writes each run as `start..=end`, with a comma and a space between two of them. A width and
-/// other flags change nothing, as in range-set-blaze.
+/// Writes each run as `start..=end`, with a comma and a space between two runs. A width and other
+/// format flags have no effect, as in range-set-blaze.
 impl<T: Integer, A: Allocator> Display for RangeSetBlaze<T, A> {
     ghost output = { runs_text (λ rank. T.debug_output (T.value_at rank)) };
 
@@ -30,7 +30,7 @@ impl<T: Integer, A: Allocator> Debug for RangeSetBlaze<T, A> {
     }
 }
 
-// Writes the runs of a map, with a comma and a space between two.
+// Writes the runs of a map, with a comma and a space between two runs.
 fn write_runs<T: Copy + Ord + Debug, A: Allocator, W: Write>(
     map: &BTreeMap<T, T, A>,
     f: &mut Formatter<W>,

@@ -24,9 +24,13 @@ use std::collections::btree_map::Range;
 use std::ops::RangeBounds;
 
 impl<T: Integer, A: Allocator> RangeSetBlaze<T, A> {
-    /// Returns the runs between two bounds in ascending order, from both ends. A run that goes on
-    /// past a bound has only its values between the bounds. Reversed bounds have no runs. It does
-    /// not allocate, and finds its ends in O(log n) for n runs. Not in range-set-blaze.
+    /// Returns the runs between two bounds in ascending order, as a double-ended iterator. A run
+    /// that crosses a bound is shortened to its values between the bounds. Empty and reversed
+    /// bounds have no runs between them. Does not allocate. The call takes O(log n) time on a set
+    /// of n runs.
+    ///
+    /// The contract is silent about a type that does not report its bounds, and about a
+    /// `RangeInclusive` that was iterated to its end. Not in range-set-blaze.
     pub fn ranges_in<'a, R: RangeBounds<T>>(&'a self, range: R) -> RangesIn<'a, T>
         ensures members { R.has_bounds range → IsSetOf (intervals_of T.rank result)
             (intersection (members self.now)
@@ -43,8 +47,11 @@ impl<T: Integer, A: Allocator> RangeSetBlaze<T, A> {
         }
     }
 
-    /// Returns the number of members between two bounds. It does not allocate, and takes a step for
-    /// each run between them. Not in range-set-blaze.
+    /// Returns the number of members between two bounds. Does not allocate. It takes O(log n) time
+    /// on a set of n runs, and a step for each run between the bounds.
+    ///
+    /// The contract is silent about a type that does not report its bounds, and about a
+    /// `RangeInclusive` that was iterated to its end. Not in range-set-blaze.
     pub fn len_in<R: RangeBounds<T>>(&self, range: R) -> T::SafeLen
         ensures { R.has_bounds range → T.SafeLen.number result ≡ count T.value_count
             (intersection (members self.now)
@@ -53,9 +60,12 @@ impl<T: Integer, A: Allocator> RangeSetBlaze<T, A> {
         self.ranges_in(range).members_len()
     }
 
-    /// Returns the gaps between two bounds in ascending order, from both ends: the values there
-    /// that are not members. Reversed bounds have no gaps. It does not allocate, and finds its ends
-    /// in O(log n) for n runs. Not in range-set-blaze.
+    /// Returns the gaps between two bounds in ascending order, as a double-ended iterator: the
+    /// values between the bounds that are not members. Empty and reversed bounds have no gaps
+    /// between them. Does not allocate. The call takes O(log n) time on a set of n runs.
+    ///
+    /// The contract is silent about a type that does not report its bounds, and about a
+    /// `RangeInclusive` that was iterated to its end. Not in range-set-blaze.
     pub fn gaps_in<'a, R: RangeBounds<T>>(&'a self, range: R) -> GapsIn<'a, T>
         ensures members { R.has_bounds range → IsSetOf (intervals_of T.rank result) (difference
             (ranks_in T.rank T.value_count R.start_bound R.end_bound range) (members self.now)) }
@@ -71,7 +81,7 @@ impl<T: Integer, A: Allocator> RangeSetBlaze<T, A> {
     }
 }
 
-// The runs between the ends of a run.
+// Returns the runs within a window, which is given by its first and last values.
 fn runs_between<'a, T: Integer, A: Allocator>(
     map: &'a BTreeMap<T, T, A>,
     window: Run<T>,
@@ -91,7 +101,7 @@ fn runs_between<'a, T: Integer, A: Allocator>(
     }
 }
 
-// No runs.
+// Returns an iterator over no runs.
 fn no_runs<'a, T: Integer, A: Allocator>(map: &'a BTreeMap<T, T, A>) -> RangesIn<'a, T>
     ensures { result ≡ [] }
 {
@@ -102,7 +112,8 @@ fn no_runs<'a, T: Integer, A: Allocator>(map: &'a BTreeMap<T, T, A>) -> RangesIn
     }
 }
 
-// What a run that starts before a value has from it on, or `None` where none reaches it.
+// Returns the part at or above a value of the run that starts before the value and contains it, or
+// `None` if there is no such run.
 fn reaching_in<T: Integer, A: Allocator>(map: &BTreeMap<T, T, A>, start: T) -> Option<Run<T>>
     requires canonical { IsCanonicalIn T.value_count (runs_of T.rank map.now.entries) }
     requires value { T.rank start < T.value_count }
@@ -115,7 +126,7 @@ fn reaching_in<T: Integer, A: Allocator>(map: &BTreeMap<T, T, A>, start: T) -> O
     Some(Run { start, end })
 }
 
-/// The runs that start between the ends of a run.
+/// Returns the runs that start within a window.
 pub(super) fn starting_in<'a, T: Integer, A: Allocator>(
     map: &'a BTreeMap<T, T, A>,
     window: Run<T>,
@@ -129,7 +140,7 @@ pub(super) fn starting_in<'a, T: Integer, A: Allocator>(
     map.range(window.start..=window.end)
 }
 
-/// No entries.
+/// Returns an iterator over no entries.
 pub(super) fn no_entries<'a, T: Integer, A: Allocator>(
     map: &'a BTreeMap<T, T, A>,
 ) -> Range<'a, T, T>

@@ -8,9 +8,9 @@ use std::iter::FusedIterator;
 use std::marker::Model;
 use std::ops::RangeInclusive;
 
-/// A stream that gives what another stream gives, and counts the ranges in a cell, taken by
-/// reference. The count stops at the greatest `usize`, and the end of the stream is not counted.
-/// Not in range-set-blaze.
+/// A stream that gives the ranges of another stream, and counts them in a cell that it borrows. The
+/// count stops at the greatest `usize`, and the end of the stream is not counted. Not in
+/// range-set-blaze.
 ///
 /// Contracts see it as the other stream, so the laws of that stream hold for it. Contracts cannot
 /// see what a cell holds.

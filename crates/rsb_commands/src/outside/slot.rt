@@ -10,8 +10,8 @@ use std::fmt::{self, Debug, Display, Formatter, Write};
 use std::marker::Model;
 use std::ops::RangeInclusive;
 
-/// A quarter hour of a day, numbered from 0, which begins at midnight, to 95. Contracts see it as
-/// that number. Not in range-set-blaze.
+/// A quarter hour of a day. The one that begins at midnight has number 0, and the last has number
+/// 95. Contracts see it as that number. Not in range-set-blaze.
 #[derive(Clone, Copy, PartialEq, Eq, PartialOrd, Ord, Hash)]
 pub struct Slot {
     number: u8,

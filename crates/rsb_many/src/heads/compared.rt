@@ -33,7 +33,7 @@ impl Comparisons {
         Comparisons {}
     }
 
-    // Returns a count of one comparison more.
+    // Returns a count that is greater by one.
     fn and_one(&self) -> Self
         ensures { result.made ≡ self.now.made + 1 }
     {

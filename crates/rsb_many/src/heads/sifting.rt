@@ -10,8 +10,8 @@ use rsb_integer::Integer;
 use std::alloc::Allocator;
 
 impl<T: Integer, A: Allocator> ComparedHeads<T, A> {
-    /// Returns the place of a child of the given place, such that no other child comes before it.
-    /// There must be a child.
+    /// Returns the place of a child of the given place. If there are two children, it is one that
+    /// the other does not come before. There must be a child.
     #[inline(always)]
     fn lesser_child(&mut self, place: usize) -> usize
         requires some { 2 * place + 1 < length self.old.heads.items }

@@ -17,7 +17,7 @@ use std::ops::RangeInclusive;
 
 /// What lies in all of the given streams: every value if there are none. It draws the first gap of
 /// each stream when it is built, and holds at most one gap of each. It allocates only when it is
-/// built. (`MultiwayIntersection` of the Rust crate.)
+/// built. (`MultiwayIntersection` in range-set-blaze.)
 #[derive(Debug, Drop)]
 pub struct MultiwayIntersection<T: Integer, I, A: Allocator = Global> {
     // The complement of the union of the complements.

@@ -16,9 +16,9 @@ use std::ops::RangeInclusive;
 
 /// What lies in at least one of the given streams: nothing if there are none. It draws the first
 /// range of each stream when it is built, and then looks ahead by at most one range of each. Once
-/// it has returned a range, what it has drawn from a stream lies within its ranges, except for at
-/// most one range. That one starts past the last range returned, with a gap between. It allocates
-/// only when it is built. (`MultiwayUnion` of the Rust crate.)
+/// it has returned a range, what it has drawn from a stream lies within the ranges that it has
+/// returned, except for at most one range. That one starts past the last returned range, with a gap
+/// between. It allocates only when it is built. (`MultiwayUnion` in range-set-blaze.)
 #[derive(Debug, Drop)]
 pub struct MultiwayUnion<T: Integer, I, A: Allocator = Global> {
     iter: UnionIter<T, KMerge<T, I, A>>,

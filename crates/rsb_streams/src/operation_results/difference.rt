@@ -23,7 +23,7 @@ pub struct Difference<T, L, R> {
 }
 
 impl<T: Integer, L: DrawDisjoint<T>, R: DrawDisjoint<T>> From<(L, R)> for Difference<T, L, R> {
-    // From two ready streams, this makes their difference. Nothing is drawn yet.
+    // Makes the difference of two ready streams. Draws nothing yet.
     ghost from_gives = { λ streams result. L.can_draw streams.0 → R.can_draw streams.1
         → MakesDifference T.Integer.own L.Draw R.Draw ⟦<Difference<T, L, R> as Draw<T>>⟧
         streams.0 streams.1 result };

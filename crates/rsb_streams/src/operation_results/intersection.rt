@@ -22,7 +22,7 @@ pub struct Intersection<T, L, R> {
 }
 
 impl<T: Integer, L: DrawDisjoint<T>, R: DrawDisjoint<T>> From<(L, R)> for Intersection<T, L, R> {
-    // From two ready streams, this makes their intersection. Nothing is drawn yet.
+    // Makes the intersection of two ready streams. Draws nothing yet.
     ghost from_gives = { λ streams result. L.can_draw streams.0 → R.can_draw streams.1
         → MakesIntersection T.Integer.own L.Draw R.Draw ⟦<Intersection<T, L, R> as Draw<T>>⟧
         streams.0 streams.1 result };

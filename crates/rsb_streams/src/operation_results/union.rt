@@ -13,16 +13,16 @@ use rsb_integer::Integer;
 use std::iter::FusedIterator;
 use std::ops::RangeInclusive;
 
-/// The values in either of two streams. It looks at most one range ahead in each stream. All other
-/// ranges that it has drawn lie within those that it has returned. The one ahead starts past the
-/// last returned range, with a gap between. (`Union` in range-set-blaze.)
+/// The values in either of two streams. It looks ahead by at most one range in each stream. Each
+/// other range that it has drawn lies within the ranges that it has returned. A range drawn ahead
+/// starts past the last returned range, with a gap between. (`Union` in range-set-blaze.)
 #[derive(Clone, Debug, Drop)]
 pub struct Union<T, L, R> {
     iter: UnionIter<T, Merge<T, L, R>>,
 }
 
 impl<T: Integer, L: DrawDisjoint<T>, R: DrawDisjoint<T>> From<(L, R)> for Union<T, L, R> {
-    // From two ready streams, this makes their union. Nothing is drawn yet.
+    // Makes the union of two ready streams. Draws nothing yet.
     ghost from_gives = { λ streams result. L.can_draw streams.0 → R.can_draw streams.1
         → MakesUnion T.Integer.own L.Draw R.Draw ⟦<Union<T, L, R> as Draw<T>>⟧
         streams.0 streams.1 result };
