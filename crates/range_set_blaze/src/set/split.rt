@@ -112,7 +112,8 @@ fn part_within<T: Integer, A: Allocator + Clone>(
     ensures err { OnErr result
         (runs_of T.rank map.new.entries ≡ runs_of T.rank map.old.entries) }
 {
-    // The part of the run from the value on becomes an entry first, since it may need an allocation.
+    // The part of the run from the value on becomes an entry first, since it may need an
+    // allocation.
     let start = key;
     let end = run.end;
     put_entry(map, Run { start, end })?;
