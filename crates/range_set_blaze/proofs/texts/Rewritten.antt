@@ -38,5 +38,6 @@ module _ {T : Type 0} (rank : T → ℕ) (n : ℕ) (value_at : ℕ → T) (numbe
       → runs_text text_at runs ≡ Some text
   text-is runs text told =
       let found = text-exists runs in
-      found.1 ∙ ap Some (sym (subst (λ (some : Option (List ℕ)). IfSome some (λ bytes. text ≡ bytes))
+      found.1
+      ∙ ap Some (sym (subst (λ (some : Option (List ℕ)). IfSome some (λ bytes. text ≡ bytes))
       found.1 told))

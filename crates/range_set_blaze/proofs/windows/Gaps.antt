@@ -117,13 +117,16 @@ gaps-canonical n first last runs lie = (
 
 -- their members are the ranks from the one to the other that no run has
 pub gaps-members : (n first last : ℕ) (runs : List Interval) → LieBetween n first last runs
-    → IsSetOf (gaps_between first last runs) (difference (covers (from_to first last)) (members runs))
+    → IsSetOf (gaps_between first last runs)
+    (difference (covers (from_to first last)) (members runs))
 gaps-members n first last [] lie rank =
     let all = members-cons (from_to first last) [] rank in
     grind (arith, nat_tests, all)
 gaps-members n first last (run ∷ runs) lie rank =
-    let rest = gaps-members n (run.last + 1) last runs (between-tail n first last run runs lie) rank in
-    let all = members-cons (from_to first (run.first - 1)) (gaps_between (run.last + 1) last runs) rank in
+    let rest = gaps-members n (run.last + 1) last runs
+    (between-tail n first last run runs lie) rank in
+    let all = members-cons (from_to first (run.first - 1))
+    (gaps_between (run.last + 1) last runs) rank in
     let some = members-cons run runs rank in
     let starts = lie.later.0 in
     let order = lie.later.1 in

@@ -9,7 +9,10 @@ pub sub_one-requires : goal.sub_one-requires
 sub_one-requires g c =
     let rank = g.T.Integer.rank in
     let last = between-last _ _ _ (runs_of rank c.last_run.new.entries) (run_of rank c.in-Some.run')
-    (rw (c.in_ok-whole.was, last-runs rank c.last_run.new.entries c.in-Some.run' c.in-Some.ensures.run)
+    (rw (
+      c.in_ok-whole.was,
+      last-runs rank c.last_run.new.entries c.in-Some.run' c.in-Some.ensures.run,
+    )
     at c.requires) in
     omega (arith, last.0)
 
@@ -51,5 +54,8 @@ returns-clause-rest g c =
     (between-front g.T.Integer.value_count (rank c.in_ok-whole.whole.start)
     (rank c.in_ok-whole.whole.end) (runs_of rank c.last_run.new.entries)
     (run_of rank c.in-Some.run')
-    (rw (c.in_ok-whole.was, last-runs rank c.last_run.new.entries c.in-Some.run' c.in-Some.ensures.run)
+    (rw (
+      c.in_ok-whole.was,
+      last-runs rank c.last_run.new.entries c.in-Some.run' c.in-Some.ensures.run,
+    )
     at c.requires))
