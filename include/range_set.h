@@ -21,6 +21,8 @@
  * nothing to that set, so several such calls may read one set at once. This last fact is tested and
  * not proved, since a contract assumes that no other call uses the same handles.
  */
+#ifndef RANGE_SET_H
+#define RANGE_SET_H
 
 #include <stdbool.h>
 #include <stddef.h>

@@ -36,7 +36,7 @@ impl<T: Integer, A: Allocator> RangeSetBlaze<T, A> {
         ensures none { IsNone result → AllShorter T.value_count (complement (members self.now))
             (T.SafeLen.number len) }
 
-        // The same of blocks of `len` values, as a table of free space needs it.
+        // The same facts about blocks of `len` values, as a table of free space needs them.
         ensures fits { IfSome result (λ range. IsFree T.value_count self.now
             (T.rank (range_inclusive_start range)) (T.SafeLen.number len)) }
         ensures lowest { IfSome result (λ range. (start : ℕ)
