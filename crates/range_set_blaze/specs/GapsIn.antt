@@ -55,11 +55,6 @@ pub record IsLastFree (set : List Interval) (to rank : ℕ) : Type 0 where
   pub free : IsFalse (members set rank)
   pub after : (other : ℕ) → rank < other → other ≤ to → IsTrue (members set other)
 
--- Whether every rank of the interval is a member.
-abbrev pub HasAllOf : List Interval → Interval → Type 0
-HasAllOf set window = (rank : ℕ) → window.first ≤ rank → rank ≤ window.last
-    → IsTrue (members set rank)
-
 -- Whether `part` goes from the first rank of `window` that is not a member to the last one.
 pub record IsFreePart (set : List Interval) (window part : Interval) : Type 0 where
   pub in_order : part.first ≤ part.last

@@ -5,7 +5,8 @@ ghost use Rattle.rsb_integer.specs.Rank.{intervals_of};
 ghost use Rattle.rsb_integer.specs.Runs.{covers, members, IsCanonicalIn};
 ghost use Rattle.rsb_integer.specs.Selection.{difference};
 ghost use Rattle.range_set_blaze.specs.FirstFit.{HasAllFrom, IsFirstFree};
-ghost use Rattle.range_set_blaze.specs.GapsIn.{HasAllOf, HasAllTo, IsFreePart, IsLastFree};
+ghost use Rattle.range_set_blaze.specs.GapsIn.{HasAllTo, IsFreePart, IsLastFree};
+ghost use Rattle.range_set_blaze.specs.Joining.{Has};
 ghost use Rattle.range_set_blaze.specs.Kept.{run_of, runs_of};
 ghost use Rattle.range_set_blaze.specs.Set.{IsSetOf};
 
@@ -56,7 +57,7 @@ fn free_part<T: Integer, A: Allocator>(map: &BTreeMap<T, T, A>, window: Run<T>) 
     requires order { T.rank window.start ≤ T.rank window.end }
     requires value { T.rank window.end < T.value_count }
     ensures { MatchOption result
-        (HasAllOf (runs_of T.rank map.now.entries) (run_of T.rank window))
+        (Has (runs_of T.rank map.now.entries) (covers (run_of T.rank window)))
         (λ part. IsFreePart (runs_of T.rank map.now.entries) (run_of T.rank window)
         (run_of T.rank part)) }
 {

@@ -101,6 +101,8 @@ fn the_text_of_a_set_is_read_as_the_set(rt: HostRuntime) -> Result<(), Fail> {
 fn iterators_have_a_text(rt: HostRuntime) -> Result<(), Fail> {
     let set = set_of(rt.alloc(), &[(1, 2)])?;
     assert!(rt; is_shown(rt.alloc(), set.ranges()) && is_shown(rt.alloc(), set.iter()));
+    assert!(rt; is_shown(rt.alloc(), set.ranges_in(0..=1)));
+    assert!(rt; is_shown(rt.alloc(), set.gaps_in(0..=1)));
     assert!(rt; is_shown(rt.alloc(), set.clone()?.into_ranges()));
     assert!(rt; is_shown(rt.alloc(), set.into_iter()));
     Ok(())

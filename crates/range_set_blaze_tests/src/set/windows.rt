@@ -354,6 +354,56 @@ fn free_slots_of_a_morning_are_gaps(rt: HostRuntime) -> Result<(), Fail> {
     Ok(())
 }
 
+/// Whether the five operators on the runs between two values return these ranges.
+fn runs_combine(set: &RangeSetBlaze<i32>, other: &RangeSetBlaze<i32>) -> bool {
+    gives(set.ranges_in(3..=12) | other.ranges(), &[(3, 4), (6, 12)])
+        && gives(set.ranges_in(3..=12) & other.ranges(), &[(8, 9)])
+        && gives(set.ranges_in(3..=12) - other.ranges(), &[(3, 4), (10, 12)])
+        && gives(set.ranges_in(3..=12) ^ other.ranges(), &[(3, 4), (6, 7), (10, 12)])
+        && gives(!set.ranges_in(3..=12), &[(i32::MIN, 2), (5, 7), (13, i32::MAX)])
+}
+
+/// Whether the five operators on the gaps between two values return these ranges.
+fn gaps_combine(set: &RangeSetBlaze<i32>, other: &RangeSetBlaze<i32>) -> bool {
+    gives(set.gaps_in(3..=12) | other.ranges(), &[(5, 9)])
+        && gives(set.gaps_in(3..=12) & other.ranges(), &[(6, 7)])
+        && gives(set.gaps_in(3..=12) - other.ranges(), &[(5, 5)])
+        && gives(set.gaps_in(3..=12) ^ other.ranges(), &[(5, 5), (8, 9)])
+        && gives(!set.gaps_in(3..=12), &[(i32::MIN, 4), (8, i32::MAX)])
+}
+
+#[test]
+fn all_operators_take_a_window(rt: HostRuntime) -> Result<(), Fail> {
+    let set = set_of(rt.alloc(), THREE)?;
+    let other = set_of(rt.alloc(), &[(6, 9)])?;
+    assert!(rt; runs_combine(&set, &other) && gaps_combine(&set, &other));
+    Ok(())
+}
+
+/// Whether a copy of the runs between two values goes on where they were copied.
+fn copied_runs_go_on(set: &RangeSetBlaze<i32>) -> Result<bool, AllocError> {
+    let mut runs = set.ranges_in(0..=25);
+    let first = runs.next();
+    let copy = runs.clone()?;
+    Ok(first == Some(1..=4) && gives(copy, &[(8, 13), (20, 20)]) && gives(runs, &[(8, 13), (20, 20)]))
+}
+
+/// Whether a copy of the gaps between two values goes on where they were copied.
+fn copied_gaps_go_on(set: &RangeSetBlaze<i32>) -> Result<bool, AllocError> {
+    let mut gaps = set.gaps_in(0..=25);
+    let first = gaps.next();
+    let copy = gaps.clone()?;
+    let rest: Table = &[(5, 7), (14, 19), (21, 25)];
+    Ok(first == Some(0..=0) && gives(copy, rest) && gives(gaps, rest))
+}
+
+#[test]
+fn a_copy_of_a_window_goes_on_alike(rt: HostRuntime) -> Result<(), Fail> {
+    let set = set_of(rt.alloc(), THREE)?;
+    assert!(rt; copied_runs_go_on(&set)? && copied_gaps_go_on(&set)?);
+    Ok(())
+}
+
 #[test]
 fn seventy_thousand_runs_lie_between_two_bounds(rt: HostRuntime) -> Result<(), Fail> {
     let set = every_fifth(rt.alloc(), 0, 2)?;
