@@ -23,6 +23,7 @@ for name, answer, *arguments in [
     ("insert_range", ctypes.c_uint32, ctypes.c_uint64, ctypes.c_uint64),
     ("contains", ctypes.c_bool, ctypes.c_uint64),
     ("next_run", ctypes.c_bool, ctypes.c_uint64, ctypes.POINTER(Run)),
+    ("run_after", ctypes.c_bool, ctypes.c_uint64, ctypes.POINTER(Run)),
     ("complement", ctypes.c_uint32, ctypes.POINTER(Set)),
     ("free", None),
 ]:
@@ -32,10 +33,11 @@ for name, answer, *arguments in [
 
 
 def runs(numbers):
-    run, start = Run(), 0
-    while start < 2**64 and library.rsb_u64_next_run(numbers, start, run):
+    run = Run()
+    more = library.rsb_u64_next_run(numbers, 0, run)
+    while more:
         yield run.first, run.last
-        start = run.last + 1
+        more = library.rsb_u64_run_after(numbers, run.last, run)
 
 
 open_hours, closed_hours = Set(), Set()

@@ -76,9 +76,26 @@ uint32_t rsb_u64_insert(rsb_u64 *set, uint64_t value);
    the value was not a member. */
 uint32_t rsb_u64_remove(rsb_u64 *set, uint64_t value);
 
+/* Removes the values from first to last, both included, or none if last is below first. Returns
+   RSB_UNCHANGED, and does not allocate, if none of them was a member. Does not allocate either if
+   the value after last is not a member or does not exist. */
+uint32_t rsb_u64_remove_range(rsb_u64 *set, uint64_t first, uint64_t last);
+
 /* Adds all members of another set, or none of them if an allocation fails. Returns RSB_UNCHANGED,
    and does not allocate, if all of them were already members. */
 uint32_t rsb_u64_union_with(rsb_u64 *set, const rsb_u64 *other);
+
+/* Keeps only the members that another set has too. Returns RSB_UNCHANGED, and does not allocate, if
+   these are all members. Does not allocate either if the other set is empty. */
+uint32_t rsb_u64_intersect_with(rsb_u64 *set, const rsb_u64 *other);
+
+/* Removes all members of another set. Returns RSB_UNCHANGED, and does not allocate, if none of them
+   was a member. */
+uint32_t rsb_u64_subtract(rsb_u64 *set, const rsb_u64 *other);
+
+/* Removes the members that another set has too, and adds those that only the other set has. Returns
+   RSB_UNCHANGED, and does not allocate, if the other set is empty. */
+uint32_t rsb_u64_xor_with(rsb_u64 *set, const rsb_u64 *other);
 
 /* Removes all members, but keeps a block of memory for later ones. rsb_u64_free frees that too. */
 void rsb_u64_clear(rsb_u64 *set);
@@ -89,8 +106,28 @@ void rsb_u64_free(rsb_u64 *set);
 /* Returns whether a value is a member. */
 bool rsb_u64_contains(const rsb_u64 *set, uint64_t value);
 
+/* Returns whether all values from first to last, both included, are members. If last is below
+   first, there is no such value, and the result is true. */
+bool rsb_u64_contains_range(const rsb_u64 *set, uint64_t first, uint64_t last);
+
+/* Returns whether none of the values from first to last, both included, is a member. If last is
+   below first, there is no such value, and the result is true. */
+bool rsb_u64_is_disjoint_range(const rsb_u64 *set, uint64_t first, uint64_t last);
+
 /* Returns the number of members. */
 rsb_u64_count rsb_u64_len(const rsb_u64 *set);
+
+/* Returns the number of members from first to last, both included, or 0 if last is below first.
+   Takes a step for each run between them. */
+rsb_u64_count rsb_u64_len_in(const rsb_u64 *set, uint64_t first, uint64_t last);
+
+/* Returns the number of members below value, which need not be a member. Takes a step for each run
+   up to it. */
+rsb_u64_count rsb_u64_rank(const rsb_u64 *set, uint64_t value);
+
+/* Stores the member with exactly n members below it in value and returns true. If there are at most
+   n members, returns false, and value is unchanged. Takes a step for each run up to the member. */
+bool rsb_u64_nth(const rsb_u64 *set, uint64_t n, uint64_t *value);
 
 /* Returns the number of runs. */
 size_t rsb_u64_run_count(const rsb_u64 *set);
@@ -109,9 +146,31 @@ bool rsb_u64_last(const rsb_u64 *set, uint64_t *value);
 bool rsb_u64_run_or_gap(const rsb_u64 *set, uint64_t value, rsb_u64_run *block);
 
 /* Stores the run that contains from, or otherwise the first run after it, in run and returns true.
-   If there is none, returns false, and run is unchanged. To walk over the runs, begin at 0 and go
-   on at run.last + 1, until the call returns false or run.last is UINT64_MAX. */
+   If there is none, returns false, and run is unchanged. */
 bool rsb_u64_next_run(const rsb_u64 *set, uint64_t from, rsb_u64_run *run);
+
+/* Stores the run that contains from, or otherwise the last run before it, in run and returns true.
+   If there is none, returns false, and run is unchanged. */
+bool rsb_u64_prev_run(const rsb_u64 *set, uint64_t from, rsb_u64_run *run);
+
+/* Stores the first run that starts after value in run and returns true. If there is none, returns
+   false, and run is unchanged. This loop goes over all runs, and ends for every set:
+
+     for (bool more = rsb_u64_next_run(&set, 0, &run); more;
+          more = rsb_u64_run_after(&set, run.last, &run)) */
+bool rsb_u64_run_after(const rsb_u64 *set, uint64_t value, rsb_u64_run *run);
+
+/* Stores the last run that ends before value in run and returns true. If there is none, returns
+   false, and run is unchanged. This loop goes over all runs in descending order:
+
+     for (bool more = rsb_u64_prev_run(&set, UINT64_MAX, &run); more;
+          more = rsb_u64_run_before(&set, run.first, &run)) */
+bool rsb_u64_run_before(const rsb_u64 *set, uint64_t value, rsb_u64_run *run);
+
+/* Stores the first gap with at least len values at or after from in gap and returns true. If that
+   gap starts before from, stores only its part at or after from. If there is no such gap, returns
+   false, and gap is unchanged. Takes a step for each run between from and the gap. */
+bool rsb_u64_first_gap(const rsb_u64 *set, uint64_t from, uint64_t len, rsb_u64_run *gap);
 
 /* Set out to the union, the intersection, the difference (left without right) or the symmetric
    difference of two sets, to the complement of a set, or to a copy of it. Return RSB_CHANGED and
@@ -136,8 +195,8 @@ bool rsb_u64_is_subset(const rsb_u64 *left, const rsb_u64 *right);
 /* Returns whether no member of the left set is a member of the right set. */
 bool rsb_u64_is_disjoint(const rsb_u64 *left, const rsb_u64 *right);
 
-/* ---- Sets of uint32_t: the same calls. The number of members is a plain uint64_t, and the
-   greatest value is UINT32_MAX. */
+/* ---- Sets of uint32_t: the same calls. A number of values is a plain uint64_t, and the greatest
+   value is UINT32_MAX. */
 
 typedef struct rsb_u32 {
     void *rsb_private;
@@ -150,16 +209,29 @@ typedef struct rsb_u32_run {
 uint32_t rsb_u32_insert_range(rsb_u32 *set, uint32_t first, uint32_t last);
 uint32_t rsb_u32_insert(rsb_u32 *set, uint32_t value);
 uint32_t rsb_u32_remove(rsb_u32 *set, uint32_t value);
+uint32_t rsb_u32_remove_range(rsb_u32 *set, uint32_t first, uint32_t last);
 uint32_t rsb_u32_union_with(rsb_u32 *set, const rsb_u32 *other);
+uint32_t rsb_u32_intersect_with(rsb_u32 *set, const rsb_u32 *other);
+uint32_t rsb_u32_subtract(rsb_u32 *set, const rsb_u32 *other);
+uint32_t rsb_u32_xor_with(rsb_u32 *set, const rsb_u32 *other);
 void rsb_u32_clear(rsb_u32 *set);
 void rsb_u32_free(rsb_u32 *set);
 bool rsb_u32_contains(const rsb_u32 *set, uint32_t value);
+bool rsb_u32_contains_range(const rsb_u32 *set, uint32_t first, uint32_t last);
+bool rsb_u32_is_disjoint_range(const rsb_u32 *set, uint32_t first, uint32_t last);
 uint64_t rsb_u32_len(const rsb_u32 *set);
+uint64_t rsb_u32_len_in(const rsb_u32 *set, uint32_t first, uint32_t last);
+uint64_t rsb_u32_rank(const rsb_u32 *set, uint32_t value);
+bool rsb_u32_nth(const rsb_u32 *set, uint64_t n, uint32_t *value);
 size_t rsb_u32_run_count(const rsb_u32 *set);
 bool rsb_u32_first(const rsb_u32 *set, uint32_t *value);
 bool rsb_u32_last(const rsb_u32 *set, uint32_t *value);
 bool rsb_u32_run_or_gap(const rsb_u32 *set, uint32_t value, rsb_u32_run *block);
 bool rsb_u32_next_run(const rsb_u32 *set, uint32_t from, rsb_u32_run *run);
+bool rsb_u32_prev_run(const rsb_u32 *set, uint32_t from, rsb_u32_run *run);
+bool rsb_u32_run_after(const rsb_u32 *set, uint32_t value, rsb_u32_run *run);
+bool rsb_u32_run_before(const rsb_u32 *set, uint32_t value, rsb_u32_run *run);
+bool rsb_u32_first_gap(const rsb_u32 *set, uint32_t from, uint64_t len, rsb_u32_run *gap);
 uint32_t rsb_u32_union(rsb_u32 *out, const rsb_u32 *left, const rsb_u32 *right);
 uint32_t rsb_u32_intersection(rsb_u32 *out, const rsb_u32 *left, const rsb_u32 *right);
 uint32_t rsb_u32_difference(rsb_u32 *out, const rsb_u32 *left, const rsb_u32 *right);

@@ -24,16 +24,29 @@ namespace range_set {
         static constexpr auto insert_range = rsb_##width##_insert_range;                                                   \
         static constexpr auto insert = rsb_##width##_insert;                                                               \
         static constexpr auto remove = rsb_##width##_remove;                                                               \
+        static constexpr auto remove_range = rsb_##width##_remove_range;                                                   \
         static constexpr auto union_with = rsb_##width##_union_with;                                                       \
+        static constexpr auto intersect_with = rsb_##width##_intersect_with;                                               \
+        static constexpr auto subtract = rsb_##width##_subtract;                                                           \
+        static constexpr auto xor_with = rsb_##width##_xor_with;                                                           \
         static constexpr auto clear = rsb_##width##_clear;                                                                 \
         static constexpr auto free = rsb_##width##_free;                                                                   \
         static constexpr auto contains = rsb_##width##_contains;                                                           \
+        static constexpr auto contains_range = rsb_##width##_contains_range;                                               \
+        static constexpr auto is_disjoint_range = rsb_##width##_is_disjoint_range;                                         \
         static constexpr auto len = rsb_##width##_len;                                                                     \
+        static constexpr auto len_in = rsb_##width##_len_in;                                                               \
+        static constexpr auto rank = rsb_##width##_rank;                                                                   \
+        static constexpr auto nth = rsb_##width##_nth;                                                                     \
         static constexpr auto run_count = rsb_##width##_run_count;                                                         \
         static constexpr auto first = rsb_##width##_first;                                                                 \
         static constexpr auto last = rsb_##width##_last;                                                                   \
         static constexpr auto run_or_gap = rsb_##width##_run_or_gap;                                                       \
         static constexpr auto next_run = rsb_##width##_next_run;                                                           \
+        static constexpr auto prev_run = rsb_##width##_prev_run;                                                           \
+        static constexpr auto run_after = rsb_##width##_run_after;                                                         \
+        static constexpr auto run_before = rsb_##width##_run_before;                                                       \
+        static constexpr auto first_gap = rsb_##width##_first_gap;                                                         \
         static constexpr auto either = rsb_##width##_union;                                                                \
         static constexpr auto both = rsb_##width##_intersection;                                                           \
         static constexpr auto left_alone = rsb_##width##_difference;                                                       \
@@ -73,6 +86,7 @@ public:
     bool insert(Number value) { return changed(c::insert(&handle_, value)); }
     bool insert(Number first, Number last) { return changed(c::insert_range(&handle_, first, last)); }
     bool remove(Number value) { return changed(c::remove(&handle_, value)); }
+    bool remove(Number first, Number last) { return changed(c::remove_range(&handle_, first, last)); }
     void clear() noexcept { c::clear(&handle_); }
 
     set &operator|=(const set &other) {
@@ -82,12 +96,52 @@ public:
         return *this;
     }
 
+    // No call may get the same set twice: a set is kept or cleared if it is combined with itself.
+    set &operator&=(const set &other) {
+        if (this != &other) {
+            changed(c::intersect_with(&handle_, &other.handle_));
+        }
+        return *this;
+    }
+
+    set &operator-=(const set &other) {
+        if (this == &other) {
+            clear();
+        } else {
+            changed(c::subtract(&handle_, &other.handle_));
+        }
+        return *this;
+    }
+
+    set &operator^=(const set &other) {
+        if (this == &other) {
+            clear();
+        } else {
+            changed(c::xor_with(&handle_, &other.handle_));
+        }
+        return *this;
+    }
+
     bool contains(Number value) const noexcept { return c::contains(&handle_, value); }
+
+    // These three take the values from first to last, both included: none if last is below first.
+    bool contains(Number first, Number last) const noexcept { return c::contains_range(&handle_, first, last); }
+    bool is_disjoint(Number first, Number last) const noexcept { return c::is_disjoint_range(&handle_, first, last); }
+    auto len(Number first, Number last) const noexcept { return c::len_in(&handle_, first, last); }
+
     bool empty() const noexcept { return run_count() == 0; }
     std::size_t run_count() const noexcept { return c::run_count(&handle_); }
 
-    // The number of members: an rsb_u64_count for std::uint64_t, a std::uint64_t for std::uint32_t.
+    // The number of members, and of those below a value: an rsb_u64_count for std::uint64_t, a
+    // std::uint64_t for std::uint32_t.
     auto len() const noexcept { return c::len(&handle_); }
+    auto rank(Number value) const noexcept { return c::rank(&handle_, value); }
+
+    // The member with n members below it.
+    std::optional<Number> nth(std::uint64_t n) const noexcept {
+        Number value = 0;
+        return c::nth(&handle_, n, &value) ? std::optional<Number>(value) : std::nullopt;
+    }
 
     std::optional<Number> first() const noexcept {
         Number value = 0;
@@ -106,16 +160,25 @@ public:
         return {block, member};
     }
 
+    // The run that contains the value, or otherwise the first run after it or the last run before it.
+    std::optional<run> next_run(Number from) const noexcept { return found(c::next_run, from); }
+    std::optional<run> prev_run(Number from) const noexcept { return found(c::prev_run, from); }
+
+    // The first run that starts after the value, or the last run that ends before it.
+    std::optional<run> run_after(Number value) const noexcept { return found(c::run_after, value); }
+    std::optional<run> run_before(Number value) const noexcept { return found(c::run_before, value); }
+
+    // The first gap with at least `len` values at or after `from`, without its part before `from`.
+    std::optional<run> first_gap(Number from, std::uint64_t len) const noexcept {
+        run gap{};
+        return c::first_gap(&handle_, from, len, &gap) ? std::optional<run>(gap) : std::nullopt;
+    }
+
     // Calls `each` on each run, in ascending order.
     template <class Each> void runs(Each each) const {
         run at{};
-        Number from = 0;
-        while (c::next_run(&handle_, from, &at)) {
+        for (bool more = c::next_run(&handle_, 0, &at); more; more = c::run_after(&handle_, at.last, &at)) {
             each(static_cast<const run &>(at));
-            from = at.last + 1;
-            if (from == 0) {
-                break;
-            }
         }
     }
 
@@ -148,6 +211,11 @@ private:
             throw std::bad_alloc();
         }
         return answer == RSB_CHANGED;
+    }
+
+    template <class Call> std::optional<run> found(Call call, Number value) const noexcept {
+        run at{};
+        return call(&handle_, value, &at) ? std::optional<run>(at) : std::nullopt;
     }
 
     template <class Call> set made(Call call) const {

@@ -39,7 +39,7 @@ int main(void) {
         }
         double asked = now();
         rsb_u64_run run;
-        for (uint64_t from = 0; rsb_u64_next_run(&set, from, &run); from = run.last + 1) {
+        for (bool more = rsb_u64_next_run(&set, 0, &run); more; more = rsb_u64_run_after(&set, run.last, &run)) {
             members += run.last;
         }
         double walked = now();
@@ -48,7 +48,7 @@ int main(void) {
         contains = (asked - filled) / CALLS < contains ? (asked - filled) / CALLS : contains;
         walk = (walked - asked) / RUNS < walk ? (walked - asked) / RUNS : walk;
     }
-    printf("c     insert_range %6.1f ns  contains %6.1f ns  next_run %6.1f ns  (%llu)\n", insert, contains, walk,
+    printf("c     insert_range %6.1f ns  contains %6.1f ns  run_after %6.1f ns  (%llu)\n", insert, contains, walk,
         (unsigned long long)members);
     return 0;
 }

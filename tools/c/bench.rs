@@ -57,6 +57,6 @@ fn main() {
         least_walk = least_walk.min(each(asked, walked, RUNS));
     }
     println!(
-        "rust  insert_range {least_insert:6.1} ns  contains {least_contains:6.1} ns  next_run {least_walk:6.1} ns  ({members})"
+        "rust  insert_range {least_insert:6.1} ns  contains {least_contains:6.1} ns  run_after {least_walk:6.1} ns  ({members})"
     );
 }

@@ -12,17 +12,19 @@
 typedef uint64_t number;
 typedef rsb_u64 set_t;
 typedef rsb_u64_run run_t;
+typedef rsb_u64_count count_t;
 #define GREATEST UINT64_MAX
 #else
 #define CALL(name) rsb_u32_##name
 typedef uint32_t number;
 typedef rsb_u32 set_t;
 typedef rsb_u32_run run_t;
+typedef uint64_t count_t;
 #define GREATEST UINT32_MAX
 #endif
 
 /* The values from BASE on are looked at, TABLE of them; half of the rounds end at the greatest value of the type. */
-enum { TABLE = 96, STEPS = 60, ROUNDS = 400 };
+enum { TABLE = 96, STEPS = 60, ROUNDS = 400, PLACES = 4 };
 
 static number base;
 static unsigned long long refusals;
@@ -121,6 +123,122 @@ static int compared(const table *left, const table *right) {
     }
 }
 
+static unsigned long long counted(count_t count) {
+#if WIDTH == 64
+    CHECK(count.high == 0);
+    return count.low;
+#else
+    return count;
+#endif
+}
+
+/* What the values from one place to another have: none if the last place is below the first. */
+static void windowed(const set_t *set, const table *bits, size_t first, size_t last) {
+    size_t members = 0, values = 0;
+    for (size_t place = first; place <= last; place++) {
+        members += bits->has[place];
+        values++;
+    }
+    CHECK(CALL(contains_range)(set, at(first), at(last)) == (members == values));
+    CHECK(CALL(is_disjoint_range)(set, at(first), at(last)) == (members == 0));
+    CHECK(counted(CALL(len_in)(set, at(first), at(last))) == members);
+}
+
+/* Each member by its number, and the number of each. */
+static void ranked(const set_t *set, const table *bits) {
+    unsigned long long below = 0;
+    number value;
+    for (size_t place = 0; place < TABLE; place++) {
+        CHECK(counted(CALL(rank)(set, at(place))) == below);
+        if (bits->has[place]) {
+            CHECK(CALL(nth)(set, below, &value) && value == at(place));
+            below++;
+        }
+    }
+    value = 7;
+    CHECK(!CALL(nth)(set, below, &value) && !CALL(nth)(set, UINT64_MAX, &value) && value == 7);
+}
+
+/* A call found the run that has a place, or, if the place is TABLE, none. */
+static void found(bool is, run_t run, const table *bits, size_t place) {
+    CHECK(is == (place < TABLE));
+    if (!is) {
+        CHECK(run.first == 3 && run.last == 2);
+        return;
+    }
+    size_t first = place, last = place;
+    while (first > 0 && bits->has[first - 1]) {
+        first--;
+    }
+    while (last + 1 < TABLE && bits->has[last + 1]) {
+        last++;
+    }
+    CHECK(run.first == at(first) && run.last == at(last));
+}
+
+/* The runs next to a place. */
+static void beside(const set_t *set, const table *bits, size_t place) {
+    size_t next = TABLE, prev = TABLE, after = TABLE, before = TABLE;
+    for (size_t other = TABLE; other-- > place;) {
+        next = bits->has[other] ? other : next;
+        after = other > place && bits->has[other] && !bits->has[other - 1] ? other : after;
+    }
+    for (size_t other = 0; other <= place; other++) {
+        prev = bits->has[other] ? other : prev;
+        before = other < place && bits->has[other] && !bits->has[other + 1] ? other : before;
+    }
+    run_t run = {3, 2};
+    found(CALL(next_run)(set, at(place), &run), run, bits, next);
+    run = (run_t){3, 2};
+    found(CALL(prev_run)(set, at(place), &run), run, bits, prev);
+    run = (run_t){3, 2};
+    found(CALL(run_after)(set, at(place), &run), run, bits, after);
+    run = (run_t){3, 2};
+    found(CALL(run_before)(set, at(place), &run), run, bits, before);
+}
+
+/* The first gap from a place on that is long enough. The last one reaches to the greatest value. */
+static void gap_from(const set_t *set, const table *bits, size_t from, number len) {
+    run_t gap = {3, 2};
+    bool is = CALL(first_gap)(set, at(from), len, &gap);
+    for (size_t first = from, past;; first = past) {
+        while (first < TABLE && bits->has[first]) {
+            first++;
+        }
+        if (first == TABLE && at(TABLE - 1) == GREATEST) {
+            CHECK(!is && gap.first == 3 && gap.last == 2);
+            return;
+        }
+        for (past = first; past < TABLE && !bits->has[past];) {
+            past++;
+        }
+        number last = past < TABLE ? at(past - 1) : GREATEST;
+        if (last - at(first) >= len - 1) {
+            CHECK(is && gap.first == at(first) && gap.last == last);
+            return;
+        }
+    }
+}
+
+/* A walk over the runs, and one back. */
+static void walked(const set_t *set, const table *bits, unsigned long long runs) {
+    table there = {{false}}, back = {{false}};
+    run_t run = {3, 2};
+    unsigned long long steps = 0;
+    for (bool more = CALL(next_run)(set, 0, &run); more; more = CALL(run_after)(set, run.last, &run)) {
+        CHECK(run.first >= base && run.last >= run.first && run.last - base < TABLE);
+        memset(there.has + (run.first - base), true, run.last - run.first + 1);
+        steps++;
+    }
+    CHECK(steps == runs && !memcmp(&there, bits, sizeof there));
+    for (bool more = CALL(prev_run)(set, GREATEST, &run); more; more = CALL(run_before)(set, run.first, &run)) {
+        CHECK(run.first >= base && run.last >= run.first && run.last - base < TABLE);
+        memset(back.has + (run.first - base), true, run.last - run.first + 1);
+        steps--;
+    }
+    CHECK(steps == 0 && !memcmp(&back, bits, sizeof back));
+}
+
 /* A set has the members of its table, by each call that reads one set. */
 static void same(const set_t *set, const table *bits) {
     long before = asked;
@@ -136,12 +254,7 @@ static void same(const set_t *set, const table *bits) {
         least = least == TABLE ? place : least;
         greatest = place;
     }
-#if WIDTH == 64
-    rsb_u64_count count = rsb_u64_len(set);
-    CHECK(count.low == members && count.high == 0);
-#else
-    CHECK(rsb_u32_len(set) == members);
-#endif
+    CHECK(counted(CALL(len)(set)) == members);
     CHECK(CALL(run_count)(set) == runs);
 
     number value = 7;
@@ -166,21 +279,14 @@ static void same(const set_t *set, const table *bits) {
         CHECK(block.last == (!member && last == TABLE - 1 ? GREATEST : at(last)));
     }
 
-    table walked = {{false}};
-    run_t run = {3, 2};
-    unsigned long long steps = 0;
-    for (number from = 0; CALL(next_run)(set, from, &run); from = run.last + 1) {
-        CHECK(run.first >= from && run.last >= run.first && run.first >= base);
-        for (number place = run.first - base; place <= run.last - base; place++) {
-            CHECK(place < TABLE);
-            walked.has[place] = true;
-        }
-        steps++;
-        if (run.last == GREATEST) {
-            break;
-        }
+    walked(set, bits, runs);
+    ranked(set, bits);
+    for (int i = 0; i < PLACES; i++) {
+        size_t place = drawn(TABLE);
+        windowed(set, bits, place, drawn(TABLE));
+        beside(set, bits, place);
+        gap_from(set, bits, place, (number)(1 + drawn(8)));
     }
-    CHECK(steps == runs && !memcmp(&walked, bits, sizeof walked));
     CHECK(asked == before);
 }
 
@@ -192,7 +298,7 @@ static void change(set_t *set, table *bits) {
     long before = asked;
     uint32_t answer;
     table next = *bits;
-    switch (drawn(8)) {
+    switch (drawn(12)) {
     case 0:
     case 1:
         answer = CALL(remove)(set, at(first));
@@ -206,6 +312,17 @@ static void change(set_t *set, table *bits) {
         /* A range that ends before it starts has no value. */
         answer = first > 0 ? CALL(insert_range)(set, at(first), at(first - 1)) : RSB_UNCHANGED;
         CHECK(answer != RSB_CHANGED);
+        break;
+    case 4:
+    case 5:
+    case 6:
+        answer = CALL(remove_range)(set, at(first), at(last));
+        memset(next.has + first, false, last - first + 1);
+        CHECK(asked == before || (last + 1 < TABLE && bits->has[last + 1]));
+        break;
+    case 7:
+        answer = first > 0 ? CALL(remove_range)(set, at(first), at(first - 1)) : RSB_UNCHANGED;
+        CHECK(answer == RSB_UNCHANGED);
         break;
     default:
         answer = CALL(insert_range)(set, at(first), at(last));
@@ -269,6 +386,34 @@ static void combined(set_t *out, table *made, const set_t *left, const table *l,
     }
 }
 
+static const struct {
+    uint32_t (*call)(set_t *set, const set_t *other);
+    bool (*has)(bool left, bool right);
+} changes[] = {
+    {CALL(union_with), either},
+    {CALL(intersect_with), both},
+    {CALL(subtract), left_alone},
+    {CALL(xor_with), one_alone},
+};
+
+static void changed_by(set_t *set, table *bits, const set_t *other, const table *o) {
+    for (size_t kind = 0; kind < sizeof changes / sizeof *changes; kind++) {
+        filled(set, bits, drawn(STEPS / 4));
+        table next = *bits;
+        for (size_t place = 0; place < TABLE; place++) {
+            next.has[place] = changes[kind].has(bits->has[place], o->has[place]);
+        }
+        long before = asked;
+        uint32_t answer = told(changes[kind].call(set, other), before);
+        if (answer != RSB_NO_MEMORY) {
+            CHECK(answer == (memcmp(&next, bits, sizeof next) ? RSB_CHANGED : RSB_UNCHANGED));
+            *bits = next;
+        }
+        same(set, bits);
+        same(other, o);
+    }
+}
+
 static void compared_with(const set_t *left, const table *l, const set_t *right, const table *r) {
     long before = asked;
     bool subset = true, disjoint = true;
@@ -311,7 +456,7 @@ static long round_of(unsigned long long start, long refused) {
     asked = 0;
     base = drawn(2) ? GREATEST - (TABLE - 1) : (number)drawn(1000);
     set_t a = RSB_EMPTY, b = RSB_EMPTY, c = RSB_EMPTY, d = RSB_EMPTY;
-    table ta = {{false}}, tb = {{false}}, tc = {{false}};
+    table ta = {{false}}, tb = {{false}}, tc = {{false}}, td = {{false}};
     same(&a, &ta);
     filled(&a, &ta, drawn(STEPS));
     filled(&b, &tb, drawn(STEPS));
@@ -328,16 +473,9 @@ static long round_of(unsigned long long start, long refused) {
     filled(&c, &tc, 3);
     same(&a, &ta);
 
-    before = asked;
-    answer = told(CALL(union_with)(&c, &b), before);
-    bool is_new = false;
-    for (size_t place = 0; place < TABLE; place++) {
-        is_new = is_new || (tb.has[place] && !tc.has[place]);
-        tc.has[place] = tc.has[place] || (answer != RSB_NO_MEMORY && tb.has[place]);
-    }
-    CHECK(answer == RSB_NO_MEMORY || answer == (is_new ? RSB_CHANGED : RSB_UNCHANGED));
-    same(&c, &tc);
-    same(&b, &tb);
+    changed_by(&c, &tc, &b, &tb);
+    changed_by(&d, &td, &c, &tc);
+    CALL(free)(&d);
     complemented(&d, &c, &b, &tb);
 
     CALL(clear)(&a);
@@ -355,26 +493,64 @@ static long round_of(unsigned long long start, long refused) {
     return asked;
 }
 
+/* Both walks over the set of its two ends, or of every value. */
+static void walked_to_the_ends(const set_t *set, size_t runs) {
+    run_t run = {3, 2};
+    size_t steps = 0;
+    for (bool more = CALL(next_run)(set, 0, &run); more; more = CALL(run_after)(set, run.last, &run)) {
+        steps++;
+    }
+    CHECK(steps == runs && run.last == GREATEST);
+    for (bool more = CALL(prev_run)(set, GREATEST, &run); more; more = CALL(run_before)(set, run.first, &run)) {
+        steps--;
+    }
+    CHECK(steps == 0 && run.first == 0);
+}
+
 /* The set of every value. */
 static void whole(void) {
     refused_at = 0;
     set_t all = RSB_EMPTY, none = RSB_EMPTY;
     run_t run = {3, 2};
+    number value = 7;
     CHECK(CALL(complement)(&all, &none) == RSB_CHANGED);
     CHECK(CALL(next_run)(&all, GREATEST, &run) && run.first == 0 && run.last == GREATEST);
+    CHECK(CALL(prev_run)(&all, 0, &run) && run.first == 0 && run.last == GREATEST);
+    CHECK(!CALL(run_after)(&all, 0, &run) && !CALL(run_before)(&all, GREATEST, &run));
     CHECK(CALL(run_count)(&all) == 1);
+    walked_to_the_ends(&all, 1);
 #if WIDTH == 64
-    rsb_u64_count count = rsb_u64_len(&all);
-    CHECK(count.low == 0 && count.high == 1);
+    rsb_u64_count count = rsb_u64_len(&all), within = rsb_u64_len_in(&all, 0, GREATEST);
+    CHECK(count.low == 0 && count.high == 1 && within.low == 0 && within.high == 1);
 #else
-    CHECK(rsb_u32_len(&all) == (uint64_t)1 << 32);
+    CHECK(rsb_u32_len(&all) == (uint64_t)1 << 32 && rsb_u32_len_in(&all, 0, GREATEST) == (uint64_t)1 << 32);
 #endif
+    CHECK(counted(CALL(rank)(&all, GREATEST)) == GREATEST);
+    CHECK(CALL(nth)(&all, GREATEST, &value) && value == GREATEST);
+    CHECK(CALL(contains_range)(&all, 0, GREATEST) && !CALL(is_disjoint_range)(&all, 0, GREATEST));
+    CHECK(!CALL(contains_range)(&none, 0, GREATEST) && CALL(is_disjoint_range)(&none, 0, GREATEST));
+    CHECK(!CALL(first_gap)(&all, 0, 0, &run));
+    CHECK(CALL(first_gap)(&none, 5, 0, &run) && run.first == 5 && run.last == GREATEST);
     CHECK(CALL(insert)(&all, 5) == RSB_UNCHANGED);
     CHECK(CALL(remove)(&all, GREATEST) == RSB_CHANGED);
     CHECK(!CALL(next_run)(&all, GREATEST, &run) && run.last == GREATEST);
     CHECK(CALL(run_or_gap)(&none, 5, &run) == false && run.first == 0 && run.last == GREATEST);
+    CHECK(CALL(insert)(&all, GREATEST) == RSB_CHANGED);
+    CHECK(CALL(remove_range)(&all, 1, GREATEST - 1) == RSB_CHANGED);
+    walked_to_the_ends(&all, 2);
     CALL(free)(&all);
     CALL(free)(&none);
+}
+
+/* Changes by the empty set ask for no memory. */
+static void changed_by_nothing(void) {
+    set_t some = RSB_EMPTY, none = RSB_EMPTY;
+    CHECK(CALL(insert_range)(&some, 5, 9) == RSB_CHANGED);
+    long before = asked;
+    CHECK(CALL(union_with)(&some, &none) == RSB_UNCHANGED && CALL(subtract)(&some, &none) == RSB_UNCHANGED);
+    CHECK(CALL(xor_with)(&some, &none) == RSB_UNCHANGED && CALL(intersect_with)(&some, &none) == RSB_CHANGED);
+    CHECK(CALL(run_count)(&some) == 0 && asked == before);
+    CALL(free)(&some);
 }
 
 int main(void) {
@@ -386,6 +562,7 @@ int main(void) {
     }
     CHECK(refusals > 0);
     whole();
+    changed_by_nothing();
     printf("u%d: each call agrees with its table, %llu allocations refused\n", WIDTH, refusals);
     return 0;
 }

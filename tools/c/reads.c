@@ -69,10 +69,28 @@ static void *reads(void *argument) {
         CHECK(rsb_u32_run_or_gap(&sets->narrow, (uint32_t)value, &narrow) == member);
         CHECK(!rsb_u64_next_run(&sets->wide, value, &wide) || wide.first % 20 == 0);
         CHECK(!rsb_u32_next_run(&sets->narrow, (uint32_t)value, &narrow) || narrow.first % 20 == 0);
+        CHECK(rsb_u64_prev_run(&sets->wide, value, &wide) && wide.first % 20 == 0);
+        CHECK(rsb_u32_prev_run(&sets->narrow, (uint32_t)value, &narrow) && narrow.first % 20 == 0);
+        CHECK(!rsb_u64_run_after(&sets->wide, value, &wide) || wide.first > value);
+        CHECK(!rsb_u32_run_after(&sets->narrow, (uint32_t)value, &narrow) || narrow.first > value);
+        CHECK(!rsb_u64_run_before(&sets->wide, value, &wide) || wide.last < value);
+        CHECK(!rsb_u32_run_before(&sets->narrow, (uint32_t)value, &narrow) || narrow.last < value);
+        CHECK(rsb_u64_contains_range(&sets->wide, value, value) == member);
+        CHECK(rsb_u32_contains_range(&sets->narrow, (uint32_t)value, (uint32_t)value) == member);
+        CHECK(rsb_u64_is_disjoint_range(&sets->wide, value, value) == !member);
+        CHECK(rsb_u32_is_disjoint_range(&sets->narrow, (uint32_t)value, (uint32_t)value) == !member);
     }
     for (int turn = 0; turn < 20; turn++) {
         uint64_t first = 0, last = 0;
         uint32_t lowest = 0, highest = 0;
+        rsb_u64_run wide;
+        rsb_u32_run narrow;
+        CHECK(rsb_u64_len_in(&sets->wide, 10, 39).low == 10 && rsb_u32_len_in(&sets->narrow, 10, 39) == 10);
+        CHECK(rsb_u64_rank(&sets->wide, 25).low == 15 && rsb_u32_rank(&sets->narrow, 25) == 15);
+        CHECK(rsb_u64_nth(&sets->wide, 15, &first) && first == 25);
+        CHECK(rsb_u32_nth(&sets->narrow, 15, &lowest) && lowest == 25);
+        CHECK(rsb_u64_first_gap(&sets->wide, 5, 3, &wide) && wide.first == 10 && wide.last == 19);
+        CHECK(rsb_u32_first_gap(&sets->narrow, 5, 3, &narrow) && narrow.first == 10 && narrow.last == 19);
         CHECK(rsb_u64_len(&sets->wide).low == 10 * RUNS && rsb_u32_len(&sets->narrow) == 10 * RUNS);
         CHECK(rsb_u64_run_count(&sets->wide) == RUNS && rsb_u32_run_count(&sets->narrow) == RUNS);
         CHECK(rsb_u64_first(&sets->wide, &first) && rsb_u64_last(&sets->wide, &last) && first < last);

@@ -1,3 +1,4 @@
 mod U32Box
 mod U64Box
 mod UnboxedForm
+mod Walk

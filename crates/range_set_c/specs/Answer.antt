@@ -1,7 +1,31 @@
 -- What the numbers that exports return stand for.
-use Rattle.std.specs.Prelude.{◌≡◌, ◌⊎◌, ℤ, pos, negsuc, zero, suc}
+use Rattle.std.specs.Prelude.{◌≡◌, ◌⊎◌, ◌<◌, ◌≤◌, ℕ, ℤ, pos, negsuc, zero, suc}
 use Rattle.std.specs.declared.cmp.Ordering.{Ordering}
 use Rattle.std.specs.declared.cmp.Ordering.TheVariants.{Less, Equal, Greater}
+
+-- ---- what a call that changes or makes a set returns (`src/status.rt` has the numbers)
+
+-- Whether the number is one that such a call returns.
+abbrev pub IsStatus : ℕ → Type 0
+IsStatus status = status ≤ 2
+
+-- Whether the set was already as asked.
+abbrev pub IsUnchanged : ℕ → Type 0
+IsUnchanged status = status ≡ 0
+
+-- Whether the set is now as asked, and was not before, or whether it was made.
+abbrev pub IsChanged : ℕ → Type 0
+IsChanged status = status ≡ 1
+
+-- Whether an allocation failed.
+abbrev pub IsRefused : ℕ → Type 0
+IsRefused status = status ≡ 2
+
+-- Whether the set is now as asked.
+abbrev pub Succeeds : ℕ → Type 0
+Succeeds status = status < 2
+
+-- ---- what a comparison of two sets returns
 
 -- The order that a negative number, 0 or a positive number stands for.
 abbrev pub order_told : ℤ → Ordering

@@ -16,9 +16,9 @@ use std::alloc::Global;
 /// Sets `out` to a copy of a set.
 #[unsafe(no_mangle)]
 pub extern "C" fn rsb_u32_clone(alloc: Global, out: &mut Handle, set: &mut Handle) -> u32
-    ensures answer { (result ≡ 1) ⊎ (result ≡ 2) }
-    ensures members { result ≡ 1 → out.new.kept.set ≡ set.old.kept.set }
-    ensures refused { result ≡ 2 → out.new.kept.set ≡ out.old.kept.set }
+    ensures answer { IsChanged result ⊎ IsRefused result }
+    ensures members { IsChanged result → out.new.kept.set ≡ set.old.kept.set }
+    ensures refused { IsRefused result → out.new.kept.set ≡ out.old.kept.set }
     ensures set { set.new.kept.set ≡ set.old.kept.set }
 {
     let empty = RangeSetBlaze::new(alloc);
@@ -29,10 +29,10 @@ pub extern "C" fn rsb_u32_clone(alloc: Global, out: &mut Handle, set: &mut Handl
 /// Sets `out` to the values that a set lacks.
 #[unsafe(no_mangle)]
 pub extern "C" fn rsb_u32_complement(alloc: Global, out: &mut Handle, set: &mut Handle) -> u32
-    ensures answer { (result ≡ 1) ⊎ (result ≡ 2) }
-    ensures members { result ≡ 1
+    ensures answer { IsChanged result ⊎ IsRefused result }
+    ensures members { IsChanged result
         → IsSetOf out.new.kept.set (complement_in (2 ^ 32) (members set.old.kept.set)) }
-    ensures refused { result ≡ 2 → out.new.kept.set ≡ out.old.kept.set }
+    ensures refused { IsRefused result → out.new.kept.set ≡ out.old.kept.set }
     ensures set { set.new.kept.set ≡ set.old.kept.set }
 {
     let empty = RangeSetBlaze::new(alloc);
@@ -48,10 +48,10 @@ pub extern "C" fn rsb_u32_union(
     left: &mut Handle,
     right: &mut Handle,
 ) -> u32
-    ensures answer { (result ≡ 1) ⊎ (result ≡ 2) }
-    ensures members { result ≡ 1 → IsSetOf out.new.kept.set
+    ensures answer { IsChanged result ⊎ IsRefused result }
+    ensures members { IsChanged result → IsSetOf out.new.kept.set
         (union (members left.old.kept.set) (members right.old.kept.set)) }
-    ensures refused { result ≡ 2 → out.new.kept.set ≡ out.old.kept.set }
+    ensures refused { IsRefused result → out.new.kept.set ≡ out.old.kept.set }
     ensures left { left.new.kept.set ≡ left.old.kept.set }
     ensures right { right.new.kept.set ≡ right.old.kept.set }
 {
@@ -69,10 +69,10 @@ pub extern "C" fn rsb_u32_intersection(
     left: &mut Handle,
     right: &mut Handle,
 ) -> u32
-    ensures answer { (result ≡ 1) ⊎ (result ≡ 2) }
-    ensures members { result ≡ 1 → IsSetOf out.new.kept.set
+    ensures answer { IsChanged result ⊎ IsRefused result }
+    ensures members { IsChanged result → IsSetOf out.new.kept.set
         (intersection (members left.old.kept.set) (members right.old.kept.set)) }
-    ensures refused { result ≡ 2 → out.new.kept.set ≡ out.old.kept.set }
+    ensures refused { IsRefused result → out.new.kept.set ≡ out.old.kept.set }
     ensures left { left.new.kept.set ≡ left.old.kept.set }
     ensures right { right.new.kept.set ≡ right.old.kept.set }
 {
@@ -90,10 +90,10 @@ pub extern "C" fn rsb_u32_difference(
     left: &mut Handle,
     right: &mut Handle,
 ) -> u32
-    ensures answer { (result ≡ 1) ⊎ (result ≡ 2) }
-    ensures members { result ≡ 1 → IsSetOf out.new.kept.set
+    ensures answer { IsChanged result ⊎ IsRefused result }
+    ensures members { IsChanged result → IsSetOf out.new.kept.set
         (difference (members left.old.kept.set) (members right.old.kept.set)) }
-    ensures refused { result ≡ 2 → out.new.kept.set ≡ out.old.kept.set }
+    ensures refused { IsRefused result → out.new.kept.set ≡ out.old.kept.set }
     ensures left { left.new.kept.set ≡ left.old.kept.set }
     ensures right { right.new.kept.set ≡ right.old.kept.set }
 {
@@ -111,10 +111,10 @@ pub extern "C" fn rsb_u32_symmetric_difference(
     left: &mut Handle,
     right: &mut Handle,
 ) -> u32
-    ensures answer { (result ≡ 1) ⊎ (result ≡ 2) }
-    ensures members { result ≡ 1 → IsSetOf out.new.kept.set
+    ensures answer { IsChanged result ⊎ IsRefused result }
+    ensures members { IsChanged result → IsSetOf out.new.kept.set
         (symmetric_difference (members left.old.kept.set) (members right.old.kept.set)) }
-    ensures refused { result ≡ 2 → out.new.kept.set ≡ out.old.kept.set }
+    ensures refused { IsRefused result → out.new.kept.set ≡ out.old.kept.set }
     ensures left { left.new.kept.set ≡ left.old.kept.set }
     ensures right { right.new.kept.set ≡ right.old.kept.set }
 {

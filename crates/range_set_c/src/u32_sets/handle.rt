@@ -64,10 +64,10 @@ impl Handle {
         alloc: Global,
         made: Result<RangeSetBlaze<u32, Global>, AllocError>,
     ) -> u32
-        ensures answer { (result ≡ 1) ⊎ (result ≡ 2) }
-        ensures made { result ≡ 1 → IsOk made }
-        ensures set { result ≡ 1 → IfOk made (λ set. self.new.kept.set ≡ set) }
-        ensures refused { result ≡ 2 → self.new.kept.set ≡ self.old.kept.set }
+        ensures answer { IsChanged result ⊎ IsRefused result }
+        ensures made { IsChanged result → IsOk made }
+        ensures set { IsChanged result → IfOk made (λ set. self.new.kept.set ≡ set) }
+        ensures refused { IsRefused result → self.new.kept.set ≡ self.old.kept.set }
     {
         let Ok(set) = made else {
             return NO_MEMORY;

@@ -3,14 +3,15 @@
 //! A call returns `UNCHANGED` if the set was already as asked, and `CHANGED` if it is now. It
 //! returns `NO_MEMORY` if an allocation fails, and the set is then unchanged.
 
-ghost use Rattle.std.specs.Prelude.{◌≡◌, ◌<◌, ◌≤◌, ◌^◌, [], IsFalse, IsTrue};
+ghost use Rattle.std.specs.Prelude.{◌≡◌, ◌+◌, ◌<◌, ◌^◌, [], IsFalse, IsTrue};
 ghost use Rattle.rsb_integer.specs.Runs.{members, covers, from_to};
-ghost use Rattle.rsb_integer.specs.Selection.{IsSubset, LacksSome};
+ghost use Rattle.rsb_integer.specs.Selection.{intersection, IsEmpty, LacksSome};
+ghost use Rattle.range_set_blaze.specs.RemoveRanges.{HasSome, Lacks};
 ghost use Rattle.range_set_blaze.specs.Set.{only, Adds, IsReached, Removes};
+ghost use Rattle.range_set_c.specs.Answer.{IsChanged, IsRefused, IsStatus, IsUnchanged, Succeeds};
 
 use super::handle::Handle;
 use crate::status::{CHANGED, NO_MEMORY, UNCHANGED};
-use range_set_blaze::RangeSetBlaze;
 use std::alloc::Global;
 
 /// Adds the values from `first` to `last`: none if `last` is below `first`. It cannot return
@@ -22,16 +23,16 @@ pub extern "C" fn rsb_u64_insert_range(
     first: u64,
     last: u64,
 ) -> u32
-    ensures answer { result ≤ 2 }
-    ensures members { result < 2
+    ensures answer { IsStatus result }
+    ensures members { Succeeds result
         → Adds set.old.kept.set set.new.kept.set (covers (from_to first last)) }
-    ensures unchanged { result ≡ 0
+    ensures unchanged { IsUnchanged result
         → ¬ LacksSome (members set.old.kept.set) (covers (from_to first last)) }
-    ensures changed { result ≡ 1
+    ensures changed { IsChanged result
         → LacksSome (members set.old.kept.set) (covers (from_to first last)) }
-    ensures refused { result ≡ 2 → set.new.kept.set ≡ set.old.kept.set }
-    ensures nothing { last < first → result ≡ 0 }
-    ensures spared { IsReached set.old.kept.set first → result < 2 }
+    ensures refused { IsRefused result → set.new.kept.set ≡ set.old.kept.set }
+    ensures nothing { last < first → IsUnchanged result }
+    ensures spared { IsReached set.old.kept.set first → Succeeds result }
 {
     if last < first {
         return UNCHANGED;
@@ -51,13 +52,13 @@ pub extern "C" fn rsb_u64_insert_range(
 /// Adds a value. It cannot return `NO_MEMORY` if the value or the one before it is a member.
 #[unsafe(no_mangle)]
 pub extern "C" fn rsb_u64_insert(alloc: Global, set: &mut Handle, value: u64) -> u32
-    ensures answer { result ≤ 2 }
-    ensures members { result < 2 → Adds set.old.kept.set set.new.kept.set (only value) }
-    ensures unchanged { result ≡ 0 → IsTrue (members set.old.kept.set value) }
-    ensures changed { result ≡ 1 → IsFalse (members set.old.kept.set value) }
-    ensures refused { result ≡ 2 → set.new.kept.set ≡ set.old.kept.set }
-    ensures spared { IsTrue (members set.old.kept.set value) → result ≡ 0 }
-    ensures reached { IsReached set.old.kept.set value → result < 2 }
+    ensures answer { IsStatus result }
+    ensures members { Succeeds result → Adds set.old.kept.set set.new.kept.set (only value) }
+    ensures unchanged { IsUnchanged result → IsTrue (members set.old.kept.set value) }
+    ensures changed { IsChanged result → IsFalse (members set.old.kept.set value) }
+    ensures refused { IsRefused result → set.new.kept.set ≡ set.old.kept.set }
+    ensures spared { IsTrue (members set.old.kept.set value) → IsUnchanged result }
+    ensures reached { IsReached set.old.kept.set value → Succeeds result }
 {
     let Ok(mut kept) = set.take_or_make(alloc) else {
         return NO_MEMORY;
@@ -74,12 +75,12 @@ pub extern "C" fn rsb_u64_insert(alloc: Global, set: &mut Handle, value: u64) ->
 /// Removes a value. It cannot return `NO_MEMORY` if the value is not a member.
 #[unsafe(no_mangle)]
 pub extern "C" fn rsb_u64_remove(set: &mut Handle, value: u64) -> u32
-    ensures answer { result ≤ 2 }
-    ensures members { result < 2 → Removes set.old.kept.set set.new.kept.set (only value) }
-    ensures unchanged { result ≡ 0 → IsFalse (members set.old.kept.set value) }
-    ensures changed { result ≡ 1 → IsTrue (members set.old.kept.set value) }
-    ensures refused { result ≡ 2 → set.new.kept.set ≡ set.old.kept.set }
-    ensures spared { IsFalse (members set.old.kept.set value) → result ≡ 0 }
+    ensures answer { IsStatus result }
+    ensures members { Succeeds result → Removes set.old.kept.set set.new.kept.set (only value) }
+    ensures unchanged { IsUnchanged result → IsFalse (members set.old.kept.set value) }
+    ensures changed { IsChanged result → IsTrue (members set.old.kept.set value) }
+    ensures refused { IsRefused result → set.new.kept.set ≡ set.old.kept.set }
+    ensures spared { IsFalse (members set.old.kept.set value) → IsUnchanged result }
 {
     let Some(kept) = set.open() else {
         return UNCHANGED;
@@ -91,30 +92,31 @@ pub extern "C" fn rsb_u64_remove(set: &mut Handle, value: u64) -> u32
     }
 }
 
-/// Adds all members of another set, which is unchanged. It cannot return `NO_MEMORY` if each of
-/// them is already a member.
+/// Removes the values from `first` to `last`: none if `last` is below `first`. It cannot return
+/// `NO_MEMORY` if none of them is a member, or if the value after `last` is not a member or does
+/// not exist.
 #[unsafe(no_mangle)]
-pub extern "C" fn rsb_u64_union_with(alloc: Global, set: &mut Handle, other: &mut Handle) -> u32
-    ensures answer { result ≤ 2 }
-    ensures unchanged { result ≡ 0 →
-        IsSubset (2 ^ 64) (members other.old.kept.set) (members set.old.kept.set) }
-    ensures kept { result ≡ 0 → set.new.kept.set ≡ set.old.kept.set }
-    ensures changed { result ≡ 1 →
-        ¬ IsSubset (2 ^ 64) (members other.old.kept.set) (members set.old.kept.set) }
-    ensures members { result ≡ 1 →
-        Adds set.old.kept.set set.new.kept.set (members other.old.kept.set) }
-    ensures refused { result ≡ 2 → set.new.kept.set ≡ set.old.kept.set }
-    ensures spared { IsSubset (2 ^ 64) (members other.old.kept.set) (members set.old.kept.set)
-        → result ≡ 0 }
-    ensures other { other.new.kept.set ≡ other.old.kept.set }
+pub extern "C" fn rsb_u64_remove_range(set: &mut Handle, first: u64, last: u64) -> u32
+    ensures answer { IsStatus result }
+    ensures members { Succeeds result
+        → Removes set.old.kept.set set.new.kept.set (covers (from_to first last)) }
+    ensures unchanged { IsUnchanged result
+        → ¬ HasSome (members set.old.kept.set) (covers (from_to first last)) }
+    ensures changed { IsChanged result
+        → HasSome (members set.old.kept.set) (covers (from_to first last)) }
+    ensures refused { IsRefused result → set.new.kept.set ≡ set.old.kept.set }
+    ensures nothing { IsEmpty (intersection (members set.old.kept.set)
+        (covers (from_to first last))) → IsUnchanged result }
+    ensures spared { Lacks (2 ^ 64) set.old.kept.set (last + 1) → Succeeds result }
 {
-    let none = RangeSetBlaze::new(alloc);
-    let nothing = RangeSetBlaze::new(alloc);
-    if other.set_or(&none).is_subset(set.set_or(&nothing)) {
+    let Some(kept) = set.open() else {
         return UNCHANGED;
+    };
+    match kept.set.ranges_remove(first..=last) {
+        Ok(true) => CHANGED,
+        Ok(false) => UNCHANGED,
+        Err(_) => NO_MEMORY,
     }
-    let made = set.set_or(&none).bitor(other.set_or(&nothing));
-    set.set_to(alloc, made)
 }
 
 /// Removes all members.

@@ -15,9 +15,9 @@ use std::alloc::Global;
 /// Sets `out` to a copy of a set.
 #[unsafe(no_mangle)]
 pub extern "C" fn rsb_u64_clone(alloc: Global, out: &mut Handle, set: &mut Handle) -> u32
-    ensures answer { (result ≡ 1) ⊎ (result ≡ 2) }
-    ensures members { result ≡ 1 → out.new.kept.set ≡ set.old.kept.set }
-    ensures refused { result ≡ 2 → out.new.kept.set ≡ out.old.kept.set }
+    ensures answer { IsChanged result ⊎ IsRefused result }
+    ensures members { IsChanged result → out.new.kept.set ≡ set.old.kept.set }
+    ensures refused { IsRefused result → out.new.kept.set ≡ out.old.kept.set }
     ensures set { set.new.kept.set ≡ set.old.kept.set }
 {
     let empty = RangeSetBlaze::new(alloc);
@@ -28,10 +28,10 @@ pub extern "C" fn rsb_u64_clone(alloc: Global, out: &mut Handle, set: &mut Handl
 /// Sets `out` to the values that a set lacks.
 #[unsafe(no_mangle)]
 pub extern "C" fn rsb_u64_complement(alloc: Global, out: &mut Handle, set: &mut Handle) -> u32
-    ensures answer { (result ≡ 1) ⊎ (result ≡ 2) }
-    ensures members { result ≡ 1
+    ensures answer { IsChanged result ⊎ IsRefused result }
+    ensures members { IsChanged result
         → IsSetOf out.new.kept.set (complement_in (2 ^ 64) (members set.old.kept.set)) }
-    ensures refused { result ≡ 2 → out.new.kept.set ≡ out.old.kept.set }
+    ensures refused { IsRefused result → out.new.kept.set ≡ out.old.kept.set }
     ensures set { set.new.kept.set ≡ set.old.kept.set }
 {
     let empty = RangeSetBlaze::new(alloc);
@@ -47,10 +47,10 @@ pub extern "C" fn rsb_u64_union(
     left: &mut Handle,
     right: &mut Handle,
 ) -> u32
-    ensures answer { (result ≡ 1) ⊎ (result ≡ 2) }
-    ensures members { result ≡ 1 → IsSetOf out.new.kept.set
+    ensures answer { IsChanged result ⊎ IsRefused result }
+    ensures members { IsChanged result → IsSetOf out.new.kept.set
         (union (members left.old.kept.set) (members right.old.kept.set)) }
-    ensures refused { result ≡ 2 → out.new.kept.set ≡ out.old.kept.set }
+    ensures refused { IsRefused result → out.new.kept.set ≡ out.old.kept.set }
     ensures left { left.new.kept.set ≡ left.old.kept.set }
     ensures right { right.new.kept.set ≡ right.old.kept.set }
 {
@@ -68,10 +68,10 @@ pub extern "C" fn rsb_u64_intersection(
     left: &mut Handle,
     right: &mut Handle,
 ) -> u32
-    ensures answer { (result ≡ 1) ⊎ (result ≡ 2) }
-    ensures members { result ≡ 1 → IsSetOf out.new.kept.set
+    ensures answer { IsChanged result ⊎ IsRefused result }
+    ensures members { IsChanged result → IsSetOf out.new.kept.set
         (intersection (members left.old.kept.set) (members right.old.kept.set)) }
-    ensures refused { result ≡ 2 → out.new.kept.set ≡ out.old.kept.set }
+    ensures refused { IsRefused result → out.new.kept.set ≡ out.old.kept.set }
     ensures left { left.new.kept.set ≡ left.old.kept.set }
     ensures right { right.new.kept.set ≡ right.old.kept.set }
 {
@@ -89,10 +89,10 @@ pub extern "C" fn rsb_u64_difference(
     left: &mut Handle,
     right: &mut Handle,
 ) -> u32
-    ensures answer { (result ≡ 1) ⊎ (result ≡ 2) }
-    ensures members { result ≡ 1 → IsSetOf out.new.kept.set
+    ensures answer { IsChanged result ⊎ IsRefused result }
+    ensures members { IsChanged result → IsSetOf out.new.kept.set
         (difference (members left.old.kept.set) (members right.old.kept.set)) }
-    ensures refused { result ≡ 2 → out.new.kept.set ≡ out.old.kept.set }
+    ensures refused { IsRefused result → out.new.kept.set ≡ out.old.kept.set }
     ensures left { left.new.kept.set ≡ left.old.kept.set }
     ensures right { right.new.kept.set ≡ right.old.kept.set }
 {
@@ -110,10 +110,10 @@ pub extern "C" fn rsb_u64_symmetric_difference(
     left: &mut Handle,
     right: &mut Handle,
 ) -> u32
-    ensures answer { (result ≡ 1) ⊎ (result ≡ 2) }
-    ensures members { result ≡ 1 → IsSetOf out.new.kept.set
+    ensures answer { IsChanged result ⊎ IsRefused result }
+    ensures members { IsChanged result → IsSetOf out.new.kept.set
         (symmetric_difference (members left.old.kept.set) (members right.old.kept.set)) }
-    ensures refused { result ≡ 2 → out.new.kept.set ≡ out.old.kept.set }
+    ensures refused { IsRefused result → out.new.kept.set ≡ out.old.kept.set }
     ensures left { left.new.kept.set ≡ left.old.kept.set }
     ensures right { right.new.kept.set ≡ right.old.kept.set }
 {

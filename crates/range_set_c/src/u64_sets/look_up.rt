@@ -1,17 +1,15 @@
 //! Questions about one set. They leave it unchanged and do not allocate.
 
-ghost use Rattle.std.specs.Prelude.{◌≡◌, ℕ, ◌+◌, ◌*◌, ◌^◌, ◌<◌, ◌≤◌, [], length, IfSome, IsFalse, IsNone, IsTrue};
-ghost use Rattle.std.specs.Range.{range_inclusive_end, range_inclusive_start};
-ghost use Rattle.rsb_integer.specs.Rank.{interval_of};
-ghost use Rattle.rsb_integer.specs.Runs.{members, IsMaximalRun};
-ghost use Rattle.rsb_integer.specs.Selection.{complement, count};
-ghost use Rattle.range_set_blaze.specs.Set.{IsGreatest, IsLeast, IsRunAround};
+ghost use Rattle.std.specs.Prelude.{◌≡◌, ◌↔◌, ◌≤◌, ◌+◌, ◌*◌, ◌^◌, [], length, IsFalse, IsTrue};
+ghost use Rattle.rsb_integer.specs.Runs.{covers, from_to, members};
+ghost use Rattle.rsb_integer.specs.Selection.{count, intersection, IsEmpty};
+ghost use Rattle.range_set_blaze.specs.Joining.{Has};
+ghost use Rattle.range_set_blaze.specs.Set.{IsGreatest, IsLeast};
 
 use super::handle::Handle;
-use super::run::{Count, Run};
+use super::run::Count;
 use range_set_blaze::RangeSetBlaze;
 use std::alloc::Global;
-use std::ops::RangeInclusive;
 
 /// Returns whether a value is a member.
 #[unsafe(no_mangle)]
@@ -23,6 +21,39 @@ pub extern "C" fn rsb_u64_contains(alloc: Global, set: &mut Handle, value: u64) 
     set.set_or(&empty).contains(value)
 }
 
+/// Returns whether each value from `first` to `last` is a member. If `last` is below `first`, there
+/// is no such value, and it returns true.
+#[unsafe(no_mangle)]
+pub extern "C" fn rsb_u64_contains_range(
+    alloc: Global,
+    set: &mut Handle,
+    first: u64,
+    last: u64,
+) -> bool
+    ensures found { IsTrue result ↔ Has set.old.kept.set (covers (from_to first last)) }
+    ensures same { set.new.kept.set ≡ set.old.kept.set }
+{
+    let empty = RangeSetBlaze::new(alloc);
+    set.set_or(&empty).contains_range(first..=last)
+}
+
+/// Returns whether no value from `first` to `last` is a member. If `last` is below `first`, there
+/// is no such value, and it returns true.
+#[unsafe(no_mangle)]
+pub extern "C" fn rsb_u64_is_disjoint_range(
+    alloc: Global,
+    set: &mut Handle,
+    first: u64,
+    last: u64,
+) -> bool
+    ensures found { IsTrue result ↔ IsEmpty
+        (intersection (members set.old.kept.set) (covers (from_to first last))) }
+    ensures same { set.new.kept.set ≡ set.old.kept.set }
+{
+    let empty = RangeSetBlaze::new(alloc);
+    set.set_or(&empty).is_disjoint_range(first..=last)
+}
+
 /// Returns the number of members.
 #[unsafe(no_mangle)]
 pub extern "C" fn rsb_u64_len(alloc: Global, set: &mut Handle) -> Count
@@ -30,11 +61,47 @@ pub extern "C" fn rsb_u64_len(alloc: Global, set: &mut Handle) -> Count
     ensures same { set.new.kept.set ≡ set.old.kept.set }
 {
     let empty = RangeSetBlaze::new(alloc);
-    let len = set.set_or(&empty).len();
-    Count {
-        low: (len % (1 << 64)) as u64,
-        high: (len / (1 << 64)) as u64,
-    }
+    Count::of(set.set_or(&empty).len())
+}
+
+/// Returns the number of members from `first` to `last`: 0 if `last` is below `first`.
+#[unsafe(no_mangle)]
+pub extern "C" fn rsb_u64_len_in(alloc: Global, set: &mut Handle, first: u64, last: u64) -> Count
+    ensures count { result.low + 2 ^ 64 * result.high ≡ count (2 ^ 64)
+        (intersection (members set.old.kept.set) (covers (from_to first last))) }
+    ensures same { set.new.kept.set ≡ set.old.kept.set }
+{
+    let empty = RangeSetBlaze::new(alloc);
+    Count::of(set.set_or(&empty).len_in(first..=last))
+}
+
+/// Returns the number of members below a value, which need not be a member.
+#[unsafe(no_mangle)]
+pub extern "C" fn rsb_u64_rank(alloc: Global, set: &mut Handle, value: u64) -> Count
+    ensures count { result.low + 2 ^ 64 * result.high ≡ count value (members set.old.kept.set) }
+    ensures same { set.new.kept.set ≡ set.old.kept.set }
+{
+    let empty = RangeSetBlaze::new(alloc);
+    Count::of(set.set_or(&empty).rank(value))
+}
+
+/// Stores the member that has exactly `n` members below it in `value` and returns true. If there
+/// are at most `n` members, it returns false, and `value` is unchanged.
+#[unsafe(no_mangle)]
+pub extern "C" fn rsb_u64_nth(alloc: Global, set: &mut Handle, n: u64, value: &mut u64) -> bool
+    ensures none { IsFalse result → count (2 ^ 64) (members set.old.kept.set) ≤ n }
+    ensures found { IsTrue result → IsTrue (members set.old.kept.set value.new) }
+    ensures below { IsTrue result → count value.new (members set.old.kept.set) ≡ n }
+    ensures left { IsFalse result → value.new ≡ value.old }
+    ensures same { set.new.kept.set ≡ set.old.kept.set }
+{
+    let empty = RangeSetBlaze::new(alloc);
+    let member = set.set_or(&empty).nth(n as u128);
+    let Some(member) = member else {
+        return false;
+    };
+    *value = member;
+    true
 }
 
 /// Returns the number of runs.
@@ -81,77 +148,4 @@ pub extern "C" fn rsb_u64_last(alloc: Global, set: &mut Handle, value: &mut u64)
     };
     *value = last;
     true
-}
-
-/// Stores the run that has a value in `block` and returns true. If the value is not a member, it
-/// stores the gap that the value lies in and returns false.
-#[unsafe(no_mangle)]
-pub extern "C" fn rsb_u64_run_or_gap(
-    alloc: Global,
-    set: &mut Handle,
-    value: u64,
-    block: &mut Run,
-) -> bool
-    ensures found { result ≡ members set.old.kept.set value }
-    ensures run { IsTrue result → IsRunAround (2 ^ 64) (members set.old.kept.set) value
-        (record { first = block.new.first; last = block.new.last }) }
-    ensures gap { IsFalse result → IsRunAround (2 ^ 64) (complement (members set.old.kept.set))
-        value (record { first = block.new.first; last = block.new.last }) }
-    ensures same { set.new.kept.set ≡ set.old.kept.set }
-{
-    let empty = RangeSetBlaze::new(alloc);
-    let (range, found) = set.set_or(&empty).range_or_gap_at(value);
-    block.first = *range.start();
-    block.last = *range.end();
-    found
-}
-
-/// Stores the run that has `from`, or else the first one past it, in `run` and returns true. If
-/// there is none, it returns false, and `run` is unchanged. To walk over the runs, begin with
-/// `from` of 0 and go on with `run.last + 1`, unless a run ends at the greatest value.
-#[unsafe(no_mangle)]
-pub extern "C" fn rsb_u64_next_run(
-    alloc: Global,
-    set: &mut Handle,
-    from: u64,
-    run: &mut Run,
-) -> bool
-    ensures none { IsFalse result → (rank : ℕ) → from ≤ rank → rank < 2 ^ 64
-        → IsFalse (members set.old.kept.set rank) }
-    ensures run { IsTrue result → IsMaximalRun (2 ^ 64) (members set.old.kept.set)
-        (record { first = run.new.first; last = run.new.last }) }
-    ensures reach { IsTrue result → from ≤ run.new.last }
-    ensures gap { IsTrue result → (rank : ℕ) → from ≤ rank → rank < run.new.first
-        → IsFalse (members set.old.kept.set rank) }
-    ensures left { IsFalse result → run.new ≡ run.old }
-    ensures same { set.new.kept.set ≡ set.old.kept.set }
-{
-    let empty = RangeSetBlaze::new(alloc);
-    let found = run_from(set.set_or(&empty), from);
-    let Some(range) = found else {
-        return false;
-    };
-    run.first = *range.start();
-    run.last = *range.end();
-    true
-}
-
-// Returns the run that has a value, or else the first one past it.
-fn run_from(set: &RangeSetBlaze<u64, Global>, from: u64) -> Option<RangeInclusive<u64>>
-    ensures none { IsNone result → (rank : ℕ) → from ≤ rank → rank < 2 ^ 64
-        → IsFalse (members set.now rank) }
-    ensures run { IfSome result (λ range.
-        IsMaximalRun (2 ^ 64) (members set.now) (interval_of (λ x. x) range)) }
-    ensures ends { IfSome result (λ range. interval_of (λ x. x) range
-        ≡ record { first = range_inclusive_start range; last = range_inclusive_end range }) }
-    ensures reach { IfSome result (λ range. from ≤ range_inclusive_end range) }
-    ensures gap { IfSome result (λ range. (rank : ℕ) → from ≤ rank
-        → rank < range_inclusive_start range → IsFalse (members set.now rank)) }
-{
-    let (block, is_run) = set.range_or_gap_at(from);
-    if is_run {
-        return Some(block);
-    }
-    let next = block.end().checked_add(1)?;
-    set.range_at(next)
 }

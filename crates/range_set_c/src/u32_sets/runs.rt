@@ -1,0 +1,242 @@
+// Written by tools/c/narrow from src/u64_sets/runs.rt.
+//! The runs and the gaps of a set, one by one. The calls leave the set unchanged, and do not
+//! allocate.
+//!
+//! A walk over the runs begins with `next_run` at 0 and goes on with `run_after` at `run.last`
+//! (docs/DECISIONS.md, walk-by-runs). A walk back begins with `prev_run` at the greatest value and
+//! goes on with `run_before` at `run.first`.
+
+ghost use Rattle.std.specs.Prelude.{◌≡◌, ℕ, ◌^◌, ◌<◌, ◌≤◌, IfSome, IsFalse, IsNone, IsTrue};
+ghost use Rattle.rsb_integer.specs.Runs.{from_to, length_of, members, IsMaximalRun};
+ghost use Rattle.rsb_integer.specs.Selection.{complement, intersection};
+ghost use Rattle.range_set_blaze.specs.FirstFit.{AllShorter, AllShorterBefore};
+ghost use Rattle.range_set_blaze.specs.Set.{IsRunAround};
+ghost use Rattle.range_set_blaze.specs.Split.{from_on};
+ghost use Rattle.range_set_c.specs.Walk.{IsFirstAfter, IsLastBefore, NoneAfter, NoneBefore};
+
+use super::handle::Handle;
+use super::run::Run;
+use range_set_blaze::RangeSetBlaze;
+use std::alloc::Global;
+
+/// Stores the run that has a value in `block` and returns true. If the value is not a member, it
+/// stores the gap that the value lies in and returns false.
+#[unsafe(no_mangle)]
+pub extern "C" fn rsb_u32_run_or_gap(
+    alloc: Global,
+    set: &mut Handle,
+    value: u32,
+    block: &mut Run,
+) -> bool
+    ensures found { result ≡ members set.old.kept.set value }
+    ensures run { IsTrue result → IsRunAround (2 ^ 32) (members set.old.kept.set) value
+        (from_to block.new.first block.new.last) }
+    ensures gap { IsFalse result → IsRunAround (2 ^ 32) (complement (members set.old.kept.set))
+        value (from_to block.new.first block.new.last) }
+    ensures same { set.new.kept.set ≡ set.old.kept.set }
+{
+    let empty = RangeSetBlaze::new(alloc);
+    let (range, found) = set.set_or(&empty).range_or_gap_at(value);
+    *block = Run::of(range);
+    found
+}
+
+/// Stores the run that has `from`, or else the first one past it, in `run` and returns true. If
+/// there is none, it returns false, and `run` is unchanged.
+#[unsafe(no_mangle)]
+pub extern "C" fn rsb_u32_next_run(
+    alloc: Global,
+    set: &mut Handle,
+    from: u32,
+    run: &mut Run,
+) -> bool
+    ensures none { IsFalse result → (rank : ℕ) → from ≤ rank → rank < 2 ^ 32
+        → IsFalse (members set.old.kept.set rank) }
+    ensures run { IsTrue result → IsMaximalRun (2 ^ 32) (members set.old.kept.set)
+        (from_to run.new.first run.new.last) }
+    ensures reach { IsTrue result → from ≤ run.new.last }
+    ensures gap { IsTrue result → (rank : ℕ) → from ≤ rank → rank < run.new.first
+        → IsFalse (members set.old.kept.set rank) }
+    ensures left { IsFalse result → run.new ≡ run.old }
+    ensures same { set.new.kept.set ≡ set.old.kept.set }
+{
+    let empty = RangeSetBlaze::new(alloc);
+    let found = run_from(set.set_or(&empty), from);
+    let Some(found) = found else {
+        return false;
+    };
+    *run = found;
+    true
+}
+
+/// Stores the run that has `from`, or else the last one before it, in `run` and returns true. If
+/// there is none, it returns false, and `run` is unchanged.
+#[unsafe(no_mangle)]
+pub extern "C" fn rsb_u32_prev_run(
+    alloc: Global,
+    set: &mut Handle,
+    from: u32,
+    run: &mut Run,
+) -> bool
+    ensures none { IsFalse result → (rank : ℕ) → rank ≤ from
+        → IsFalse (members set.old.kept.set rank) }
+    ensures run { IsTrue result → IsMaximalRun (2 ^ 32) (members set.old.kept.set)
+        (from_to run.new.first run.new.last) }
+    ensures reach { IsTrue result → run.new.first ≤ from }
+    ensures gap { IsTrue result → (rank : ℕ) → run.new.last < rank → rank ≤ from
+        → IsFalse (members set.old.kept.set rank) }
+    ensures left { IsFalse result → run.new ≡ run.old }
+    ensures same { set.new.kept.set ≡ set.old.kept.set }
+{
+    let empty = RangeSetBlaze::new(alloc);
+    let found = run_up_to(set.set_or(&empty), from);
+    let Some(found) = found else {
+        return false;
+    };
+    *run = found;
+    true
+}
+
+/// Stores the first run that starts past a value in `run` and returns true. If there is none, it
+/// returns false, and `run` is unchanged.
+#[unsafe(no_mangle)]
+pub extern "C" fn rsb_u32_run_after(
+    alloc: Global,
+    set: &mut Handle,
+    value: u32,
+    run: &mut Run,
+) -> bool
+    ensures none { IsFalse result → NoneAfter (2 ^ 32) (members set.old.kept.set) value }
+    ensures run { IsTrue result → IsFirstAfter (2 ^ 32) (members set.old.kept.set) value
+        (from_to run.new.first run.new.last) }
+    ensures left { IsFalse result → run.new ≡ run.old }
+    ensures same { set.new.kept.set ≡ set.old.kept.set }
+{
+    let empty = RangeSetBlaze::new(alloc);
+    let found = run_past(set.set_or(&empty), value);
+    let Some(found) = found else {
+        return false;
+    };
+    *run = found;
+    true
+}
+
+/// Stores the last run that ends before a value in `run` and returns true. If there is none, it
+/// returns false, and `run` is unchanged.
+#[unsafe(no_mangle)]
+pub extern "C" fn rsb_u32_run_before(
+    alloc: Global,
+    set: &mut Handle,
+    value: u32,
+    run: &mut Run,
+) -> bool
+    ensures none { IsFalse result → NoneBefore (2 ^ 32) (members set.old.kept.set) value }
+    ensures run { IsTrue result → IsLastBefore (2 ^ 32) (members set.old.kept.set) value
+        (from_to run.new.first run.new.last) }
+    ensures left { IsFalse result → run.new ≡ run.old }
+    ensures same { set.new.kept.set ≡ set.old.kept.set }
+{
+    let empty = RangeSetBlaze::new(alloc);
+    let found = run_short_of(set.set_or(&empty), value);
+    let Some(found) = found else {
+        return false;
+    };
+    *run = found;
+    true
+}
+
+/// Stores the first gap with at least `len` values at or above `from` in `gap` and returns true. If
+/// a gap starts below `from`, only its part at or above `from` counts, and only that part is
+/// stored. If no gap is that long, it returns false, and `gap` is unchanged.
+#[unsafe(no_mangle)]
+pub extern "C" fn rsb_u32_first_gap(
+    alloc: Global,
+    set: &mut Handle,
+    from: u32,
+    len: u64,
+    gap: &mut Run,
+) -> bool
+    ensures gap { IsTrue result → IsMaximalRun (2 ^ 32)
+        (intersection (complement (members set.old.kept.set)) (from_on from))
+        (from_to gap.new.first gap.new.last) }
+    ensures long { IsTrue result → len ≤ length_of (from_to gap.new.first gap.new.last) }
+    ensures first { IsTrue result → AllShorterBefore (2 ^ 32)
+        (intersection (complement (members set.old.kept.set)) (from_on from)) len gap.new.first }
+    ensures none { IsFalse result → AllShorter (2 ^ 32)
+        (intersection (complement (members set.old.kept.set)) (from_on from)) len }
+    ensures left { IsFalse result → gap.new ≡ gap.old }
+    ensures same { set.new.kept.set ≡ set.old.kept.set }
+{
+    let empty = RangeSetBlaze::new(alloc);
+    let found = set.set_or(&empty).first_gap_from(from, len);
+    let Some(range) = found else {
+        return false;
+    };
+    *gap = Run::of(range);
+    true
+}
+
+// Returns the run that has a value, or else the first one past it.
+fn run_from(set: &RangeSetBlaze<u32, Global>, from: u32) -> Option<Run>
+    ensures none { IsNone result → (rank : ℕ) → from ≤ rank → rank < 2 ^ 32
+        → IsFalse (members set.now rank) }
+    ensures run { IfSome result (λ run.
+        IsMaximalRun (2 ^ 32) (members set.now) (from_to run.first run.last)) }
+    ensures reach { IfSome result (λ run. from ≤ run.last) }
+    ensures gap { IfSome result (λ run. (rank : ℕ) → from ≤ rank → rank < run.first
+        → IsFalse (members set.now rank)) }
+{
+    let (block, is_run) = set.range_or_gap_at(from);
+    if is_run {
+        return Some(Run::of(block));
+    }
+    let next = block.end().checked_add(1)?;
+    let range = set.range_at(next)?;
+    Some(Run::of(range))
+}
+
+// Returns the run that has a value, or else the last one before it.
+fn run_up_to(set: &RangeSetBlaze<u32, Global>, from: u32) -> Option<Run>
+    ensures none { IsNone result → (rank : ℕ) → rank ≤ from → IsFalse (members set.now rank) }
+    ensures run { IfSome result (λ run.
+        IsMaximalRun (2 ^ 32) (members set.now) (from_to run.first run.last)) }
+    ensures reach { IfSome result (λ run. run.first ≤ from) }
+    ensures gap { IfSome result (λ run. (rank : ℕ) → run.last < rank → rank ≤ from
+        → IsFalse (members set.now rank)) }
+{
+    let (block, has_value) = set.range_or_gap_at(from);
+    if has_value {
+        return Some(Run::of(block));
+    }
+    let before = block.start().checked_sub(1)?;
+    let range = set.range_at(before)?;
+    Some(Run::of(range))
+}
+
+// Returns the first run that starts past a value.
+fn run_past(set: &RangeSetBlaze<u32, Global>, value: u32) -> Option<Run>
+    ensures none { IsNone result → NoneAfter (2 ^ 32) (members set.now) value }
+    ensures run { IfSome result (λ run.
+        IsFirstAfter (2 ^ 32) (members set.now) value (from_to run.first run.last)) }
+{
+    let run = run_from(set, value.checked_add(1)?)?;
+    if value < run.first {
+        return Some(run);
+    }
+    let next = run.last.checked_add(1)?;
+    run_from(set, next)
+}
+
+// Returns the last run that ends before a value.
+fn run_short_of(set: &RangeSetBlaze<u32, Global>, value: u32) -> Option<Run>
+    ensures none { IsNone result → NoneBefore (2 ^ 32) (members set.now) value }
+    ensures run { IfSome result (λ run.
+        IsLastBefore (2 ^ 32) (members set.now) value (from_to run.first run.last)) }
+{
+    let run = run_up_to(set, value.checked_sub(1)?)?;
+    if run.last < value {
+        return Some(run);
+    }
+    let before = run.first.checked_sub(1)?;
+    run_up_to(set, before)
+}
