@@ -28,7 +28,8 @@ pub trait MultiwayRangeSetBlaze<T: Integer, S: Allocator>: IntoIterator<
     final fn union<A: Allocator + Copy>(self, alloc: A) -> Result<RangeSetBlaze<T, A>, AllocError>
     where
         Self: Sized,
-        requires { IsEnding Self.into_iter_gives Self.IntoIter.can_next Self.IntoIter.remaining self }
+        requires { IsEnding Self.into_iter_gives Self.IntoIter.can_next Self.IntoIter.remaining
+            self }
         ensures members { IfOk result (λ set.
             GaveRun Self.into_iter_gives Self.IntoIter.next_gives self
             (λ sets. IsMadeOf T.value_count any_of sets set)) }
@@ -44,7 +45,8 @@ pub trait MultiwayRangeSetBlaze<T: Integer, S: Allocator>: IntoIterator<
     ) -> Result<RangeSetBlaze<T, A>, AllocError>
     where
         Self: Sized,
-        requires { IsEnding Self.into_iter_gives Self.IntoIter.can_next Self.IntoIter.remaining self }
+        requires { IsEnding Self.into_iter_gives Self.IntoIter.can_next Self.IntoIter.remaining
+            self }
         ensures members { IfOk result (λ set.
             GaveRun Self.into_iter_gives Self.IntoIter.next_gives self
             (λ sets. IsMadeOf T.value_count all_of sets set)) }
@@ -60,7 +62,8 @@ pub trait MultiwayRangeSetBlaze<T: Integer, S: Allocator>: IntoIterator<
     ) -> Result<RangeSetBlaze<T, A>, AllocError>
     where
         Self: Sized,
-        requires { IsEnding Self.into_iter_gives Self.IntoIter.can_next Self.IntoIter.remaining self }
+        requires { IsEnding Self.into_iter_gives Self.IntoIter.can_next Self.IntoIter.remaining
+            self }
         ensures members { IfOk result (λ set.
             GaveRun Self.into_iter_gives Self.IntoIter.next_gives self
             (λ sets. IsMadeOf T.value_count odd_of sets set)) }
@@ -78,7 +81,8 @@ pub trait MultiwayRangeSetBlaze<T: Integer, S: Allocator>: IntoIterator<
     ) -> Result<RangeSetBlaze<T, A>, AllocError>
     where
         Self: Sized,
-        requires { IsEnding Self.into_iter_gives Self.IntoIter.can_next Self.IntoIter.remaining self }
+        requires { IsEnding Self.into_iter_gives Self.IntoIter.can_next Self.IntoIter.remaining
+            self }
         ensures members { IfOk result (λ set.
             GaveRun Self.into_iter_gives Self.IntoIter.next_gives self
             (λ sets. IsMadeOf T.value_count (at_least k) sets set)) }
@@ -109,7 +113,8 @@ pub trait MultiwayRangeSetBlazeRef<'a, T: Integer + 'a, S: Allocator + 'a>: Into
     final fn union<A: Allocator + Copy>(self, alloc: A) -> Result<RangeSetBlaze<T, A>, AllocError>
     where
         Self: Sized,
-        requires { IsEnding Self.into_iter_gives Self.IntoIter.can_next Self.IntoIter.remaining self }
+        requires { IsEnding Self.into_iter_gives Self.IntoIter.can_next Self.IntoIter.remaining
+            self }
         ensures members { IfOk result (λ set.
             GaveRun Self.into_iter_gives Self.IntoIter.next_gives self
             (λ sets. IsMadeOf T.value_count any_of (map (λ lent. lent.now) sets) set)) }
@@ -125,7 +130,8 @@ pub trait MultiwayRangeSetBlazeRef<'a, T: Integer + 'a, S: Allocator + 'a>: Into
     ) -> Result<RangeSetBlaze<T, A>, AllocError>
     where
         Self: Sized,
-        requires { IsEnding Self.into_iter_gives Self.IntoIter.can_next Self.IntoIter.remaining self }
+        requires { IsEnding Self.into_iter_gives Self.IntoIter.can_next Self.IntoIter.remaining
+            self }
         ensures members { IfOk result (λ set.
             GaveRun Self.into_iter_gives Self.IntoIter.next_gives self
             (λ sets. IsMadeOf T.value_count all_of (map (λ lent. lent.now) sets) set)) }
@@ -141,7 +147,8 @@ pub trait MultiwayRangeSetBlazeRef<'a, T: Integer + 'a, S: Allocator + 'a>: Into
     ) -> Result<RangeSetBlaze<T, A>, AllocError>
     where
         Self: Sized,
-        requires { IsEnding Self.into_iter_gives Self.IntoIter.can_next Self.IntoIter.remaining self }
+        requires { IsEnding Self.into_iter_gives Self.IntoIter.can_next Self.IntoIter.remaining
+            self }
         ensures members { IfOk result (λ set.
             GaveRun Self.into_iter_gives Self.IntoIter.next_gives self
             (λ sets. IsMadeOf T.value_count odd_of (map (λ lent. lent.now) sets) set)) }
@@ -159,7 +166,8 @@ pub trait MultiwayRangeSetBlazeRef<'a, T: Integer + 'a, S: Allocator + 'a>: Into
     ) -> Result<RangeSetBlaze<T, A>, AllocError>
     where
         Self: Sized,
-        requires { IsEnding Self.into_iter_gives Self.IntoIter.can_next Self.IntoIter.remaining self }
+        requires { IsEnding Self.into_iter_gives Self.IntoIter.can_next Self.IntoIter.remaining
+            self }
         ensures members { IfOk result (λ set.
             GaveRun Self.into_iter_gives Self.IntoIter.next_gives self
             (λ sets. IsMadeOf T.value_count (at_least k) (map (λ lent. lent.now) sets) set)) }

@@ -70,7 +70,8 @@ impl<T: Integer, A: Allocator> Model for RangeSetBlaze<T, A> {
 
     ghost view = { λ s. runs_of T.rank s.map.entries };
 
-    ghost invariant = { λ s. IsKept T.rank T.value_count s.map.entries (T.SafeLen.number s.length) };
+    ghost invariant = { λ s. IsKept T.rank T.value_count s.map.entries
+        (T.SafeLen.number s.length) };
 }
 
 impl<T: Integer, A: Allocator + Copy> RangeSetBlaze<T, A> {

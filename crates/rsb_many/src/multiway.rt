@@ -32,8 +32,10 @@ pub trait MultiwaySortedDisjoint<T: Integer, I: DrawDisjoint<T>>: IntoIterator<I
     ) -> Result<MultiwayUnion<T, I, A>, AllocError>
     where
         Self: Sized,
-        requires ends { IsEnding Self.into_iter_gives Self.IntoIter.can_next Self.IntoIter.remaining self }
-        requires can { EachGaveRun Self.into_iter_gives Self.IntoIter.next_gives self (All I.can_draw) }
+        requires ends { IsEnding Self.into_iter_gives Self.IntoIter.can_next Self.IntoIter.remaining
+            self }
+        requires can { EachGaveRun Self.into_iter_gives Self.IntoIter.next_gives self
+            (All I.can_draw) }
         ensures ready { IfOk result ⟦<MultiwayUnion<T, I, A> as Draw<T>>⟧.can_draw }
         ensures made { IfOk result (λ union.
             GaveRun Self.into_iter_gives Self.IntoIter.next_gives self
@@ -52,8 +54,10 @@ pub trait MultiwaySortedDisjoint<T: Integer, I: DrawDisjoint<T>>: IntoIterator<I
     ) -> Result<MultiwayIntersection<T, I, A>, AllocError>
     where
         Self: Sized,
-        requires ends { IsEnding Self.into_iter_gives Self.IntoIter.can_next Self.IntoIter.remaining self }
-        requires can { EachGaveRun Self.into_iter_gives Self.IntoIter.next_gives self (All I.can_draw) }
+        requires ends { IsEnding Self.into_iter_gives Self.IntoIter.can_next Self.IntoIter.remaining
+            self }
+        requires can { EachGaveRun Self.into_iter_gives Self.IntoIter.next_gives self
+            (All I.can_draw) }
         ensures ready { IfOk result ⟦<MultiwayIntersection<T, I, A> as Draw<T>>⟧.can_draw }
         ensures made { IfOk result (λ intersection.
             GaveRun Self.into_iter_gives Self.IntoIter.next_gives self
@@ -73,8 +77,10 @@ pub trait MultiwaySortedDisjoint<T: Integer, I: DrawDisjoint<T>>: IntoIterator<I
     ) -> Result<MultiwaySymmetricDifference<T, I, A>, AllocError>
     where
         Self: Sized,
-        requires ends { IsEnding Self.into_iter_gives Self.IntoIter.can_next Self.IntoIter.remaining self }
-        requires can { EachGaveRun Self.into_iter_gives Self.IntoIter.next_gives self (All I.can_draw) }
+        requires ends { IsEnding Self.into_iter_gives Self.IntoIter.can_next Self.IntoIter.remaining
+            self }
+        requires can { EachGaveRun Self.into_iter_gives Self.IntoIter.next_gives self
+            (All I.can_draw) }
         ensures ready { IfOk result ⟦<MultiwaySymmetricDifference<T, I, A> as Draw<T>>⟧.can_draw }
         ensures made { IfOk result (λ difference.
             GaveRun Self.into_iter_gives Self.IntoIter.next_gives self
@@ -95,8 +101,10 @@ pub trait MultiwaySortedDisjoint<T: Integer, I: DrawDisjoint<T>>: IntoIterator<I
     ) -> Result<MultiwayAtLeast<T, I, A>, AllocError>
     where
         Self: Sized,
-        requires ends { IsEnding Self.into_iter_gives Self.IntoIter.can_next Self.IntoIter.remaining self }
-        requires can { EachGaveRun Self.into_iter_gives Self.IntoIter.next_gives self (All I.can_draw) }
+        requires ends { IsEnding Self.into_iter_gives Self.IntoIter.can_next Self.IntoIter.remaining
+            self }
+        requires can { EachGaveRun Self.into_iter_gives Self.IntoIter.next_gives self
+            (All I.can_draw) }
         ensures ready { IfOk result ⟦<MultiwayAtLeast<T, I, A> as Draw<T>>⟧.can_draw }
         ensures made { IfOk result (λ deep.
             GaveRun Self.into_iter_gives Self.IntoIter.next_gives self

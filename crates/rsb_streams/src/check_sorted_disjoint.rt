@@ -35,8 +35,8 @@ impl<T: Integer, I: Iterator> CheckSortedDisjoint<T, I> {
     /// and whose `next` can be called, and that its ranges are canonical. Does not allocate.
     /// (`CheckSortedDisjoint::new`.)
     pub fn new<J: IntoIterator<Item = RangeInclusive<T>, IntoIter = I>>(iter: J) -> Self
-        requires { GivesOnly T.rank ⟦<I as Iterator>⟧ J.into_iter_gives (IsCanonicalIn T.value_count)
-            iter }
+        requires { GivesOnly T.rank ⟦<I as Iterator>⟧ J.into_iter_gives
+            (IsCanonicalIn T.value_count) iter }
         ensures ready { ⟦<CheckSortedDisjoint<T, I> as Draw<T>>⟧.can_draw result }
         ensures gives { ⟦<CheckSortedDisjoint<T, I> as Draw<T>>⟧.may_give result
             ⊆ gives_as T.rank ⟦<I as Iterator>⟧ J.into_iter_gives iter }
@@ -117,8 +117,8 @@ impl<T: Integer, I: Iterator<Item = RangeInclusive<T>>> Draw<T> for CheckSortedD
         self.next()
     }
 
-    ghost answers = { λ s t. known-answered T.Integer.own ⟦<I as Iterator>⟧ (IsCanonicalIn T.value_count)
-        s.iter t.iter };
+    ghost answers = { λ s t. known-answered T.Integer.own ⟦<I as Iterator>⟧
+        (IsCanonicalIn T.value_count) s.iter t.iter };
 
     ghost sorted = { λ s can. canonical_stream-starts T.value_count _ _
         (known-disjoint T.Integer.own ⟦<I as Iterator>⟧ s.iter can) };

@@ -106,8 +106,8 @@ impl<T: Integer, I: Iterator<Item = RangeInclusive<T>>> Draw<T> for CheckSortedT
         self.next()
     }
 
-    ghost answers = { λ s t. known-answered T.Integer.own ⟦<I as Iterator>⟧ (IsTouchingIn T.value_count)
-        s.iter t.iter };
+    ghost answers = { λ s t. known-answered T.Integer.own ⟦<I as Iterator>⟧
+        (IsTouchingIn T.value_count) s.iter t.iter };
 
     ghost sorted = { λ s can. touching-starts T.value_count _ _
         (known-touching T.Integer.own ⟦<I as Iterator>⟧ s.iter can) };

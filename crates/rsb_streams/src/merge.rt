@@ -91,7 +91,8 @@ impl<T: Integer, L: Draw<T>, R: Draw<T>> Draw<T> for Merge<T, L, R> {
 
     ghost answers = { λ s t item gives. gives.answers };
 
-    ghost sorted = { merge-sorted T.Integer.own ⟦<L as Draw<T>>⟧ ⟦<R as Draw<T>>⟧ L.sorted R.sorted };
+    ghost sorted = { merge-sorted T.Integer.own
+        ⟦<L as Draw<T>>⟧ ⟦<R as Draw<T>>⟧ L.sorted R.sorted };
 }
 
 impl<T: Integer, L: Draw<T>, R: Draw<T>> SortedStarts<T> for Merge<T, L, R> {

@@ -71,7 +71,8 @@ pub trait DrawDisjoint<T: Integer>: Draw<T> {
     where
         Self: Sized,
         requires { Self.can_draw self }
-        ensures made { MakesComplement T.Integer.own Self.Draw ⟦<NotIter<T, Self> as Draw<T>>⟧ self result }
+        ensures made { MakesComplement T.Integer.own Self.Draw
+            ⟦<NotIter<T, Self> as Draw<T>>⟧ self result }
         ensures run_count { GivesOneRunMoreAtMost T.Integer.own Self.Draw
             ⟦<NotIter<T, Self> as Draw<T>>⟧ self result }
     {
@@ -102,8 +103,8 @@ pub trait DrawDisjoint<T: Integer>: Draw<T> {
         Self: Sized,
         requires left { Self.can_draw self }
         requires right { R.can_draw other }
-        ensures made { MakesIntersection T.Integer.own Self.Draw R.Draw ⟦<Intersection<T, Self, R> as Draw<T>>⟧
-            self other result }
+        ensures made { MakesIntersection T.Integer.own Self.Draw R.Draw
+            ⟦<Intersection<T, Self, R> as Draw<T>>⟧ self other result }
         ensures run_count { GivesFewerRunsThanBoth T.Integer.own Self.Draw R.Draw
             ⟦<Intersection<T, Self, R> as Draw<T>>⟧ self other result }
     {
@@ -118,8 +119,8 @@ pub trait DrawDisjoint<T: Integer>: Draw<T> {
         Self: Sized,
         requires left { Self.can_draw self }
         requires right { R.can_draw other }
-        ensures made { MakesDifference T.Integer.own Self.Draw R.Draw ⟦<Difference<T, Self, R> as Draw<T>>⟧
-            self other result }
+        ensures made { MakesDifference T.Integer.own Self.Draw R.Draw
+            ⟦<Difference<T, Self, R> as Draw<T>>⟧ self other result }
         ensures run_count { GivesRunsOfBothAtMost difference T.Integer.own Self.Draw R.Draw
             ⟦<Difference<T, Self, R> as Draw<T>>⟧ self other result }
     {
@@ -137,10 +138,10 @@ pub trait DrawDisjoint<T: Integer>: Draw<T> {
         Self: Sized,
         requires left { Self.can_draw self }
         requires right { R.can_draw other }
-        ensures made { MakesSymmetricDifference T.Integer.own Self.Draw R.Draw ⟦<SymmetricDifference<T, Self, R> as Draw<T>>⟧
-            self other result }
-        ensures run_count { GivesRunsOfBothAtMost symmetric_difference T.Integer.own Self.Draw R.Draw
+        ensures made { MakesSymmetricDifference T.Integer.own Self.Draw R.Draw
             ⟦<SymmetricDifference<T, Self, R> as Draw<T>>⟧ self other result }
+        ensures run_count { GivesRunsOfBothAtMost symmetric_difference T.Integer.own Self.Draw
+            R.Draw ⟦<SymmetricDifference<T, Self, R> as Draw<T>>⟧ self other result }
     {
         SymmetricDifference::from((self, other))
     }

@@ -35,7 +35,8 @@ pub(crate) fn take_last<T: Integer>(
 ) -> Option<Run<T>>
     ensures { MatchOption result
         ((with_held held.old entries.old ≡ []) × (with_held held.new entries.new ≡ []))
-        (λ run. with_held held.old entries.old ≡ with_held held.new entries.new ++ entry_of run ∷ []) }
+        (λ run. with_held held.old entries.old
+            ≡ with_held held.new entries.new ++ entry_of run ∷ []) }
 {
     let Some(run) = last_run(entries) else {
         return held.take();

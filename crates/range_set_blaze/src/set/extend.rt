@@ -24,7 +24,8 @@ impl<T: Integer, A: Allocator + Clone> RangeSetBlaze<T, A> {
         &mut self,
         ranges: J,
     ) -> Result<(), AllocError>
-        requires ready { IsEnding J.into_iter_gives J.IntoIter.can_next J.IntoIter.remaining ranges }
+        requires ready { IsEnding J.into_iter_gives J.IntoIter.can_next J.IntoIter.remaining
+            ranges }
         ensures members { ExtendsWithItems J.into_iter_gives J.IntoIter.next_gives
             (AddsItems T.rank) ranges self.old self.new result }
         ensures runs { OnOk result (GaveRun J.into_iter_gives J.IntoIter.next_gives ranges
@@ -39,7 +40,8 @@ impl<T: Integer, A: Allocator + Clone> RangeSetBlaze<T, A> {
     /// Adds values, which may come in any order. If allocation fails, a prefix of the values has
     /// been added. (`Extend<T>` of `RangeSetBlaze`.)
     pub fn extend_values<J: IntoIterator<Item = T>>(&mut self, values: J) -> Result<(), AllocError>
-        requires ready { IsEnding J.into_iter_gives J.IntoIter.can_next J.IntoIter.remaining values }
+        requires ready { IsEnding J.into_iter_gives J.IntoIter.can_next J.IntoIter.remaining
+            values }
         ensures members { ExtendsWithItems J.into_iter_gives J.IntoIter.next_gives
             (AddsValues T.rank) values self.old self.new result }
         ensures runs { OnOk result (GaveRun J.into_iter_gives J.IntoIter.next_gives values
@@ -75,7 +77,8 @@ impl<T: Integer, A: Allocator + Copy> RangeSetBlaze<T, A> {
         alloc: A,
         ranges: J,
     ) -> Result<Self, AllocError>
-        requires ready { IsEnding J.into_iter_gives J.IntoIter.can_next J.IntoIter.remaining ranges }
+        requires ready { IsEnding J.into_iter_gives J.IntoIter.can_next J.IntoIter.remaining
+            ranges }
         ensures members { IfOk result (λ set.
             GaveAll J.into_iter_gives J.IntoIter.next_gives ranges
             (λ items. IsSetOf set (members (intervals_of T.rank items)))) }
@@ -93,7 +96,8 @@ impl<T: Integer, A: Allocator + Copy> RangeSetBlaze<T, A> {
         alloc: A,
         values: J,
     ) -> Result<Self, AllocError>
-        requires ready { IsEnding J.into_iter_gives J.IntoIter.can_next J.IntoIter.remaining values }
+        requires ready { IsEnding J.into_iter_gives J.IntoIter.can_next J.IntoIter.remaining
+            values }
         ensures members { IfOk result (λ set.
             GaveAll J.into_iter_gives J.IntoIter.next_gives values
             (λ items. IsSetOf set (ranks_of T.rank items))) }

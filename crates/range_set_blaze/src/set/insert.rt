@@ -124,7 +124,8 @@ fn last_to<T: Integer>(bound: Bound<&T>) -> Option<T>
     ensures none { IsNone result
         → past_rank T.rank T.value_count (bound_map (λ value. value.now) bound.entry) ≡ 0 }
     ensures last { IfSome result (λ last.
-        T.rank last + 1 ≡ past_rank T.rank T.value_count (bound_map (λ value. value.now) bound.entry)) }
+        T.rank last + 1 ≡ past_rank T.rank T.value_count
+        (bound_map (λ value. value.now) bound.entry)) }
     ensures value { IfSome result (λ last. T.rank last < T.value_count) }
 {
     match bound {
@@ -357,8 +358,8 @@ fn put<T: Integer, A: Allocator + Clone>(
     requires joining { IsJoining T.rank T.value_count (runs_of T.rank map.old.entries) joining }
     ensures kept { IfOk result (λ length.
         IsKept T.rank T.value_count map.new.entries (T.SafeLen.number length)) }
-    ensures adds { OnOk result (Adds (runs_of T.rank map.old.entries) (runs_of T.rank map.new.entries)
-        (covers (run_of T.rank joining.joined))) }
+    ensures adds { OnOk result (Adds (runs_of T.rank map.old.entries)
+        (runs_of T.rank map.new.entries) (covers (run_of T.rank joining.joined))) }
     ensures err { OnErr result (map.new.entries ≡ map.old.entries) }
     ensures succeeds { IsSome joining.first → IsOk result }
 {

@@ -85,7 +85,8 @@ impl<T: Integer, A: Allocator + Clone> RangeSetBlaze<T, A> {
     pub fn pop_last(&mut self) -> Option<T>
         ensures none { IsNone result ↔ (self.old ≡ []) }
         ensures unchanged { IsNone result → self.new ≡ self.old }
-        ensures takes { TakesGreatest T.rank T.value_count (members self.old) result (members self.new) }
+        ensures takes { TakesGreatest T.rank T.value_count (members self.old) result
+            (members self.new) }
     {
         let last = self.last()?;
         // No run extends past the last value, so this does not allocate.

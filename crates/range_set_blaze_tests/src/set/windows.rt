@@ -385,7 +385,8 @@ fn copied_runs_go_on(set: &RangeSetBlaze<i32>) -> Result<bool, AllocError> {
     let mut runs = set.ranges_in(0..=25);
     let first = runs.next();
     let copy = runs.clone()?;
-    Ok(first == Some(1..=4) && gives(copy, &[(8, 13), (20, 20)]) && gives(runs, &[(8, 13), (20, 20)]))
+    let rest: Table = &[(8, 13), (20, 20)];
+    Ok(first == Some(1..=4) && gives(copy, rest) && gives(runs, rest))
 }
 
 /// Whether a copy of the gaps between two values goes on where they were copied.

@@ -41,7 +41,8 @@ impl<T: Integer, I: SortedStarts<T>> SortedStarts<T> for Skip<I> {
 
 impl<T: Integer, I: Iterator<Item = RangeInclusive<T>> + DrawDisjoint<T>> DrawDisjoint<T>
     for Skip<I> {
-    ghost canonical = { λ s ready. part-canonical T.value_count (skip-is_part I.next_gives (skip_source s) (skip_count s))
+    ghost canonical = { λ s ready. part-canonical T.value_count
+        (skip-is_part I.next_gives (skip_source s) (skip_count s))
         (I.may_give (skip_source s)) (I.canonical (skip_source s) ready.source) };
 }
 

@@ -54,7 +54,8 @@ impl<
 > DrawDisjoint<T> for SkipWhile<I, P> {
     fn mark_disjoint(&self) {}
 
-    ghost canonical = { λ s ready. part-canonical T.value_count (rest-is_part (skip_while_done_skipping s))
+    ghost canonical = { λ s ready. part-canonical T.value_count
+        (rest-is_part (skip_while_done_skipping s))
         (I.may_give (skip_while_source s)) (I.canonical (skip_while_source s) ready.source) };
 }
 
