@@ -9,7 +9,7 @@ use Rattle.rsb_streams.specs.TouchingLaws.{touching-lower}
 
 -- ---- which lists they are
 
--- With gaps between, such a list is canonical from a rank onwards.
+-- With gaps between, `IsPlacedFrom` is `IsCanonicalFrom`.
 placed-canonical_from : (low : ℕ) (runs : List Interval)
     → IsPlacedFrom false low runs ≡ IsCanonicalFrom low runs
 placed-canonical_from low [] = refl
@@ -17,7 +17,7 @@ placed-canonical_from low (run ∷ runs) =
     ap (λ rest. (low ≤ run.first) × (run.first ≤ run.last) × rest)
     (placed-canonical_from (run.last + 2) runs)
 
--- Without gaps between, such a list is touching from a rank onwards.
+-- If ranges may touch, `IsPlacedFrom` is `IsTouchingFrom`.
 placed-touching_from : (low : ℕ) (runs : List Interval)
     → IsPlacedFrom true low runs ≡ IsTouchingFrom low runs
 placed-touching_from low [] = refl
@@ -25,17 +25,17 @@ placed-touching_from low (run ∷ runs) =
     ap (λ rest. (low ≤ run.first) × (run.first ≤ run.last) × rest)
     (placed-touching_from (run.last + 1) runs)
 
--- With gaps between, such lists are the canonical ones.
+-- With gaps between, `IsPlacedIn` is `IsCanonicalIn`.
 pub placed-canonical : (n : ℕ) → IsPlacedIn false n ≡ IsCanonicalIn n
 placed-canonical n = λ i runs. placed-canonical_from 0 runs i × AllEndBelow n runs
 
--- Without gaps between, such lists are the touching ones.
+-- If ranges may touch, `IsPlacedIn` is `IsTouchingIn`.
 pub placed-touching : (n : ℕ) → IsPlacedIn true n ≡ IsTouchingIn n
 placed-touching n = λ i runs. placed-touching_from 0 runs i × AllEndBelow n runs
 
 -- ---- parts
 
--- The first rank at which such a list may continue after these intervals.
+-- The first rank at which a placed list may continue after these intervals.
 abbrev pub placed_next : Bool → ℕ → List Interval → ℕ
 placed_next may_touch low [] = low
 placed_next may_touch low (run ∷ runs) = placed_next may_touch (past_end may_touch run.last) runs
@@ -47,7 +47,7 @@ placed_next-push may_touch low [] run = refl
 placed_next-push may_touch low (other ∷ runs) run =
     placed_next-push may_touch (past_end may_touch other.last) runs run
 
--- Both parts of such a list are such lists. The second is from where the first may continue.
+-- Both parts of a placed list are placed, the second from where the first may continue.
 pub placed-parts : (may_touch : Bool) (low : ℕ) (runs others : List Interval)
     → IsPlacedFrom may_touch low (runs ++ others)
     → IsPlacedFrom may_touch low runs
@@ -57,7 +57,8 @@ placed-parts may_touch low (run ∷ runs) others placed =
     let parts = placed-parts may_touch (past_end may_touch run.last) runs others placed.2 in
     ((placed.0, placed.1, parts.0), parts.1)
 
--- Two such lists put together are such a list, if the second starts where the first may continue.
+-- Two placed lists put together are placed, if the second is placed from where the first may
+-- continue.
 pub placed-append : (may_touch : Bool) (low : ℕ) (runs others : List Interval)
     → IsPlacedFrom may_touch low runs
     → IsPlacedFrom may_touch (placed_next may_touch low runs) others
@@ -69,7 +70,7 @@ placed-append may_touch low (run ∷ runs) others front rest = (
   placed-append may_touch (past_end may_touch run.last) runs others front.2 rest,
 )
 
--- A prefix of such a list is such a list.
+-- A prefix of a placed list is placed.
 pub placed-front : (may_touch : Bool) (n : ℕ) (runs others : List Interval)
     → IsPlacedIn may_touch n (runs ++ others) → IsPlacedIn may_touch n runs
 placed-front may_touch n runs others placed = (

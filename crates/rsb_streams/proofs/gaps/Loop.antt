@@ -181,7 +181,7 @@ module _ {I T N : Type 0} (integer : Elements T N) (source : Stream I T N) where
         pub gap-less : true ≡ partial_lt partial_cmp start past_gap → rank start < rank past_gap
         gap-less test = less-rank ranked start past_gap low high test
 
-        -- Otherwise, the rank of the range's start is at most that of the gap's.
+        -- Otherwise, the rank of the range's start is at most that of the start of the gap.
         pub gap-none : false ≡ partial_lt partial_cmp start past_gap → rank past_gap ≤ rank start
         gap-none test = not_less-rank ranked start past_gap low high test
 

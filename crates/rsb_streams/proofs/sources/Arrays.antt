@@ -133,13 +133,13 @@ module _ {T : Type 0} (size : ℕ) (rank : T → ℕ) where
         ∙ map-append (interval_of rank) ranges (array_into_iter_items t)) lawful);
   }
 
-  -- So it is if its items are canonical.
+  -- It is a source of a canonical list if its items are canonical.
   pub array-canonical : (n : ℕ) (s : Items)
       → IsCanonicalIn n (intervals_of rank (array_into_iter_items s))
       → IsSource rank items (IsCanonicalIn n) s
   array-canonical n = array-source (IsCanonicalIn n) (canonical-front n)
 
-  -- So it is if its items are sorted by start.
+  -- It is a source of a list sorted by start if its items are sorted by start.
   pub array-sorted : (n : ℕ) (s : Items)
       → HasSortedStarts n (intervals_of rank (array_into_iter_items s))
       → IsSource rank items (HasSortedStarts n) s

@@ -101,17 +101,17 @@ module _ {T Z : Type 0} (rank : T → ℕ) (n : ℕ) where
         ∙ map-append (interval_of rank) ranges (into_iter_items t)) lawful);
   }
 
-  -- So it is if its items are canonical.
+  -- It is a source of a canonical list if its items are canonical.
   pub vec-source : (s : Items T Z) → IsCanonicalIn n (intervals_of rank (into_iter_items s))
       → IsSource rank items (IsCanonicalIn n) s
   vec-source = vec-source_of (IsCanonicalIn n) (canonical-front n)
 
-  -- So it is if its items are sorted by start.
+  -- It is a source of a list sorted by start if its items are sorted by start.
   pub vec-sorted : (s : Items T Z) → HasSortedStarts n (intervals_of rank (into_iter_items s))
       → IsSource rank items (HasSortedStarts n) s
   vec-sorted = vec-source_of (HasSortedStarts n) (sorted-front n 0)
 
-  -- So it is if its items ascend and may touch.
+  -- It is a source of a touching list if its items are touching.
   pub vec-touching : (s : Items T Z) → IsTouchingIn n (intervals_of rank (into_iter_items s))
       → IsSource rank items (IsTouchingIn n) s
   vec-touching = vec-source_of (IsTouchingIn n) (touching-front n)

@@ -198,7 +198,7 @@ members-along (item ∷ rest) before span whole rank is some same fill together 
     (subst HoldsTogether (sym longer) together)
     (subst (λ each. IsSpan each whole) (sym longer) covered))
 
--- a piece has the members of its span
+-- A piece has the members of its span.
 pub piece-members : (items : List Interval) (span : Interval) (rank : ℕ) → IsSpan items span
     → HoldsTogether items → All HasRanks items → members items rank ≡ covers span rank
 piece-members [] span rank is together fill = absurd (span-some span is)
