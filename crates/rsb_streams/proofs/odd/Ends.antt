@@ -19,23 +19,23 @@ use Rattle.rsb_streams.proofs.odd.States.{OddSoFar, state}
 module _ {I T N : Type 0} (integer : Elements T N) (source : Stream I T N) where
   open integer use {rank, value_count as n}
 
-  -- the pieces may be drawn
+  -- Whether the pieces are ready.
   abbrev can : OddPieces T I → Type 0
   can = (odd_pieces integer source).can_draw
 
-  -- what they may be
+  -- What the pieces may give.
   abbrev may : OddPieces T I → Outcomes
   may = odd_may_give integer source
 
-  -- what may come now might come at the entry
+  -- What holds before each iteration: what may come now might come at the entry.
   abbrev SoFar : OddPieces T I → OddPieces T I → Type 0
   SoFar = OddSoFar integer source
 
-  -- what is known of a call
+  -- Whether a draw fits the pieces.
   abbrev Answered : OddPieces T I → Option (RangeInclusive T) → OddPieces T I → Type 0
   Answered = (odd_pieces integer source).draw_gives
 
-  -- what the entry has, by the parts of a state that is not at its end
+  -- What holds of a state that has not ended holds of the state put together from its parts.
   pub so-by : (entry was : OddPieces T I) (held : Option T) → SoFar entry was → was.end ≡ held
       → SoFar entry (state was.iter was.start held)
   so-by entry was held so is =
@@ -43,10 +43,10 @@ module _ {I T N : Type 0} (integer : Elements T N) (source : Stream I T N) where
       (subst (λ each. SoFar entry
       (record { iter = was.iter; done = each; start = was.start; end = was.end })) so.undone so)
 
-  -- ---- pieces of which nothing is drawn yet
+  -- ---- pieces from which nothing has been drawn yet
   module _ (iter : I) (s : OddPieces T I) (same_source : s.iter ≡ iter)
       (none : s.end ≡ None) where
-    -- they may be drawn where the source may, and no rank lies in more than two of its ranges
+    -- The pieces are ready if the source is, and if all that it may give satisfies `IsTwofold`.
     pub fresh-going : source.can_draw iter
         → ((given : List Interval) → source.may_give iter given → IsTwofold n given) → can s
     fresh-going ready twofold = λ undone. record {
@@ -55,7 +55,7 @@ module _ {I T N : Type 0} (integer : Elements T N) (source : Stream I T N) where
           (sym none) (twofold given (subst (λ each. source.may_give each given) same_source at));
     }
 
-    -- they are pieces of what the source gives
+    -- The pieces are those of what the source may give.
     pub fresh-pieces : s.done ≡ false → may s ⊆ pieces_of n [] (source.may_give iter)
     fresh-pieces undone pieces at = λ nothing.
         subst (λ each. unless each (pieces_of n (pending rank s) (source.may_give s.iter)) pieces)
@@ -64,7 +64,7 @@ module _ {I T N : Type 0} (integer : Elements T N) (source : Stream I T N) where
         (subst (λ held. ArePieces n (oddly_covered (begun_from rank s.start held ++ given)) pieces)
         none all))
 
-  -- the pieces have ended with what was pending, so none is left
+  -- After the pending range is returned at the end, no piece is left, so the draw makes progress.
   pub last-goes : (entry was : OddPieces T I) (j : I) → SoFar entry was → (end : T)
       (answer : RangeInclusive T) → was.end ≡ Some end → (left : Option T)
       → MakesProgress (odd_pieces integer source).can_draw
@@ -83,11 +83,11 @@ module _ {I T N : Type 0} (integer : Elements T N) (source : Stream I T N) where
     -- ---- the source has ended
     module _ (entry was : OddPieces T I) (j : I) (so_now : SoFar entry was)
         (call : source.draw_gives was.iter None j) where
-      -- the state at the end
+      -- The state at the end.
       abbrev final : Option T → OddPieces T I
       final left = record { iter = j; done = true; start = was.start; end = left }
 
-      -- where none is pending, nothing comes
+      -- If no range is pending, nothing more comes.
       pub rests : was.end ≡ None → (left : Option T) → Answered entry None (final left)
       rests is left =
           let so = so-by entry was None so_now is in
@@ -97,7 +97,7 @@ module _ {I T N : Type 0} (integer : Elements T N) (source : Stream I T N) where
             rests = (λ no. absurd (cc), λ pieces at. at);
           }
 
-      -- what is pending comes last
+      -- The pending range is the last piece.
       pub last-answers : (end : T) (answer : RangeInclusive T) → was.end ≡ Some end
           → range_inclusive_exhausted answer ≡ false → range_inclusive_start answer ≡ was.start
           → range_inclusive_end answer ≡ end → (left : Option T)

@@ -19,7 +19,7 @@ ranked : (g : Over) → IsRanked g.T.Integer.rank g.T.Integer.value_count g.T.Pa
     g.T.Ord.cmp
 ranked g = record { matches = g.met.T.Ord.matches_partial_cmp; in_order = g.met.T.Integer.in_order }
 
--- fewer are left to draw
+-- Fewer ranges are left to draw.
 nearer : (g : Over) (c : In-Some g) → size (g.I.Draw.draws_left c.draw.new.self)
     < size (g.I.Draw.draws_left c.loop-range.self.iter)
 nearer g c =
@@ -32,7 +32,7 @@ loop-range-smaller-in_default-pending g c = nearer g (goal.at.loop-range-smaller
 pub loop-range-smaller : goal.loop-range-smaller
 loop-range-smaller g c = nearer g (goal.at.loop-range-smaller g c).In-Some
 
--- a range begins where none is pending
+-- A range begins, and none is pending.
 pub loop-range-preserved-in_default-pending : goal.loop-range-preserved-in_default-pending
 loop-range-preserved-in_default-pending g c =
     let ends = pushed-none c.loop-range.ends.items c.loop-range.invariant.one c.push.new.self.items
@@ -47,7 +47,7 @@ loop-range-preserved-in_default-pending g c =
           c.into_inner-next.ensures.start c.into_inner-next.ensures.end c.in_default-pending.ensures);
     }
 
--- a range is pending, and the next one starts past it
+-- A range is pending, and the next one starts past it.
 pub returns-then-lt-clause-steps : goal.returns-then-lt-clause-steps
 returns-then-lt-clause-steps g c =
     let left = removed-first c.loop-range.ends.items c.loop-range.invariant.one
@@ -77,7 +77,7 @@ returns-then-lt-clause-goes g c =
     c.into_inner-next.ensures.start c.into_inner-next.ensures.end c.in-Some-pending.end
     c.in-Some-pending.ensures c.new.result)
 
--- both have begun, and their ends are values
+-- Both ranges have begun, and their ends are values of the type.
 pub pass_lesser-requires : goal.pass_lesser-requires
 pass_lesser-requires g c =
     let values = both-values g.T.Integer g.I.Draw (laws g)
@@ -99,7 +99,7 @@ pass_lesser-requires g c =
       ),
     )
 
--- what lies before the second is told
+-- The draw returns what is before the second range.
 pub sub_one-requires : goal.sub_one-requires
 sub_one-requires g c =
     next-above g.T.Integer g.I.Draw (laws g)
@@ -141,7 +141,7 @@ returns-then-lt-2-clause-goes g c =
     c.into_inner-next.ensures.start c.into_inner-next.ensures.end c.in-Some-pending.end
     c.in-Some-pending.ensures c.if-lt.ensures _ passed c.new-then-lt-2.result
 
--- nothing lies before it
+-- Nothing is before the second range.
 pub loop-range-preserved : goal.loop-range-preserved
 loop-range-preserved g c =
     let passed = passed-by g.T.Integer.rank c.draw.new.self c.in-Some-pending.end
@@ -159,7 +159,7 @@ loop-range-preserved g c =
           c.in-Some-pending.ensures c.if-lt.ensures _ passed c.if-lt-2.ensures;
     }
 
--- none is pending at the end, and nothing comes
+-- At the end, no range is pending, and nothing more comes.
 pub returns-in_err-end-clause-steps : goal.returns-in_err-end-clause-steps
 returns-in_err-end-clause-steps g c =
     let none = popped-end c.loop-range.ends.items c.loop-range.invariant.one c.pop.result None
@@ -184,7 +184,7 @@ pub returns-in_err-end-clause-goes : goal.returns-in_err-end-clause-goes
 returns-in_err-end-clause-goes g c =
     rw c.from_residual.ensures (record { on = λ finite. tt; keeps = tt; rests = λ finite. tt })
 
--- what is pending comes last
+-- The pending range comes last.
 pub returns-clause-one : goal.returns-clause-one
 returns-clause-one g c =
     rw (popped-left c.loop-range.ends.items c.loop-range.invariant.one c.pop.new.self.items
