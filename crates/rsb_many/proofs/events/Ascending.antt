@@ -18,8 +18,8 @@ module _ {X : Type 0} (R : X → X → Type 0) where
   pub AllPairs-single : (x : X) → AllPairs R (x ∷ [])
   AllPairs-single x m n d less within = absurd (omega arith)
 
-  -- All pairs of two lists together are related if those of each list are, and the items of the
-  -- first are related to those of the second.
+  -- All pairs of `xs ++ ys` are related if those of each list are, and the items of `xs` are
+  -- related to those of `ys`.
   pub AllPairs-append : (xs ys : List X) → AllPairs R xs → AllPairs R ys
       → All (λ x. All (R x) ys) xs → AllPairs R (xs ++ ys)
   AllPairs-append [] ys left right across = right
@@ -30,7 +30,7 @@ module _ {X : Type 0} (R : X → X → Type 0) where
       (AllPairs-append xs ys (AllPairs-tail R x xs left) right
       (All-tail (λ each. All (R each) ys) x xs across))
 
-  -- ---- there is one list that ascends with given elements
+  -- ---- given elements have at most one list that ascends
 
   module _ (one_way : (x y : X) → R x y → R y x → ⊥) where
     -- If items that come after `y` are among `y ∷ ys`, they are among `ys`.

@@ -159,8 +159,8 @@ xor-false false = refl
 more-none : (count more : ℕ) → more ≡ 0 → count ≡ count + more
 more-none count more none = omega (arith, none)
 
--- Whether an odd number of crossing edges lies at or before the rank exactly if the test `least ≤
--- depth` has changed from the start of the events to the rank.
+-- Whether the number of crossing edges at or before the rank is odd exactly if the test `least ≤
+-- depth` changes up to there.
 abbrev IsCrossed : ℕ → ℕ → ℕ → List Event → Type 0
 IsCrossed rank least depth events =
     exclusive_or (nat_le least depth) (odd_past (map edge_of (crossing least depth events)) rank)
@@ -248,7 +248,7 @@ crossing-deep n low least depth (End last input ∷ events) rank edges =
           (crossing-deep n (last + 1) (least + 1) depth events rank edges.2)
     ]
 
--- ---- of lists
+-- ---- the events of lists
 
 -- No range of a list covers a rank before all of them.
 members-under : (n low : ℕ) (runs : List Interval) (rank : ℕ) → IsTouchingFrom low runs

@@ -136,7 +136,7 @@ rests-apart input (rest ∷ rests) touching =
     (rest_events_from (input + 1) rests) (rests-inputs (input + 1) rests))
     (events_of_rest input rest) (end_then-input input rest.begun rest.runs))
 
--- ---- there is one list of the events, and there is some
+-- ---- there is exactly one list of the events
 
 -- Events have only one order.
 pub in_order-unique : (unordered events others : List Event) → AreInOrder unordered events

@@ -22,7 +22,7 @@ use Rattle.rsb_many.proofs.events.Ascending.{AllPairs-head}
 use Rattle.rsb_many.proofs.events.Edges.{between-edges, odd-before, settled-edges}
 use Rattle.rsb_many.proofs.inputs.Rests.{one_of_each-all}
 
--- ---- an odd number of edges, whatever their order
+-- ---- an odd number of edges, in any order
 
 -- Whether a number is odd.
 abbrev is_odd : ℕ → Bool
@@ -54,7 +54,7 @@ odd-permutation events others rank same = odd-counted others rank
     ∙ ap is_odd (sum_by-IsPermutation (edge_by rank) events others same)
     ∙ sym (odd-counted events rank)
 
--- ---- of lists
+-- ---- the edges of lists
 
 -- “Exclusive or” is associative.
 three : (one other third : Bool)

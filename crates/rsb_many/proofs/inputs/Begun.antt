@@ -81,8 +81,8 @@ module _ {T N I : Type 0} (integer : Elements T N) (stream : Stream I T N)
   at-sorted None can runs is = rw is tt
   at-sorted (Some s) can runs may = (laws.sorted s can).all runs may
 
--- An input of which nothing is held gives only what its stream may give, if a range of it is due or it
-  -- has no stream.
+-- If nothing is held of an input, and a range of it is due or it has no stream, it gives only what
+-- its stream may give.
   gives-due : (due : Bool) (found : Option I) → (due ≡ false → found ≡ None)
       → (runs : List Interval)
       → gives_of (record {
@@ -96,7 +96,7 @@ module _ {T N I : Type 0} (integer : Elements T N) (stream : Stream I T N)
       gives.1
   gives-due false found none runs gives = rw (none refl) (gives.2 ∙ gives.1)
 
-  -- ---- before the first is drawn
+  -- ---- before the first range is drawn
   module _ {A : Type 0} (s : Drawn T I A N) (can : All stream.can_draw s.streams.items)
       (none : s.heads.heads ≡ []) where
     -- Nothing is held of an input.
@@ -144,7 +144,7 @@ module _ {T N I : Type 0} (integer : Elements T N) (stream : Stream I T N)
       within = omega arith;
     }
 
-  -- ---- the next one may be drawn from
+  -- ---- the next stream is ready
   module _ {A : Type 0} (streams : List I) (first : ℕ) (s : Drawn T I A N)
       (begun : IsBegunTo integer stream streams first s) (less : first < length s.streams.items)
     where
@@ -158,7 +158,7 @@ module _ {T N I : Type 0} (integer : Elements T N) (stream : Stream I T N)
       begun-can = begun.ready.can first (goes_on (held_at rank s.heads.heads first)
           ((due_from first s).due first) (due-here first (length s.streams.items) less))
 
-  -- ---- one more is drawn
+  -- ---- one more range is drawn
   module _ {A : Type 0} (streams : List I) (first : ℕ) (s t : Drawn T I A N)
       (begun : IsBegunTo integer stream streams first s) (less : first < length s.streams.items)
       (draws : DrawsAt integer stream first s.streams.items s.heads.heads t.streams.items
@@ -211,7 +211,7 @@ module _ {T N I : Type 0} (integer : Elements T N) (stream : Stream I T N)
       within = omega (arith, less, begun.count);
     }
 
-  -- ---- all are drawn
+  -- ---- the first range of each stream is drawn
   module _ {A : Type 0} (streams : List I) (first : ℕ) (s : Drawn T I A N)
       (begun : IsBegunTo integer stream streams first s)
       (past : length s.streams.items ≤ first) where

@@ -35,7 +35,7 @@ or-false true = refl
 or-false false = refl
 
 module _ {T : Type 0} where
-  -- ---- whatever the order
+  -- ---- in any order of the heads
 
   -- 1 for a head of the input whose range has started, and 0 for any other.
   abbrev begun_here : ℕ → Head T → ℕ
@@ -58,7 +58,7 @@ module _ {T : Type 0} where
       ∙ ap (nat_lt 0) (sum_by-IsPermutation (begun_here place) old new same)
       ∙ sym (has_begun-counted old place)
 
-  -- ---- heads that come
+  -- ---- heads that are added
 
   -- Heads whose start was not reported do not count.
   unstarted-before : (came heads : List (Head T)) (place : ℕ) → All IsUnstarted came
@@ -131,7 +131,7 @@ module _ {T : Type 0} (rank : T → ℕ) where
       rw (nat_eq-itself head.input, has_begun-nothing heads head.input none)
       (or-false head.started)
 
-  -- ---- what comes first of an input
+  -- ---- the first event of an input
 
   -- If the start of a head's range was reported, its key is that of the end.
   pub key-started : (head : Head T) (place : ℕ) → head.started ≡ true → head.input ≡ place

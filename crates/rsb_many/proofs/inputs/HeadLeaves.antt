@@ -234,7 +234,7 @@ module _ {T N I A : Type 0} (integer : Elements T N) (stream : Stream I T N) (m 
           ∙ ap (λ each. left_of stream.draws_left (has_ended integer stream before) each)
           back-streams
 
-  -- ---- no head was there
+  -- ---- there is no head
   module _ (t : Drawn T I A N) (empty : HasNoHead m t) where
     -- The inputs are unchanged.
     pub none-unchanged : inputs_of t ≡ before

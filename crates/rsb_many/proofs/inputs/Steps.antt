@@ -108,7 +108,7 @@ module _ {T N S : Type 0} (integer : Elements T N) (stream : Stream S T N) where
       held_at-permutation rank place (head ∷ heads) now same
       (subst (λ (runs : List Interval). length runs ≤ 1) (sym stays) short) ∙ stays
 
-  -- ---- the stream at one place is drawn from
+  -- ---- a draw from the stream at one place
   module _ (laws : IsLawful integer stream) (s t : Inputs T S) (place : ℕ)
       (ready : AreReady integer stream s) (due : s.due place ≡ true)
       (now_due : t.due place ≡ false)
