@@ -37,7 +37,7 @@ crossing-shift least depth (End last input ∷ events) =
     let test = both-more least depth in
     λ i. cond (test i) (End last input ∷ rest i) (rest i)
 
--- So once a range has ended, a lower depth does the same as a higher bound.
+-- So lowering the depth by one has the same effect as raising the bound by one.
 crossing-end : (least depth : ℕ) (events : List Event) → 1 ≤ depth
     → crossing (least + 1) depth events ≡ crossing least (depth - 1) events
 crossing-end least zero events some = absurd (omega (arith, some))
@@ -159,8 +159,8 @@ xor-false false = refl
 more-none : (count more : ℕ) → more ≡ 0 → count ≡ count + more
 more-none count more none = omega (arith, none)
 
--- Whether the number of crossing edges at or before the rank is odd exactly if the test `least ≤
--- depth` changes up to there.
+-- Whether the number of crossing edges up to the rank is odd exactly if the test `least ≤ depth`
+-- changes up to there.
 abbrev IsCrossed : ℕ → ℕ → ℕ → List Event → Type 0
 IsCrossed rank least depth events =
     exclusive_or (nat_le least depth) (odd_past (map edge_of (crossing least depth events)) rank)
@@ -257,8 +257,8 @@ members-under n low runs rank touching below under =
     sym (odd-members n low 0 runs rank touching below)
     ∙ odd-before n low (events_of 0 runs) rank (edges-events n low 0 runs touching below) under
 
--- At a rank, one more range has started than ended if the list covers the rank, and otherwise as
--- many.
+-- At a rank, one more range has started than ended if the list covers the rank. Otherwise the
+-- numbers are equal.
 deep-members : (n low input : ℕ) (runs : List Interval) (rank : ℕ) → IsTouchingFrom low runs
     → AllEndBelow n runs
     → starts_by rank (events_of input runs)

@@ -46,7 +46,7 @@ inputs-apart one other differ =
 
 -- ---- the events of one input
 
--- No event of an input is at a rank below `low`, if no range of it starts below.
+-- If no range of an input starts below `low`, no event of it is at a rank below `low`.
 events-from_low : (input low : ℕ) (runs : List Interval) → IsTouchingFrom low runs
     → All (λ event. low ≤ (key_of_event event).at) (events_of input runs)
 events-from_low input low [] touching = All-nil (λ event. low ≤ (key_of_event event).at)
@@ -107,7 +107,7 @@ end_then-ascending input (Some last) runs touching =
     AllPairs-cons Precedes (End last input) (events_of input runs)
     (end-first input last runs touching) (events-ascending input (last + 1) runs touching)
 
--- The events that are left of inputs have the numbers of these, which start at `input`.
+-- No event that is left of inputs numbered from `input` has a lower number.
 rests-inputs : (input : ℕ) (rests : List Rest)
     → All (λ event. input ≤ (key_of_event event).input) (rest_events_from input rests)
 rests-inputs input [] = All-nil (λ event. input ≤ (key_of_event event).input)
@@ -138,7 +138,7 @@ rests-apart input (rest ∷ rests) touching =
 
 -- ---- there is exactly one list of the events
 
--- Events have only one order.
+-- Two lists that have the same events in order are equal.
 pub in_order-unique : (unordered events others : List Event) → AreInOrder unordered events
     → AreInOrder unordered others → events ≡ others
 in_order-unique unordered events others left right =

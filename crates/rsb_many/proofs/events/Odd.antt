@@ -33,12 +33,12 @@ is_odd (suc n) = not (is_odd n)
 abbrev edge_by : ℕ → Event → ℕ
 edge_by rank event = cond (nat_le (edge_of event) rank) 1 0
 
--- One more changes whether a number is odd.
+-- Adding 1 changes whether a number is odd, and adding 0 does not.
 odd-more : (test : Bool) (count : ℕ) → exclusive_or test (is_odd count) ≡ is_odd (cond test 1 0 + count)
 odd-more true count = ap is_odd (let more : suc count ≡ 1 + count = omega arith in more)
 odd-more false count = ap is_odd (let same : count ≡ 0 + count = omega arith in same)
 
--- Whether the number of edges at or before a rank is odd, from that number.
+-- `odd_past` is whether the number of edges at or before a rank is odd.
 odd-counted : (events : List Event) (rank : ℕ)
     → odd_past (map edge_of events) rank ≡ is_odd (sum_by (edge_by rank) events)
 odd-counted [] rank = refl
@@ -206,7 +206,7 @@ module _ (n count : ℕ) (may_give : ℕ → Outcomes)
   all-touching lists each = one_of_each-all count may_give (IsTouchingIn n) lists
       (λ place less. touching place) each
 
-  -- If the events are those of whole lists, each piece will end.
+  -- If the events are those of lists that the streams may give, each piece will end.
   pub whole-events : {T : Type 0} (rank : T → ℕ) (events : List Event)
       → SomeOfEach count may_give (λ lists. AreEvents lists events) → IsWhole rank n None events
   whole-events rank events some = record {

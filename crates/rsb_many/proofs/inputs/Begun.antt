@@ -43,7 +43,7 @@ due-none : (first count place : ℕ) → count ≤ first
     → (nat_le first place && nat_lt place count) ≡ false
 due-none first count place past = grind (arith, nat_tests)
 
--- If every place is due and this one is not, it is past the last.
+-- If ranges are due from place 0 on, a place that is not due is past the last.
 due-past : (place count : ℕ) → (nat_le 0 place && nat_lt place count) ≡ false → count ≤ place
 due-past place count none = grind (arith, nat_tests, none)
 
@@ -81,8 +81,8 @@ module _ {T N I : Type 0} (integer : Elements T N) (stream : Stream I T N)
   at-sorted None can runs is = rw is tt
   at-sorted (Some s) can runs may = (laws.sorted s can).all runs may
 
--- If nothing is held of an input, and a range of it is due or it has no stream, it gives only what
--- its stream may give.
+-- If nothing is held of an input, it gives only what its stream may give. A range must be due
+-- unless there is no stream.
   gives-due : (due : Bool) (found : Option I) → (due ≡ false → found ≡ None)
       → (runs : List Interval)
       → gives_of (record {

@@ -19,7 +19,7 @@ use Rattle.rsb_many.proofs.inputs.Steps.{nat_eq-differs, nat_eq-itself}
 use Rattle.rsb_many.proofs.heap.Keys.{comes_before-as}
 use Rattle.rsb_many.proofs.events.Steps.{IsNotBefore}
 
--- One of two tests holds exactly if the number of those that hold is positive.
+-- A test holds or a count is positive exactly if their sum is positive, with the test counted as 1.
 either-counted : (one : Bool) (count : ℕ) → (one || nat_lt 0 count) ≡ nat_lt 0 (cond one 1 0 + count)
 either-counted true count = grind (arith, nat_tests)
 either-counted false count = grind (arith, nat_tests)

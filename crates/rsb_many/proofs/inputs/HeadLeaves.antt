@@ -292,7 +292,7 @@ module _ {T N I A : Type 0} (integer : Elements T N) (stream : Stream I T N) (m 
             over = ended;
           }
 
-      -- It might have given nothing.
+      -- Before, it might have given nothing.
       pub none-might : (place : ℕ) → gives_of (earlier place) []
       none-might place = gives_of-uses (earlier place)
           (input_at integer stream (inputs_of t) place) [] (none-uses place) [] (

@@ -15,7 +15,7 @@ module _ {T : Type 0} (rank : T → ℕ) (place : ℕ) where
   abbrev is_here : Head T → ℕ
   is_here head = cond (nat_eq head.input place) 1 0
 
-  -- The length of a list that has one more range if `here` is true.
+  -- The list is one range longer if `here` is true.
   length-cond : (here : Bool) (run : Interval) (runs : List Interval)
       → length (cond here (run ∷ runs) runs) ≡ cond here 1 0 + length runs
   length-cond true run runs = omega arith

@@ -49,7 +49,8 @@ one_of_each-from (suc count) may_give (runs ∷ lists) long each = (
       (λ place less. each (suc place) (omega (arith, less))),
 )
 
--- One list may be replaced by another that the stream at its place might have given before.
+-- If one list is replaced by one that might come before, and the others might too, the lists might
+-- come before.
 pub one_of_each-set : (count : ℕ) (before now : ℕ → Outcomes) (lists : List (List Interval))
     (place : ℕ) (runs : List Interval) → OneOfEach count now lists → place < count
     → before place runs
@@ -123,7 +124,7 @@ get_or-rests_by begun (runs ∷ lists) zero default less = refl
 get_or-rests_by begun (runs ∷ lists) (suc place) default less =
     get_or-rests_by (λ other. begun (suc other)) lists place default (omega (arith, less))
 
--- Replacing one rest is replacing one list, and perhaps whether its input has begun.
+-- Replacing one list, and perhaps whether its input has begun, replaces one rest.
 set-rests_by : (begun now : ℕ → Bool) (lists : List (List Interval)) (place : ℕ)
     (runs : List Interval) → ((other : ℕ) → other ≢ place → now other ≡ begun other)
     → set (rests_by begun lists) place (rest_by (now place) runs)
@@ -139,7 +140,7 @@ set-rests_by begun now (own ∷ lists) (suc place) runs same =
     runs (λ other differs. same (suc other) (λ is. differs (omega (arith, is)))) in
     λ i. sym first i ∷ others i
 
--- If the ranges of an input may touch but do not overlap, neither does what is left of them.
+-- If the list of an input is touching, so is what is left of it.
 pub touching-rest : (begun : Bool) (runs : List Interval) → IsTouching runs
     → IsTouchingRest (rest_by begun runs)
 touching-rest false runs touching = touching
@@ -156,7 +157,7 @@ pub not_before-nothing : (begun : Bool) (place : ℕ) (event : Event)
     → IsNotBefore (events_of_rest place (rest_by begun [])) event
 not_before-nothing begun place event = rw (rest_by-nothing begun) tt
 
--- If the ranges of each list ascend and do not overlap, neither does what is left of them.
+-- If each list is touching, so is what is left of each.
 rests-touching : (count : ℕ) (may_give : ℕ → Outcomes) (begun : ℕ → Bool)
     (lists : List (List Interval))
     → ((place : ℕ) → place < count → may_give place ⊆ IsTouching)

@@ -152,7 +152,7 @@ module _ {T N S : Type 0} (integer : Elements T N) (stream : Stream S T N) where
         → held_at rank t.heads other ≡ held_at rank s.heads other
     held-elsewhere other differs = held-by draws.item other differs draws.kept
 
-    -- The input gives whatever the stream before the draw may give.
+    -- The input may give whatever the stream before the draw may give.
     gives-here : stream.may_give draws.before
         ⊆ undrawn_by (held_at rank s.heads place) (s.due place) (slice_get s.streams place)
     gives-here = undrawn-same (held_at rank s.heads place) [] (s.due place) true

@@ -49,8 +49,8 @@ have-ranks n low (run ∷ runs) touching =
 
 module _ (n count : ℕ) (may_give : ℕ → Outcomes)
     (touching : (place : ℕ) → may_give place ⊆ IsTouchingIn n) where
-  -- If the lists are touching, the number of edges at or before a rank is odd exactly if at least
-  -- `least` of them cover it.
+  -- If the lists are touching, the number of edges up to a rank is odd exactly if at least `least`
+  -- of them cover it. Only crossing edges and the first edge count.
   deep-odd : {T : Type 0} (rank : T → ℕ) (least : ℕ) (start : Option T) (place : ℕ)
       (lists : List (List Interval)) (events : List Event)
       → edges_of rank start ≡ first_edge least → OneOfEach count may_give lists
