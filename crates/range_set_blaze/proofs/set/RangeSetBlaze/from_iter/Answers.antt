@@ -21,7 +21,7 @@ returns-clause-members g c =
     ))
     c.from_sorted_disjoint.ensures.runs
 
--- The ranges are what a sequence of calls gave.
+-- The same, stated by `GaveRun`.
 pub returns-clause-runs : goal.returns-clause-runs
 returns-clause-runs g c = IfOk-weaker c.from_sorted_disjoint.result _ _
     (λ set gave. gave-run g.J.IntoIterator.into_iter_gives g.J.IntoIter.Iterator.next_gives

@@ -12,7 +12,7 @@ returns-clause-members g c = IfOk-weaker c.from_iter.result _ _ (λ set.
     c.args.values c.into_iter.result c.new-singles.result set c.into_iter.ensures.into_iter_gives
     c.new-singles.ensures) c.from_iter.ensures.members
 
--- The values are what a sequence of calls gave.
+-- The same, stated by `GaveRun`.
 pub returns-clause-runs : goal.returns-clause-runs
 returns-clause-runs g c = IfOk-weaker c.from_iter.result _ _
     (λ set. gave-run g.J.IntoIterator.into_iter_gives g.J.IntoIter.Iterator.next_gives

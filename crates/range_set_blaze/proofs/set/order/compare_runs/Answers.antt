@@ -59,7 +59,7 @@ returns-then-is_ne g c =
     (rw (c.in-Equal.is, c.in-Some.ensures, c.in-Some-next_run-2.ensures) at c.loop-ends.invariant).tells
     c.cmp-starts.ensures c.if-is_ne.ensures
 
--- Otherwise their ends are compared, and the loop goes on.
+-- Otherwise their ends are compared in the next iteration.
 pub loop-ends-preserved : goal.loop-ends-preserved
 loop-ends-preserved g c =
     ends-compared g.met.T.Integer.in_order c.requires.left c.requires.right _ _

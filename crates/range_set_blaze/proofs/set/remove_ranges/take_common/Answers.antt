@@ -11,7 +11,7 @@ common-piece-requires-clause-run g c =
     let value = meeting-value _ _ c.requires.kept.canonical _ _ c.requires.order c.requires.meets in
     (omega (arith, value.0, value.1), value.1)
 
--- The run has the piece.
+-- The piece lies in the run.
 pub cut-requires-clause-from : goal.cut-requires-clause-from
 cut-requires-clause-from g c =
     piece-from _ _ c.requires.kept.canonical _ _ c.requires.order c.requires.meets _
