@@ -1,4 +1,4 @@
--- Canonical lists of intervals: no two of them have the same members.
+-- Canonical lists of intervals: no two different ones have the same members.
 use Rattle.std.proofs.Common.{◌≡◌, ℕ, ◌+◌, ◌<◌, ◌≤◌, List, [], ◌∷◌, ◌++◌, refl, sym, ◌∙◌, inl, inr, arith}
 use Rattle.std.proofs.lemmas.Bool.{cases_lt}
 use Rattle.std.proofs.lemmas.List.Elements.{All-cons, All-tail, All-nil, All-weaker}

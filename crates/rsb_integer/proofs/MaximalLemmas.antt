@@ -6,8 +6,8 @@ use Rattle.rsb_integer.specs.Selection.{Selection}
 use Rattle.rsb_integer.proofs.ListLemmas.{true_or_false}
 use Rattle.rsb_integer.proofs.MembersLemmas.{covers-bounds, covers-inside}
 
--- Down from a selected rank there is a `first` such that all ranks between are selected, and the
--- one before `first` is not.
+-- Down from a selected rank there is a `first` such that all ranks between are selected. The one
+-- before `first`, if there is one, is not.
 run-first : (selected : Selection) (rank : ℕ) → selected rank ≡ true
     → (first : ℕ) × (first ≤ rank)
     × ((other : ℕ) → first ≤ other → other ≤ rank → selected other ≡ true)
@@ -38,8 +38,8 @@ run-first selected (suc rank) here = elim (true_or_false (selected rank)) [
   )
 ]
 
--- Up from a selected rank there is a `last` such that all ranks between are selected, and the next
--- one is not. The type has `more` ranks above the rank.
+-- Up from a selected rank there is a `last` such that all ranks between are selected. The next one,
+-- if it is in the type, is not. The type has `more` ranks above the rank.
 run-last : (selected : Selection) (n rank more : ℕ) → rank + more + 1 ≡ n → selected rank ≡ true
     → (last : ℕ) × (rank ≤ last) × (last < n)
     × ((other : ℕ) → rank ≤ other → other ≤ last → selected other ≡ true)

@@ -525,7 +525,8 @@ how_many-next (set ∷ sets) rank =
     let own = once-more (set (suc rank)) (set rank) in
     omega arith
 
--- If `many` is at least `least` and `before` is not, then `begun` is at least 1.
+-- If `many` is at least `least` and `before` is not, `begun` is at least 1, because it is at least
+-- their difference.
 more-by : (least many before begun : ℕ) → many ≤ before + begun
     → once (nat_le least many && not (nat_le least before)) ≤ begun
 more-by least many before begun most = grind (arith, nat_tests)
