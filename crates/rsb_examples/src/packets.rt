@@ -56,7 +56,7 @@ pub fn listed<T: ParseInteger>(alloc: Global, text: &str) -> Result<RangeSetBlaz
     Ok(listed)
 }
 
-/// The first number that is missing, or `None` where all have come.
+/// Returns the first number that is missing, or `None` if all have come.
 pub fn next_wanted(acked: &RangeSetBlaze<u32>) -> Option<u32>
     ensures none { IsNone result ↔ IsUniversal (2 ^ 32) (members acked.now) }
     ensures missing { IfSome result (λ next. IsFalse (members acked.now next)) }
@@ -71,7 +71,7 @@ pub fn next_wanted(acked: &RangeSetBlaze<u32>) -> Option<u32>
     }
 }
 
-/// The numbers that were sent and have not come. Without memory nothing is made.
+/// Returns the numbers that were sent and have not come. If allocation fails, no set is made.
 pub fn missing(
     alloc: Global,
     sent: &RangeSetBlaze<u32>,

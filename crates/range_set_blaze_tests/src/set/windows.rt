@@ -333,7 +333,7 @@ fn windows_are_streams(rt: HostRuntime) -> Result<(), Fail> {
     Ok(())
 }
 
-/// Whether the slots between two are told, at a type of one's own.
+/// Whether the runs and the gaps between two slots are right, at a user-defined type.
 fn slots_lie_between(alloc: Global) -> Result<bool, AllocError> {
     let mut booked = RangeSetBlaze::<Slot>::from(alloc, slots(8, 11))?;
     let is_new = booked.ranges_insert(slots(20, 23))?;
