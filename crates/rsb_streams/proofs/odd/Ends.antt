@@ -1,7 +1,7 @@
 -- Where the pieces that an odd number of ranges covers begin and end.
 use Rattle.rsb_integer.specs.declared.integer.Integer.{Ghosts as Elements}
 use Rattle.rsb_streams.specs.declared.draw.Draw.{Ghosts as Stream}
-use Rattle.std.proofs.Common.{◌≡◌, arith, true, false, List, [], ◌∷◌, ◌++◌, sym, subst}
+use Rattle.std.proofs.Common.{◌≡◌, arith, true, false, List, [], ◌∷◌, ◌++◌, refl, sym, subst}
 use Rattle.std.specs.Prelude.{Option, Some, None}
 use Rattle.std.specs.Iterator.{MakesProgress}
 use Rattle.std.specs.Range.{range_inclusive_start, range_inclusive_end, range_inclusive_exhausted}
@@ -12,6 +12,7 @@ use Rattle.rsb_streams.specs.OddPieces.{odd_may_give, odd_pieces, oddly_covered,
 use Rattle.rsb_streams.specs.Stream.{Outcomes, ◌⊆◌, unless}
 use Rattle.rsb_streams.specs.declared.odd_pieces.OddPieces.{OddPieces}
 use Rattle.rsb_streams.proofs.gaps.Loop.{answered}
+use Rattle.rsb_streams.proofs.odd.Drawn.{takes-last, takes-none, Drew}
 use Rattle.rsb_streams.proofs.odd.Ranks.{no-pieces, pieces-first}
 use Rattle.rsb_streams.proofs.sources.Known.{IsLawful}
 use Rattle.rsb_streams.proofs.odd.States.{OddSoFar, state}
@@ -82,37 +83,42 @@ module _ {I T N : Type 0} (integer : Elements T N) (source : Stream I T N) where
   module _ (laws : IsLawful integer source) where
     -- ---- the source has ended
     module _ (entry was : OddPieces T I) (j : I) (so_now : SoFar entry was)
-        (call : source.draw_gives was.iter None j) where
+        (drew : Drew integer source entry was) (call : source.draw_gives was.iter None j) where
       -- The state at the end.
       abbrev final : Option T → OddPieces T I
       final left = record { iter = j; done = true; start = was.start; end = left }
 
       -- If no range is pending, nothing more comes.
-      pub rests : was.end ≡ None → (left : Option T) → Answered entry None (final left)
-      rests is left =
+      pub rests : was.end ≡ None → (left : Option T) → left ≡ None
+          → Answered entry None (final left)
+      rests is left none =
           let so = so-by entry was None so_now is in
           record {
             answers = so.same [] (λ nothing.
                 nothing [] (laws.answers was.iter j None call) (no-pieces n));
             rests = (λ no. absurd (cc), λ pieces at. at);
+            asks = takes-none integer source entry was drew so_now.undone (final left) refl none
+                call is;
           }
 
       -- The pending range is the last piece.
       pub last-answers : (end : T) (answer : RangeInclusive T) → was.end ≡ Some end
           → range_inclusive_exhausted answer ≡ false → range_inclusive_start answer ≡ was.start
-          → range_inclusive_end answer ≡ end → (left : Option T)
+          → range_inclusive_end answer ≡ end → (left : Option T) → left ≡ None
           → Answered entry (Some answer) (final left)
-      last-answers end answer is fresh from to left =
+      last-answers end answer is fresh from to left none =
           let so = so-by entry was (Some end) so_now is in
-          let none = laws.answers was.iter j None call in
-          let sorted = (so.going.twofold [] none).sorted in
+          let nothing_more = laws.answers was.iter j None call in
+          let sorted = (so.going.twofold [] nothing_more).sorted in
           let gap = answered integer source was.start end answer fresh from to in
           record {
             answers = λ rest at. so.same (interval_of rank answer ∷ rest) (λ nothing.
-                nothing [] none
+                nothing [] nothing_more
                 (subst (λ first. ArePieces n (oddly_covered (from_to (rank was.start) (rank end) ∷ []))
                 (first ∷ rest)) (sym gap)
                 (pieces-first n (from_to (rank was.start) (rank end)) [] rest sorted.1 sorted.2 tt
                 (subst (ArePieces n (oddly_covered [])) (sym at) (no-pieces n)))));
             rests = tt;
+            asks = takes-last integer source entry was drew so_now.undone (final left) refl none
+                call end answer is gap;
           }

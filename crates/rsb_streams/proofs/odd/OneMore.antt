@@ -1,7 +1,8 @@
 -- One more range, for the pieces that an odd number of ranges covers.
 use Rattle.rsb_integer.specs.declared.integer.Integer.{Ghosts as Elements}
 use Rattle.rsb_streams.specs.declared.draw.Draw.{Ghosts as Stream}
-use Rattle.std.proofs.Common.{◌≡◌, ◌+◌, ◌<◌, ◌≤◌, true, false, List, ◌∷◌, ◌++◌, length, refl, sym, ap, ◌∙◌, subst, arith}
+use Rattle.std.proofs.Common.{◌≡◌, ℕ, ◌+◌, ◌<◌, ◌≤◌, true, false, cond, nat_le, nat_lt, List, ◌∷◌, ◌++◌, length, refl, sym, ap, ◌∙◌, subst, arith}
+use Rattle.std.proofs.lemmas.Bool.Decides.{nat_tests}
 use Rattle.std.specs.Prelude.{Option, Some, None}
 use Rattle.std.specs.Ordering.{partial_lt}
 use Rattle.std.specs.declared.cmp.Ordering.{Ordering}
@@ -9,9 +10,11 @@ use Rattle.std.specs.Iterator.{Count, IsFinite, MakesProgress, size}
 use Rattle.std.specs.Range.{range_inclusive_start, range_inclusive_end, range_inclusive_exhausted}
 use Rattle.std.specs.declared.ops.RangeInclusive.{RangeInclusive}
 use Rattle.rsb_integer.specs.Rank.{interval_of}
-use Rattle.rsb_integer.specs.Runs.{Interval, from_to}
+use Rattle.rsb_integer.specs.Runs.{Interval, covers, from_to, members}
+use Rattle.rsb_integer.specs.Selection.{exclusive_or}
 use Rattle.rsb_integer.proofs.MembersLemmas.{same_interval}
-use Rattle.rsb_streams.specs.OddPieces.{odd_may_give, odd_remaining, oddly_covered, past_both, pieces_of, pending, ends_of, ArePieces, IsGoing, IsTwofold, odd_pieces}
+use Rattle.rsb_streams.specs.OddPieces.{odd_may_give, odd_remaining, oddly_covered, past_both, pieces_of, pending, rank_after, ends_of, begun_from, ArePieces, IsGoing, IsTwofold, odd_pieces}
+use Rattle.rsb_streams.specs.Lookahead.{IsOneFrom}
 use Rattle.rsb_streams.specs.Stream.{Outcomes, ◌⊆◌, run_if_any, unless, HasOutcome}
 use Rattle.rsb_streams.specs.declared.odd_pieces.OddPieces.{OddPieces}
 use Rattle.rsb_streams.proofs.checking.Comparisons.{IsRanked, less-rank, not_less-rank}
@@ -19,8 +22,18 @@ use Rattle.rsb_streams.proofs.gaps.Loop.{answered}
 use Rattle.rsb_streams.proofs.odd.Ranks.{past-twofold, pieces-before, pieces-first, pieces-past, twofold-tail}
 use Rattle.rsb_streams.proofs.sources.Known.{IsLawful, range-start, range-end}
 use Rattle.rsb_streams.proofs.joining.Gathered.{head-sorted}
+use Rattle.rsb_streams.proofs.odd.Drawn.{begun-past, begun-some, drew-more, members-if, one-if, past-odd, takes-more, Drew}
 use Rattle.rsb_streams.proofs.odd.Ends.{so-by}
 use Rattle.rsb_streams.proofs.odd.States.{OddSoFar, state, one-held, HasPassed}
+
+-- No rank from `next` on is before `next`.
+none-from : (first next at : ℕ) → next ≤ at → false ≡ cond (nat_le first at) (nat_lt at next) false
+none-from first next at past = grind (arith, nat_tests)
+
+-- No rank is from `first` on and before `next` if that is no later.
+none-between : (first next at : ℕ) → next ≤ first
+    → false ≡ cond (nat_le first at) (nat_lt at next) false
+none-between first next at most = grind (arith, nat_tests)
 
 module _ {I T N : Type 0} (integer : Elements T N) (source : Stream I T N) where
   open integer use {rank, value_count as n}
@@ -118,6 +131,21 @@ module _ {I T N : Type 0} (integer : Elements T N) (source : Stream I T N) where
             (λ done. Holds (record { iter = j; done = done; start = next; end = Some next_end }))
             (sym so_now.undone) at
 
+        -- The members of the new range as the pending one.
+        new-run : (at : ℕ)
+            → members (begun_from rank next (Some next_end)) at ≡ covers (interval_of rank range) at
+        new-run at =
+            begun-some rank next (Some next_end) next_end at refl
+            ∙ ap (λ run. covers run at) (sym is_run)
+
+        -- If no range is pending, the new one is the first that is drawn and not ended.
+        pub drew-begins : Drew integer source entry was → None ≡ was.end
+            → Drew integer source entry next_state
+        drew-begins drew is = drew-more integer source entry was drew so_now.undone range next_state
+            so_now.undone call (λ at. new-run at ∙ sym (ap (λ held.
+            exclusive_or (members (begun_from rank was.start held) at)
+            (covers (interval_of rank range) at)) (sym is)))
+
         -- If no range is pending, the new one is pending next.
         pub so-begins : None ≡ was.end → SoFar entry next_state
         so-begins is =
@@ -169,11 +197,12 @@ module _ {I T N : Type 0} (integer : Elements T N) (source : Stream I T N) where
               omega (arith, less)
 
           -- If the new range starts past the pending end, the draw returns the pending range.
-          pub apart-answers : true ≡ partial_lt partial_cmp end next → (answer : RangeInclusive T)
+          pub apart-answers : Drew integer source entry was
+              → true ≡ partial_lt partial_cmp end next → (answer : RangeInclusive T)
               → range_inclusive_exhausted answer ≡ false → range_inclusive_start answer ≡ was.start
               → range_inclusive_end answer ≡ end
               → Answered entry (Some answer) next_state
-          apart-answers test answer fresh at_start at_end =
+          apart-answers drew test answer fresh at_start at_end =
               let apart = less-rank ranked end next both-values.1
               both-values.2 test in
               let first = from_to (rank was.start) (rank end) in
@@ -189,6 +218,13 @@ module _ {I T N : Type 0} (integer : Elements T N) (source : Stream I T N) where
                     (pieces-first n first (run ∷ given) rest both.1 both.2
                     (omega arith, both.3.1, both.3.2, both.3.3) all))));
                 rests = tt;
+                asks =
+                    let last = ap (λ run. run.last) gap in
+                    takes-more integer source entry was drew so_now.undone range
+                    (state j next (Some next_end)) refl call answer (omega (arith, last, apart))
+                    (λ at from. new-run at ∙ sym (ap (λ test.
+                    exclusive_or test (covers (interval_of rank range) at))
+                    (begun-past rank was.start was.end end at (sym is) (omega (arith, last, from)))));
               })
 
           -- That draw makes progress.
@@ -212,6 +248,50 @@ module _ {I T N : Type 0} (integer : Elements T N) (source : Stream I T N) where
             -- The new range starts no later than the pending end.
             meets : rank next ≤ rank end
             meets = not_less-rank ranked end next both-values.1 both-values.2 test
+
+            -- The new range is non-empty.
+            in_order : rank next ≤ rank next_end
+            in_order =
+                let ordered = facts.1 in
+                let low = ap (λ run. run.first) is_run in
+                let high = ap (λ run. run.last) is_run in
+                omega (arith, ordered, low, high)
+
+            -- It starts no earlier than the pending range.
+            later : rank was.start ≤ rank next
+            later = (head-sorted n (rank was.start) (from_to (rank next) (rank next_end))
+                (source.may_give j) some (λ given at. (twofold given at).sorted.3)).0
+
+            -- The call left the source as it is in the next state.
+            call-now : source.draw_gives was.iter (Some range) now.iter
+            call-now = subst (λ iter. source.draw_gives was.iter (Some range) iter) (sym passed.iter)
+                call
+
+            -- What is pending next is in exactly one of the two ranges, at a rank that is not
+            -- before the new one.
+            odd-now : (at : ℕ)
+                → false ≡ cond (nat_le (rank was.start) at) (nat_lt at (rank next)) false
+                → members (pending rank now) at
+                ≡ exclusive_or (members (pending rank was) at) (covers (interval_of rank range) at)
+            odd-now at before_both =
+                ap (λ runs. members runs at) passed.left
+                ∙ members-if (past_both rank end next_end) at
+                ∙ past-odd (from_to (rank was.start) (rank end)) (from_to (rank next) (rank next_end))
+                (past_both rank end next_end) later meets in_order refl refl at before_both
+                ∙ ap (λ test. exclusive_or test (covers (from_to (rank next) (rank next_end)) at))
+                (sym (begun-some rank was.start was.end end at (sym is)))
+                ∙ ap (λ run. exclusive_or (members (pending rank was) at) (covers run at))
+                (sym is_run)
+
+            -- If the pending range does not start before the new one, no piece is returned, and
+            -- both are drawn.
+            pub drew-passed : Drew integer source entry was
+                → false ≡ partial_lt partial_cmp was.start next → Drew integer source entry now
+            drew-passed drew not_before =
+                let most = not_less-rank ranked was.start next both-values.0
+                both-values.2 not_before in
+                drew-more integer source entry was drew so_now.undone range now passed.undone call-now
+                (λ at. odd-now at (none-between (rank was.start) (rank next) at most))
 
             -- What the source may give in the next state, it may give after the draw.
             same-source : (given : List Interval) → source.may_give now.iter given
@@ -260,11 +340,12 @@ module _ {I T N : Type 0} (integer : Elements T N) (source : Stream I T N) where
 
             -- If the pending range starts before the new one, the draw returns what is before the
             -- new one.
-            pub gap-answers : true ≡ partial_lt partial_cmp was.start next → (last : T)
+            pub gap-answers : Drew integer source entry was
+                → true ≡ partial_lt partial_cmp was.start next → (last : T)
                 (answer : RangeInclusive T) → rank last + 1 ≡ rank next
                 → range_inclusive_exhausted answer ≡ false → range_inclusive_start answer ≡ was.start
                 → range_inclusive_end answer ≡ last → Answered entry (Some answer) now
-            gap-answers before_next last answer one fresh at_start at_end =
+            gap-answers drew before_next last answer one fresh at_start at_end =
                 let less = less-rank ranked was.start next both-values.0
                 both-values.2 before_next in
                 let gap = answered integer source was.start last answer fresh at_start at_end in
@@ -279,6 +360,16 @@ module _ {I T N : Type 0} (integer : Elements T N) (source : Stream I T N) where
                       (twofold given (same-source given might)) meets refl refl (from_to (rank was.start) (rank last)) rest less refl
                       one (then-pieces given rest all)))));
                   rests = tt;
+                  asks =
+                      let high = ap (λ run. run.last) gap in
+                      takes-more integer source entry was drew so_now.undone range now passed.undone
+                      call-now answer (subst (IsOneFrom (rank_after rank (Some answer)))
+                      (sym passed.left)
+                      (one-if (rank_after rank (Some answer)) (past_both rank end next_end)
+                      (nat_le (past_both rank end next_end).first (past_both rank end next_end).last)
+                      (omega (arith, high, one, meets, in_order))))
+                      (λ at from. odd-now at (none-from (rank was.start) (rank next) at
+                      (omega (arith, high, one, from))));
                 }
 
             -- That draw makes progress.

@@ -136,7 +136,7 @@ module _ (run next past : Interval) (low : run.first ≤ next.first) (meets : ne
     (to : past.last ≡ max run.last next.last) where
   -- The ranks in only one of the two are those before the start of the second and those past the
   -- lesser end.
-  odd-split : (rank : ℕ) (before : Bool) (others : Bool)
+  pub odd-split : (rank : ℕ) (before : Bool) (others : Bool)
       → before ≡ cond (nat_le run.first rank) (nat_lt rank next.first) false
       → exclusive_or (covers run rank) (exclusive_or (covers next rank) others)
       ≡ exclusive_or before (exclusive_or (covers past rank) others)

@@ -11,6 +11,7 @@ use Rattle.rsb_streams.specs.Stream.{◌⊆◌, run_if_any}
 use Rattle.rsb_streams.specs.declared.draw.Draw.{Ghosts as Stream}
 use Rattle.rsb_streams.specs.declared.odd_pieces.OddPieces.{OddPieces}
 use Rattle.rsb_streams.proofs.checking.Fresh.{none-if_empty, one-if_some}
+use Rattle.rsb_streams.proofs.odd.Drawn.{Drew}
 
 -- A state of the pieces that has not ended.
 abbrev pub state : {T I : Type 0} → I → T → Option T → OddPieces T I
@@ -152,7 +153,9 @@ module _ {T N I : Type 0} (integer : Elements T N) (stream : Stream I T N) where
     pub same : odd_may_give integer stream now ⊆ odd_may_give integer stream entry
     pub nearer : size (odd_remaining integer stream now) ≤ size (odd_remaining integer stream entry)
 
-  -- The same, if the pending end is in a vector with at most one end.
+  -- The same, if the pending end is in a vector with at most one end, and which ranges were drawn
+  -- since the entry.
   pub record OddHeld (entry now : OddPieces T I) (ends : List (Option T)) : Type 0 where
     pub one : HasOneEnd ends
     pub so : OddSoFar entry (holding now ends)
+    pub drew : Drew integer stream entry (holding now ends)

@@ -73,7 +73,7 @@ cover-merge left right (run ∷ runs) rank merged = elim merged [
 ]
 
 -- Exclusive or is associative.
-xor-assoc : (a b c : Bool)
+pub xor-assoc : (a b c : Bool)
     → exclusive_or a (exclusive_or b c) ≡ exclusive_or (exclusive_or a b) c
 xor-assoc true true true = refl
 xor-assoc true true false = refl

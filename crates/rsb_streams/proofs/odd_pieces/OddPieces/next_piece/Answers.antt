@@ -1,4 +1,4 @@
-use Rattle.std.proofs.Common.{◌<◌, refl}
+use Rattle.std.proofs.Common.{◌<◌, ap, refl}
 use Rattle.std.specs.Iterator.{size}
 use Rattle.std.specs.Prelude.{Some, None}
 use Rattle.rsb_integer.specs.Room.{fits_memory}
@@ -6,7 +6,7 @@ use Rattle.rsb_streams.specs.OddPieces.{first_end, holding}
 use Rattle.rsb_streams.proofs.checking.Comparisons.{IsRanked}
 use Rattle.rsb_streams.proofs.odd.Ends.{last-answers, last-goes, rests}
 use Rattle.rsb_streams.proofs.odd.States.{passed-by, popped-end, popped-left, pushed-none, pushed-some, removed-first}
-use Rattle.rsb_streams.proofs.odd.OneMore.{apart-answers, apart-goes, both-values, gap-answers, gap-goes, next-above, so-begins, so-passed}
+use Rattle.rsb_streams.proofs.odd.OneMore.{apart-answers, apart-goes, both-values, drew-begins, drew-passed, gap-answers, gap-goes, next-above, so-begins, so-passed}
 use Rattle.rsb_streams.proofs.sources.Known.{IsLawful}
 use Rattle.rsb_streams.proofs.odd_pieces.OddPieces.next_piece.Given.{Over}
 use Rattle.rsb_streams.proofs.odd_pieces.OddPieces.next_piece.Goals as goal
@@ -45,6 +45,13 @@ loop-range-preserved-in_default-pending g c =
           c.draw.new.self c.into_inner-next.result.0 c.into_inner-next.result.1 c.in-Some.range
           c.loop-range.invariant.so c.in-Some.ensures.steps c.in-Some.ensures.goes
           c.into_inner-next.ensures.start c.into_inner-next.ensures.end c.in_default-pending.ensures);
+      drew = rw ends (drew-begins g.T.Integer g.I.Draw (laws g)
+          (ranked g) (holding c.args.self.now c.args.ends.now.items)
+          (holding c.loop-range.self c.loop-range.ends.items)
+          c.draw.new.self c.into_inner-next.result.0 c.into_inner-next.result.1 c.in-Some.range
+          c.loop-range.invariant.so c.in-Some.ensures.steps c.in-Some.ensures.goes
+          c.into_inner-next.ensures.start c.into_inner-next.ensures.end c.loop-range.invariant.drew
+          c.in_default-pending.ensures);
     }
 
 -- A range is pending, and the next one starts past it.
@@ -60,7 +67,7 @@ returns-then-lt-clause-steps g c =
     c.draw.new.self c.into_inner-next.result.0 c.into_inner-next.result.1 c.in-Some.range
     c.loop-range.invariant.so c.in-Some.ensures.steps c.in-Some.ensures.goes
     c.into_inner-next.ensures.start c.into_inner-next.ensures.end c.in-Some-pending.end
-    c.in-Some-pending.ensures c.if-lt.ensures c.new.result
+    c.in-Some-pending.ensures c.loop-range.invariant.drew c.if-lt.ensures c.new.result
     c.new.ensures.exhausted c.new.ensures.start c.new.ensures.end)
 
 pub returns-then-lt-clause-goes : goal.returns-then-lt-clause-goes
@@ -122,7 +129,7 @@ returns-then-lt-2-clause-steps g c =
     c.draw.new.self c.into_inner-next.result.0 c.into_inner-next.result.1 c.in-Some.range
     c.loop-range.invariant.so c.in-Some.ensures.steps c.in-Some.ensures.goes
     c.into_inner-next.ensures.start c.into_inner-next.ensures.end c.in-Some-pending.end
-    c.in-Some-pending.ensures c.if-lt.ensures _ passed
+    c.in-Some-pending.ensures c.if-lt.ensures _ passed c.loop-range.invariant.drew
     c.if-lt-2.ensures c.sub_one.result c.new-then-lt-2.result
     c.sub_one.ensures c.new-then-lt-2.ensures.exhausted c.new-then-lt-2.ensures.start
     c.new-then-lt-2.ensures.end
@@ -157,6 +164,14 @@ loop-range-preserved g c =
           c.loop-range.invariant.so c.in-Some.ensures.steps c.in-Some.ensures.goes
           c.into_inner-next.ensures.start c.into_inner-next.ensures.end c.in-Some-pending.end
           c.in-Some-pending.ensures c.if-lt.ensures _ passed c.if-lt-2.ensures;
+      drew = drew-passed g.T.Integer g.I.Draw (laws g)
+          (ranked g) (holding c.args.self.now c.args.ends.now.items)
+          (holding c.loop-range.self c.loop-range.ends.items)
+          c.draw.new.self c.into_inner-next.result.0 c.into_inner-next.result.1 c.in-Some.range
+          c.loop-range.invariant.so c.in-Some.ensures.steps c.in-Some.ensures.goes
+          c.into_inner-next.ensures.start c.into_inner-next.ensures.end c.in-Some-pending.end
+          c.in-Some-pending.ensures c.if-lt.ensures _ passed c.loop-range.invariant.drew
+          c.if-lt-2.ensures;
     }
 
 -- At the end, no range is pending, and nothing more comes.
@@ -167,8 +182,10 @@ returns-in_err-end-clause-steps g c =
     rw c.from_residual.ensures (rests g.T.Integer g.I.Draw (laws g)
     (holding c.args.self.now c.args.ends.now.items)
     (holding c.loop-range.self c.loop-range.ends.items)
-    c.draw.new.self c.loop-range.invariant.so c.in_default.ensures.steps none
-    (first_end c.pop.new.self.items))
+    c.draw.new.self c.loop-range.invariant.so c.loop-range.invariant.drew
+    c.in_default.ensures.steps none (first_end c.pop.new.self.items)
+    (ap first_end (popped-left c.loop-range.ends.items c.loop-range.invariant.one
+    c.pop.new.self.items c.pop.ensures.rest)))
 
 pub returns-in_err-end-clause-one : goal.returns-in_err-end-clause-one
 returns-in_err-end-clause-one g c =
@@ -197,10 +214,12 @@ returns-clause-steps g c =
     last-answers g.T.Integer g.I.Draw (laws g)
     (holding c.args.self.now c.args.ends.now.items)
     (holding c.loop-range.self c.loop-range.ends.items)
-    c.draw.new.self c.loop-range.invariant.so c.in_default.ensures.steps
-    c.in_ok-end.end c.new-2.result last
+    c.draw.new.self c.loop-range.invariant.so c.loop-range.invariant.drew
+    c.in_default.ensures.steps c.in_ok-end.end c.new-2.result last
     c.new-2.ensures.exhausted c.new-2.ensures.start c.new-2.ensures.end
     (first_end c.pop.new.self.items)
+    (ap first_end (popped-left c.loop-range.ends.items c.loop-range.invariant.one
+    c.pop.new.self.items c.pop.ensures.rest))
 
 pub returns-clause-goes : goal.returns-clause-goes
 returns-clause-goes g c =

@@ -1,6 +1,7 @@
 use Rattle.std.proofs.Common.{ap, refl, sym, subst, ◌∙◌}
 use Rattle.rsb_integer.specs.Room.{fits_memory}
 use Rattle.rsb_streams.specs.OddPieces.{ends_in, first_end, HasOneEnd}
+use Rattle.rsb_streams.proofs.odd.Drawn.{takes-nothing}
 use Rattle.rsb_streams.proofs.odd.States.{first_end-ends_in, one-end}
 use Rattle.rsb_streams.proofs.odd_pieces.OddPiecesDraw.draw.Goals as goal
 
@@ -9,6 +10,7 @@ pub returns-then-self-clause-steps : goal.returns-then-self-clause-steps
 returns-then-self-clause-steps g c = record {
   answers = rw c.if-self.true refl;
   rests = (c.requires, λ pieces at. rw c.if-self.true at at);
+  asks = takes-nothing g.T.Integer g.I.Draw c.args.self.now c.if-self.true;
 }
 
 pub returns-then-self-clause-goes : goal.returns-then-self-clause-goes
