@@ -1,9 +1,10 @@
-use Rattle.std.proofs.Common.{◌<◌, ap, refl}
+use Rattle.std.proofs.Common.{◌<◌, ap, arith, refl}
 use Rattle.std.specs.Iterator.{size}
 use Rattle.std.specs.Prelude.{Some, None}
 use Rattle.rsb_integer.specs.Room.{fits_memory}
 use Rattle.rsb_streams.specs.OddPieces.{first_end, holding}
 use Rattle.rsb_streams.proofs.checking.Comparisons.{IsRanked}
+use Rattle.rsb_streams.proofs.odd.Drawn.{drew-none}
 use Rattle.rsb_streams.proofs.odd.Ends.{last-answers, last-goes, rests}
 use Rattle.rsb_streams.proofs.odd.States.{passed-by, popped-end, popped-left, pushed-none, pushed-some, removed-first}
 use Rattle.rsb_streams.proofs.odd.OneMore.{apart-answers, apart-goes, both-values, drew-begins, drew-passed, gap-answers, gap-goes, next-above, so-begins, so-passed}
@@ -18,6 +19,19 @@ laws g = record { answers = g.met.I.Draw.answers; sorted = g.met.I.Draw.sorted }
 ranked : (g : Over) → IsRanked g.T.Integer.rank g.T.Integer.value_count g.T.PartialOrd.partial_cmp
     g.T.Ord.cmp
 ranked g = record { matches = g.met.T.Ord.matches_partial_cmp; in_order = g.met.T.Integer.in_order }
+
+-- At the entry, nothing was drawn.
+pub loop-range-init : goal.loop-range-init
+loop-range-init g c = record {
+  one = c.requires.one;
+  so = record {
+    undone = c.requires.undone;
+    going = c.requires.ready c.requires.undone;
+    same = λ pieces at. at;
+    nearer = omega arith;
+  };
+  drew = drew-none g.T.Integer g.I.Draw (holding c.args.self.now c.args.ends.now.items);
+}
 
 -- Fewer ranges are left to draw.
 nearer : (g : Over) (c : In-Some g) → size (g.I.Draw.draws_left c.draw.new.self)
