@@ -18,7 +18,7 @@ use rsb_many::MultiwaySortedDisjoint;
 use rsb_streams::{Draw, DrawDisjoint};
 use std::alloc::{AllocError, Allocator};
 
-/// Set algebra over any number of sets, given by value. If allocation fails, no set is made, and
+/// Set algebra over any number of sets, passed by value. If allocation fails, no set is made, and
 /// the sets are dropped. (`MultiwayRangeSetBlaze` in range-set-blaze.)
 pub trait MultiwayRangeSetBlaze<T: Integer, S: Allocator>: IntoIterator<
     Item = RangeSetBlaze<T, S>,
@@ -37,8 +37,8 @@ pub trait MultiwayRangeSetBlaze<T: Integer, S: Allocator>: IntoIterator<
         union_of(alloc, self)
     }
 
-    /// Returns the intersection: the values in all of the sets. If there are no sets, the result is
-    /// every value. (`MultiwayRangeSetBlaze::intersection`.)
+    /// Returns the intersection: the values in all of the sets. If there are no sets, the result
+    /// has every value. (`MultiwayRangeSetBlaze::intersection`.)
     final fn intersection<A: Allocator + Copy>(
         self,
         alloc: A,
@@ -72,8 +72,8 @@ pub trait MultiwayRangeSetBlaze<T: Integer, S: Allocator>: IntoIterator<
     }
 
     /// Returns the values in at least `k` of the sets: every value if `k` is 0, and none if there
-    /// are fewer sets than `k`. A set passed twice counts twice. If `k` is at least 1, the result
-    /// has at most as many runs as all sets together. Not in range-set-blaze.
+    /// are fewer than `k` sets. A set passed twice counts twice. If `k` is at least 1, the result
+    /// has at most as many runs as all the sets together. Not in range-set-blaze.
     final fn at_least<A: Allocator + Copy>(
         self,
         alloc: A,
@@ -86,7 +86,8 @@ pub trait MultiwayRangeSetBlaze<T: Integer, S: Allocator>: IntoIterator<
         ensures members { IfOk result (λ set.
             GaveRun Self.into_iter_gives Self.IntoIter.next_gives self
             (λ sets. IsMadeOf T.value_count (at_least k) sets set)) }
-        // If `k` is 0, even ranks past the type are selected. Otherwise this holds at every rank.
+        // If `k` is 0, the ranks past the end of the type are selected too. Otherwise this holds at
+        // every rank.
         ensures exactly { 0 < k → IfOk result (λ set.
             GaveRun Self.into_iter_gives Self.IntoIter.next_gives self
             (λ sets. IsSetOf set (at_least k (map members sets)))) }
@@ -103,7 +104,7 @@ impl<T: Integer, S: Allocator, K: IntoIterator<Item = RangeSetBlaze<T, S>>> Mult
     S,
 > for K {}
 
-/// Set algebra over any number of sets, given by reference. If allocation fails, no set is made.
+/// Set algebra over any number of sets, passed by reference. If allocation fails, no set is made.
 /// (`MultiwayRangeSetBlazeRef` in range-set-blaze.)
 pub trait MultiwayRangeSetBlazeRef<'a, T: Integer + 'a, S: Allocator + 'a>: IntoIterator<
     Item = &'a RangeSetBlaze<T, S>,
@@ -122,8 +123,8 @@ pub trait MultiwayRangeSetBlazeRef<'a, T: Integer + 'a, S: Allocator + 'a>: Into
         union_of(alloc, self)
     }
 
-    /// Returns the intersection: the values in all of the sets. If there are no sets, the result is
-    /// every value. (`MultiwayRangeSetBlazeRef::intersection`.)
+    /// Returns the intersection: the values in all of the sets. If there are no sets, the result
+    /// has every value. (`MultiwayRangeSetBlazeRef::intersection`.)
     final fn intersection<A: Allocator + Copy>(
         self,
         alloc: A,
@@ -157,8 +158,8 @@ pub trait MultiwayRangeSetBlazeRef<'a, T: Integer + 'a, S: Allocator + 'a>: Into
     }
 
     /// Returns the values in at least `k` of the sets: every value if `k` is 0, and none if there
-    /// are fewer sets than `k`. A set passed twice counts twice. If `k` is at least 1, the result
-    /// has at most as many runs as all sets together. Not in range-set-blaze.
+    /// are fewer than `k` sets. A set passed twice counts twice. If `k` is at least 1, the result
+    /// has at most as many runs as all the sets together. Not in range-set-blaze.
     final fn at_least<A: Allocator + Copy>(
         self,
         alloc: A,
@@ -171,7 +172,8 @@ pub trait MultiwayRangeSetBlazeRef<'a, T: Integer + 'a, S: Allocator + 'a>: Into
         ensures members { IfOk result (λ set.
             GaveRun Self.into_iter_gives Self.IntoIter.next_gives self
             (λ sets. IsMadeOf T.value_count (at_least k) (map (λ lent. lent.now) sets) set)) }
-        // If `k` is 0, even ranks past the type are selected. Otherwise this holds at every rank.
+        // If `k` is 0, the ranks past the end of the type are selected too. Otherwise this holds at
+        // every rank.
         ensures exactly { 0 < k → IfOk result (λ set.
             GaveRun Self.into_iter_gives Self.IntoIter.next_gives self
             (λ sets. IsSetOf set (at_least k (map members (map (λ lent. lent.now) sets))))) }

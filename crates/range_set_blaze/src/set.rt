@@ -86,8 +86,8 @@ impl<T: Integer, A: Allocator + Copy> RangeSetBlaze<T, A> {
         }
     }
 
-    /// Returns the empty set. Does not allocate. (`Default` of `RangeSetBlaze`, which is given no
-    /// allocator.)
+    /// Returns the empty set. Does not allocate. (`Default` of `RangeSetBlaze`, whose `default`
+    /// takes no allocator.)
     pub fn default(alloc: A) -> Self
         ensures { result ≡ [] }
     {

@@ -18,9 +18,9 @@ use std::alloc::{Allocator, Global};
 use std::iter::FusedIterator;
 use std::ops::RangeInclusive;
 
-/// What lies in at least a given number of the streams: every value if that number is 0, and
-/// nothing if there are fewer streams. It draws the first range of each stream when it is built,
-/// and holds at most one range of each. It allocates only when it is built. Not in range-set-blaze.
+/// The values in at least a given number of streams: every value if that number is 0, and none if
+/// there are fewer streams. It draws the first range of each stream when it is built, and holds at
+/// most one range of each. It allocates only when it is built. Not in range-set-blaze.
 #[derive(Debug, Drop)]
 pub struct MultiwayAtLeast<T: Integer, I, A: Allocator = Global> {
     iter: UnionIter<T, DeepPieces<T, I, A>>,

@@ -50,7 +50,7 @@ fn pass_start<T: Integer>(start: &mut Option<T>, next: T) -> Option<RangeInclusi
 }
 
 /// Passes the end of a range. A piece that has begun ends there, and is returned unless it is
-/// empty. If none has begun, one begins just past it, unless that is past the type.
+/// empty. If none has begun, one begins just past it, unless there is no value past it.
 fn pass_end<T: Integer>(start: &mut Option<T>, last: T) -> Option<RangeInclusive<T>>
     requires start { IfSome start.old (λ value. T.rank value < T.value_count) }
     requires last { T.rank last < T.value_count }

@@ -37,8 +37,8 @@ fused_can can s = s.done ≡ false → can s.iter
 abbrev pub fused_left : {S : Type 0} → (S → Count) → Fused S → Count
 fused_left left s = count_unless s.done (left s.iter)
 
--- Whether a call is one of the stream, or returns `None` because that has ended. The flag is set
--- exactly if the call returns `None`.
+-- Whether a call is a call to the stream, or returns `None` because the stream has ended. The flag
+-- is set exactly when the call returns `None`.
 abbrev pub fused_steps : {S A : Type 0} → (S → Option A → S → Type 0) → Fused S → Option A
     → Fused S → Type 0
 fused_steps steps s item t = MatchBool s.done (item ≡ None) (steps s.iter item t.iter)

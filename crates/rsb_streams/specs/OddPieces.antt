@@ -1,4 +1,4 @@
--- The pieces of ranges that an odd number of them covers, if no rank is in more than two of them.
+-- The pieces that an odd number of ranges cover, if no rank is in more than two of the ranges.
 use Rattle.std.proofs.Common.{◌≡◌, ◌⊎◌, ℕ, ◌+◌, ◌≤◌, false, max, min, List, [], ◌∷◌, ◌++◌, length, map}
 use Rattle.std.specs.Prelude.{Option, Some, None}
 use Rattle.std.specs.Iterator.{Count, count_map, count_unless, Yields, YieldsThen}
@@ -107,13 +107,13 @@ module _ {T N I : Type 0} (integer : Elements T N) (stream : Stream I T N) where
     pub twofold : (given : List Interval) → stream.may_give s.iter given
         → IsTwofold integer.value_count (pending integer.rank s ++ given)
 
-  -- The pieces of the ranks in an odd number of the pending range and those to come. Once the
-  -- source has ended and all was given, there are none.
+  -- The pieces of the ranks in an odd number of ranges, counting the pending one and those to come.
+  -- Once the source has ended and all was given, there are none.
   abbrev pub odd_may_give : OddPieces T I → Outcomes
   odd_may_give s = unless s.done
       (pieces_of integer.value_count (pending integer.rank s) (stream.may_give s.iter))
 
-  -- One piece for each range that is pending or still to come.
+  -- The greatest number of pieces left: one for each range that is pending or still to come.
   abbrev pub odd_remaining : OddPieces T I → Count
   odd_remaining s = count_unless s.done
       (count_map (λ left. left + length (ends_of s.end)) (stream.draws_left s.iter))

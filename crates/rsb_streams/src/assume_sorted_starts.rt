@@ -22,9 +22,9 @@ pub struct AssumeSortedStarts<T, I> {
 }
 
 impl<T: Integer, I: Iterator> AssumeSortedStarts<T, I> {
-    /// Returns the ranges of `iter` as a stream. Requires that `iter` becomes an iterator that ends
-    /// and whose `next` can be called. Its ranges must be non-empty and sorted by start. Does not
-    /// allocate. (`AssumeSortedStarts::new`.)
+    /// Returns the ranges of `iter` as a stream. Requires that `iter` converts into an iterator
+    /// that ends and whose `next` can be called. Its ranges must be non-empty and sorted by start.
+    /// Does not allocate. (`AssumeSortedStarts::new`.)
     pub fn new<J: IntoIterator<Item = RangeInclusive<T>, IntoIter = I>>(iter: J) -> Self
         requires { GivesOnly T.rank ⟦<I as Iterator>⟧ J.into_iter_gives
             (HasSortedStarts T.value_count) iter }

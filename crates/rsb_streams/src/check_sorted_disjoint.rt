@@ -31,9 +31,9 @@ pub struct CheckSortedDisjoint<T, I> {
 }
 
 impl<T: Integer, I: Iterator> CheckSortedDisjoint<T, I> {
-    /// Returns the ranges of `iter` as a stream. Requires that `iter` becomes an iterator that ends
-    /// and whose `next` can be called, and that its ranges are canonical. Does not allocate.
-    /// (`CheckSortedDisjoint::new`.)
+    /// Returns the ranges of `iter` as a stream. Requires that `iter` converts into an iterator
+    /// that ends and whose `next` can be called, and that its ranges are canonical. Does not
+    /// allocate. (`CheckSortedDisjoint::new`.)
     pub fn new<J: IntoIterator<Item = RangeInclusive<T>, IntoIter = I>>(iter: J) -> Self
         requires { GivesOnly T.rank ⟦<I as Iterator>⟧ J.into_iter_gives
             (IsCanonicalIn T.value_count) iter }

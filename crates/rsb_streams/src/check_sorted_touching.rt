@@ -33,9 +33,9 @@ pub struct CheckSortedTouching<T, I> {
 }
 
 impl<T: Integer, I: Iterator> CheckSortedTouching<T, I> {
-    /// Returns the ranges of `iter` as a stream. Requires that `iter` becomes an iterator that ends
-    /// and whose `next` can be called. Each of its ranges must be non-empty and start past the end
-    /// of the one before. Does not allocate. Not in range-set-blaze.
+    /// Returns the ranges of `iter` as a stream. Requires that `iter` converts into an iterator
+    /// that ends and whose `next` can be called. Each of its ranges must be non-empty and start
+    /// past the end of the one before. Does not allocate. Not in range-set-blaze.
     pub fn new<J: IntoIterator<Item = RangeInclusive<T>, IntoIter = I>>(iter: J) -> Self
         requires { GivesOnly T.rank ⟦<I as Iterator>⟧ J.into_iter_gives (IsTouchingIn T.value_count)
             iter }

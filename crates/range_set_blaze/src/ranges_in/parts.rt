@@ -1,4 +1,4 @@
-//! Takes runs off both ends of a `RangesIn`, which has a run that is held and entries of a map.
+//! Takes runs off both ends of a `RangesIn`, which may hold one run and has entries of a map.
 
 ghost use Rattle.std.specs.Prelude.{◌≡◌, [], ◌∷◌, ◌++◌, MatchOption};
 ghost use Rattle.range_set_blaze.specs.Kept.{entry_of};

@@ -15,8 +15,8 @@ use std::alloc::{AllocError, Allocator};
 use std::collections::BTreeMap;
 use std::collections::btree_map::Iter;
 
-/// Returns the set of the values of some runs for which `f` returns true. Calls `f` on each value
-/// once, in ascending order.
+/// Returns the set of those values of the given runs for which `f` returns true. Calls `f` on each
+/// value once, in ascending order.
 pub(crate) fn kept_values<T: Integer, A: Allocator + Copy, F: FnMut(&T) -> bool>(
     map: &BTreeMap<T, T, A>,
     alloc: A,

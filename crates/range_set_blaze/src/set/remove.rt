@@ -135,8 +135,8 @@ fn take_value<T: Integer, A: Allocator + Clone>(
     Ok(Some(length))
 }
 
-/// Removes consecutive values, given as `piece`, from the run that has them. If allocation fails,
-/// the entries are unchanged.
+/// Removes consecutive values, given as `piece`, from the run that contains them. If allocation
+/// fails, the entries are unchanged.
 pub(crate) fn cut<T: Integer, A: Allocator + Clone>(
     map: &mut BTreeMap<T, T, A>,
     run: Run<T>,

@@ -1,4 +1,4 @@
-//! Questions about one set. They leave it unchanged and do not allocate.
+//! Queries on one set. They leave it unchanged and do not allocate.
 
 ghost use Rattle.std.specs.Prelude.{◌≡◌, ℕ, ◌+◌, ◌*◌, ◌^◌, ◌<◌, ◌≤◌, [], length, IfSome, IsFalse, IsNone, IsTrue};
 ghost use Rattle.std.specs.Range.{range_inclusive_end, range_inclusive_start};
@@ -83,8 +83,8 @@ pub extern "C" fn rsb_u64_last(alloc: Global, set: &mut Handle, value: &mut u64)
     true
 }
 
-/// Stores the run that has a value in `block` and returns true. If the value is not a member, it
-/// stores the gap that the value lies in and returns false.
+/// Stores in `block` the run that contains a value, and returns true. If the value is not a member,
+/// it stores the gap that contains the value and returns false.
 #[unsafe(no_mangle)]
 pub extern "C" fn rsb_u64_run_or_gap(
     alloc: Global,
@@ -106,9 +106,9 @@ pub extern "C" fn rsb_u64_run_or_gap(
     found
 }
 
-/// Stores the run that has `from`, or else the first one past it, in `run` and returns true. If
-/// there is none, it returns false, and `run` is unchanged. To walk over the runs, begin with
-/// `from` of 0 and go on with `run.last + 1`, unless a run ends at the greatest value.
+/// Stores in `run` the run that contains `from`, or else the first run past it, and returns true.
+/// If there is none, it returns false, and `run` is unchanged. To walk over the runs, begin with 0
+/// as `from` and continue with `run.last + 1`, unless a run ends at the greatest value.
 #[unsafe(no_mangle)]
 pub extern "C" fn rsb_u64_next_run(
     alloc: Global,

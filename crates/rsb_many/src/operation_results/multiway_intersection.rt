@@ -15,9 +15,9 @@ use std::alloc::{Allocator, Global};
 use std::iter::FusedIterator;
 use std::ops::RangeInclusive;
 
-/// What lies in all of the given streams: every value if there are none. It draws the first gap of
-/// each stream when it is built, and holds at most one gap of each. It allocates only when it is
-/// built. (`MultiwayIntersection` in range-set-blaze.)
+/// The values in all of the given streams: every value if there are no streams. It draws the first
+/// gap of each stream when it is built, and holds at most one gap of each. It allocates only when
+/// it is built. (`MultiwayIntersection` in range-set-blaze.)
 #[derive(Debug, Drop)]
 pub struct MultiwayIntersection<T: Integer, I, A: Allocator = Global> {
     // The complement of the union of the complements.

@@ -1,4 +1,4 @@
-//! `Skip` over a stream is a stream: it gives the ranges after the given number of first ones.
+//! `Skip` over a stream is a stream: it leaves out the given number of ranges and gives the rest.
 
 ghost use Rattle.std.specs.Iterator.Adapters.{skip_count, skip_source};
 ghost use Rattle.rsb_streams.specs.AdapterLaws.{skip-drawn, skip-sorted};

@@ -1,5 +1,5 @@
-//! `SkipWhile` over a stream is a stream: it gives the ranges starting at the first that fails a
-//! test.
+//! `SkipWhile` over a stream is a stream: it gives the first range that fails a test and all ranges
+//! after it.
 
 ghost use Rattle.std.specs.Iterator.Adapters.{skip_while_done_skipping, skip_while_source};
 ghost use Rattle.rsb_streams.specs.AdapterLaws.{skip_while-drawn, skip_while-sorted};
