@@ -35,7 +35,8 @@
 extern "C" {
 #endif
 
-/* What a call that changes a set returns. It returns no other value. */
+/* What a call that changes a set returns. It returns no other value. A call that clears or frees a
+   set always succeeds, and returns nothing. */
 enum {
     RSB_UNCHANGED = 0, /* the set was already as requested, and is unchanged */
     RSB_CHANGED = 1,   /* the set is now as requested, and was not; or `out` is the new set */

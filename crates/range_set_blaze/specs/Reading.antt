@@ -1,4 +1,4 @@
--- What may come next at a place in a text of ranges.
+-- What may come next at a place in text that lists ranges.
 use Rattle.std.specs.Prelude.{◌≡◌, ◌≢◌, ◌↔◌, ℕ, ℤ, ◌++◌, List, [], ◌∷◌, Option, Some, None, MatchOption}
 use Rattle.std.specs.declared.ops.RangeInclusive.{RangeInclusive}
 use Rattle.range_set_blaze.specs.Text.{BlanksThen, DigitsThen, EndThen, NumberThen, NumeralThen, OthersFollow, Spells, StartThen, Then}
@@ -18,7 +18,7 @@ module _ {T : Type 0} (number : T → ℤ) (fits : ℤ → Type 0) where
   NextThen None range Rest value text = StartThen number fits range Rest value text
   NextThen (Some start) range Rest value text = EndThen number fits range Rest start value text
 
-  -- Whether the rest of a text continues from the place with the range, and `Rest` holds for what
+  -- Whether the rest of the text continues from the place with the range, and `Rest` holds for what
   -- follows.
   abbrev pub GoesOn : Place T → RangeInclusive T → (List ℕ → Type 0) → List ℕ → Type 0
   GoesOn Start range Rest text = NumberThen number fits (NextThen None range Rest) text
@@ -34,7 +34,7 @@ module _ {T : Type 0} (number : T → ℤ) (fits : ℤ → Type 0) where
   GoesOn (Dots start) range Rest text =
       Then 61 (NumberThen number fits (EndThen number fits range Rest start)) text
 
-  -- Whether the rest of a text continues from the place without a range.
+  -- Whether the rest of the text continues from the place without a range.
   abbrev pub GoesOnEmpty : Place T → List ℕ → Type 0
   GoesOnEmpty Start text = BlanksThen (λ rest. rest ≡ []) text
   GoesOnEmpty (Before start) text = ⊥
@@ -44,7 +44,7 @@ module _ {T : Type 0} (number : T → ℤ) (fits : ℤ → Type 0) where
   GoesOnEmpty (Dot start) text = ⊥
   GoesOnEmpty (Dots start) text = ⊥
 
-  -- Whether the rest of a text spells these ranges from the place on.
+  -- Whether the rest of the text spells these ranges from the place on.
   abbrev pub Follows : Place T → List (RangeInclusive T) → List ℕ → Type 0
   Follows place [] text = GoesOnEmpty place text
   Follows place (range ∷ others) text = GoesOn place range (OthersFollow number fits others) text

@@ -1,4 +1,4 @@
--- The ranges that a text spells, byte by byte.
+-- The ranges that text spells, byte by byte.
 --
 -- Text that is empty, or has only blanks, spells no ranges. Otherwise the ranges are separated by
 -- commas. A range is a number, or two numbers with `..=` between them. Blanks are allowed around

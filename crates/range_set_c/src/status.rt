@@ -1,4 +1,5 @@
-//! What a call that changes a set returns.
+//! What a call that changes a set returns. A call that clears or frees a set always succeeds, and
+//! returns nothing.
 
 /// The set was already as requested, and is unchanged.
 pub const UNCHANGED: u32 = 0;

@@ -58,7 +58,7 @@ put sets slot set at = if at == slot then set else sets at
 abbrev pub whichever : Bool → Selection → Selection → Selection
 whichever is set other rank = if is then set rank else other rank
 
--- What lies in at least two of three sets. A set that is listed twice counts twice.
+-- The values in at least two of three sets. A set that is listed twice counts twice.
 abbrev pub most_of : Selection → Selection → Selection → Selection
 most_of a b c = at_least 2 (a ∷ b ∷ c ∷ [])
 

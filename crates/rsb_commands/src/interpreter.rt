@@ -183,7 +183,7 @@ fn set_at<T: Integer, A: Allocator>(
     &sets[slot.index()]
 }
 
-// Returns what lies in at least two of the sets in three slots. A set that is named twice counts
+// Returns the values in at least two of the sets in three slots. A set that is named twice counts
 // twice.
 fn most_of<T: Integer, A: Allocator + Copy>(
     alloc: A,

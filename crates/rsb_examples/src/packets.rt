@@ -46,7 +46,7 @@ fn show_reread(alloc: Global, acked: &RangeSetBlaze<u32>, rt: &impl Print) -> io
     }
 }
 
-/// Returns the set of the ranges that a text lists.
+/// Returns the set of the ranges that the text lists.
 pub fn listed<T: ParseInteger>(alloc: Global, text: &str) -> Result<RangeSetBlaze<T>, ParseError>
     ensures { IfOk result (λ listed. (ranges : List (Range T))
         → Spells T.number T.fits text.now ranges

@@ -1,5 +1,5 @@
--- What a `UIntPlusOne` means, and why it satisfies the laws of lengths. `number` and `limit` belong
--- to the unsigned type that it extends.
+-- The number that a `UIntPlusOne` represents, and why it satisfies the laws of lengths. `number`
+-- and `limit` belong to the unsigned type that it extends.
 use Rattle.std.specs.Prelude.{◌≡◌, ◌≢◌, ◌↔◌, ◌==◌, ℕ, ℤ, Bool, List, Option, Some, true, false, pos, negsuc, cond, nat_le, ◌+◌, ◌≤◌, ◌≤ℤ◌, IsTrue}
 use Rattle.std.specs.Bool.{one_answer}
 use Rattle.std.specs.Cmp.{IsPartialOrder, nat_cmp_total, on_total, po, unsigned_Decides, unsigned_ties}

@@ -12,13 +12,13 @@ use std::ops::{AddAssign, SubAssign};
 /// they require that the result is a length of the type. Not in range-set-blaze, which requires
 /// only traits of std and num-traits.
 pub trait SafeLength: Copy + PartialOrd + Zero + One + AddAssign + SubAssign {
-    // The whole number that a length means.
+    // The whole number that a length represents.
     ghost number: { Self → ℕ };
 
     // The number of the greatest length.
     ghost limit: { ℕ };
 
-    // The length that means a whole number up to the limit.
+    // The length that represents a whole number up to the limit.
     ghost length_at: { ℕ → Self };
 
     /// Returns the greatest length. Not in range-set-blaze.

@@ -16,13 +16,13 @@ use std::fmt::{Debug, Display};
 /// takes its methods from `Unsigned`, `Bounded`, `OverflowingAdd` and similar traits. The five
 /// methods here are not in range-set-blaze.)
 pub trait UInt: Zero + One + PartialOrd + Copy + Display + Debug {
-    // The whole number that a value means.
+    // The whole number that a value represents.
     ghost number: { Self → ℕ };
 
     // The number of the greatest value.
     ghost limit: { ℕ };
 
-    // The value that means a whole number up to the limit.
+    // The value that represents a whole number up to the limit.
     ghost value_at: { ℕ → Self };
 
     // The text of the number one past the limit.

@@ -1,4 +1,4 @@
--- What lies in all of the given streams.
+-- The values in all of the given streams.
 use Rattle.std.specs.Prelude.{ℕ, Option}
 use Rattle.std.specs.declared.ops.RangeInclusive.{RangeInclusive}
 use Rattle.rsb_integer.specs.Rank.{intervals_of}

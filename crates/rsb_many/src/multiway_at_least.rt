@@ -1,4 +1,4 @@
-//! What lies in at least the given number of streams.
+//! The values in at least the given number of streams.
 
 ghost use Rattle.std.specs.Prelude.{◌<◌, List};
 ghost use Rattle.rsb_streams.specs.StreamLaws.{canonical_stream-starts, drawn-itself};
@@ -27,7 +27,7 @@ pub struct MultiwayAtLeast<T: Integer, I, A: Allocator = Global> {
 }
 
 impl<T: Integer, I: Draw<T>, A: Allocator> MultiwayAtLeast<T, I, A> {
-    /// Returns what lies in at least `least` streams of a sweep that was just made. It draws
+    /// Returns the values in at least `least` streams of a sweep that was just built. It draws
     /// nothing more.
     pub(crate) fn of(sweep: MultiwaySweep<T, I, A>, least: usize) -> Self
         requires { (streams : List I) × SweepsOver T.Integer.own I.Draw streams sweep }

@@ -1,4 +1,4 @@
-//! What lies in an odd number of streams.
+//! The values in an odd number of streams.
 
 ghost use Rattle.std.specs.Prelude.{All, IfOk, List};
 ghost use Rattle.rsb_streams.specs.Items.{GaveRun, IsEnding};
@@ -45,7 +45,7 @@ impl<T: Integer, I: SortedTouching<T>, A: Allocator + Copy> MultiwaySymmetricDif
 }
 
 impl<T: Integer, I: Draw<T>, A: Allocator> MultiwaySymmetricDifference<T, I, A> {
-    /// Returns what lies in an odd number of the streams of a sweep that was just made. It draws
+    /// Returns the values in an odd number of the streams of a sweep that was just built. It draws
     /// nothing more.
     pub(crate) fn of(sweep: MultiwaySweep<T, I, A>) -> Self
         requires { (streams : List I) × SweepsOver T.Integer.own I.Draw streams sweep }

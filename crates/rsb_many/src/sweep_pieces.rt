@@ -1,4 +1,4 @@
-//! What lies in an odd number of streams, as pieces that may touch.
+//! The values in an odd number of streams, as pieces that may touch.
 
 ghost use Rattle.std.specs.Prelude.{◌≡◌, ◌+◌, ◌<◌, IfSome, None};
 ghost use Rattle.rsb_many.specs.Sweep.{event_of};
@@ -12,7 +12,7 @@ use rsb_streams::Draw;
 use std::alloc::{Allocator, Global};
 use std::ops::RangeInclusive;
 
-/// What lies in an odd number of the streams of a sweep, as pieces that may touch. Each event ends
+/// The values in an odd number of the streams of a sweep, as pieces that may touch. Each event ends
 /// a piece or begins one.
 #[derive(Debug, Drop)]
 pub(crate) struct SweepPieces<T: Integer, I, A: Allocator = Global> {

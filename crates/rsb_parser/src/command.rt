@@ -12,17 +12,17 @@ pub enum Command<T> {
         first: T,
         last: T,
     },
-    /// Removes a value, and reports whether the set had it.
+    /// Removes a value, and reports whether the set contained it.
     Del {
         slot: SetNo,
         value: T,
     },
-    /// Reports whether the set has the value.
+    /// Reports whether the set contains the value.
     Has {
         slot: SetNo,
         value: T,
     },
-    /// Reports the run or the gap that the value lies in.
+    /// Reports the run or the gap that contains the value.
     Gap {
         slot: SetNo,
         value: T,

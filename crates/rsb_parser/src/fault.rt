@@ -16,7 +16,8 @@ pub enum Fault {
     BadLine(u64),
     /// An allocation failed.
     NoMemory,
-    /// A read or a write failed.
+    /// A read or a write failed, or the input is too long. It is too long if it has 2^64 lines or
+    /// more, or has not ended after 2^64 - 1 reads.
     Io,
 }
 

@@ -170,7 +170,8 @@ pub record IsMade {S : Type 0} (can_next : S → Type 0) (s : S) (Gives New : Ty
 
 -- Whether `next` is `draw`: it may be called exactly when `draw` may, does what `draw` does, and
 -- has as many ranges to come. For a call that returns `None`, this is stated only if the call is
--- allowed. A closure in a stream can end it when nothing else is known.
+-- allowed. The reason is a closure in a stream, such as that of a `Filter`, which may reject every
+-- range that is left. That the empty list might come is then known only if the stream is ready.
 pub record IsDrawn {S T : Type 0} (can_draw : S → Type 0)
     (draw_gives : S → Option (RangeInclusive T) → S → Type 0) (draws_left : S → Count)
     (can_next : S → Type 0) (next_gives : S → Option (RangeInclusive T) → S → Type 0)

@@ -65,7 +65,8 @@ impl<T: Integer, A: Allocator> CheckSortedTouching<T, IntoIter<RangeInclusive<T>
         ensures position { IfErr result (λ refused. IsFirstBad (IsTouchingIn T.value_count)
             (intervals_of T.rank ranges.items) refused.position) }
 
-        // All ranges up to that position end in the type, so only the order is wrong.
+        // All ranges up to that position end in the type. So the one there is empty or starts too
+        // early.
         ensures value { IfErr result (λ refused. AllEndBelow T.value_count
             (take (refused.position + 1) (intervals_of T.rank ranges.items))) }
     {

@@ -96,7 +96,7 @@ pub trait DrawDisjoint<T: Integer>: Draw<T> {
     }
 
     /// Returns the intersection of two ready streams. If either has no runs, the result has none;
-    /// otherwise it has fewer runs than both together. Does not allocate.
+    /// otherwise it has fewer runs than both together. Does not allocate, and draws nothing yet.
     /// (`SortedDisjoint::intersection`.)
     final fn intersection<R: DrawDisjoint<T>>(self, other: R) -> Intersection<T, Self, R>
     where
@@ -112,7 +112,7 @@ pub trait DrawDisjoint<T: Integer>: Draw<T> {
     }
 
     /// Returns the difference of two ready streams: the values in `self` that are not in `other`.
-    /// It has at most as many runs as both together. Does not allocate.
+    /// It has at most as many runs as both together. Does not allocate, and draws nothing yet.
     /// (`SortedDisjoint::difference`.)
     final fn difference<R: DrawDisjoint<T>>(self, other: R) -> Difference<T, Self, R>
     where
@@ -128,7 +128,7 @@ pub trait DrawDisjoint<T: Integer>: Draw<T> {
     }
 
     /// Returns the symmetric difference of two ready streams: the values in exactly one of them. It
-    /// has at most as many runs as both together. Does not allocate.
+    /// has at most as many runs as both together. Does not allocate, and draws nothing yet.
     /// (`SortedDisjoint::symmetric_difference`.)
     final fn symmetric_difference<R: DrawDisjoint<T>>(
         self,
@@ -147,7 +147,8 @@ pub trait DrawDisjoint<T: Integer>: Draw<T> {
     }
 
     /// Returns all runs of a ready stream with `true` and all its gaps with `false`, from the least
-    /// value to the greatest. Does not allocate. (`SortedDisjoint::fill_gaps`.)
+    /// value to the greatest. Does not allocate, and draws nothing yet.
+    /// (`SortedDisjoint::fill_gaps`.)
     final fn fill_gaps(self) -> FillGapsIter<T, Self>
     where
         Self: Sized,

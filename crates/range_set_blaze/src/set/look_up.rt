@@ -79,7 +79,7 @@ impl<T: Integer, A: Allocator> RangeSetBlaze<T, A> {
     }
 }
 
-// Returns the run that has a value, or `None` if the value is not a member.
+// Returns the run that contains a value, or `None` if the value is not a member.
 pub(crate) fn run_at<T: Integer, A: Allocator>(map: &BTreeMap<T, T, A>, value: T) -> Option<Run<T>>
     requires canonical { IsCanonicalIn T.value_count (runs_of T.rank map.now.entries) }
     requires value { T.rank value < T.value_count }
@@ -95,7 +95,7 @@ pub(crate) fn run_at<T: Integer, A: Allocator>(map: &BTreeMap<T, T, A>, value: T
     Some(run)
 }
 
-// Returns the last value of the gap that has `value`.
+// Returns the last value of the gap that contains `value`.
 fn gap_end<T: Integer, A: Allocator>(map: &BTreeMap<T, T, A>, value: T) -> T
     requires canonical { IsCanonicalIn T.value_count (runs_of T.rank map.now.entries) }
     requires value { T.rank value < T.value_count }

@@ -97,7 +97,8 @@ impl<T: ParseInteger, A: Allocator + Copy> RangeSetBlaze<T, A> {
     }
 }
 
-// A position in a text of ranges: what comes before the next byte, and what was read of its range.
+// A position in text that lists ranges: what comes before the next byte, and what was read of its
+// range.
 #[derive(Clone, Copy)]
 enum Place<T> {
     // Before the first byte that is not blank.
@@ -126,7 +127,7 @@ enum Place<T> {
     Dots(T),
 }
 
-// Returns the ranges that a text spells.
+// Returns the ranges that the text spells.
 fn spelled_ranges<T: ParseInteger, A: Allocator>(
     alloc: A,
     text: &[u8],
@@ -228,7 +229,7 @@ fn after_blanks<T: ParseInteger>(start: Option<T>, byte: u8) -> Option<Place<T>>
 }
 
 // Returns the place after the first digit of a number, or `None` if the byte is unexpected there.
-// Numbers are read digit by digit, since the contract of `str::parse` does not say where a text
+// Numbers are read digit by digit, since the contract of `str::parse` does not say where the text
 // goes wrong.
 fn after_sign<T: ParseInteger>(start: Option<T>, negative: bool, byte: u8) -> Option<Place<T>>
     ensures { Steps T.number T.fits (Signed start negative) byte result }

@@ -307,7 +307,7 @@ pub(crate) enum Making {
     /// This and the next one take the items of lists in the same allocator, by reference.
     CollectLent,
     CollectLentValues(i32, i32),
-    /// From a text of 7, 1, 4 and 9.
+    /// From text that lists 7, 1, 4 and 9.
     Parse,
     /// From a clone that is taken out of its place.
     Taken,
@@ -350,7 +350,7 @@ impl Making {
     }
 }
 
-/// Returns the set of 1, 4, 7 and 9, read from a text.
+/// Returns the set of 1, 4, 7 and 9, read from text.
 fn parse<A: Allocator + Copy>(alloc: A) -> Result<RangeSetBlaze<i32, A>, AllocError> {
     match RangeSetBlaze::parse(alloc, "7, 1..=1, 4, 9..=9") {
         Ok(set) => Ok(set),

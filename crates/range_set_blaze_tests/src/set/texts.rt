@@ -7,7 +7,7 @@ use rsb_tables::{Counting, Table, is_shown, set_of};
 use std::alloc::{AllocError, Allocator, Global};
 use std::test::*;
 
-/// Whether a text is this one.
+/// Whether the text is as wanted.
 fn is(text: String, wanted: &str) -> bool {
     text.as_str() == wanted
 }

@@ -2,7 +2,8 @@
 //! Changes to one set.
 //!
 //! A call returns `UNCHANGED` if the set was already as requested, and `CHANGED` if it is only now.
-//! It returns `NO_MEMORY` if an allocation fails, and the set is then unchanged.
+//! It returns `NO_MEMORY` if an allocation fails, and the set is then unchanged. `rsb_u32_clear`
+//! and `rsb_u32_free` always succeed, and return nothing.
 
 ghost use Rattle.std.specs.Prelude.{◌≡◌, ◌<◌, ◌≤◌, ◌^◌, [], IsFalse, IsTrue};
 ghost use Rattle.rsb_integer.specs.Runs.{members, covers, from_to};

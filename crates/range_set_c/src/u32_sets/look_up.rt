@@ -133,7 +133,7 @@ pub extern "C" fn rsb_u32_next_run(
     true
 }
 
-// Returns the run that has a value, or else the first one past it.
+// Returns the run that contains a value, or else the first one past it.
 fn run_from(set: &RangeSetBlaze<u32, Global>, from: u32) -> Option<RangeInclusive<u32>>
     ensures none { IsNone result → (rank : ℕ) → from ≤ rank → rank < 2 ^ 32
         → IsFalse (members set.now rank) }

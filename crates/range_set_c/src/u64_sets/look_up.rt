@@ -136,7 +136,7 @@ pub extern "C" fn rsb_u64_next_run(
     true
 }
 
-// Returns the run that has a value, or else the first one past it.
+// Returns the run that contains a value, or else the first one past it.
 fn run_from(set: &RangeSetBlaze<u64, Global>, from: u64) -> Option<RangeInclusive<u64>>
     ensures none { IsNone result → (rank : ℕ) → from ≤ rank → rank < 2 ^ 64
         → IsFalse (members set.now rank) }

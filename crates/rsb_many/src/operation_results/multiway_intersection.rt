@@ -1,4 +1,4 @@
-//! What lies in all of the given streams.
+//! The values in all of the given streams.
 
 ghost use Rattle.std.specs.Prelude.{List};
 ghost use Rattle.rsb_streams.specs.StreamLaws.{canonical_stream-starts, drawn-itself};
@@ -25,7 +25,7 @@ pub struct MultiwayIntersection<T: Integer, I, A: Allocator = Global> {
 }
 
 impl<T: Integer, I: Draw<T>, A: Allocator> MultiwayIntersection<T, I, A> {
-    /// Returns what lies in all of the streams whose complements are merged. The merge must be
+    /// Returns the values in all of the streams whose complements are merged. The merge must be
     /// ready. It draws nothing more.
     pub(crate) fn of(gaps: KMerge<T, NotIter<T, I>, A>) -> Self
         requires { ⟦<KMerge<T, NotIter<T, I>, A> as Draw<T>>⟧.can_draw gaps }

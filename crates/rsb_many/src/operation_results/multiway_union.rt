@@ -1,4 +1,4 @@
-//! What lies in at least one of the given streams.
+//! The values in at least one of the given streams.
 
 ghost use Rattle.std.specs.Prelude.{List};
 ghost use Rattle.rsb_streams.specs.StreamLaws.{canonical_stream-starts, drawn-itself};
