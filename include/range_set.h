@@ -2,11 +2,11 @@
  *
  * The functions are exports of the static library crates/range_set_c, whose contracts are proved.
  * Each function does what this header says, for every set, every value and every failed allocation,
- * as long as its caller keeps these duties. Nothing checks them:
+ * as long as its caller fulfills these duties. Nothing checks them:
  *
  *   - A handle begins as RSB_EMPTY, or as a struct of zeros: the empty set, which owns no memory.
- *   - A handle in use is never copied and then used beside its copy. You may move a handle: copy
- *     it, and forget the old place. Only these functions read or write what a handle holds.
+ *   - A handle and a copy of it are never both used. You may move a handle: copy it, and stop
+ *     using the old one. Only these functions read or write what a handle holds.
  *   - Each pointer passed to a call is valid and not null, and no two of them are equal: two
  *     handles are two sets. To combine a set with itself, clone it first.
  *   - While a call changes a set, no other call uses its handle. If threads share a handle, they
@@ -35,10 +35,11 @@
 extern "C" {
 #endif
 
-/* What a call that changes a set returns. It returns no other value. */
+/* What a call that changes a set returns. It returns no other value. A call that clears or frees a
+   set always succeeds, and returns nothing. */
 enum {
-    RSB_UNCHANGED = 0, /* the set was already as asked, and is unchanged */
-    RSB_CHANGED = 1,   /* the set is now as asked, and was not before; or `out` is the new set */
+    RSB_UNCHANGED = 0, /* the set was already as requested, and is unchanged */
+    RSB_CHANGED = 1,   /* the set is now as requested, and was not; or `out` is the new set */
     RSB_NO_MEMORY = 2  /* an allocation failed, and each set of the call is unchanged */
 };
 
@@ -140,41 +141,41 @@ bool rsb_u64_first(const rsb_u64 *set, uint64_t *value);
    value is unchanged. */
 bool rsb_u64_last(const rsb_u64 *set, uint64_t *value);
 
-/* Stores the run that contains value in block and returns true. If value is not a member, stores
-   the gap that contains it and returns false. A gap extends to the runs beside it, or to 0 and
-   UINT64_MAX if there are none. */
+/* Stores in `block` the run that contains `value`, and returns true. If `value` is not a member,
+   stores the gap that contains it and returns false. A gap extends to the runs beside it, or to 0
+   and UINT64_MAX if there are none. */
 bool rsb_u64_run_or_gap(const rsb_u64 *set, uint64_t value, rsb_u64_run *block);
 
-/* Stores the run that contains from, or otherwise the first run after it, in run and returns true.
-   If there is none, returns false, and run is unchanged. */
+/* Stores the run that contains `from`, or otherwise the first run after it, in `run` and returns true.
+   If there is none, returns false, and `run` is unchanged. */
 bool rsb_u64_next_run(const rsb_u64 *set, uint64_t from, rsb_u64_run *run);
 
-/* Stores the run that contains from, or otherwise the last run before it, in run and returns true.
-   If there is none, returns false, and run is unchanged. */
+/* Stores the run that contains `from`, or otherwise the last run before it, in `run` and returns true.
+   If there is none, returns false, and `run` is unchanged. */
 bool rsb_u64_prev_run(const rsb_u64 *set, uint64_t from, rsb_u64_run *run);
 
-/* Stores the first run that starts after value in run and returns true. If there is none, returns
-   false, and run is unchanged. This loop goes over all runs, and ends for every set:
+/* Stores the first run that starts after `value` in `run` and returns true. If there is none, returns
+   false, and `run` is unchanged. This loop goes over all runs, and ends for every set:
 
      for (bool more = rsb_u64_next_run(&set, 0, &run); more;
           more = rsb_u64_run_after(&set, run.last, &run)) */
 bool rsb_u64_run_after(const rsb_u64 *set, uint64_t value, rsb_u64_run *run);
 
-/* Stores the last run that ends before value in run and returns true. If there is none, returns
-   false, and run is unchanged. This loop goes over all runs in descending order:
+/* Stores the last run that ends before `value` in `run` and returns true. If there is none, returns
+   false, and `run` is unchanged. This loop goes over all runs in descending order:
 
      for (bool more = rsb_u64_prev_run(&set, UINT64_MAX, &run); more;
           more = rsb_u64_run_before(&set, run.first, &run)) */
 bool rsb_u64_run_before(const rsb_u64 *set, uint64_t value, rsb_u64_run *run);
 
-/* Stores the first gap with at least len values at or after from in gap and returns true. If that
-   gap starts before from, stores only its part at or after from. If there is no such gap, returns
-   false, and gap is unchanged. Takes a step for each run between from and the gap. */
+/* Stores the first gap with at least `len` values at or after `from` in `gap` and returns true. If that
+   gap starts before `from`, stores only its part at or after `from`. If there is no such gap, returns
+   false, and `gap` is unchanged. Takes a step for each run between `from` and the gap. */
 bool rsb_u64_first_gap(const rsb_u64 *set, uint64_t from, uint64_t len, rsb_u64_run *gap);
 
-/* Set out to the union, the intersection, the difference (left without right) or the symmetric
+/* Set `out` to the union, the intersection, the difference (left without right) or the symmetric
    difference of two sets, to the complement of a set, or to a copy of it. Return RSB_CHANGED and
-   free what out held before, or return RSB_NO_MEMORY and leave out unchanged. */
+   free what `out` held before, or return RSB_NO_MEMORY and leave `out` unchanged. */
 uint32_t rsb_u64_union(rsb_u64 *out, const rsb_u64 *left, const rsb_u64 *right);
 uint32_t rsb_u64_intersection(rsb_u64 *out, const rsb_u64 *left, const rsb_u64 *right);
 uint32_t rsb_u64_difference(rsb_u64 *out, const rsb_u64 *left, const rsb_u64 *right);

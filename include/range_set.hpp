@@ -1,8 +1,8 @@
 // A thin C++ class over the sets of range_set.h. It owns its handle and can be moved. Only clone()
 // copies it.
 //
-// The class keeps the duties of range_set.h that are about handles and pointers. You keep the
-// others, such as this one on threads: while a call changes a set, no other call uses that set. A
+// The class fulfills the duties of range_set.h that are about handles and pointers. The others are
+// yours, such as this one on threads: while a call changes a set, no other call uses that set. A
 // call whose allocation fails throws std::bad_alloc and leaves each set unchanged.
 #ifndef RANGE_SET_HPP
 #define RANGE_SET_HPP
@@ -16,7 +16,8 @@
 
 namespace range_set {
 
-// The calls of one width, by the names of range_set.h.
+// The functions for one width. They have the names of range_set.h, except `either` (union), `both`
+// (intersection), `left_alone` (difference) and `one_alone` (symmetric_difference).
 #define RANGE_SET_CALLS(number, width)                                                                                     \
     template <> struct calls<number> {                                                                                     \
         using handle = rsb_##width;                                                                                        \

@@ -1,5 +1,5 @@
--- What iterators over elements stand for: a set of ranks, from which calls take the least and the
--- greatest.
+-- What iterators over elements stand for: a set of ranks, from which each call takes the least or
+-- the greatest.
 use Rattle.std.specs.Prelude.{◌≡◌, ◌↔◌, ℕ, ◌+◌, ◌*◌, cond, false, List, [], ◌∷◌, ◌++◌, Option, Some, None, IsNone, IfSome, MatchOption}
 use Rattle.std.specs.Iterator.{Count, YieldsLast, size}
 use Rattle.std.specs.declared.ops.RangeInclusive.{RangeInclusive}
@@ -20,8 +20,8 @@ without rank selected None = selected
 without rank selected (Some value) = difference selected (only (rank value))
 
 module _ {T : Type 0} (rank : T → ℕ) where
-  -- Whether the item is the member that `IsFound` finds in the old set, and `None` exactly if that
-  -- set is empty. The new set is the old one without the item.
+  -- Whether the item is the member that `IsFound` finds in the old set, and `None` exactly when
+  -- that set is empty. The new set is the old one without the item.
   pub record Takes (IsFound : Selection → ℕ → Type 0) (old : Selection) (item : Option T)
       (new : Selection) : Type 0 where
     pub none : IsNone item ↔ IsEmpty old
@@ -46,7 +46,7 @@ held rank range = run_if_any (interval_of rank range)
 abbrev pub stream_of : {T I : Type 0} → Iter T I → Fused I
 stream_of s = record { iter = s.ranges; done = s.done }
 
--- Whether nothing was taken from the stream yet.
+-- Whether nothing has been taken from the stream yet.
 pub record IsWhole {T I : Type 0} (rank : T → ℕ) (ranges : I) (s : Iter T I) : Type 0 where
   pub source : s.ranges ≡ ranges
   pub undone : s.done ≡ false
@@ -63,8 +63,8 @@ abbrev pub left_between : {T I : Type 0} → (T → ℕ) → (I → Outcomes) �
 left_between rank may_give s runs = (rest : List Interval)
     × fused_may_give may_give (stream_of s) rest × (runs ≡ between_ends rank s rest)
 
--- The greatest number of elements left: those that are held, and as many as the type has values for
--- each range to come.
+-- The greatest number of elements that may be left: those that are held, plus, for each range to
+-- come, as many as the type has values.
 abbrev pub elements_left : {T I : Type 0} → (T → ℕ) → ℕ → (I → Count) → Iter T I → Count
 elements_left rank n left s = record {
   bounded = (left s.ranges).bounded;
@@ -72,7 +72,7 @@ elements_left rank n left s = record {
       + cond s.done 0 (size (left s.ranges) * n);
 }
 
--- The greatest number of ranges that the stream still gives.
+-- The greatest number of ranges that the stream may still give.
 abbrev pub ranges_left : {T I : Type 0} → (I → Count) → Iter T I → Count
 ranges_left left s = record {
   bounded = (left s.ranges).bounded;
@@ -91,19 +91,19 @@ module _ {T I : Type 0} (rank : T → ℕ) (n : ℕ) (can_draw : I → Type 0)
   unfoldable pub ElementsReady : Iter T I → Type 0
   ElementsReady s = IsReady s
 
-  -- Gives what `ElementsReady` says.
+  -- `ElementsReady` implies `IsReady`.
   pub is_ready : (s : Iter T I) → ElementsReady s → IsReady s
   unfolding ElementsReady
   is_ready s ready = ready
 
-  -- Shows `ElementsReady`.
+  -- `IsReady` implies `ElementsReady`.
   pub elements_ready : (s : Iter T I) → IsReady s → ElementsReady s
   unfolding ElementsReady
   elements_ready s ready = ready
 
   -- Whether the iterator may be called again after a call, and the item was taken from what was
-  -- left. For each list that may be left after the call, one that might be left before it becomes
-  -- that list once the item is removed.
+  -- left. For each list that may be left after the call, there is a list that may have been left
+  -- before, and removing the item from it gives the list after the call.
   pub record Gives (IsFound : Selection → ℕ → Type 0) (s : Iter T I) (item : Option T)
       (t : Iter T I) : Type 0 where
     pub ready : ElementsReady t
@@ -119,10 +119,10 @@ module _ {T I : Type 0} (rank : T → ℕ) (n : ℕ) (can_draw : I → Type 0)
   abbrev pub GivesGreatest : Iter T I → Option T → Iter T I → Type 0
   GivesGreatest = Gives (IsGreatest n)
 
-  -- ---- streams that go from both ends (docs/DECISIONS.md, goes-back)
+  -- ---- streams that can be called from both ends (docs/DECISIONS.md, goes-back)
 
-  -- Whether the range that a call from the back returned comes last, after what may come once it is
-  -- returned.
+  -- Whether the range that a call from the back returned might have come last, after whatever may
+  -- still come.
   abbrev pub AnswersLast : I → Option (RangeInclusive T) → I → Type 0
   AnswersLast s item t = MatchOption item (may_give s [])
       (λ range. (rest : List Interval) → may_give t rest
@@ -130,7 +130,7 @@ module _ {T I : Type 0} (rank : T → ℕ) (n : ℕ) (can_draw : I → Type 0)
 
   module _ (can_next_back : I → Type 0) (back_gives : I → Option (RangeInclusive T) → I → Type 0)
     where
-      -- Whether the stream may be called from the back exactly if it is ready, and calls from the
+      -- Whether the stream may be called from the back exactly when it is ready, and calls from the
       -- back return what may come last.
       pub record GoesBack : Type 0 where
         pub callable : (s : I) → can_draw s → can_next_back s
@@ -138,7 +138,7 @@ module _ {T I : Type 0} (rank : T → ℕ) (n : ℕ) (can_draw : I → Type 0)
         pub answers : (s t : I) (item : Option (RangeInclusive T)) → back_gives s item t
             → AnswersLast s item t
 
-      -- Whether the stream goes from both ends, and the iterator may be called.
+      -- Whether the stream can be called from both ends, and the iterator may be called.
       pub record ElementsReadyBack (s : Iter T I) : Type 0 where
         pub both_ends : GoesBack
         pub ready : ElementsReady s

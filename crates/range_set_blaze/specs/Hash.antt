@@ -1,5 +1,5 @@
--- What a set feeds to a hasher: its length, and the start and the end of each run. It is stated by
--- the ranks of the set, since the law of `Hash` is about every list, canonical or not.
+-- What a set feeds to a hasher: its length, and the start and the end of each run. It is stated in
+-- terms of the ranks of the set, since the law of `Hash` is about every list, canonical or not.
 use Rattle.std.specs.Hash.{HashWrites}
 use Rattle.std.specs.Prelude.{ℕ, zero, suc, Bool, false, not, ◌&&◌, cond, nat_lt, List, [], ◌∷◌, ◌++◌, flat_map}
 use Rattle.rsb_integer.specs.Runs.{Interval, members}
@@ -9,7 +9,7 @@ use Rattle.rsb_integer.specs.Selection.{Selection, count}
 abbrev pub selected_below : ℕ → Selection → Selection
 selected_below n selected rank = nat_lt rank n && selected rank
 
--- Whether the rank right before is selected. No rank is before 0.
+-- Whether the rank right before the given one is selected. No rank is before 0.
 abbrev pub selected_before : Selection → ℕ → Bool
 selected_before selected zero = false
 selected_before selected (suc rank) = selected rank

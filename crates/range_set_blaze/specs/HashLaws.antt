@@ -1,4 +1,5 @@
--- Equal sets feed a hasher the same. It is in `specs/` because a law cites no `proofs/`.
+-- Equal sets feed a hasher the same input. This file is in `specs/` because a law must not cite
+-- `proofs/`.
 use Rattle.std.specs.Hash.{HashWrites}
 use Rattle.std.specs.Prelude.{◌≡◌, ℕ, true, false, ◌&&◌, nat_lt, ◌++◌, ◌≤◌, List, flat_map}
 use Rattle.std.proofs.Common.{sym, ◌∙◌, ap, inl, inr, arith}
@@ -24,7 +25,7 @@ selected_below-agree n left right same rank = elim (cases_lt rank n) [
       ap (λ test. test && left rank) past ∙ sym (ap (λ test. test && right rank) past)
 ]
 
--- Sets that are equal by `==` feed the same.
+-- Sets that are equal by `==` feed a hasher the same input.
 pub hashed_runs-same : (length_fed value_fed : ℕ → HashWrites) (n : ℕ) (left right : List Interval)
     → set_eq n left right ≡ true
     → hashed_runs length_fed value_fed n left ≡ hashed_runs length_fed value_fed n right

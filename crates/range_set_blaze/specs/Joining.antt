@@ -20,8 +20,8 @@ pub record IsInside (runs : List Interval) (joined run : Interval) : Type 0 wher
 abbrev pub NoneInside : List Interval → Interval → Type 0
 NoneInside runs joined = (run : Interval) → IsInside runs joined run → ⊥
 
--- Whether `last` starts inside the joined run, and `before` does too but before `last`. `last` is
--- `None` if no run does, and `before` is `None` if no other does.
+-- Whether `last` and `before` start inside the joined run, `before` at a lower rank than `last`.
+-- `last` is `None` if no run starts inside, and `before` is `None` if no other one does.
 abbrev pub KnowsInside : {T : Type 0} → (T → ℕ) → List Interval → Interval → Option (Run T)
     → Option (Run T) → Type 0
 KnowsInside rank runs joined last before = MatchOption last (NoneInside runs joined) (λ run.
@@ -85,7 +85,7 @@ abbrev pub Has : List Interval → Selection → Type 0
 Has set selected = (rank : ℕ) → IsTrue (selected rank) → IsTrue (members set rank)
 
 -- Whether the new entries and the length represent a set: the members of the old entries, and those
--- of the run. Some rank of the run was no member before.
+-- of the run. Some rank of the run was not a member before.
 pub record IsInserted {T : Type 0} (rank : T → ℕ) (n : ℕ) (old new : List (T × T)) (run : Run T)
     (length : ℕ) : Type 0 where
   pub kept : IsKept rank n new length

@@ -15,7 +15,7 @@ abbrev pub HaveSameRanks : {T : Type 0} → (T → ℕ) → RangeInclusive T →
 HaveSameRanks rank one other = (point : ℕ)
     → covers (interval_of rank one) point ≡ covers (interval_of rank other) point
 
--- Whether a call returns a range with the ranks of the one that the iterator inside gives by
+-- Whether a call returns a range with the ranks of the one that the inner iterator gives by
 -- reference.
 abbrev pub lent_steps : {T I : Type 0} → (T → ℕ)
     → (I → Option (Bor (RangeInclusive T)) → I → Type 0) → LentRanges I

@@ -1,5 +1,5 @@
--- The definitions of this crate, and those of the crates below it that clauses of sets and streams
--- cite: a user's crate names no other.
+-- The definitions of this crate, and those that clauses of sets and streams cite from the crates
+-- that it is built on, so that a user's crate has to name no other crate.
 pub mod Algebra
 pub mod BothEnds
 pub mod FirstFit

@@ -1,4 +1,4 @@
--- The number types are whole numbers, written in decimal.
+-- The values of the number types are whole numbers, written in decimal.
 use Rattle.std.specs.Prelude.{◌≡◌, ℕ, ℤ, pos, negsuc, zero, suc, ◌*◌, ◌^◌, ◌<◌, ◌≤◌, Bool, true, false, Some, decimal, unsigned_abs}
 use Rattle.std.specs.Fmt.{signed_decimal}
 use Rattle.std.specs.Int.{FitsUnsignedBits, Width}

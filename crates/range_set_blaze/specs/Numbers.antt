@@ -4,7 +4,7 @@ use Rattle.std.specs.Fmt.{signed_decimal}
 use Rattle.range_set_blaze.specs.Text.{signed_by}
 
 -- Whether each number of the type is one value, which is written in decimal. If a number is of the
--- type, so is every one of the same sign and less magnitude.
+-- type, so is every number of the same sign and smaller magnitude.
 pub record AreNumbers {T : Type 0} (rank : T → ℕ) (n : ℕ) (number : T → ℤ) (fits : ℤ → Type 0)
     (written : T → Option (List ℕ)) : Type 0 where
   pub differ : (x y : T) → number x ≡ number y → x ≡ y

@@ -1,6 +1,6 @@
--- The order of two sets, and the number of iterations that it takes to find it by their runs. It is
--- defined for every list, canonical or not, since a law of comparisons is about every value of the
--- model.
+-- The order of two sets, and the number of iterations that it takes to find it from their runs. It
+-- is defined for every list, canonical or not, since a law of comparisons is about every value of
+-- the model.
 use Rattle.std.specs.Prelude.{◌≡◌, ◌⊎◌, ◌==◌, ℕ, zero, suc, Bool, true, false, cond, ◌+◌, ◌<◌, ◌≤◌, List, [], ◌∷◌, ◌++◌, length, IsTrue, IsFalse}
 use Rattle.std.specs.Cmp.Lexicographic.{slice_cmp}
 use Rattle.std.specs.Ordering.{nat_cmp}
@@ -24,7 +24,7 @@ elements_from low zero selected = []
 elements_from low (suc more) selected =
     cond (selected low) (low ∷ []) [] ++ elements_from (suc low) more selected
 
--- The order of the lists of their members, as lists compare.
+-- The order of two sets: that of the ascending lists of their members.
 abbrev pub order : ℕ → Selection → Selection → Ordering
 order n left right = slice_cmp nat_cmp (elements_from 0 n left) (elements_from 0 n right)
 

@@ -1,4 +1,5 @@
--- The comparisons of sets keep their laws. It is in `specs/` because a law cites no `proofs/`.
+-- The comparisons of sets satisfy their laws. This file is in `specs/` because a law must not cite
+-- `proofs/`.
 use Rattle.std.specs.Prelude.{◌≡◌, ◌⊎◌, ℕ, zero, suc, Bool, true, false, cond, ◌+◌, ◌<◌, List, [], ◌∷◌, Some}
 use Rattle.std.specs.Cmp.{IsEquivalence, IsPartialEquivalence, IsPartialOrder, IsTotalOrder, both_ways, eq_by_cmp_equiv, on_total, partial_equiv_from_equiv, po}
 use Rattle.std.specs.Cmp.Lexicographic.{slice_cmp, nat_list_cmp_total}
@@ -209,14 +210,14 @@ equal-agree n left right Equal same all = refl
 equal-agree n left right Greater less all =
     absurd (less-not n right left less (λ rank below. sym (all rank below)))
 
--- Sets that are equal by an order that they have agree.
+-- If an order that two sets have says that they are equal, then they agree.
 agree-equal : (n : ℕ) (left right : Selection) (ordering : Ordering) → HasOrder n left right ordering
     → is_eq ordering ≡ true → Agree n left right
 agree-equal n left right Less less is = absurd (cc)
 agree-equal n left right Equal same is = same
 agree-equal n left right Greater less is = absurd (cc)
 
--- `==` is true exactly if `cmp` returns `Equal`.
+-- `==` is true exactly when `cmp` returns `Equal`.
 pub same-order : (n : ℕ) (left right : Selection)
     → same n left right ≡ eq_by_cmp (order n) left right
 same-order n left right = both_ways (same n left right) (is_eq (order n left right))

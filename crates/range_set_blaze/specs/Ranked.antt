@@ -2,7 +2,7 @@
 use Rattle.std.specs.Prelude.{◌≡◌, ℕ, ◌+◌, ◌<◌, min}
 use Rattle.rsb_integer.specs.Runs.{Interval}
 
--- Whether the part has exactly the ranks of the run below the bound, and there is one.
+-- Whether the part has exactly the ranks of the run below the bound, and at least one.
 pub record IsPartBelow (run : Interval) (bound : ℕ) (part : Interval) : Type 0 where
   pub some : run.first < bound
   pub first : part.first ≡ run.first

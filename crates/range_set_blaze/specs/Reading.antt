@@ -1,4 +1,4 @@
--- What may come next at a place in a text of ranges.
+-- What may come next at a place in text that lists ranges.
 use Rattle.std.specs.Prelude.{◌≡◌, ◌≢◌, ◌↔◌, ℕ, ℤ, ◌++◌, List, [], ◌∷◌, Option, Some, None, MatchOption}
 use Rattle.std.specs.declared.ops.RangeInclusive.{RangeInclusive}
 use Rattle.range_set_blaze.specs.Text.{BlanksThen, DigitsThen, EndThen, NumberThen, NumeralThen, OthersFollow, Spells, StartThen, Then}
@@ -12,13 +12,14 @@ start_or None value = value
 start_or (Some start) value = start
 
 module _ {T : Type 0} (number : T → ℤ) (fits : ℤ → Type 0) where
-  -- Whether the text after a number of the range is as `Rest` says, once the range is complete. The
-  -- range began with `start`, if there is one.
+  -- Whether the text after a number of the range completes the range, and `Rest` holds for what
+  -- follows. The range began with `start`, if there is one.
   abbrev pub NextThen : Option T → RangeInclusive T → (List ℕ → Type 0) → T → List ℕ → Type 0
   NextThen None range Rest value text = StartThen number fits range Rest value text
   NextThen (Some start) range Rest value text = EndThen number fits range Rest start value text
 
-  -- Whether the rest of a text goes on at the place with the range, and is as `Rest` says after it.
+  -- Whether the rest of the text continues from the place with the range, and `Rest` holds for what
+  -- follows.
   abbrev pub GoesOn : Place T → RangeInclusive T → (List ℕ → Type 0) → List ℕ → Type 0
   GoesOn Start range Rest text = NumberThen number fits (NextThen None range Rest) text
   GoesOn (Before start) range Rest text = NumberThen number fits (NextThen start range Rest) text
@@ -33,7 +34,7 @@ module _ {T : Type 0} (number : T → ℤ) (fits : ℤ → Type 0) where
   GoesOn (Dots start) range Rest text =
       Then 61 (NumberThen number fits (EndThen number fits range Rest start)) text
 
-  -- Whether the rest of a text goes on at the place with no range.
+  -- Whether the rest of the text continues from the place without a range.
   abbrev pub GoesOnEmpty : Place T → List ℕ → Type 0
   GoesOnEmpty Start text = BlanksThen (λ rest. rest ≡ []) text
   GoesOnEmpty (Before start) text = ⊥
@@ -43,12 +44,13 @@ module _ {T : Type 0} (number : T → ℤ) (fits : ℤ → Type 0) where
   GoesOnEmpty (Dot start) text = ⊥
   GoesOnEmpty (Dots start) text = ⊥
 
-  -- Whether the rest of a text spells these ranges from the place on.
+  -- Whether the rest of the text spells these ranges from the place on.
   abbrev pub Follows : Place T → List (RangeInclusive T) → List ℕ → Type 0
   Follows place [] text = GoesOnEmpty place text
   Follows place (range ∷ others) text = GoesOn place range (OthersFollow number fits others) text
 
-  -- Whether the byte leads from the place to the next one, or to none if no text may go on so.
+  -- Whether the byte leads from the place to the next one, or to none if no text may continue with
+  -- this byte.
   abbrev pub Steps : Place T → ℕ → Option (Place T) → Type 0
   Steps place byte result = (more : List (RangeInclusive T)) (rest : List ℕ) → MatchOption result
       (¬ Follows place more (byte ∷ rest))

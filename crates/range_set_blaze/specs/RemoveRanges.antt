@@ -9,7 +9,7 @@ use Rattle.range_set_blaze.specs.Starts.{IsLastBelow}
 abbrev pub HasSome : Selection → Selection → Type 0
 HasSome set ranks = (rank : ℕ) × IsTrue (ranks rank) × IsTrue (set rank)
 
--- Whether the rank is no member of the set, or no rank of a type of n values.
+-- Whether the rank is not a member of the set, or is past the end of a type of n values.
 abbrev pub Lacks : ℕ → List Interval → ℕ → Type 0
 Lacks n set rank = rank < n → IsFalse (members set rank)
 
@@ -23,13 +23,13 @@ pub record IsCommon (run range piece : Interval) : Type 0 where
   pub first : piece.first ≡ max run.first range.first
   pub last : piece.last ≡ min run.last range.last
 
--- Whether the new runs have the members of the old ones outside the range.
+-- Whether the new runs have the same members as the old ones outside the range.
 abbrev pub IsSameOutside : Interval → List Interval → List Interval → Type 0
 IsSameOutside range old new = (rank : ℕ) → IsFalse (covers range rank)
     → members new rank ≡ members old rank
 
--- Whether the new entries and the length represent a set with the members of the old one outside
--- the range, and without its last rank. So no run goes on past the range.
+-- Whether the new entries and the length represent a set that has the same members as the old one
+-- outside the range, and lacks the last rank of the range. So no run crosses the end of the range.
 pub record IsNarrowed {T : Type 0} (rank : T → ℕ) (n : ℕ) (range : Interval)
     (old new : List (T × T)) (length : ℕ) : Type 0 where
   pub kept : IsKept rank n new length

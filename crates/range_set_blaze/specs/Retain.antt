@@ -24,15 +24,15 @@ ascending_ranks (run ∷ runs) = ranks_from run.first (length_of run) ++ ascendi
 
 module _ {F T : Type 0} (rank : T → ℕ) (n : ℕ) (g : Mut F (Bor T × Unit {0}) Bool) where
   -- Whether each call, starting with the closure `f`, returns what `keeps` gives for the rank of
-  -- its argument. This is about arguments that are values of a type of n values. (For a signed
-  -- number that does not fit, a test need not depend on the rank.)
+  -- its argument. This covers only arguments whose rank is below n. (For a signed number that does
+  -- not fit, a test need not depend on the rank.)
   abbrev pub AnswersByRank : Selection → F → Type 0
   AnswersByRank keeps = AlwaysReturns g (λ a r. rank a.0.now < n → r ≡ keeps (rank a.0.now))
 
 -- Whether each call, starting with the closure `f`, returns what `keeps` gives for the ranks of its
--- argument. This is about ranges of values, in a type of n values, that were not iterated to their
--- end. (All ranges that were have the same ranks, namely none, but a test such as
--- `r.start() < r.end()` still reads their ends.)
+-- argument. This covers only ranges whose ends have ranks below n, and which were not iterated to
+-- their end. (Ranges that were iterated to their end all have the same ranks, namely none, but a
+-- test such as `r.start() < r.end()` still reads their ends.)
 abbrev pub AnswersByRun : {F T : Type 0} (rank : T → ℕ) (n : ℕ)
     (g : Mut F (Bor (RangeInclusive T) × Unit {0}) Bool) → (Interval → Bool) → F → Type 0
 AnswersByRun rank n g keeps = AlwaysReturns g (λ a r.

@@ -67,7 +67,7 @@ pub record IsGreatest (n : ℕ) (selected : Selection) (rank : ℕ) : Type 0 whe
   pub here : IsTrue (selected rank)
   pub greatest : (other : ℕ) → IsTrue (selected other) → other ≤ rank
 
--- Whether the interval is the maximal run of selected ranks that has the rank.
+-- Whether the interval is the maximal run of selected ranks that contains the rank.
 pub record IsRunAround (n : ℕ) (selected : Selection) (rank : ℕ) (run : Interval) : Type 0 where
   pub maximal : IsMaximalRun n selected run
   pub around : IsTrue (covers run rank)

@@ -1,4 +1,4 @@
--- The place of a run among others by its start, and what calls of a map do to a list of runs.
+-- The place of a run among others by its start, and what calls to a map do to a list of runs.
 use Rattle.std.specs.Prelude.{◌≡◌, ℕ, Bool, true, false, not, ◌||◌, nat_le, nat_lt, ◌==◌, ◌+◌, ◌<◌, ◌≤◌, List, [], ◌∷◌, ◌++◌, Option, MatchOption, Contains}
 use Rattle.std.specs.List.{filter}
 use Rattle.rsb_integer.specs.Runs.{Interval, covers, length_of, members, IsCanonicalIn}
@@ -28,7 +28,7 @@ starting_from rank runs = starting (λ start. nat_le rank start) runs
 abbrev pub without_start : ℕ → List Interval → List Interval
 without_start rank runs = starting (λ start. not (start == rank)) runs
 
--- The runs with one more at its place, in place of any that starts where it does.
+-- The runs with one more inserted where its start belongs. It replaces any run with the same start.
 abbrev pub with_run : Interval → List Interval → List Interval
 with_run run runs = below run.first runs ++ run ∷ past run.first runs
 
@@ -74,7 +74,7 @@ pub record StartsWith {X : Type 0} (items : List X) (first : X) : Type 0 where
 abbrev pub LeavesApart : List Interval → ℕ → ℕ → Type 0
 LeavesApart runs first last = (rank : ℕ) → first ≤ rank + 1 → rank ≤ last + 1 → members runs rank ≡ false
 
--- ---- one run more, or one fewer
+-- ---- one more run, or one fewer
 
 -- Whether one list differs from the other only by one more run, which touches no other.
 pub record IsJoined (n : ℕ) (fewer : List Interval) (run : Interval) (more : List Interval) : Type 0
@@ -85,8 +85,8 @@ pub record IsJoined (n : ℕ) (fewer : List Interval) (run : Interval) (more : L
     pub has : (rank : ℕ) → members more rank ≡ (members fewer rank || covers run rank)
     pub counted : count n (members more) ≡ count n (members fewer) + length_of run
 
--- Whether the gap that has the point ends at this rank. No rank past the point and up to this one
--- is a member. The next rank is a member or past the type.
+-- Whether the gap that contains the point ends at this rank. No rank past the point and up to this
+-- one is a member. The next rank is a member or past the end of the type.
 pub record IsGapEnd (n : ℕ) (runs : List Interval) (point rank : ℕ) : Type 0 where
   pub from : point ≤ rank
   pub in_type : rank < n

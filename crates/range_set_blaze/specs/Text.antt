@@ -1,9 +1,9 @@
--- The ranges that a text spells, byte by byte.
+-- The ranges that text spells, byte by byte.
 --
--- A text that is empty, or has only blanks, spells no ranges. Any other text of ranges has a comma
--- between two of them. A range is a number, or two numbers with `..=` between them. Blanks are
--- allowed around each number. A number is an optional sign followed by decimal digits, and is one
--- of the type. `-0` is 0 for every type. For `u8`:
+-- Text that is empty, or has only blanks, spells no ranges. Otherwise the ranges are separated by
+-- commas. A range is a number, or two numbers with `..=` between them. Blanks are allowed around
+-- each number. A number is an optional sign followed by decimal digits, and is one of the type.
+-- `-0` is 0 for every type. For `u8`:
 --
 --   "" and "  "            no ranges
 --   "1..=3, 7..=8"         1..=3 and 7..=8
@@ -101,7 +101,7 @@ module _ {T : Type 0} (number : T → ℤ) (fits : ℤ → Type 0) where
 
   -- Whether the byte at this place is the first unexpected one. Some text that spells ranges starts
   -- with the bytes before it, and none starts with those bytes and the byte itself. If the place is
-  -- the end of the text, the text spells no ranges, but some longer text does that starts with it.
+  -- the end of the text, the text spells no ranges, but some longer text that starts with it does.
   pub record IsFirstUnexpected (text : List ℕ) (place : ℕ) : Type 0 where
     pub within : place ≤ length text
     pub begun : (more : List ℕ) × (ranges : List (RangeInclusive T))

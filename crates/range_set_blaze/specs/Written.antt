@@ -11,6 +11,6 @@ ends_text start end = start ++? Some (codes "..=") ++? end
 abbrev pub run_text : (ℕ → Option (List ℕ)) → Interval → Option (List ℕ)
 run_text text_at run = ends_text (text_at run.first) (text_at run.last)
 
--- The texts of the runs, with a comma and a space between two of them.
+-- The texts of the runs, with a comma and a space between them.
 abbrev pub runs_text : (ℕ → Option (List ℕ)) → List Interval → Option (List ℕ)
 runs_text text_at runs = debug_items (run_text text_at) [] runs

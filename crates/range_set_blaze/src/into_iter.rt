@@ -1,4 +1,4 @@
-//! The elements of a set given by value, one after the other.
+//! The elements of a set passed by value, one after the other.
 
 ghost use Rattle.std.specs.Iterator.{at_most};
 ghost use Rattle.rsb_integer.specs.Runs.{members};
@@ -12,8 +12,8 @@ use std::alloc::{Allocator, Global};
 use std::iter::FusedIterator;
 use std::marker::Model;
 
-/// A double-ended iterator over the elements of a set, in ascending order, that owns them.
-/// Contracts see it as the list of the runs that the elements still to come form. (`IntoIter` in
+/// An owning, double-ended iterator over the elements of a set, in ascending order. Contracts see
+/// it as the list of the runs formed by the elements still to come. (`IntoIter` in
 /// range-set-blaze.)
 #[derive(Drop)]
 #[derive_where(Debug)]

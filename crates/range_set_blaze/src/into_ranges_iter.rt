@@ -1,4 +1,4 @@
-//! The runs of a set given by value, one after the other.
+//! The runs of a set passed by value, one after the other.
 
 ghost use Rattle.std.specs.Iterator.{YieldsFirst, YieldsLast, item_count};
 ghost use Rattle.rsb_integer.specs.Rank.{intervals_of};
@@ -15,8 +15,8 @@ use std::iter::FusedIterator;
 use std::marker::Model;
 use std::ops::RangeInclusive;
 
-/// A double-ended iterator over the runs of a set, in ascending order, that owns them. Contracts
-/// see it as the list of the ranges still to come. (`IntoRangesIter` in range-set-blaze.)
+/// An owning, double-ended iterator over the runs of a set, in ascending order. Contracts see it as
+/// the list of the ranges still to come. (`IntoRangesIter` in range-set-blaze.)
 #[derive(Drop)]
 #[derive_where(Debug)]
 pub struct IntoRangesIter<T: Integer, A: Allocator = Global> {

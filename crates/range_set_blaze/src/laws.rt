@@ -1,4 +1,4 @@
-//! Laws that callers rely on. Each is a function that does nothing, with the law as its clause.
+//! Laws that callers rely on. Each function does nothing, and its clauses state the law.
 //! `cmp_counted` is here too: it returns the order of two sets and the number of iterations it
 //! takes.
 

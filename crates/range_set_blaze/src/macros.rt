@@ -16,8 +16,8 @@ macro_rules! union_dyn {
 
 /// Returns the intersection of the given streams: `intersection_dyn!(alloc, a, b, ..)`. The streams
 /// must be ready and may have different types. It collects the ranges of each into a list. If there
-/// are no streams, the result is every value. If allocation fails, it still evaluates the arguments
-/// that follow, and drops every stream.
+/// are no streams, the result has every value. If allocation fails, it still evaluates the
+/// arguments that follow, and drops every stream.
 #[macro_export]
 macro_rules! intersection_dyn {
     ($alloc:expr $(, $stream:expr)* $(,)?) => {{

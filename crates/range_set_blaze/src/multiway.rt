@@ -18,7 +18,7 @@ use rsb_many::MultiwaySortedDisjoint;
 use rsb_streams::{Draw, DrawDisjoint};
 use std::alloc::{AllocError, Allocator};
 
-/// Set algebra over any number of sets, given by value. If allocation fails, no set is made, and
+/// Set algebra over any number of sets, passed by value. If allocation fails, no set is made, and
 /// the sets are dropped. (`MultiwayRangeSetBlaze` in range-set-blaze.)
 pub trait MultiwayRangeSetBlaze<T: Integer, S: Allocator>: IntoIterator<
     Item = RangeSetBlaze<T, S>,
@@ -28,7 +28,8 @@ pub trait MultiwayRangeSetBlaze<T: Integer, S: Allocator>: IntoIterator<
     final fn union<A: Allocator + Copy>(self, alloc: A) -> Result<RangeSetBlaze<T, A>, AllocError>
     where
         Self: Sized,
-        requires { IsEnding Self.into_iter_gives Self.IntoIter.can_next Self.IntoIter.remaining self }
+        requires { IsEnding Self.into_iter_gives Self.IntoIter.can_next Self.IntoIter.remaining
+            self }
         ensures members { IfOk result (λ set.
             GaveRun Self.into_iter_gives Self.IntoIter.next_gives self
             (λ sets. IsMadeOf T.value_count any_of sets set)) }
@@ -36,15 +37,16 @@ pub trait MultiwayRangeSetBlaze<T: Integer, S: Allocator>: IntoIterator<
         union_of(alloc, self)
     }
 
-    /// Returns the intersection: the values in all of the sets. If there are no sets, the result is
-    /// every value. (`MultiwayRangeSetBlaze::intersection`.)
+    /// Returns the intersection: the values in all of the sets. If there are no sets, the result
+    /// has every value. (`MultiwayRangeSetBlaze::intersection`.)
     final fn intersection<A: Allocator + Copy>(
         self,
         alloc: A,
     ) -> Result<RangeSetBlaze<T, A>, AllocError>
     where
         Self: Sized,
-        requires { IsEnding Self.into_iter_gives Self.IntoIter.can_next Self.IntoIter.remaining self }
+        requires { IsEnding Self.into_iter_gives Self.IntoIter.can_next Self.IntoIter.remaining
+            self }
         ensures members { IfOk result (λ set.
             GaveRun Self.into_iter_gives Self.IntoIter.next_gives self
             (λ sets. IsMadeOf T.value_count all_of sets set)) }
@@ -60,7 +62,8 @@ pub trait MultiwayRangeSetBlaze<T: Integer, S: Allocator>: IntoIterator<
     ) -> Result<RangeSetBlaze<T, A>, AllocError>
     where
         Self: Sized,
-        requires { IsEnding Self.into_iter_gives Self.IntoIter.can_next Self.IntoIter.remaining self }
+        requires { IsEnding Self.into_iter_gives Self.IntoIter.can_next Self.IntoIter.remaining
+            self }
         ensures members { IfOk result (λ set.
             GaveRun Self.into_iter_gives Self.IntoIter.next_gives self
             (λ sets. IsMadeOf T.value_count odd_of sets set)) }
@@ -69,8 +72,8 @@ pub trait MultiwayRangeSetBlaze<T: Integer, S: Allocator>: IntoIterator<
     }
 
     /// Returns the values in at least `k` of the sets: every value if `k` is 0, and none if there
-    /// are fewer sets than `k`. A set passed twice counts twice. If `k` is at least 1, the result
-    /// has at most as many runs as all sets together. Not in range-set-blaze.
+    /// are fewer than `k` sets. A set passed twice counts twice. If `k` is at least 1, the result
+    /// has at most as many runs as all the sets together. Not in range-set-blaze.
     final fn at_least<A: Allocator + Copy>(
         self,
         alloc: A,
@@ -78,11 +81,13 @@ pub trait MultiwayRangeSetBlaze<T: Integer, S: Allocator>: IntoIterator<
     ) -> Result<RangeSetBlaze<T, A>, AllocError>
     where
         Self: Sized,
-        requires { IsEnding Self.into_iter_gives Self.IntoIter.can_next Self.IntoIter.remaining self }
+        requires { IsEnding Self.into_iter_gives Self.IntoIter.can_next Self.IntoIter.remaining
+            self }
         ensures members { IfOk result (λ set.
             GaveRun Self.into_iter_gives Self.IntoIter.next_gives self
             (λ sets. IsMadeOf T.value_count (at_least k) sets set)) }
-        // If `k` is 0, even ranks past the type are selected. Otherwise this holds at every rank.
+        // If `k` is 0, the ranks past the end of the type are selected too. Otherwise this holds at
+        // every rank.
         ensures exactly { 0 < k → IfOk result (λ set.
             GaveRun Self.into_iter_gives Self.IntoIter.next_gives self
             (λ sets. IsSetOf set (at_least k (map members sets)))) }
@@ -99,7 +104,7 @@ impl<T: Integer, S: Allocator, K: IntoIterator<Item = RangeSetBlaze<T, S>>> Mult
     S,
 > for K {}
 
-/// Set algebra over any number of sets, given by reference. If allocation fails, no set is made.
+/// Set algebra over any number of sets, passed by reference. If allocation fails, no set is made.
 /// (`MultiwayRangeSetBlazeRef` in range-set-blaze.)
 pub trait MultiwayRangeSetBlazeRef<'a, T: Integer + 'a, S: Allocator + 'a>: IntoIterator<
     Item = &'a RangeSetBlaze<T, S>,
@@ -109,7 +114,8 @@ pub trait MultiwayRangeSetBlazeRef<'a, T: Integer + 'a, S: Allocator + 'a>: Into
     final fn union<A: Allocator + Copy>(self, alloc: A) -> Result<RangeSetBlaze<T, A>, AllocError>
     where
         Self: Sized,
-        requires { IsEnding Self.into_iter_gives Self.IntoIter.can_next Self.IntoIter.remaining self }
+        requires { IsEnding Self.into_iter_gives Self.IntoIter.can_next Self.IntoIter.remaining
+            self }
         ensures members { IfOk result (λ set.
             GaveRun Self.into_iter_gives Self.IntoIter.next_gives self
             (λ sets. IsMadeOf T.value_count any_of (map (λ lent. lent.now) sets) set)) }
@@ -117,15 +123,16 @@ pub trait MultiwayRangeSetBlazeRef<'a, T: Integer + 'a, S: Allocator + 'a>: Into
         union_of(alloc, self)
     }
 
-    /// Returns the intersection: the values in all of the sets. If there are no sets, the result is
-    /// every value. (`MultiwayRangeSetBlazeRef::intersection`.)
+    /// Returns the intersection: the values in all of the sets. If there are no sets, the result
+    /// has every value. (`MultiwayRangeSetBlazeRef::intersection`.)
     final fn intersection<A: Allocator + Copy>(
         self,
         alloc: A,
     ) -> Result<RangeSetBlaze<T, A>, AllocError>
     where
         Self: Sized,
-        requires { IsEnding Self.into_iter_gives Self.IntoIter.can_next Self.IntoIter.remaining self }
+        requires { IsEnding Self.into_iter_gives Self.IntoIter.can_next Self.IntoIter.remaining
+            self }
         ensures members { IfOk result (λ set.
             GaveRun Self.into_iter_gives Self.IntoIter.next_gives self
             (λ sets. IsMadeOf T.value_count all_of (map (λ lent. lent.now) sets) set)) }
@@ -141,7 +148,8 @@ pub trait MultiwayRangeSetBlazeRef<'a, T: Integer + 'a, S: Allocator + 'a>: Into
     ) -> Result<RangeSetBlaze<T, A>, AllocError>
     where
         Self: Sized,
-        requires { IsEnding Self.into_iter_gives Self.IntoIter.can_next Self.IntoIter.remaining self }
+        requires { IsEnding Self.into_iter_gives Self.IntoIter.can_next Self.IntoIter.remaining
+            self }
         ensures members { IfOk result (λ set.
             GaveRun Self.into_iter_gives Self.IntoIter.next_gives self
             (λ sets. IsMadeOf T.value_count odd_of (map (λ lent. lent.now) sets) set)) }
@@ -150,8 +158,8 @@ pub trait MultiwayRangeSetBlazeRef<'a, T: Integer + 'a, S: Allocator + 'a>: Into
     }
 
     /// Returns the values in at least `k` of the sets: every value if `k` is 0, and none if there
-    /// are fewer sets than `k`. A set passed twice counts twice. If `k` is at least 1, the result
-    /// has at most as many runs as all sets together. Not in range-set-blaze.
+    /// are fewer than `k` sets. A set passed twice counts twice. If `k` is at least 1, the result
+    /// has at most as many runs as all the sets together. Not in range-set-blaze.
     final fn at_least<A: Allocator + Copy>(
         self,
         alloc: A,
@@ -159,11 +167,13 @@ pub trait MultiwayRangeSetBlazeRef<'a, T: Integer + 'a, S: Allocator + 'a>: Into
     ) -> Result<RangeSetBlaze<T, A>, AllocError>
     where
         Self: Sized,
-        requires { IsEnding Self.into_iter_gives Self.IntoIter.can_next Self.IntoIter.remaining self }
+        requires { IsEnding Self.into_iter_gives Self.IntoIter.can_next Self.IntoIter.remaining
+            self }
         ensures members { IfOk result (λ set.
             GaveRun Self.into_iter_gives Self.IntoIter.next_gives self
             (λ sets. IsMadeOf T.value_count (at_least k) (map (λ lent. lent.now) sets) set)) }
-        // If `k` is 0, even ranks past the type are selected. Otherwise this holds at every rank.
+        // If `k` is 0, the ranks past the end of the type are selected too. Otherwise this holds at
+        // every rank.
         ensures exactly { 0 < k → IfOk result (λ set.
             GaveRun Self.into_iter_gives Self.IntoIter.next_gives self
             (λ sets. IsSetOf set (at_least k (map members (map (λ lent. lent.now) sets))))) }

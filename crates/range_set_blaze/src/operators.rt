@@ -62,7 +62,8 @@ impl<'a, T: Integer, R: DrawDisjoint<T>> BitXor<R> for RangesIter<'a, T> {
 
     ghost can_bitxor = { CanDrawBoth ⟦<RangesIter<'a, T> as Draw<T>>⟧ R.Draw };
 
-    ghost bitxor_gives = { MakesSymmetricDifference T.Integer.own ⟦<RangesIter<'a, T> as Draw<T>>⟧ R.Draw
+    ghost bitxor_gives = { MakesSymmetricDifference T.Integer.own
+        ⟦<RangesIter<'a, T> as Draw<T>>⟧ R.Draw
         ⟦<SymmetricDifference<T, RangesIter<'a, T>, R> as Draw<T>>⟧ };
 
     fn bitxor(self, other: R) -> Self::Output {
@@ -101,7 +102,8 @@ impl<T: Integer, A: Allocator, R: DrawDisjoint<T>> BitAnd<R> for IntoRangesIter<
 
     ghost can_bitand = { CanDrawBoth ⟦<IntoRangesIter<T, A> as Draw<T>>⟧ R.Draw };
 
-    ghost bitand_gives = { MakesIntersection T.Integer.own ⟦<IntoRangesIter<T, A> as Draw<T>>⟧ R.Draw
+    ghost bitand_gives = { MakesIntersection T.Integer.own
+        ⟦<IntoRangesIter<T, A> as Draw<T>>⟧ R.Draw
         ⟦<Intersection<T, IntoRangesIter<T, A>, R> as Draw<T>>⟧ };
 
     fn bitand(self, other: R) -> Self::Output {
@@ -127,7 +129,8 @@ impl<T: Integer, A: Allocator, R: DrawDisjoint<T>> BitXor<R> for IntoRangesIter<
 
     ghost can_bitxor = { CanDrawBoth ⟦<IntoRangesIter<T, A> as Draw<T>>⟧ R.Draw };
 
-    ghost bitxor_gives = { MakesSymmetricDifference T.Integer.own ⟦<IntoRangesIter<T, A> as Draw<T>>⟧ R.Draw
+    ghost bitxor_gives = { MakesSymmetricDifference T.Integer.own
+        ⟦<IntoRangesIter<T, A> as Draw<T>>⟧ R.Draw
         ⟦<SymmetricDifference<T, IntoRangesIter<T, A>, R> as Draw<T>>⟧ };
 
     fn bitxor(self, other: R) -> Self::Output {

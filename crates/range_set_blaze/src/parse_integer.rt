@@ -10,8 +10,8 @@ ghost use Rattle.range_set_blaze.specs.Text.{HasDigit, signed_by};
 
 use rsb_integer::Integer;
 
-/// An element type whose values are whole numbers, written in decimal. The implementations are for
-/// `u8` to `u128`, `usize`, `i8` to `i128` and `isize`. Not in range-set-blaze.
+/// An element type whose values are whole numbers, written in decimal. It is implemented for `u8`
+/// to `u128`, `usize`, `i8` to `i128` and `isize`. Not in range-set-blaze.
 pub trait ParseInteger: Integer {
     // The number of a value.
     ghost number: { Self → ℤ };

@@ -1,5 +1,5 @@
-//! Every public name of this crate and of the crates below it, except `UnsortedDisjoint` and what
-//! the macros call. `use range_set_blaze::prelude::*;` imports them all
+//! Every public name of this crate and of the crates that it is built on, except
+//! `UnsortedDisjoint` and what the macros call. `use range_set_blaze::prelude::*;` imports them all
 //! (docs/DECISIONS.md, names-listed).
 
 pub use crate::gaps_in::GapsIn;

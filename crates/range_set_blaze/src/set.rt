@@ -70,7 +70,8 @@ impl<T: Integer, A: Allocator> Model for RangeSetBlaze<T, A> {
 
     ghost view = { λ s. runs_of T.rank s.map.entries };
 
-    ghost invariant = { λ s. IsKept T.rank T.value_count s.map.entries (T.SafeLen.number s.length) };
+    ghost invariant = { λ s. IsKept T.rank T.value_count s.map.entries
+        (T.SafeLen.number s.length) };
 }
 
 impl<T: Integer, A: Allocator + Copy> RangeSetBlaze<T, A> {
@@ -85,8 +86,8 @@ impl<T: Integer, A: Allocator + Copy> RangeSetBlaze<T, A> {
         }
     }
 
-    /// Returns the empty set. Does not allocate. (`Default` of `RangeSetBlaze`, which is given no
-    /// allocator.)
+    /// Returns the empty set. Does not allocate. (`Default` of `RangeSetBlaze`, whose `default`
+    /// takes no allocator.)
     pub fn default(alloc: A) -> Self
         ensures { result ≡ [] }
     {

@@ -1,5 +1,5 @@
 -- Written by tools/c/narrow from proofs/U64Box.antt.
--- A handle and its parts own what a box at the same types owns.
+-- A handle and its parts own what a box of the same types owns.
 use mir.Syntax.{impl, tnil, dnil}
 use mathlib.Core.List.{[]}
 use denote.Signature.{Slot, plain}

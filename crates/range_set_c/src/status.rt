@@ -1,9 +1,10 @@
-//! What a call that changes a set returns.
+//! What a call that changes a set returns. A call that clears or frees a set always succeeds, and
+//! returns nothing.
 
-/// The set was already as asked, and is unchanged.
+/// The set was already as requested, and is unchanged.
 pub const UNCHANGED: u32 = 0;
 
-/// The set is now as asked, and was not before; or `out` is now the set that was asked for.
+/// The set is now as requested, and was not before; or `out` is now the set that was requested.
 pub const CHANGED: u32 = 1;
 
 /// An allocation failed, and every set is unchanged.

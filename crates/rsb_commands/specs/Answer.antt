@@ -38,7 +38,8 @@ pub record Answers (input : List ℕ) (old new : Option (List ℕ)) : Type 0 whe
   pub written : Appends old new (text replies)
 
 -- Whether the fact holds of all commands that the known input spells, and of all their replies. (It
--- is not about some commands: after a failed read nothing shows that the input spells any.)
+-- does not state that there are such commands, since after a failed read nothing shows that the
+-- input spells any.)
 abbrev pub IfAnswered : Option (List ℕ)
     → (List (Command ℤ) → List (Content ℤ) → Type 0) → Type 0
 IfAnswered known Fact = IfSome known (λ input.

@@ -24,8 +24,8 @@ abbrev pub status_after : Result (Unit {0}) Fault → ℕ
 status_after (Ok done) = 0
 status_after (Err fault) = status_of fault
 
--- Whether the line of a fault was written, or the prefix that its writer took. For no fault,
--- nothing was written.
+-- Whether the line of a fault was written, or the prefix that its writer took. If there was no
+-- fault, nothing was written.
 abbrev pub TellsFault : Option (List ℕ) → Option (List ℕ) → Result (Unit {0}) Fault → Type 0
 TellsFault old new outcome = MatchResult outcome
     (λ _. Keeps old new)

@@ -58,7 +58,7 @@ put sets slot set at = if at == slot then set else sets at
 abbrev pub whichever : Bool → Selection → Selection → Selection
 whichever is set other rank = if is then set rank else other rank
 
--- What lies in at least two of three sets. A set that is listed twice counts twice.
+-- The values in at least two of three sets. A set that is listed twice counts twice.
 abbrev pub most_of : Selection → Selection → Selection → Selection
 most_of a b c = at_least 2 (a ∷ b ∷ c ∷ [])
 
@@ -92,8 +92,8 @@ module _ {T : Type 0} (rank : T → ℕ) (value_count : ℕ) where
   sets_after sets (Most target a b c) = put sets target (most_of (sets a) (sets b) (sets c))
   sets_after sets _ = sets
 
-  -- Whether `first` and `last` are the ends of the run that has the rank `at`, if `present` is
-  -- true, and otherwise of the gap that it lies in.
+  -- Whether `first` and `last` are the ends of the run that contains the rank `at`, if `present` is
+  -- true, and otherwise of the gap that contains it.
   pub record IsPieceAround (set : Selection) (at : ℕ) (first last : T) (present : Bool)
       : Type 0 where
     pub found : present ≡ set at

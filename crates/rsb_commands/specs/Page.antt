@@ -1,5 +1,5 @@
 -- What adding text to a page does to the text that waits there, and to the bytes of its writer. A
--- page has no `Model`: it would hide the reference, and then what the writer has at the end.
+-- page has no `Model`: that would hide the reference, and with it what the writer has at the end.
 use Rattle.std.specs.Prelude.{◌≡◌, ℕ, List, ◌++◌, MatchResult, Option, Result}
 use Rattle.std.specs.Io.KnownBytes.{Appends}
 use Rattle.rsb_parser.specs.declared.fault.Fault.{Fault}
@@ -27,8 +27,8 @@ module _ {W : Type 0} (contents : W → Option (List ℕ)) where
     pub parts : waiting old ++ text ≡ front ++ waiting new
     pub written : Appends (sent old) (sent new) front
 
-  -- Whether the text was added after what waited, or, if a write failed, less than what waited and
-  -- the text was written.
+  -- Whether the text was added after what waited. If a write failed, only a shorter prefix of what
+  -- waited and the text was written.
   pub record Lays (old new : Page W) (result : Result (Unit {0}) Fault) (text : List ℕ) : Type 0
     where
       pub same_output : new.output.ghost_name ≡ old.output.ghost_name

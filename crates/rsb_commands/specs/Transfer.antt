@@ -1,4 +1,4 @@
--- What writing a text does to the bytes of a writer, if they are known.
+-- What writing text does to the bytes of a writer, if they are known.
 use Rattle.std.specs.Prelude.{◌≡◌, ℕ, ◌<◌, ◌⊎◌, List, [], length, MatchResult, Option, Result}
 use Rattle.std.specs.Io.KnownBytes.{Appends, Keeps}
 use Rattle.rsb_integer.specs.Prefix.{IsPrefix}

@@ -45,7 +45,7 @@ pub struct Stopped<T: Integer, A: Allocator = Global> {
 
 /// Runs the commands in order on ten sets, which are empty at first, and returns the replies. It
 /// first allocates room for all replies, and does not allocate if there are no commands. If an
-/// allocation fails, `Stopped` keeps the replies to the commands before.
+/// allocation fails, `Stopped` keeps the replies to the commands before the one that failed.
 pub fn run_commands<T: Integer, A: Allocator + Copy>(
     alloc: A,
     commands: &[Command<T>],
@@ -183,7 +183,7 @@ fn set_at<T: Integer, A: Allocator>(
     &sets[slot.index()]
 }
 
-// Returns what lies in at least two of the sets in three slots. A set that is named twice counts
+// Returns the values in at least two of the sets in three slots. A set that is named twice counts
 // twice.
 fn most_of<T: Integer, A: Allocator + Copy>(
     alloc: A,

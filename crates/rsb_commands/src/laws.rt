@@ -1,4 +1,4 @@
-//! Laws of replies. The clause of each function is the law; the function does nothing.
+//! Laws of replies. Each function does nothing, and its clauses state the law.
 
 ghost use Rattle.std.specs.Prelude.{◌≡◌, ℕ, ℤ, All, List, take};
 ghost use Rattle.rsb_parser.specs.declared.command.Command.{Command};

@@ -25,8 +25,8 @@ pub(crate) struct Page<'a, W: Write> {
 }
 
 impl<'a, W: Write> Page<'a, W> {
-    /// Returns an empty page for a writer. The writer fails once it was interrupted 2^64 - 1 times
-    /// over all of its pages.
+    /// Returns an empty page for a writer. The writer fails once it has been interrupted 2^64 - 1
+    /// times over all of its pages.
     pub(crate) fn new(output: &'a mut W) -> Page<'a, W>
         ensures output { result.output ≡ output.entry }
         ensures empty { waiting result ≡ [] }

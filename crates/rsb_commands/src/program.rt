@@ -38,7 +38,7 @@ pub fn start<A: Allocator + Copy, R: Read, W: Write, E: Write>(
 }
 
 /// Returns the exit status of an outcome, and writes a line for a fault. If that line cannot be
-/// written whole, the status is the same, as there is nowhere left to report it.
+/// written in full, the status is the same, as there is nowhere left to report it.
 pub fn finish<W: Write>(errors: &mut W, outcome: Result<(), Fault>) -> ExitCode
     ensures status { exit_status result ≡ status_after outcome }
     ensures line { TellsFault (W.contents errors.old) (W.contents errors.new) outcome }

@@ -40,7 +40,8 @@ pub fn closed_block(allowed: &RangeSetBlaze<u32>, address: u32) -> Option<RangeI
     ensures none { IsNone result ↔ IsTrue (members allowed.now address) }
     ensures around { IfSome result (λ block. IsTrue (covers (interval_of (λ x. x) block) address)) }
     ensures closed { IfSome result (λ block. (other : ℕ)
-        → IsTrue (covers (interval_of (λ x. x) block) other) → IsFalse (members allowed.now other)) }
+        → IsTrue (covers (interval_of (λ x. x) block) other)
+        → IsFalse (members allowed.now other)) }
 {
     let (block, is_allowed) = allowed.range_or_gap_at(address);
     if is_allowed {

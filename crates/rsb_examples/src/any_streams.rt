@@ -26,7 +26,7 @@ pub fn show(alloc: Global, rt: &impl Print) -> io::Result<()> {
     println!(rt; "either without 3..=20: {rest}")
 }
 
-// The number of values that no set has.
+// Returns the number of values that no set has.
 fn outside_all(alloc: Global, sets: &[RangeSetBlaze<u32>]) -> Result<u64, AllocError> {
     let mut streams = Streams::new(alloc);
     for set in sets {
@@ -43,7 +43,7 @@ pub fn none_len<T: Integer, I: DrawDisjoint<T>>(
     Ok(streams.union(alloc)?.complement().members_len())
 }
 
-// The values in an odd number of three sets and of the range 0..=2.
+// Returns the values that are in an odd number of four: three sets and the range 0..=2.
 fn odd(
     alloc: Global,
     one: &RangeSetBlaze<u32>,
@@ -74,7 +74,7 @@ pub fn odd_of_four<
     odd.into_range_set_blaze(alloc)
 }
 
-/// Returns the set of the values outside of the runs that have more than one value.
+/// Returns the set of the values outside the runs that have more than one value.
 pub fn outside_long(
     alloc: Global,
     set: &RangeSetBlaze<u32>,

@@ -8,7 +8,7 @@ use range_set_blaze::RangeSetBlaze;
 use std::alloc::{AllocError, Global};
 use std::io;
 
-/// Blocks are taken where the first gap has room for them.
+/// Takes blocks from the first gap that has room for them.
 pub fn show(alloc: Global, rt: &impl Print) -> io::Result<()> {
     let mut taken = RangeSetBlaze::<u16>::new(alloc);
     taken.ranges_insert(0..=9)?;

@@ -26,7 +26,8 @@ static LOGS: [&[(u32, u32)]; 4] = [
     &[(40, 44)],
 ];
 
-/// What the logs that are in order tell, minute by minute, and when some machine was up.
+/// Prints the events of the logs that are in order, minute by minute, and when at least one machine
+/// was up.
 pub fn show(alloc: Global, rt: &impl Print) -> io::Result<()> {
     show_events(alloc, in_order(alloc, &LOGS)?, rt)?;
     println!(rt;
@@ -46,7 +47,7 @@ pub fn in_order(alloc: Global, logs: &[&[(u32, u32)]]) -> Result<Streams<u32, Lo
     Ok(streams)
 }
 
-// The ranges with these ends.
+// Returns the ranges with these ends.
 fn ranges(alloc: Global, ends: &[(u32, u32)]) -> Result<Vec<RangeInclusive<u32>>, AllocError> {
     let mut ranges = Vec::new(alloc);
     for (start, end) in ends {
@@ -76,7 +77,8 @@ pub fn show_events<I: DrawDisjoint<u32>>(
     Ok(())
 }
 
-/// Returns the set of what lies in some of the streams. If allocation fails, nothing is made.
+/// Returns the set of the values in at least one of the streams. If allocation fails, no set is
+/// made.
 pub fn in_some<T: Integer, I: DrawDisjoint<T>>(
     alloc: Global,
     logs: Streams<T, I>,

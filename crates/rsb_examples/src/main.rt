@@ -1,5 +1,5 @@
-//! What users do with sets of ranges: each module is a short program, which `main` runs in turn.
-//! With an argument it times the union of many sets, and runs none of them.
+//! What users do with sets of ranges: each module is a short program, which `main` runs one after
+//! the other. With an argument it times the union of many sets, and runs none of them.
 #![tactic(auto)]
 
 pub mod allow_list;

@@ -50,7 +50,7 @@ fn set_no(alloc: Global, number: u16, many: u16) -> Result<RangeSetBlaze<i32>, A
     Ok(set)
 }
 
-// Returns the union of sets, taken one after the other.
+// Returns the union of sets, which are added one after the other.
 fn one_by_one(
     alloc: Global,
     sets: &[RangeSetBlaze<i32>],

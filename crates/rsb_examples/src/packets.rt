@@ -46,7 +46,7 @@ fn show_reread(alloc: Global, acked: &RangeSetBlaze<u32>, rt: &impl Print) -> io
     }
 }
 
-/// Returns the set of the ranges that a text lists.
+/// Returns the set of the ranges that the text lists.
 pub fn listed<T: ParseInteger>(alloc: Global, text: &str) -> Result<RangeSetBlaze<T>, ParseError>
     ensures { IfOk result (λ listed. (ranges : List (Range T))
         → Spells T.number T.fits text.now ranges
@@ -56,7 +56,7 @@ pub fn listed<T: ParseInteger>(alloc: Global, text: &str) -> Result<RangeSetBlaz
     Ok(listed)
 }
 
-/// The first number that is missing, or `None` where all have come.
+/// Returns the first number that is missing, or `None` if all have come.
 pub fn next_wanted(acked: &RangeSetBlaze<u32>) -> Option<u32>
     ensures none { IsNone result ↔ IsUniversal (2 ^ 32) (members acked.now) }
     ensures missing { IfSome result (λ next. IsFalse (members acked.now next)) }
@@ -71,7 +71,7 @@ pub fn next_wanted(acked: &RangeSetBlaze<u32>) -> Option<u32>
     }
 }
 
-/// The numbers that were sent and have not come. Without memory nothing is made.
+/// Returns the numbers that were sent and have not come. If allocation fails, no set is made.
 pub fn missing(
     alloc: Global,
     sent: &RangeSetBlaze<u32>,

@@ -1,10 +1,10 @@
--- The ranks in at least one of many sets when one more set is added: the step of a loop.
+-- The ranks in at least one of many sets when one more set is added, as a loop does.
 use Rattle.std.proofs.Common.{◌≡◌, ℕ, ◌||◌, ◌+◌, ◌<◌, List, [], ◌∷◌, ◌++◌, length, get_or, map, take, sym, ap, ◌∙◌}
 use Rattle.std.proofs.Math.Bool.{or_assoc, or-false}
 use Rattle.std.proofs.lemmas.List.{take_more}
 use Rattle.rsb_integer.specs.Selection.{Selection, any_of}
 
--- one more at the end of a list
+-- One more set at the end of a list adds the ranks of that set.
 pub any_of-one_more : {X : Type 0} (selection : X → Selection) (front : List X) (last : X)
     (rank : ℕ) → any_of (map selection (front ++ last ∷ [])) rank
     ≡ (any_of (map selection front) rank || selection last rank)
@@ -14,7 +14,8 @@ any_of-one_more selection (first ∷ front) last rank =
     ∙ sym (or_assoc (selection first rank) (any_of (map selection front) rank)
     (selection last rank))
 
--- the next of a list of which so many were taken up, as a loop over a slice does
+-- The first `place + 1` sets of a list have the ranks of the first `place` sets and of the set at
+-- `place`.
 pub any_of-next : {X : Type 0} (selection : X → Selection) (all : List X) (place : ℕ) (other : X)
     → place < length all → (rank : ℕ) → any_of (map selection (take (place + 1) all)) rank
     ≡ (any_of (map selection (take place all)) rank || selection (get_or all place other) rank)

@@ -1,4 +1,4 @@
--- Canonical lists of intervals: there is one with given members.
+-- Canonical lists of intervals: no two different ones have the same members.
 use Rattle.std.proofs.Common.{◌≡◌, ℕ, ◌+◌, ◌<◌, ◌≤◌, List, [], ◌∷◌, ◌++◌, refl, sym, ◌∙◌, inl, inr, arith}
 use Rattle.std.proofs.lemmas.Bool.{cases_lt}
 use Rattle.std.proofs.lemmas.List.Elements.{All-cons, All-tail, All-nil, All-weaker}
@@ -10,7 +10,7 @@ use Rattle.rsb_integer.proofs.MembersLemmas.{members-below, members-end, members
 
 -- ---- canonical lists
 
--- every interval of a canonical list starts at its start or past it
+-- Every interval of a list that is canonical from `low` starts at `low` or later.
 pub canonical-starts : (low : ℕ) (runs : List Interval) → IsCanonicalFrom low runs
     → All (λ (run : Interval). low ≤ run.first) runs
 canonical-starts low [] canonical = All-nil (λ (run : Interval). low ≤ run.first)
@@ -22,14 +22,14 @@ canonical-starts low (run ∷ runs) canonical =
     (λ (other : Interval). low ≤ other.first) (λ other later. omega arith) runs
     (canonical-starts (run.last + 2) runs canonical.2))
 
--- a canonical list may be asked to start earlier
+-- A list that is canonical from a rank is canonical from every lower rank.
 pub canonical-lower : (low lower : ℕ) (runs : List Interval) → lower ≤ low
     → IsCanonicalFrom low runs → IsCanonicalFrom lower runs
 canonical-lower low lower [] less canonical = tt
 canonical-lower low lower (run ∷ runs) less canonical =
     let starts = canonical.0 in (omega arith, canonical.1, canonical.2)
 
--- the intervals of a canonical list ascend by their first ranks
+-- The intervals of a canonical list ascend by their first ranks.
 pub canonical-ascending : (low : ℕ) (runs : List Interval) → IsCanonicalFrom low runs
     → AllPairs (λ (before after : Interval). before.first < after.first) runs
 canonical-ascending low [] canonical = λ m n d i j. absurd (omega arith)
@@ -41,12 +41,12 @@ canonical-ascending low (run ∷ runs) canonical =
     (canonical-starts (run.last + 2) runs canonical.2))
     (canonical-ascending (run.last + 2) runs canonical.2)
 
--- where a canonical list may go on after these intervals
+-- The lowest rank where a canonical list may continue after these intervals.
 abbrev pub next_start : ℕ → List Interval → ℕ
 next_start low [] = low
 next_start low (run ∷ runs) = next_start (run.last + 2) runs
 
--- both parts of a canonical list are canonical, the second from where the first lets it go on
+-- Both parts of a canonical list are canonical, the second from where the first lets it continue.
 pub canonical-parts : (low : ℕ) (runs others : List Interval) → IsCanonicalFrom low (runs ++ others)
     → IsCanonicalFrom low runs × IsCanonicalFrom (next_start low runs) others
 canonical-parts low [] others canonical = (tt, canonical)
@@ -54,7 +54,7 @@ canonical-parts low (run ∷ runs) others canonical =
     let parts = canonical-parts (run.last + 2) runs others canonical.2 in
     ((canonical.0, canonical.1, parts.0), parts.1)
 
--- a front of a canonical list is canonical
+-- A prefix of a canonical list is canonical.
 pub canonical-front : (n : ℕ) (runs others : List Interval) → IsCanonicalIn n (runs ++ others)
     → IsCanonicalIn n runs
 canonical-front n runs others canonical = (
@@ -62,7 +62,7 @@ canonical-front n runs others canonical = (
   All-front (λ (run : Interval). run.last < n) runs others canonical.1,
 )
 
--- what follows the first interval of a canonical list is canonical
+-- What follows the first interval of a canonical list is canonical.
 pub canonical-tail : (n : ℕ) (run : Interval) (runs : List Interval) → IsCanonicalIn n (run ∷ runs)
     → IsCanonicalIn n runs
 canonical-tail n run runs canonical = (
@@ -72,7 +72,7 @@ canonical-tail n run runs canonical = (
 
 -- ---- two canonical lists with the same members are one list
 
--- where the members are the same, the other list's first interval starts no later
+-- If the members are the same, the first interval of the other list starts no later.
 unique-first : (run other : Interval) (runs others : List Interval) → run.first ≤ run.last
     → IsCanonicalFrom (other.last + 2) others
     → ((rank : ℕ) → members (run ∷ runs) rank ≡ members (other ∷ others) rank)
@@ -86,7 +86,7 @@ unique-first run other runs others ordered rest same order = elim (cases_lt run.
   | inr most ↦ most
 ]
 
--- and ends no later, where both start at one rank
+-- If both first intervals start at the same rank, that of the other list ends no later.
 unique-last : (run other : Interval) (runs others : List Interval) → run.first ≡ other.first
     → run.first ≤ run.last → IsCanonicalFrom (run.last + 2) runs
     → ((rank : ℕ) → members (run ∷ runs) rank ≡ members (other ∷ others) rank)
@@ -100,7 +100,7 @@ unique-last run other runs others first ordered rest same = elim (cases_lt run.l
   | inr most ↦ most
 ]
 
--- canonical lists that agree at every rank are the same list, wherever each may start
+-- Canonical lists that agree at every rank are the same list, wherever each may start.
 pub canonical-unique : (low lower : ℕ) (runs others : List Interval) → IsCanonicalFrom low runs
     → IsCanonicalFrom lower others → ((rank : ℕ) → members runs rank ≡ members others rank) → runs
     ≡ others
@@ -139,7 +139,7 @@ canonical-unique low lower (run ∷ runs) (other ∷ others) left right same =
     let tails = canonical-unique (run.last + 2) (other.last + 2) runs others left.2 right.2 rest in
     λ i. head i ∷ tails i
 
--- lists that end within the type and agree there agree at every rank
+-- Lists that end within the type and agree there agree at every rank.
 agree-everywhere : (n : ℕ) (runs others : List Interval) → AllEndBelow n runs → AllEndBelow n others
     → Agree n (members runs) (members others) → (rank : ℕ) → members runs rank ≡ members others rank
 agree-everywhere n runs others left right same rank = elim (cases_lt rank n) [
@@ -147,7 +147,7 @@ agree-everywhere n runs others left right same rank = elim (cases_lt rank n) [
   | inr past ↦ members-end n runs rank left past ∙ sym (members-end n others rank right past)
 ]
 
--- two canonical lists with the same members are the same list
+-- Two canonical lists with the same members are the same list.
 pub canonical-same : (n : ℕ) (runs others : List Interval) → IsCanonical runs → IsCanonical others
     → AllEndBelow n runs → AllEndBelow n others → Agree n (members runs) (members others) → runs
     ≡ others

@@ -8,24 +8,24 @@ use Rattle.rsb_integer.specs.Runs.{Interval, covers, members, length_of, IsCanon
 use Rattle.rsb_integer.specs.Selection.{Selection, Agree, count}
 use Rattle.rsb_integer.proofs.MembersLemmas.{covers-bounds, covers-cases, members-cons, members-below}
 
--- what one rank adds to a count
+-- What one rank adds to a count: 1 if it is selected, and 0 otherwise.
 abbrev once : Bool → ℕ
 once test = cond test 1 0
 
--- a test that passes only where another does adds no more than that one
+-- If a test passes only when another does, it adds no more to a count than the other.
 once-at_most : (small large : Bool) → (small ≡ true → large ≡ true) → once small ≤ once large
 once-at_most true large within = let same : once large ≡ 1 = ap once (within refl) in omega arith
 once-at_most false true within = omega arith
 once-at_most false false within = omega arith
 
--- of two tests that do not both pass, either one adds what the two add together
+-- If two tests do not both pass, their disjunction adds to a count what the two add together.
 once-or : (left right : Bool) → (left ≡ true → right ≡ false) → once (left || right)
     ≡ once left + once right
 once-or true right apart = let none : once right ≡ 0 = ap once (apart refl) in omega arith
 once-or false true apart = refl
 once-or false false apart = refl
 
--- sets that agree have one count
+-- Sets that agree have the same count.
 pub count-agree : (n : ℕ) (left right : Selection) → Agree n left right → count n left
     ≡ count n right
 unfolding count
@@ -35,7 +35,7 @@ count-agree (suc n) left right same =
     let here : once (left n) ≡ once (right n) = ap once (same n (omega arith)) in
     omega arith
 
--- a set of no rank below n counts 0
+-- The count of a set with no rank below n is 0.
 pub count-none : (n : ℕ) (selected : Selection) → ((rank : ℕ) → rank < n → selected rank ≡ false)
     → count n selected ≡ 0
 unfolding count
@@ -45,7 +45,7 @@ count-none (suc n) selected none =
     let here : once (selected n) ≡ 0 = ap once (none n (omega arith)) in
     omega arith
 
--- a set of every rank below n counts n
+-- The count of a set with every rank below n is n.
 pub count-all : (n : ℕ) (selected : Selection) → ((rank : ℕ) → rank < n → selected rank ≡ true)
     → count n selected ≡ n
 unfolding count
@@ -55,7 +55,7 @@ count-all (suc n) selected all =
     let here : once (selected n) ≡ 1 = ap once (all n (omega arith)) in
     omega arith
 
--- no set counts more ranks than there are
+-- The count of a set is at most n.
 pub count-within : (n : ℕ) (selected : Selection) → count n selected ≤ n
 unfolding count
 count-within zero selected = omega arith
@@ -64,7 +64,7 @@ count-within (suc n) selected =
     let here : once (selected n) ≤ 1 = once-at_most (selected n) true (λ holds. refl) in
     omega arith
 
--- a set that lies within another has no larger count
+-- If a set lies within another, its count is no larger.
 pub count-at_most : (n : ℕ) (small large : Selection)
     → ((rank : ℕ) → small rank ≡ true → large rank ≡ true) → count n small ≤ count n large
 unfolding count
@@ -74,7 +74,7 @@ count-at_most (suc n) small large within =
     let here = once-at_most (small n) (large n) (within n) in
     omega arith
 
--- and a smaller one where the other has a further rank
+-- If a set lies within another that has a rank below n which the set lacks, its count is smaller.
 pub count-less : (n : ℕ) (small large : Selection)
     → ((rank : ℕ) → small rank ≡ true → large rank ≡ true)
     → (rank : ℕ) → rank < n → large rank ≡ true → small rank ≡ false → count n small < count n large
@@ -93,7 +93,7 @@ count-less (suc n) small large within rank below has lacks = elim (cases_lt rank
       omega arith
 ]
 
--- the count of two sets with no common rank
+-- The count of two sets with no common rank is the sum of their counts.
 pub count-union : (n : ℕ) (both left right : Selection)
     → ((rank : ℕ) → both rank ≡ (left rank || right rank))
     → ((rank : ℕ) → left rank ≡ true → right rank ≡ false) → count n both
@@ -106,7 +106,7 @@ count-union (suc n) both left right are apart =
     ap once (are n) ∙ once-or (left n) (right n) (apart n) in
     omega arith
 
--- the count of an interval
+-- The count of an interval is the number of its ranks below n.
 pub count-covers : (n : ℕ) (run : Interval)
     → count n (covers run) ≡ min n (run.last + 1) - run.first
 unfolding count
@@ -124,7 +124,7 @@ count-covers (suc n) run =
           elim outside.0 [ inl below ↦ omega arith | inr past ↦ omega arith ]
     ]
 
--- a canonical list has as many members as the lengths of its intervals add up to
+-- The number of members of a canonical list is the sum of the lengths of its intervals.
 pub count-members : (n low : ℕ) (runs : List Interval) → IsCanonicalFrom low runs
     → AllEndBelow n runs
     → count n (members runs) ≡ sum_by length_of runs

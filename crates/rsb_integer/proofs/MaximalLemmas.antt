@@ -6,7 +6,8 @@ use Rattle.rsb_integer.specs.Selection.{Selection}
 use Rattle.rsb_integer.proofs.ListLemmas.{true_or_false}
 use Rattle.rsb_integer.proofs.MembersLemmas.{covers-bounds, covers-inside}
 
--- down from the rank to the first that is selected with all after it
+-- Down from a selected rank there is a `first` such that all ranks between are selected. The one
+-- before `first`, if there is one, is not.
 run-first : (selected : Selection) (rank : ℕ) → selected rank ≡ true
     → (first : ℕ) × (first ≤ rank)
     × ((other : ℕ) → first ≤ other → other ≤ rank → selected other ≡ true)
@@ -37,7 +38,8 @@ run-first selected (suc rank) here = elim (true_or_false (selected rank)) [
   )
 ]
 
--- up from the rank, which has `more` ranks of the type above it
+-- Up from a selected rank there is a `last` such that all ranks between are selected. The next one,
+-- if it is in the type, is not. The type has `more` ranks above the rank.
 run-last : (selected : Selection) (n rank more : ℕ) → rank + more + 1 ≡ n → selected rank ≡ true
     → (last : ℕ) × (rank ≤ last) × (last < n)
     × ((other : ℕ) → rank ≤ other → other ≤ last → selected other ≡ true)
@@ -71,7 +73,7 @@ run-last selected n rank (suc more) end here = elim (true_or_false (selected (ra
   )
 ]
 
--- a rank of the type that is selected lies in a maximal run
+-- A selected rank of the type lies in a maximal run.
 pub maximal-around : (n : ℕ) (selected : Selection) (rank : ℕ) → rank < n → selected rank ≡ true
     → (run : Interval) × IsMaximalRun n selected run × (covers run rank ≡ true)
 maximal-around n selected rank below here =

@@ -9,12 +9,12 @@ use Rattle.rsb_integer.proofs.ListLemmas.{true_or_false, Contains-head, Contains
 
 -- ---- what an interval covers
 
--- a rank inside the interval is covered
+-- A rank inside the interval is covered.
 pub covers-inside : (run : Interval) (rank : ℕ) → run.first ≤ rank → rank ≤ run.last
     → covers run rank ≡ true
 covers-inside run rank low high = grind (arith, nat_tests)
 
--- a rank outside the interval is not covered
+-- A rank outside the interval is not covered.
 pub covers-outside : (run : Interval) (rank : ℕ) → (rank < run.first) ⊎ (run.last < rank)
     → covers run rank ≡ false
 covers-outside run rank outside = elim outside [
@@ -22,54 +22,55 @@ covers-outside run rank outside = elim outside [
   | inr past ↦ grind (arith, nat_tests)
 ]
 
--- a covered rank lies inside the interval
+-- A covered rank lies inside the interval.
 pub covers-bounds : (run : Interval) (rank : ℕ) → covers run rank ≡ true → (run.first ≤ rank)
     × (rank ≤ run.last)
 covers-bounds run rank is = (grind (arith, nat_tests), grind (arith, nat_tests))
 
--- a rank is one of the interval's, or lies on one side of it
+-- A rank is in the interval, or lies on one side of it.
 pub covers-cases : (run : Interval) (rank : ℕ)
     → ((run.first ≤ rank) × (rank ≤ run.last) × (covers run rank ≡ true))
     ⊎ (((rank < run.first) ⊎ (run.last < rank)) × (covers run rank ≡ false))
 covers-cases run rank = grind (arith, nat_tests)
 
--- intervals with the same ends are one
+-- Intervals with the same ends are the same.
 pub same_interval : (run other : Interval) → run.first ≡ other.first → run.last ≡ other.last → run
     ≡ other
 same_interval run other first last = λ i. record { first = first i; last = last i }
 
 -- ---- members
 
--- a count with one more test in front is positive where the test passes or the count is
+-- A count plus 1 for a test that passes is positive if and only if the test passes or the count is
+-- positive.
 lt-cover : (test : Bool) (n : ℕ) → nat_lt 0 (cond test 1 0 + n) ≡ (test || nat_lt 0 n)
 lt-cover true n = grind (arith, nat_tests)
 lt-cover false n = grind (arith, nat_tests)
 
--- a member of a list is one of the first interval or of the others
+-- A rank is a member if and only if the first interval covers it or it is a member of the others.
 pub members-cons : (run : Interval) (runs : List Interval) (rank : ℕ)
     → members (run ∷ runs) rank ≡ (covers run rank || members runs rank)
 members-cons run runs rank = lt-cover (covers run rank) (cover runs rank)
 
--- what the first interval covers is a member
+-- A rank that the first interval covers is a member.
 pub members-covered : (run : Interval) (runs : List Interval) (rank : ℕ)
     → covers run rank ≡ true → members (run ∷ runs) rank ≡ true
 members-covered run runs rank here =
     members-cons run runs rank ∙ ap (λ test. test || members runs rank) here
 
--- a rank inside the first interval is a member
+-- A rank inside the first interval is a member.
 pub members-head : (run : Interval) (runs : List Interval) (rank : ℕ)
     → run.first ≤ rank → rank ≤ run.last → members (run ∷ runs) rank ≡ true
 members-head run runs rank low high =
     members-covered run runs rank (covers-inside run rank low high)
 
--- outside the first interval the others decide
+-- A rank outside the first interval is a member if and only if it is one of the others.
 pub members-tail : (run : Interval) (runs : List Interval) (rank : ℕ)
     → (rank < run.first) ⊎ (run.last < rank) → members (run ∷ runs) rank ≡ members runs rank
 members-tail run runs rank outside =
     members-cons run runs rank
     ∙ ap (λ test. test || members runs rank) (covers-outside run rank outside)
 
--- no member lies below the start of a canonical list
+-- No member of a list that is canonical from `low` lies below `low`.
 pub members-below : (low : ℕ) (runs : List Interval) (rank : ℕ)
     → IsCanonicalFrom low runs → rank < low → members runs rank ≡ false
 members-below low [] rank canonical below = refl
@@ -79,7 +80,7 @@ members-below low (run ∷ runs) rank canonical below =
     members-tail run runs rank (inl (omega arith))
     ∙ members-below (run.last + 2) runs rank canonical.2 (omega arith)
 
--- a member is covered by the first interval or is a member of the others
+-- A member is covered by the first interval or is a member of the others.
 members-cases : (run : Interval) (runs : List Interval) (rank : ℕ) → members (run ∷ runs) rank
     ≡ true
     → (covers run rank ≡ true) ⊎ (members runs rank ≡ true)
@@ -88,7 +89,7 @@ members-cases run runs rank member = elim (covers-cases run rank) [
   | inr outside ↦ inr (sym (members-tail run runs rank outside.0) ∙ member)
 ]
 
--- a member lies in an interval of the list
+-- A member lies in an interval of the list.
 pub members-in : (runs : List Interval) (rank : ℕ) → members runs rank ≡ true
     → (run : Interval) × Contains runs run × (covers run rank ≡ true)
 members-in [] rank member = absurd (cc)
@@ -99,7 +100,7 @@ members-in (run ∷ runs) rank member = elim (members-cases run runs rank member
       (found.0, Contains-tail run runs found.0 found.1, found.2)
 ]
 
--- what an interval of the list has is a member
+-- A rank that an interval of the list covers is a member.
 pub members-from : (runs : List Interval) (run : Interval) (rank : ℕ)
     → Contains runs run → covers run rank ≡ true → members runs rank ≡ true
 members-from [] run rank found here = let below = found.1 in absurd (omega arith)
@@ -111,7 +112,7 @@ members-from (other ∷ runs) run rank found here = elim (Contains-cases other r
       ∙ or-true (covers other rank)
 ]
 
--- no member lies past the type's end
+-- If all intervals end within the type, no rank past the end of the type is a member.
 pub members-end : (n : ℕ) (runs : List Interval) (rank : ℕ)
     → AllEndBelow n runs → n ≤ rank → members runs rank ≡ false
 members-end n runs rank below past = elim (true_or_false (members runs rank)) [
@@ -123,17 +124,17 @@ members-end n runs rank below past = elim (true_or_false (members runs rank)) [
   | inr none ↦ none
 ]
 
--- the cover of two lists is that of both
+-- In two lists, one after the other, as many intervals cover a rank as in each list, added up.
 pub cover-append : (runs others : List Interval) (rank : ℕ)
     → cover (runs ++ others) rank ≡ cover runs rank + cover others rank
 cover-append [] others rank = omega arith
 cover-append (run ∷ runs) others rank = let rest = cover-append runs others rank in omega arith
 
--- a sum is positive where one of its parts is
+-- A sum is positive if and only if one of its parts is.
 lt-sum : (m n : ℕ) → nat_lt 0 (m + n) ≡ (nat_lt 0 m || nat_lt 0 n)
 lt-sum m n = grind (arith, nat_tests)
 
--- the members of two lists, one after the other, are those of the one or of the other
+-- The members of two lists, one after the other, are the members of either list.
 pub members-append : (runs others : List Interval) (rank : ℕ)
     → members (runs ++ others) rank ≡ (members runs rank || members others rank)
 members-append runs others rank =

@@ -13,12 +13,12 @@ use Rattle.rsb_integer.specs.Runs.{Interval, members, AllEndBelow, IsCanonicalFr
 use Rattle.rsb_integer.specs.Selection.{Agree}
 use Rattle.rsb_integer.proofs.CanonicalLemmas.{canonical-same}
 
--- the interval of a range by its three parts
+-- The interval of a range, built from its three parts.
 abbrev interval_by : Bool → ℕ → ℕ → Interval
 interval_by exhausted first last =
     cond exhausted (record { first = 1; last = 0 }) (record { first = first; last = last })
 
--- where the interval has a rank, the range was not iterated to its end
+-- If the interval has a rank, the range was not iterated to its end.
 interval_by-some : (exhausted : Bool) (first last : ℕ)
     → (interval_by exhausted first last).first ≤ (interval_by exhausted first last).last → exhausted
     ≡ false
@@ -26,14 +26,14 @@ interval_by-some true first last ordered = absurd (omega arith)
 interval_by-some false first last ordered = refl
 
 module _ {T : Type 0} (rank : T → ℕ) where
-  -- a range that has members was not iterated to its end
+  -- A range that has members was not iterated to its end.
   pub exhausted-some : (range : RangeInclusive T)
       → (interval_of rank range).first ≤ (interval_of rank range).last
       → range_inclusive_exhausted range ≡ false
   exhausted-some range ordered = interval_by-some (range_inclusive_exhausted range)
       (rank (range_inclusive_start range)) (rank (range_inclusive_end range)) ordered
 
-  -- and its interval goes from the rank of its start to that of its end
+  -- The interval of a range that has members goes from the rank of its start to that of its end.
   pub interval_of-some : (range : RangeInclusive T)
       → (interval_of rank range).first ≤ (interval_of rank range).last
       → interval_of rank range ≡ record {
@@ -45,7 +45,8 @@ module _ {T : Type 0} (rank : T → ℕ) where
       (rank (range_inclusive_end range)))
       (exhausted-some range ordered)
 
-  -- the interval of a range by its ends, where it was not iterated to its end
+  -- The interval of a range that was not iterated to its end goes from the rank of its start to
+  -- that of its end.
   pub interval_of-ends : (range : RangeInclusive T) (start end : T)
       → range_inclusive_start range ≡ start → range_inclusive_end range ≡ end
       → range_inclusive_exhausted range ≡ false
@@ -56,17 +57,17 @@ module _ {T : Type 0} (rank : T → ℕ) where
       ∙ ap (λ value. interval_by false (rank value) (rank (range_inclusive_end range))) starts
       ∙ ap (λ value. interval_by false (rank start) (rank value)) ends
 
--- in a type of n values that are ordered as their places are
+-- In a type of n values that are ordered by their ranks.
 module _ {T : Type 0} (rank : T → ℕ) (n : ℕ) (cmp : T → T → Ordering)
     (exact : CmpEqualImpliesEq cmp)
     (in_order : (x y : T) → rank x < n → rank y < n → cmp x y ≡ nat_cmp (rank x) (rank y)) where
-  -- no two have one place
+  -- No two values have the same rank.
   pub one_place : (x y : T) → rank x < n → rank x ≡ rank y → x ≡ y
   one_place x y below same =
       exact x y (in_order x y below (omega (arith, same))
       ∙ sym (nat_cmp_is (rank x) (rank y) Equal same))
 
-  -- so each is the one at its place
+  -- If `value_at` finds a value for each rank, it finds each value by the rank of that value.
   pub value_at-rank : (value_at : ℕ → T)
       → ((place : ℕ) → place < n → rank (value_at place) ≡ place)
       → (x : T) → rank x < n → value_at (rank x) ≡ x
@@ -74,10 +75,10 @@ module _ {T : Type 0} (rank : T → ℕ) (n : ℕ) (cmp : T → T → Ordering)
       let same = ranks (rank x) below in
       one_place (value_at (rank x)) x (omega (arith, same, below)) same
 
--- in a type of n values, each of which has a place of its own
+-- In a type of n values, no two of which have the same rank.
 module _ {T : Type 0} (rank : T → ℕ) (n : ℕ)
     (one_place : (x y : T) → rank x < n → rank x ≡ rank y → x ≡ y) where
-  -- a range that has members, all in the type, is told by its interval
+  -- A range that has members, all within the type, is determined by its interval.
   pub same_range : (range other : RangeInclusive T)
       → (interval_of rank range).first ≤ (interval_of rank range).last
       → (interval_of rank range).last < n
@@ -101,7 +102,7 @@ module _ {T : Type 0} (rank : T → ℕ) (n : ℕ)
       let exhausted = exhausted-some rank range ordered ∙ sym (exhausted-some rank other order) in
       λ i. record { start = start i; end = end i; exhausted = exhausted i }
 
-  -- a canonical list of ranges is told by its intervals
+  -- A canonical list of ranges is determined by its intervals.
   pub same_ranges : (low : ℕ) (ranges others : List (RangeInclusive T))
       → IsCanonicalFrom low (intervals_of rank ranges) → AllEndBelow n (intervals_of rank ranges)
       → intervals_of rank ranges ≡ intervals_of rank others → ranges ≡ others
@@ -120,7 +121,7 @@ module _ {T : Type 0} (rank : T → ℕ) (n : ℕ)
       let rest = same_ranges (run.last + 2) ranges others canonical.2 later tail in
       λ i. first i ∷ rest i
 
-  -- two canonical lists of ranges with the same members are the same list
+  -- Two canonical lists of ranges with the same members are the same list.
   pub same_members : (ranges others : List (RangeInclusive T))
       → IsCanonical (intervals_of rank ranges) → IsCanonical (intervals_of rank others)
       → AllEndBelow n (intervals_of rank ranges) → AllEndBelow n (intervals_of rank others)

@@ -1,4 +1,4 @@
--- How many runs a set has, by where it changes along the ranks.
+-- The number of runs of a set, counted by the ranks where the set changes.
 use Rattle.std.proofs.Common.{◌≡◌, ◌⊎◌, ℕ, zero, suc, Bool, true, false, not, ◌&&◌, ◌||◌, cond, ◌+◌, ◌*◌, ◌<◌, ◌≤◌, nat_le, List, [], ◌∷◌, length, map, refl, sym, ap, ◌∙◌, inl, inr, arith}
 use Rattle.std.proofs.Math.Bool.{and-false, or-false}
 use Rattle.std.proofs.lemmas.Bool.{cases_lt}
@@ -16,26 +16,27 @@ use Rattle.rsb_integer.proofs.RunsLemmas.{runs-canonical, runs-from_canonical, r
 
 -- ---- where a set begins and ends
 
--- a run of the set begins at the rank
+-- The ranks at which a run of the set begins.
 abbrev begins : Selection → Selection
 begins selected zero = selected zero
 begins selected (suc rank) = selected (suc rank) && not (selected rank)
 
--- a run of the set ended right before the rank
+-- The ranks right past the end of a run of the set.
 abbrev ended : Selection → Selection
 ended selected zero = false
 ended selected (suc rank) = not (selected (suc rank)) && selected rank
 
--- what one rank adds to a count
+-- What one rank adds to a count: 1 if it is selected, and 0 otherwise.
 abbrev once : Bool → ℕ
 once test = cond test 1 0
 
--- whether the last of n ranks is selected, as a number
+-- Whether the last of n ranks is selected: 1 if it is, and 0 otherwise.
 abbrev at_last : ℕ → Selection → ℕ
 at_last zero selected = 0
 at_last (suc n) selected = once (selected n)
 
--- one rank changes the last one by what begins there and what ended before it
+-- From one rank to the next, what a rank adds to a count grows by the runs that begin there, less
+-- those that ended.
 once-begins : (here before : Bool)
     → once (here && not before) + once before ≡ once (not here && before) + once here
 once-begins true true = refl
@@ -43,7 +44,7 @@ once-begins true false = refl
 once-begins false true = refl
 once-begins false false = refl
 
--- as many runs have begun as have ended, and one more where the last rank is selected
+-- Below n, as many runs have begun as have ended, and one more if the last rank is selected.
 count-begins : (n : ℕ) (selected : Selection)
     → count n (begins selected) ≡ count n (ended selected) + at_last n selected
 unfolding count
@@ -56,11 +57,11 @@ count-begins (suc (suc n)) selected =
 
 -- ---- runs by where they begin
 
--- the first rank of an interval, alone
+-- The interval of only the first rank of an interval.
 abbrev first_of : Interval → Interval
 first_of run = record { first = run.first; last = run.first }
 
--- those of canonical intervals are canonical
+-- The intervals of the first ranks of a canonical list are canonical.
 firsts-canonical : (low : ℕ) (runs : List Interval) → IsCanonicalFrom low runs
     → IsCanonicalFrom low (map first_of runs)
 firsts-canonical low [] canonical = tt
@@ -71,7 +72,7 @@ firsts-canonical low (run ∷ other ∷ runs) canonical =
     let apart = rest.0 in
     (canonical.0, omega arith, (omega (arith, order, apart), rest.1, rest.2))
 
--- and end where those do
+-- If a canonical list ends below n, so do the intervals of its first ranks.
 firsts-below : (n low : ℕ) (runs : List Interval) → IsCanonicalFrom low runs → AllEndBelow n runs
     → AllEndBelow n (map first_of runs)
 firsts-below n low [] canonical below = All-nil (λ (run : Interval). run.last < n)
@@ -82,7 +83,7 @@ firsts-below n low (run ∷ runs) canonical below =
     All-cons P (first_of run) (map first_of runs) (omega (arith, order, end))
     (firsts-below n (run.last + 2) runs canonical.2 (All-tail P run runs below))
 
--- their lengths add up to how many they are
+-- The lengths of the intervals of first ranks add up to the number of intervals.
 firsts-length : (runs : List Interval) → sum_by length_of (map first_of runs) ≡ length runs
 firsts-length [] = refl
 firsts-length (run ∷ runs) =
@@ -90,14 +91,14 @@ firsts-length (run ∷ runs) =
     let sum = sum_by-cons length_of (first_of run) (map first_of runs) in
     omega arith
 
--- before the first of them nothing begins
+-- No run of the members of a list that is canonical from `low` begins below `low`.
 begins-below : (low : ℕ) (runs : List Interval) (rank : ℕ) → IsCanonicalFrom low runs → rank < low
     → begins (members runs) rank ≡ false
 begins-below low runs zero canonical below = members-below low runs zero canonical below
 begins-below low runs (suc rank) canonical below =
     ap (λ test. test && not (members runs rank)) (members-below low runs (suc rank) canonical below)
 
--- where a run begins, by whether the rank and the one before it are members
+-- A run begins at a rank past 0 if and only if the rank is selected and the one before is not.
 begins-by : (selected : Selection) (rank before : ℕ) (here past : Bool) → rank ≡ before + 1
     → selected rank ≡ here → selected before ≡ past → begins selected rank ≡ (here && not past)
 begins-by selected zero before here past is at_rank at_before = absurd (omega (arith, is))
@@ -106,7 +107,7 @@ begins-by selected (suc rank) before here past is at_rank at_before =
     ap (λ test. test && not (selected rank)) at_rank
     ∙ ap (λ test. here && not test) (ap selected same ∙ at_before)
 
--- a run begins where the first interval does
+-- A run begins at the first rank of the first interval.
 first-begins : (low : ℕ) (run : Interval) (runs : List Interval) (rank : ℕ)
     → IsCanonicalFrom low (run ∷ runs) → rank ≡ run.first → begins (members (run ∷ runs)) rank ≡ true
 first-begins low run runs zero canonical is =
@@ -118,7 +119,7 @@ first-begins low run runs (suc rank) canonical is =
     (members-head run runs (suc rank) (omega (arith, is)) (omega (arith, order, is)))
     (members-below run.first (run ∷ runs) rank (omega arith, order, canonical.2) (omega (arith, is)))
 
--- past the first interval runs begin where they do without it
+-- Past the first interval and the rank after it, runs begin where they begin without that interval.
 later-begins : (run : Interval) (runs : List Interval) (rank : ℕ) → run.last + 1 < rank
     → begins (members (run ∷ runs)) rank ≡ begins (members runs) rank
 later-begins run runs zero after = absurd (omega (arith, after))
@@ -128,7 +129,7 @@ later-begins run runs (suc rank) after =
     ∙ ap (λ test. members runs (suc rank) && not test)
     (members-tail run runs rank (inr (omega (arith, after))))
 
--- none begins within it, or right past it
+-- No run begins within the first interval after its first rank, nor right past its end.
 inside-begins : (low : ℕ) (run : Interval) (runs : List Interval) (rank : ℕ)
     → IsCanonicalFrom low (run ∷ runs) → run.first < rank → rank ≤ run.last + 1
     → begins (members (run ∷ runs)) rank ≡ false
@@ -138,7 +139,7 @@ inside-begins low run runs (suc rank) canonical past within =
     (omega arith) refl (members-head run runs rank (omega (arith, past)) (omega (arith, within)))
     ∙ and-false (members (run ∷ runs) (suc rank))
 
--- a run of a canonical list begins at the first rank of an interval, and nowhere else
+-- A run of the members of a canonical list begins at each interval's first rank, and only there.
 begins-members : (low : ℕ) (runs : List Interval) (rank : ℕ) → IsCanonicalFrom low runs
     → begins (members runs) rank ≡ members (map first_of runs) rank
 begins-members low [] zero canonical = refl
@@ -169,7 +170,7 @@ begins-members low (run ∷ runs) rank canonical =
       ]
     ]
 
--- sets that agree begin alike
+-- In sets that agree, runs begin at the same ranks.
 begins-agree : (n : ℕ) (selected other : Selection) → Agree n selected other
     → Agree n (begins selected) (begins other)
 begins-agree n selected other same zero below = same zero below
@@ -177,7 +178,7 @@ begins-agree n selected other same (suc rank) below =
     ap (λ test. test && not (selected rank)) (same (suc rank) below)
     ∙ ap (λ test. other (suc rank) && not test) (same rank (omega (arith, below)))
 
--- as many runs as ranks where one begins
+-- A set has as many runs as ranks at which one begins.
 pub runs-begin : (n : ℕ) (selected : Selection) (runs : List Interval) → AreRuns n selected runs
     → length runs ≡ count n (begins selected)
 runs-begin n selected runs are =
@@ -190,7 +191,7 @@ runs-begin n selected runs are =
     ∙ count-agree n (begins (members runs)) (begins selected)
     (begins-agree n (members runs) selected (runs-members n selected runs are))
 
--- at a rank of the set or before it a run begins
+-- If a rank is selected, a run begins at that rank or before it.
 begins-found : (selected : Selection) (rank : ℕ) → selected rank ≡ true
     → (first : ℕ) × (first ≤ rank) × (begins selected first ≡ true)
 begins-found selected zero has = (0, omega arith, has)
@@ -206,7 +207,7 @@ begins-found selected (suc rank) has = elim (true_or_false (selected rank)) [
   )
 ]
 
--- so a set with a rank has where one begins
+-- If a set has a rank below n, at least one of its runs begins below n.
 begins-some : (n : ℕ) (selected : Selection) (rank : ℕ) → rank < n → selected rank ≡ true
     → 0 < count n (begins selected)
 begins-some n selected rank below has =
@@ -216,7 +217,7 @@ begins-some n selected rank below has =
     (omega (arith, earlier, below)) found.2 refl in
     omega (arith, more)
 
--- a set with runs has a rank
+-- A set with runs has a rank.
 runs-have : (n : ℕ) (selected : Selection) (runs : List Interval) → AreRuns n selected runs
     → 0 < length runs → (rank : ℕ) × (rank < n) × (selected rank ≡ true)
 runs-have n selected [] are some = absurd (omega (arith, some))
@@ -228,7 +229,7 @@ runs-have n selected (run ∷ runs) are some =
           (covers-inside run run.last maximal.in_order (omega arith)),
     )
 
--- a set within one that has no runs has none
+-- A set within a set that has no runs has none.
 pub runs-none : (n : ℕ) (large small : Selection) (runs made : List Interval)
     → AreRuns n large runs → AreRuns n small made
     → ((rank : ℕ) → small rank ≡ true → large rank ≡ true) → length runs ≡ 0 → length made ≡ 0
@@ -243,20 +244,21 @@ runs-none n large small runs made are are_small within none = elim (cases_lt 0 (
 
 -- ---- where sets change
 
--- how often the set changes along n ranks and before the first
+-- How often the set changes along n ranks: the runs that begin at one of them, and those that ended
+-- right before one.
 abbrev changes : ℕ → Selection → ℕ
 changes n selected = count n (begins selected) + count n (ended selected)
 
--- a set of ranks changes twice at each run, but once at one that reaches the last rank
+-- A set changes twice for each run, but only once for a run that reaches the last rank.
 changes-twice : (n : ℕ) (selected : Selection)
     → changes n selected + at_last n selected ≡ 2 * count n (begins selected)
 changes-twice n selected = let once_more = count-begins n selected in omega arith
 
--- how much one rank changes a set
+-- How much one rank changes a set: 1 if the rank differs from the one before it, and 0 otherwise.
 abbrev changed : Bool → Bool → ℕ
 changed here before = once (here && not before) + once (not here && before)
 
--- not at all where it is as the one before, and else by one
+-- Either a rank is like the one before it and changes nothing, or it changes the set by 1.
 changed-by : (here before : Bool) → ((here ≡ before) × (changed here before ≡ 0))
     ⊎ (changed here before ≡ 1)
 changed-by true true = inl (refl, refl)
@@ -264,24 +266,25 @@ changed-by true false = inr refl
 changed-by false true = inr refl
 changed-by false false = inl (refl, refl)
 
--- ---- what is made of two sets rank by rank
+-- ---- sets built from two sets, rank by rank
 
--- one that has nothing where both have nothing, and another such
+-- Two operations that together change no more at a rank than their operands, and are true no more
+-- often.
 module _ (one other : Bool → Bool → Bool)
     (fewer : (left right here there : Bool) → changed (one left right) (one here there)
     + changed (other left right) (other here there) ≤ changed left here + changed right there)
     (last : (left right : Bool) → once (one left right) + once (other left right)
     ≤ once left + once right) where
   module _ (left right : Selection) where
-    -- the one
+    -- The set that the first operation builds.
     abbrev ones : Selection
     ones rank = one (left rank) (right rank)
 
-    -- and the other
+    -- The set that the second operation builds.
     abbrev others : Selection
     others rank = other (left rank) (right rank)
 
-    -- they change no more often than the two sets
+    -- Together, the built sets change no more often than the given sets.
     changes-two : (n : ℕ) → changes n ones + changes n others ≤ changes n left + changes n right
     unfolding count
     changes-two zero = omega arith
@@ -291,12 +294,12 @@ module _ (one other : Bool → Bool → Bool)
         let here = fewer (left (suc n)) (right (suc n)) (left n) (right n) in
         omega arith
 
-    -- and reach the last rank no more often
+    -- The last rank is in no more of the built sets than of the given sets.
     last-two : (n : ℕ) → at_last n ones + at_last n others ≤ at_last n left + at_last n right
     last-two zero = omega arith
     last-two (suc n) = last (left n) (right n)
 
-    -- so their runs begin at no more ranks
+    -- Together, the runs of the built sets begin at no more ranks than those of the given sets.
     begins-two : (n : ℕ) → count n (begins ones) + count n (begins others)
         ≤ count n (begins left) + count n (begins right)
     begins-two n =
@@ -308,7 +311,7 @@ module _ (one other : Bool → Bool → Bool)
         let fewer_last = last-two n in
         omega arith
 
-    -- and are no more
+    -- Together, the built sets have no more runs than the given sets.
     pub runs-two : (n : ℕ) (lefts rights made also : List Interval) → AreRuns n left lefts
         → AreRuns n right rights → AreRuns n ones made → AreRuns n others also
         → length made + length also ≤ length lefts + length rights
@@ -320,37 +323,37 @@ module _ (one other : Bool → Bool → Bool)
         let no_more = begins-two n in
         omega arith
 
--- what is as before has not changed
+-- A rank that is like the one before it changes nothing.
 changed-same : (here before : Bool) → here ≡ before → changed here before ≡ 0
 changed-same true true same = refl
 changed-same false false same = refl
 changed-same true false same = absurd (cc)
 changed-same false true same = absurd (cc)
 
--- one rank changes a set by one at most
+-- One rank changes a set by at most 1.
 changed-most : (here before : Bool) → changed here before ≤ 1
 changed-most true true = omega arith
 changed-most true false = omega arith
 changed-most false true = omega arith
 changed-most false false = omega arith
 
--- and adds one at most to a count
+-- One rank adds at most 1 to a count.
 once-most : (test : Bool) → once test ≤ 1
 once-most true = omega arith
 once-most false = omega arith
 
--- the set of no rank has no runs
+-- The empty set has no runs.
 runs-of_nothing : (n : ℕ) → AreRuns n (λ rank. false) []
 runs-of_nothing n = runs-from_canonical n (λ rank. false) [] tt
     (All-nil (λ (run : Interval). run.last < n)) (λ rank below. refl)
 
--- nothing at all
+-- The operation that is always false.
 abbrev nothing : Bool → Bool → Bool
 nothing left right = false
 
--- of one alone: it changes only where one of the two sets does
+-- One operation, which is false if both of its operands are.
 module _ (op : Bool → Bool → Bool) (none : op false false ≡ false) where
-  -- at a rank
+  -- At a rank, its result changes no more than its operands do together.
   fewer-of_one : (left right here there : Bool)
       → changed (op left right) (op here there) + changed false false
       ≤ changed left here + changed right there
@@ -365,13 +368,13 @@ module _ (op : Bool → Bool → Bool) (none : op false false ≡ false) where
     | inr more ↦ let one = changed-most (op left right) (op here there) in omega arith
   ]
 
-  -- and it reaches the last rank only where one of them does
+  -- It is true only if one of its operands is.
   last-of_one : (left right : Bool) → once (op left right) + once false ≤ once left + once right
   last-of_one false false = let zero_more : once (op false false) ≡ 0 = ap once none in omega arith
   last-of_one true right = let one = once-most (op true right) in omega arith
   last-of_one false true = let one = once-most (op false true) in omega arith
 
-  -- it has no more runs than both sets together
+  -- The set that it builds has no more runs than both given sets together.
   pub runs-of_one : (n : ℕ) (left right : Selection) (lefts rights made : List Interval)
       → AreRuns n left lefts → AreRuns n right rights
       → AreRuns n (λ rank. op (left rank) (right rank)) made
@@ -383,25 +386,25 @@ module _ (op : Bool → Bool → Bool) (none : op false false ≡ false) where
 
 -- ---- the operations
 
--- a union has no more runs than both sets together
+-- A union has no more runs than both sets together.
 pub runs-union : (n : ℕ) (left right : Selection) (lefts rights made : List Interval)
     → AreRuns n left lefts → AreRuns n right rights → AreRuns n (union left right) made
     → length made ≤ length lefts + length rights
 runs-union = runs-of_one (λ left right. left || right) refl
 
--- nor has a difference
+-- A difference has no more runs than both sets together.
 pub runs-difference : (n : ℕ) (left right : Selection) (lefts rights made : List Interval)
     → AreRuns n left lefts → AreRuns n right rights → AreRuns n (difference left right) made
     → length made ≤ length lefts + length rights
 runs-difference = runs-of_one (λ left right. left && not right) refl
 
--- nor a symmetric difference
+-- A symmetric difference has no more runs than both sets together.
 pub runs-symmetric : (n : ℕ) (left right : Selection) (lefts rights made : List Interval)
     → AreRuns n left lefts → AreRuns n right rights → AreRuns n (symmetric_difference left right) made
     → length made ≤ length lefts + length rights
 runs-symmetric = runs-of_one exclusive_or refl
 
--- of both together and of what both have, rank by rank
+-- At a rank, the union and the intersection together change no more than the two sets.
 fewer-of_both : (left right here there : Bool)
     → changed (left || right) (here || there) + changed (left && right) (here && there)
     ≤ changed left here + changed right there
@@ -416,13 +419,13 @@ fewer-of_both false true true false = omega arith
 fewer-of_both false false true true = omega arith
 fewer-of_both false false true false = omega arith
 
--- and at the last rank
+-- A rank is in no more of the union and the intersection than of the two sets.
 last-of_both : (left right : Bool) → once (left || right) + once (left && right)
     ≤ once left + once right
 last-of_both true right = omega arith
 last-of_both false right = omega arith
 
--- an intersection has fewer than both where the one has some
+-- If the left set has a run, the intersection has fewer runs than both sets together.
 pub runs-intersection : (n : ℕ) (left right : Selection) (lefts rights both : List Interval)
     → AreRuns n left lefts → AreRuns n right rights → AreRuns n (intersection left right) both
     → 0 < length lefts → length both < length lefts + length rights
@@ -437,7 +440,7 @@ runs-intersection n left right lefts rights both are_left are_right are_both som
     let from_both = runs-begin n (intersection left right) both are_both in
     omega arith
 
--- the ranks of an interval have one run
+-- The only run of the ranks of an interval is the interval.
 runs-of_interval : (n : ℕ) (run : Interval) → run.first ≤ run.last → run.last < n
     → AreRuns n (covers run) (run ∷ [])
 runs-of_interval n run ordered below =
@@ -446,7 +449,7 @@ runs-of_interval n run ordered below =
     (All-cons P run [] below (All-nil P))
     (λ rank within. members-cons run [] rank ∙ or-false (covers run rank))
 
--- a set has one run more at most where an interval is added
+-- A set to which an interval is added has at most one more run.
 pub runs-with_interval : (n : ℕ) (selected : Selection) (run : Interval)
     (runs made : List Interval) → run.first ≤ run.last → run.last < n → AreRuns n selected runs
     → AreRuns n (union selected (covers run)) made → length made ≤ length runs + 1
@@ -455,7 +458,7 @@ runs-with_interval n selected run runs made ordered below are added =
     (runs-of_interval n run ordered below) added in
     omega (arith, most)
 
--- and where one is taken out
+-- A set from which an interval is removed has at most one more run.
 pub runs-without_interval : (n : ℕ) (selected : Selection) (run : Interval)
     (runs made : List Interval) → run.first ≤ run.last → run.last < n → AreRuns n selected runs
     → AreRuns n (difference selected (covers run)) made
@@ -465,12 +468,12 @@ runs-without_interval n selected run runs made ordered below are left_over =
     (runs-of_interval n run ordered below) left_over in
     omega (arith, most)
 
--- the runs of every rank
+-- The runs of the set of all ranks below n.
 abbrev everything : ℕ → List Interval
 everything zero = []
 everything (suc n) = record { first = 0; last = n } ∷ []
 
--- are those
+-- The list `everything n` is indeed the list of these runs.
 runs-of_everything : (n : ℕ) → AreRuns n (λ rank. true) (everything n)
 runs-of_everything zero = runs-from_canonical zero (λ rank. true) [] tt
     (All-nil (λ (run : Interval). run.last < zero)) (λ rank below. absurd (omega (arith, below)))
@@ -481,12 +484,12 @@ runs-of_everything (suc n) =
     (All-nil (λ (run : Interval). run.last < suc n)))
     (λ rank below. members-head whole [] rank (omega arith) (omega (arith, below)))
 
--- there is one at most
+-- The set of all ranks below n has at most one run.
 everything-length : (n : ℕ) → length (everything n) ≤ 1
 everything-length zero = omega arith
 everything-length (suc n) = omega arith
 
--- a complement has one run more at most
+-- A complement has at most one more run than the set.
 pub runs-complement : (n : ℕ) (selected : Selection) (runs gaps : List Interval)
     → AreRuns n selected runs → AreRuns n (complement selected) gaps → length gaps ≤ length runs + 1
 runs-complement n selected runs gaps are left_out =
@@ -495,24 +498,25 @@ runs-complement n selected runs gaps are left_out =
     let one = everything-length n in
     omega arith
 
--- ---- what lies in at least so many of many sets
+-- ---- the ranks in at least a given number of many sets
 
--- at how many ranks sets begin, all together
+-- The number of ranks below n at which a run begins, added up over the sets.
 abbrev begin_together : ℕ → List Selection → ℕ
 begin_together n sets = sum_by (λ set. count n (begins set)) sets
 
--- how many sets begin at the first rank have it
+-- As many sets contain rank 0 as have a run that begins there.
 how_many-first : (sets : List Selection) → how_many (map begins sets) 0 ≡ how_many sets 0
 how_many-first [] = refl
 how_many-first (set ∷ sets) = ap (λ many. once (set 0) + many) (how_many-first sets)
 
--- a rank that has more of two tests begins one of them
+-- If a rank is selected, the one before it is selected or a run begins there.
 once-more : (here before : Bool) → once here ≤ once before + once (here && not before)
 once-more true true = omega arith
 once-more true false = omega arith
 once-more false before = omega arith
 
--- more sets have a rank than the one before by those that begin there at most
+-- At most as many sets contain a rank as contain the one before it, plus those with a run that
+-- begins there.
 how_many-next : (sets : List Selection) (rank : ℕ)
     → how_many sets (suc rank) ≤ how_many sets rank + how_many (map begins sets) (suc rank)
 how_many-next [] rank = omega arith
@@ -521,16 +525,17 @@ how_many-next (set ∷ sets) rank =
     let own = once-more (set (suc rank)) (set rank) in
     omega arith
 
--- so what lies in at least so many begins where one of the sets does
+-- If `many` is at least `least` and `before` is not, `begun` is at least 1, because it is at least
+-- their difference.
 more-by : (least many before begun : ℕ) → many ≤ before + begun
     → once (nat_le least many && not (nat_le least before)) ≤ begun
 more-by least many before begun most = grind (arith, nat_tests)
 
--- at the first rank too
+-- If `many` is at least `least`, which is positive, then `many` is at least 1.
 some-by : (least many : ℕ) → 0 < least → once (nat_le least many) ≤ many
 some-by least many positive = grind (arith, nat_tests)
 
--- rank by rank
+-- Where a run of the ranks in at least `least` sets begins, a run of one of the sets begins.
 begins-at_least : (least : ℕ) (sets : List Selection) (rank : ℕ) → 0 < least
     → once (begins (at_least least sets) rank) ≤ how_many (map begins sets) rank
 begins-at_least least sets zero positive =
@@ -541,7 +546,7 @@ begins-at_least least sets (suc rank) positive =
     more-by least (how_many sets (suc rank)) (how_many sets rank)
     (how_many (map begins sets) (suc rank)) (how_many-next sets rank)
 
--- one rank more has those that begin there
+-- One more rank adds the number of sets with a run that begins there.
 begin_together-next : (n : ℕ) (sets : List Selection)
     → begin_together (suc n) sets ≡ begin_together n sets + how_many (map begins sets) n
 unfolding count
@@ -552,7 +557,8 @@ begin_together-next n (set ∷ sets) =
     let before = sum_by-cons (λ each. count n (begins each)) set sets in
     omega arith
 
--- so it begins no more often than all sets together
+-- The runs of the ranks in at least `least` sets begin at no more ranks than those of all sets
+-- together.
 at_least-begins : (n least : ℕ) (sets : List Selection) → 0 < least
     → count n (begins (at_least least sets)) ≤ begin_together n sets
 unfolding count
@@ -563,11 +569,11 @@ at_least-begins (suc n) least sets positive =
     let more = begin_together-next n sets in
     omega arith
 
--- intervals that have a rank, and end below n
+-- Whether all intervals of the list are non-empty and end below n.
 abbrev pub HaveRanks : ℕ → List Interval → Type 0
 HaveRanks n runs = All HasRanks runs × AllEndBelow n runs
 
--- what lies in some intervals begins at no more ranks than there are
+-- The runs of the members of a list begin at no more ranks than the list has intervals.
 begins-members_most : (n : ℕ) (runs : List Interval) → HaveRanks n runs
     → count n (begins (members runs)) ≤ length runs
 begins-members_most n [] have =
@@ -590,7 +596,8 @@ begins-members_most n (run ∷ runs) have =
     (last-of_one (λ left right. left || right) refl) (covers run) (members runs) n in
     omega arith
 
--- nor lists of them, all together
+-- Together, the runs of the members of some lists begin at no more ranks than the lists have
+-- intervals.
 lists-begin : (n : ℕ) (lists : List (List Interval)) → All (HaveRanks n) lists
     → begin_together n (map members lists) ≤ sum_by (λ (runs : List Interval). length runs) lists
 lists-begin n [] have = omega arith
@@ -601,7 +608,8 @@ lists-begin n (runs ∷ lists) have =
     let lengths = sum_by-cons (λ (each : List Interval). length each) runs lists in
     omega arith
 
--- what lies in at least so many of some lists, one or more, has no more runs than they together
+-- If `least` is positive, the ranks in at least `least` of some lists have no more runs than the
+-- lists have intervals.
 pub runs-at_least : (n least : ℕ) (lists : List (List Interval)) (made : List Interval)
     → 0 < least → All (HaveRanks n) lists → AreRuns n (at_least least (map members lists)) made
     → length made ≤ sum_by (λ (runs : List Interval). length runs) lists

@@ -12,7 +12,7 @@ use Rattle.rsb_integer.proofs.MaximalLemmas.{maximal-around}
 
 -- ---- a canonical list is the list of the maximal runs of its members
 
--- the first interval of a canonical list is a maximal run of its members
+-- The first interval of a canonical list is a maximal run of the members of the list.
 head-maximal : (n : ℕ) (run : Interval) (runs : List Interval) → run.first ≤ run.last → run.last < n
     → IsCanonicalFrom (run.last + 2) runs → IsMaximalRun n (members (run ∷ runs)) run
 head-maximal n run runs ordered below rest = record {
@@ -27,7 +27,8 @@ head-maximal n run runs ordered below rest = record {
       ∙ members-below (run.last + 2) runs (run.last + 1) rest (omega arith);
 }
 
--- a maximal run of the other intervals, past the first and apart from it, is one of the whole list
+-- A maximal run of the other intervals is one of the whole list, if it starts past the first
+-- interval with a gap between.
 tail-maximal : (n : ℕ) (run : Interval) (runs : List Interval) (other : Interval)
     → run.last + 2 ≤ other.first → IsMaximalRun n (members runs) other
     → IsMaximalRun n (members (run ∷ runs)) other
@@ -45,7 +46,7 @@ tail-maximal n run runs other later maximal =
           members-tail run runs (other.last + 1) (inr (omega arith)) ∙ maximal.ends_here more;
     }
 
--- each interval of a canonical list is a maximal run of its members
+-- Each interval of a canonical list is a maximal run of the members of the list.
 pub canonical-maximal : (n low : ℕ) (runs : List Interval) → IsCanonicalFrom low runs
     → AllEndBelow n runs
     → All (IsMaximalRun n (members runs)) runs
@@ -61,7 +62,7 @@ canonical-maximal n low (run ∷ runs) canonical below =
     (canonical-starts (run.last + 2) runs canonical.2)
     (canonical-maximal n (run.last + 2) runs canonical.2 tail))
 
--- a maximal run that starts within the first interval is that interval
+-- A maximal run that starts within the first interval is that interval.
 maximal-head : (n : ℕ) (run : Interval) (runs : List Interval) (other : Interval)
     → run.first ≤ run.last → run.last < n → IsCanonicalFrom (run.last + 2) runs
     → IsMaximalRun n (members (run ∷ runs)) other → run.first ≤ other.first → other.first ≤ run.last
@@ -94,7 +95,7 @@ maximal-head n run runs other ordered below rest maximal low high =
     ] in
     same_interval run other first last
 
--- a maximal run that starts past the first interval is one of the others
+-- A maximal run that starts past the first interval, with a gap between, is one of the others.
 maximal-tail : (n : ℕ) (run : Interval) (runs : List Interval) (other : Interval)
     → run.last + 1 < other.first
     → IsMaximalRun n (members (run ∷ runs)) other → IsMaximalRun n (members runs) other
@@ -114,7 +115,7 @@ maximal-tail n run runs other past maximal =
           sym (members-tail run runs (other.last + 1) (inr (omega arith))) ∙ maximal.ends_here more;
     }
 
--- each maximal run of the members of a canonical list is in the list
+-- Each maximal run of the members of a canonical list is in the list.
 pub canonical-complete : (n low : ℕ) (runs : List Interval) (other : Interval)
     → IsCanonicalFrom low runs
     → AllEndBelow n runs → IsMaximalRun n (members runs) other → Contains runs other
@@ -152,7 +153,7 @@ canonical-complete n low (run ∷ runs) other canonical below maximal =
       ]
     ]
 
--- a canonical list is the runs of its members
+-- A canonical list is the list of the runs of its members.
 pub canonical-runs : (n : ℕ) (runs : List Interval) → IsCanonical runs → AllEndBelow n runs
     → AreRuns n (members runs) runs
 canonical-runs n runs canonical below = record {
@@ -163,7 +164,7 @@ canonical-runs n runs canonical below = record {
 
 -- ---- the runs of a set are a canonical list with its members
 
--- the members of the runs of a set are the set's
+-- The members of the runs of a set are those of the set.
 pub runs-members : (n : ℕ) (selected : Selection) (runs : List Interval) → AreRuns n selected runs
     → Agree n (members runs) selected
 runs-members n selected runs all rank below = elim (true_or_false (selected rank)) [
@@ -179,7 +180,7 @@ runs-members n selected runs all rank below = elim (true_or_false (selected rank
   ]
 ]
 
--- between two maximal runs there is a gap
+-- There is a gap between two maximal runs.
 maximal-apart : (n : ℕ) (selected : Selection) (run other : Interval) → IsMaximalRun n selected run
     → IsMaximalRun n selected other → run.first < other.first → run.last + 2 ≤ other.first
 maximal-apart n selected run other maximal next less =
@@ -202,7 +203,7 @@ maximal-apart n selected run other maximal next less =
       ]
     ]
 
--- maximal runs that ascend, from a rank on, are a canonical list from there on
+-- Maximal runs that ascend and start at `low` or later are a list that is canonical from `low`.
 ascending-canonical : (n : ℕ) (selected : Selection) (low : ℕ) (runs : List Interval)
     → AllPairs (λ (before after : Interval). before.first < after.first) runs
     → All (IsMaximalRun n selected) runs → All (λ (run : Interval). low ≤ run.first) runs
@@ -221,7 +222,7 @@ ascending-canonical n selected low (run ∷ runs) ascending maximal starts =
           (ascending 0 (suc k) default (omega arith) (omega arith))),
     )
 
--- the runs of a set are a canonical list in its type
+-- The runs of a set are a canonical list within its type.
 pub runs-canonical : (n : ℕ) (selected : Selection) (runs : List Interval) → AreRuns n selected runs
     → IsCanonicalIn n runs
 runs-canonical n selected runs all = (
@@ -233,7 +234,7 @@ runs-canonical n selected runs all = (
 
 -- ---- canonical lists as runs
 
--- a list is canonical exactly where it is the runs of its own members
+-- A list is canonical if and only if it is the list of the runs of its own members.
 pub canonical-is_runs : (n : ℕ) (runs : List Interval)
     → IsCanonicalIn n runs ↔ AreRuns n (members runs) runs
 canonical-is_runs n runs = (
@@ -243,7 +244,7 @@ canonical-is_runs n runs = (
 
 -- ---- runs of sets that agree
 
--- sets that agree have the same runs
+-- Sets that agree have the same runs.
 pub runs-same : (n : ℕ) (selected other : Selection) (runs others : List Interval)
     → AreRuns n selected runs
     → AreRuns n other others → Agree n selected other → runs ≡ others
@@ -254,7 +255,7 @@ runs-same n selected other runs others left right same =
     (λ rank below. runs-members n selected runs left rank below ∙ same rank below
     ∙ sym (runs-members n other others right rank below))
 
--- a maximal run of a set is one of each set that agrees with it
+-- A maximal run of a set is also one of each set that agrees with it.
 maximal-along : (n : ℕ) (selected other : Selection) → Agree n selected other → (run : Interval)
     → IsMaximalRun n selected run → IsMaximalRun n other run
 maximal-along n selected other same run maximal =
@@ -270,7 +271,7 @@ maximal-along n selected other same run maximal =
       ends_here = λ more. sym (same (run.last + 1) more) ∙ maximal.ends_here more;
     }
 
--- the runs of a set are the runs of each set that agrees with it
+-- The runs of a set are the runs of each set that agrees with it.
 pub runs-along : (n : ℕ) (selected other : Selection) (runs : List Interval)
     → Agree n selected other
     → AreRuns n selected runs → AreRuns n other runs
@@ -284,7 +285,7 @@ runs-along n selected other runs same all = record {
       maximal);
 }
 
--- a canonical list with the members of a set is the runs of it
+-- A canonical list with the members of a set is the list of the runs of that set.
 pub runs-from_canonical : (n : ℕ) (selected : Selection) (runs : List Interval) → IsCanonical runs
     → AllEndBelow n runs → Agree n (members runs) selected → AreRuns n selected runs
 runs-from_canonical n selected runs canonical below same =

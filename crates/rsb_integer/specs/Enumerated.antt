@@ -3,17 +3,18 @@ use Rattle.std.specs.Prelude.{◌≡◌, ℕ, suc, Bool, true, false, ◌&&◌, 
 use Rattle.std.specs.Ordering.{is_lt}
 use Rattle.std.specs.declared.cmp.Ordering.{Ordering}
 
--- how many values of the list come before the value, by a test of equality
+-- The place of the value in the list, found by a test of equality. If the value is not in the list,
+-- the place is the length of the list.
 abbrev pub place_in : {T : Type 0} → (T → T → Bool) → List T → T → ℕ
 place_in eq [] value = 0
 place_in eq (first ∷ others) value =
     elim (eq value first) [ true ↦ 0 | false ↦ suc (place_in eq others value) ]
 
--- the value is in the list, at its place
+-- Whether the value is in the list, at its place.
 abbrev pub IsListed : {T : Type 0} → (T → T → Bool) → List T → T → Type 0
 IsListed eq values value = slice_get values (place_in eq values value) ≡ Some value
 
--- each value of the list is less than the next
+-- Whether each value of the list is less than the next.
 abbrev pub ascends : {T : Type 0} → (T → T → Ordering) → List T → Bool
 ascends cmp [] = true
 ascends cmp (first ∷ []) = true

@@ -55,7 +55,7 @@ signed-in_order width x y left right =
     ranks Equal equal = ap (signed_rank width) equal
     ranks Greater greater = signed-less width y x right left greater
 
--- ---- characters: there are 1112064 of them
+-- ---- characters: there are 1,112,064 of them
 
 -- The character with a given rank has that rank.
 pub scalar-ranks : (rank : ℕ) → rank < 1112064 → scalar_rank (scalar_value rank) ≡ rank

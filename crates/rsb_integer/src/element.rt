@@ -1,4 +1,4 @@
-//! The values of a listed type, as elements of sets and streams
+//! The values of an `Enumerated` type, as elements of sets and streams
 //! (docs/DECISIONS.md, elements-of-enums).
 
 ghost use Rattle.std.specs.Prelude.{◌≡◌, ◌<◌, ◌∷◌, length, slice_index_or};
@@ -12,8 +12,8 @@ use std::fmt::{self, Debug, Formatter, Write};
 use std::marker::Model;
 use std::ops::RangeInclusive;
 
-/// A value of a listed type as an element of sets and streams. Contracts see it as that value. Not
-/// in range-set-blaze.
+/// A value of an `Enumerated` type, as an element of sets and streams. Contracts see it as that
+/// value. Not in range-set-blaze.
 #[derive(Clone, Copy, PartialEq, Eq, PartialOrd, Ord, Hash)]
 pub struct Element<E>(pub E);
 

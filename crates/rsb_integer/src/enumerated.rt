@@ -10,8 +10,8 @@ use std::fmt::Debug;
 /// A type whose values are listed in ascending order, such as an enum without fields. Sets and
 /// streams hold its values as `Element`s. Not in range-set-blaze.
 ///
-/// A type of your own gives its list and the place of a value in it, and proves the five laws
-/// below. It has at least 2 and at most 65,535 values.
+/// An implementation for a type of your own gives the list and the place of a value in it, and
+/// proves the five laws below. The type must have at least 2 and at most 65,535 values.
 pub trait Enumerated: Copy + PartialEq + PartialOrd + Ord + Debug {
     // The least value.
     ghost least: { Self };

@@ -15,12 +15,12 @@ use std::fmt::Debug;
 use std::hash::Hash;
 use std::ops::{AddAssign, RangeInclusive, SubAssign};
 
-/// A type of elements: finitely many values in a row, each one step from the next. The rank of a
-/// value is its position in that row, starting at 0. (`Integer` in range-set-blaze.)
+/// A type of elements: finitely many values in a fixed order, each one step from the next. The rank
+/// of a value is its position in that order, starting at 0. (`Integer` in range-set-blaze.)
 ///
-/// Your own type states its `rank`, `value_count` and `value_at`, and proves the seven laws below.
-/// The types that this crate implements it for are also `Send` and `Sync`; generic code that uses
-/// threads requires `T: Integer + Send + Sync`.
+/// An implementation for your own type states its `rank`, `value_count` and `value_at`, and proves
+/// the seven laws below. The types that this crate implements it for are also `Send` and `Sync`;
+/// generic code that uses threads requires `T: Integer + Send + Sync`.
 pub trait Integer: Copy + PartialEq + PartialOrd + Ord + Debug {
     /// The type of the lengths of ranges. (`Integer::SafeLen`.)
     type SafeLen: SafeLength
@@ -43,7 +43,7 @@ pub trait Integer: Copy + PartialEq + PartialOrd + Ord + Debug {
     // The value with a given rank. It is unspecified for a number that is not the rank of a value.
     ghost value_at: { ℕ → Self };
 
-    /// Returns the value one rank higher, or `None` exactly at the greatest value.
+    /// Returns the value one rank higher, or `None` exactly when `self` is the greatest value.
     /// (`Integer::checked_add_one`.)
     fn checked_add_one(self) -> Option<Self>
         ensures value { rank self < value_count }

@@ -1,4 +1,4 @@
-//! Laws that callers rely on. Each function has a law as its clause, and does nothing.
+//! Laws that callers rely on. Each function does nothing, and its clauses state the law.
 
 ghost use Rattle.std.specs.Prelude.{◌≡◌, ◌↔◌, ℕ, ◌+◌, ◌<◌, ◌≤◌, IsTrue, List, length};
 ghost use Rattle.std.specs.declared.ops.RangeInclusive.{RangeInclusive};

@@ -1,4 +1,4 @@
-//! Element types: finitely many values in a row, with their ranks, steps and lengths.
+//! Element types: finitely many values in a fixed order, with their ranks, steps and lengths.
 #![tactic(auto)]
 
 pub mod element;

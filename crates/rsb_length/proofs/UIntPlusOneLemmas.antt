@@ -3,11 +3,12 @@ use Rattle.std.proofs.Common.{◌≡◌, ℕ, ◌*◌, ◌≤◌, zero, suc, ari
 use Rattle.std.proofs.Math.Nat.{mul-le-mul_left}
 use Rattle.rsb_length.specs.UIntPlusOne.{stretched, stretched-within, zero-le}
 
--- `UInt` of 0 means 0
+-- `UInt` of 0 means 0.
 stretched-zero : (limit : ℕ) → stretched limit 0 ≡ 0
 stretched-zero limit = stretched-within limit 0 0 refl (zero-le limit)
 
--- A product within the limit means itself: so do its factors, or one of them is 0.
+-- If a product is within the limit, it means the product of what its factors mean. The factors are
+-- within the limit too, or one of them is 0.
 pub stretched_product : (limit m n : ℕ) → m * n ≤ limit
     → stretched limit (m * n) ≡ stretched limit m * stretched limit n
 stretched_product limit zero n h = grind (arith, stretched-zero limit)

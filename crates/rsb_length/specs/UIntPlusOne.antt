@@ -1,5 +1,5 @@
--- What a `UIntPlusOne` means, and why it satisfies the laws of lengths. `number` and `limit` belong
--- to the unsigned type that it extends.
+-- The number that a `UIntPlusOne` represents, and why it satisfies the laws of lengths. `number`
+-- and `limit` belong to the unsigned type that it extends.
 use Rattle.std.specs.Prelude.{◌≡◌, ◌≢◌, ◌↔◌, ◌==◌, ℕ, ℤ, Bool, List, Option, Some, true, false, pos, negsuc, cond, nat_le, ◌+◌, ◌≤◌, ◌≤ℤ◌, IsTrue}
 use Rattle.std.specs.Bool.{one_answer}
 use Rattle.std.specs.Cmp.{IsPartialOrder, nat_cmp_total, on_total, po, unsigned_Decides, unsigned_ties}
@@ -10,20 +10,21 @@ use Rattle.std.proofs.lemmas.Int.{ints}
 use Rattle.rsb_length.specs.declared.uint_plus_one.UIntPlusOne.{UIntPlusOne}
 use Rattle.rsb_length.specs.declared.uint_plus_one.UIntPlusOne.TheVariants.{UInt, MaxPlusOne}
 
--- The number that `UInt` of n means. Up to the limit, and so for every value of the unsigned type,
--- it is n. No code can build `UInt` of a number past the limit, but the laws of `==` and of the
--- order cover those too. Suppose `UInt` of limit + 1 meant limit + 1, as `MaxPlusOne` does. Then
--- the derived `==`, which distinguishes the two, would not be equality of numbers. So a number past
--- the limit means the next one, and only `MaxPlusOne` means limit + 1.
+-- The number that `UInt` of n represents. Up to the limit, and so for every value of the unsigned
+-- type, it is n. No code can build `UInt` of a number past the limit, but the laws of `==` and of
+-- the order cover those too. Suppose `UInt` of limit + 1 represented limit + 1, as `MaxPlusOne`
+-- does. Then the derived `==`, which distinguishes the two, would not be equality of numbers. So
+-- `UInt` of a number past the limit represents the next number, and only `MaxPlusOne` represents
+-- limit + 1.
 abbrev pub stretched : ℕ → ℕ → ℕ
 stretched limit n = cond (nat_le n limit) n (n + 1)
 
--- The number that a `UIntPlusOne` means.
+-- The number that a `UIntPlusOne` represents.
 abbrev pub number_of : {T : Type 0} → (T → ℕ) → ℕ → UIntPlusOne T → ℕ
 number_of number limit (UInt value) = stretched limit (number value)
 number_of number limit MaxPlusOne = limit + 1
 
--- The `UIntPlusOne` that means a number: `MaxPlusOne` for every number past the limit.
+-- The `UIntPlusOne` that represents a number: `MaxPlusOne` for every number past the limit.
 abbrev pub plus_one_at : {T : Type 0} → (ℕ → T) → ℕ → ℕ → UIntPlusOne T
 plus_one_at value_at limit n = cond (nat_le n limit) (UInt (value_at n)) MaxPlusOne
 
@@ -44,15 +45,15 @@ IsUpTo-between n x (pos m) (negsuc k) f g low high = absurd g
 IsUpTo-between n (pos j) (negsuc m) z f g low high = absurd (omega (arith, ints))
 IsUpTo-between n (negsuc j) (negsuc m) z f g low high = absurd f
 
--- A number within the limit means itself.
+-- `UInt` of a number within the limit represents that number.
 pub stretched-within : (limit n m : ℕ) → n ≡ m → m ≤ limit → stretched limit n ≡ m
 stretched-within limit n m e h = grind (arith, nat_tests)
 
--- Two numbers with the same meaning are equal.
+-- If `UInt` of two numbers represents the same number, the two are equal.
 pub stretched-same : (limit m n : ℕ) → stretched limit m ≡ stretched limit n → m ≡ n
 stretched-same limit m n e = grind (arith, nat_tests)
 
--- No `UInt` means the number one past the limit.
+-- No `UInt` represents the number one past the limit.
 pub stretched-not_past : (limit n : ℕ) → stretched limit n ≢ limit + 1
 stretched-not_past limit n e = grind (arith, nat_tests)
 
@@ -83,7 +84,7 @@ module _ {T : Type 0} (number : T → ℕ) (limit : ℕ) (equal : T → T → Bo
     )
     same-number_of MaxPlusOne MaxPlusOne = ((λ h. refl), (λ h. of_past))
 
--- If `UInt` of n means at most limit + 1, then n is within the limit.
+-- If `UInt` of n represents at most limit + 1, then n is within the limit.
 stretched-limited : (limit n : ℕ) → stretched limit n ≤ limit + 1 → n ≤ limit
 stretched-limited limit n h = grind (arith, nat_tests)
 

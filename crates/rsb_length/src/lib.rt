@@ -1,4 +1,4 @@
-//! Lengths of ranges: whole numbers from 0 to a greatest one.
+//! Lengths of ranges: whole numbers from 0 up to a maximum.
 #![tactic(auto)]
 
 pub mod safe_length;

@@ -8,17 +8,17 @@ ghost use Rattle.rsb_length.specs.SafeLength.{unsigned-difference, unsigned-equa
 use num_traits::{One, Zero};
 use std::ops::{AddAssign, SubAssign};
 
-/// A type of lengths: the whole numbers from 0 to a greatest one, in order. `+=` and `-=` are
-/// exact; they require that the result is a length of the type. Not in range-set-blaze, which
-/// requires only traits of std and num-traits.
+/// A type of lengths: the whole numbers from 0 up to a maximum, in order. `+=` and `-=` are exact;
+/// they require that the result is a length of the type. Not in range-set-blaze, which requires
+/// only traits of std and num-traits.
 pub trait SafeLength: Copy + PartialOrd + Zero + One + AddAssign + SubAssign {
-    // The whole number that a length means.
+    // The whole number that a length represents.
     ghost number: { Self → ℕ };
 
     // The number of the greatest length.
     ghost limit: { ℕ };
 
-    // The length that means a whole number up to the limit.
+    // The length that represents a whole number up to the limit.
     ghost length_at: { ℕ → Self };
 
     /// Returns the greatest length. Not in range-set-blaze.

@@ -11,18 +11,18 @@ ghost use Rattle.rsb_length.specs.SafeLength.{unsigned-equal, unsigned-fits};
 use num_traits::{One, Zero};
 use std::fmt::{Debug, Display};
 
-/// An unsigned type: the whole numbers from 0 to a greatest one, in order. Its calls are exact, and
-/// return `None` if the result is not a value of the type. (`UInt` in range-set-blaze, which takes
-/// its calls from `Unsigned`, `Bounded`, `OverflowingAdd` and similar traits. The five calls here
-/// are not in range-set-blaze.)
+/// An unsigned type: the whole numbers from 0 up to a maximum, in order. Its arithmetic is exact,
+/// and returns `None` if the result is not a value of the type. (`UInt` in range-set-blaze, which
+/// takes its methods from `Unsigned`, `Bounded`, `OverflowingAdd` and similar traits. The five
+/// methods here are not in range-set-blaze.)
 pub trait UInt: Zero + One + PartialOrd + Copy + Display + Debug {
-    // The whole number that a value means.
+    // The whole number that a value represents.
     ghost number: { Self → ℕ };
 
     // The number of the greatest value.
     ghost limit: { ℕ };
 
-    // The value that means a whole number up to the limit.
+    // The value that represents a whole number up to the limit.
     ghost value_at: { ℕ → Self };
 
     // The text of the number one past the limit.

@@ -35,8 +35,8 @@ abbrev pub depth_after : ℕ → Event → ℕ
 depth_after depth (Start range input) = depth + 1
 depth_after depth (End last input) = depth - 1
 
--- Whether an event can be counted. The depth stays below 2 ^ 64, and only a range that has started
--- ends.
+-- Whether an event can be counted. The depth stays below 2 ^ 64, and a range ends only if it has
+-- started.
 abbrev pub CanPass : ℕ → Event → Type 0
 CanPass depth (Start range input) = depth + 1 < 2 ^ 64
 CanPass depth (End last input) = 1 ≤ depth
@@ -61,7 +61,7 @@ crossing least depth (End last input ∷ events) = cond (nat_eq least depth)
 abbrev pub first_edge : ℕ → List ℕ
 first_edge least = cond (nat_eq least 0) (0 ∷ []) []
 
--- Whether passing an event counts it, and passes its edge exactly if the depth crosses `least`
+-- Whether passing an event counts it, and passes its edge exactly when the depth crosses `least`
 -- there.
 pub record PassesDepth {T : Type 0} (rank : T → ℕ) (n least before : ℕ) (event : Event)
     (old : Option T) (piece : Option (RangeInclusive T)) (after : ℕ) (new : Option T) : Type 0
@@ -106,7 +106,7 @@ module _ {T N I A : Type 0} (integer : Elements T N) (stream : Stream I T N) whe
       (λ events. ArePieces n (odd_past (edges_of rank s.start
       ++ map edge_of (crossing s.least s.depth events))) pieces))
 
-  -- How many pieces are left at most: one for each event to come, and the one that has begun.
+  -- The greatest number of pieces left: one for each event to come, and the one that has begun.
   abbrev pub deep_left : DeepPieces T I A N → Count
   deep_left s = count_unless s.done (count_map (λ left. left + option_len s.start)
       (events_left integer stream s.sweep))

@@ -1,4 +1,5 @@
--- The law of the pieces of what lies deep in a sweep: they come in the order of their starts.
+-- The law of the pieces of what lies in at least a given number of the inputs of a sweep: they come
+-- in the order of their starts.
 use Rattle.std.proofs.Common.{◌≡◌, Bool, true, false, ◌++◌, map, refl, []}
 use Rattle.rsb_integer.specs.declared.integer.Integer.{Ghosts as Elements}
 use Rattle.rsb_integer.proofs.RunsLemmas.{runs-canonical, runs-members}

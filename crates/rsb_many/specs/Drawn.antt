@@ -25,7 +25,7 @@ inputs_of s = record {
   due = is_at s.used;
 }
 
--- Whether the start of a head's range was not reported yet.
+-- Whether the start of a head's range has not been reported yet.
 abbrev pub IsUnstarted : {T : Type 0} → Head T → Type 0
 IsUnstarted head = head.started ≡ false
 

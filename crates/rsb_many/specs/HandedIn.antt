@@ -1,4 +1,4 @@
--- Streams that a call receives as the items of a value that becomes an iterator.
+-- Streams that a call receives as the items of a value that converts into an iterator.
 use Rattle.std.specs.Prelude.{List, Option}
 use Rattle.std.specs.Iterator.Runs.{EachRunFrom}
 

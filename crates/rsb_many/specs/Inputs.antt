@@ -1,4 +1,4 @@
--- The streams of many inputs, and the heads drawn from them.
+-- Many input streams, and the heads drawn from them.
 use Rattle.std.proofs.Common.{◌≡◌, ℕ, set, IsPermutation, ◌+◌, ◌<◌, ◌≤◌, Bool, false, not, cond, nat_eq, List, [], ◌∷◌, length, slice_get}
 use Rattle.std.specs.Iterator.{Count, at_most, count_add, count_map, count_unless, MakesProgress}
 use Rattle.std.specs.Prelude.{zero, suc, All, IfSome, MatchOption, Option, Some}
@@ -13,7 +13,7 @@ use Rattle.rsb_many.specs.Many.{gives_of, may_give_at, merges_all}
 use Rattle.rsb_many.specs.declared.heads.Head.{Head}
 
 -- The streams, the heads drawn from them, and which inputs have a range due. A range is due once
--- the last one was used, and is drawn when one more is asked for.
+-- the last one has been used, and is drawn when one more is asked for.
 pub record Inputs (T S : Type 0) : Type 0 where
   pub streams : List S
   pub heads : List (Head T)

@@ -1,18 +1,18 @@
--- How many ranges many inputs have left.
+-- The number of ranges left in many inputs.
 use Rattle.std.proofs.Common.{◌≡◌, ℕ, zero, suc, Bool, true, false, List, [], ◌∷◌, slice_get, refl}
 use Rattle.std.specs.Iterator.{Count, count_unless, IsFinite}
 use Rattle.std.specs.Prelude.{IfSome}
 use Rattle.rsb_streams.specs.MergeLaws.{both-finite}
 use Rattle.rsb_many.specs.Inputs.{left_of}
 
--- If a count is finite unless the input is over, then it is finite when an input that is over
--- counts nothing.
+-- If an input's count is finite as long as the input is not over, then the count that is 0 for an
+-- input that is over is finite.
 finite-unless : (over : Bool) (left : Count) → (over ≡ false → IsFinite left)
     → IsFinite (count_unless over left)
 finite-unless true left ends = tt
 finite-unless false left ends = ends refl
 
--- If each stream that is not over has finitely many ranges left, so have all together.
+-- If each stream that is not over has finitely many ranges left, so do all of them together.
 pub left_of-finite : {S : Type 0} (left : S → Count) (over : ℕ → Bool) (streams : List S)
     → ((place : ℕ) → over place ≡ false → IfSome (slice_get streams place) (λ s. IsFinite (left s)))
     → IsFinite (left_of left over streams)

@@ -1,4 +1,4 @@
--- The merge of any number of streams by their starts.
+-- The merge of any number of streams by the starts of their ranges.
 use Rattle.std.specs.Prelude.{◌≡◌, ℕ, ◌+◌, ◌*◌, ◌≤◌, cond, nat_lt, List, length, All, Option}
 use Rattle.std.specs.declared.ops.RangeInclusive.{RangeInclusive}
 use Rattle.rsb_integer.specs.declared.integer.Integer.{Ghosts as Elements}

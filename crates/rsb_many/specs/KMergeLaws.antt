@@ -16,7 +16,7 @@ use Rattle.rsb_many.specs.ManyLaws.{merges_all-some, merges_all-starts}
 
 module _ {T N I : Type 0} (integer : Elements T N) (stream : Stream I T N)
     (sorted : IsSorted integer stream) where
-  -- Some list may come from an input, with the cases that it has ended and that it has a stream.
+  -- Some list may come from an input. By cases: the input has ended, or it has a stream.
   pub some-by : (over : Bool) (found : Option I) (held : List Interval)
       → (over ≡ false → IfSome found stream.can_draw)
       → HasOutcome (gives_of (record {

@@ -6,14 +6,16 @@ use Rattle.rsb_streams.specs.Stream.{◌⊆◌, merges, HasOutcome, HasSortedSta
 use Rattle.rsb_streams.specs.StreamLaws.{settled_sorted}
 use Rattle.rsb_many.specs.Many.{merges_all}
 
--- If two streams come in the order of their starts, none before `low`, so does their merge.
+-- If the ranges of two streams come in the order of their starts, none before `low`, so do those of
+-- their merge.
 pub merges-starts : (n low : ℕ) (P Q : Outcomes) → P ⊆ HasSortedStartsFrom n low
     → Q ⊆ HasSortedStartsFrom n low → merges n P Q ⊆ HasSortedStartsFrom n low
 merges-starts n low P Q first second runs may = settled_sorted n low runs (λ fails.
     may (λ left right at also all. fails
     (merge-starts n low left right runs (first left at) (second right also) all.0 all.1)))
 
--- If many streams come in the order of their starts, none before `low`, so does their merge.
+-- If the ranges of many streams come in the order of their starts, none before `low`, so do those
+-- of their merge.
 pub merges_all-starts : (n low count : ℕ) (may_give : ℕ → Outcomes)
     → ((place : ℕ) → place < count → may_give place ⊆ HasSortedStartsFrom n low)
     → merges_all n count may_give ⊆ HasSortedStartsFrom n low
@@ -23,8 +25,8 @@ merges_all-starts n low (suc count) may_give each runs may = merges-starts n low
     (merges_all-starts n low count (λ place. may_give (suc place))
     (λ place less. each (suc place) (omega (arith, less)))) runs may
 
--- If some list may come from each of many streams, in the order of its starts, then some list may
--- come from their merge.
+-- If some list may come from each of many streams, and its ranges come in the order of their
+-- starts, then some list may come from the merge of the streams.
 pub merges_all-some : (n count : ℕ) (may_give : ℕ → Outcomes)
     → ((place : ℕ) → place < count → HasOutcome (may_give place))
     → ((place : ℕ) → place < count → may_give place ⊆ HasSortedStarts n)

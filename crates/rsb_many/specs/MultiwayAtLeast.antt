@@ -1,4 +1,4 @@
--- What lies in at least a given number of streams.
+-- The values in at least a given number of streams.
 use Rattle.std.specs.Prelude.{ℕ, ◌≤◌, List, length, map, sum_by}
 use Rattle.rsb_integer.specs.Runs.{Interval, members, AreRuns}
 use Rattle.rsb_integer.specs.Selection.{at_least}
@@ -44,7 +44,7 @@ module _ {T N I A : Type 0} (integer : Elements T N) (stream : Stream I T N) whe
     pub joined : joined_deep.can_draw s.iter
     pub holds : HoldOneAtMost (at_least_inputs s)
 
-  -- What lies in at least a given number of streams, as a stream. A draw passes some events.
+  -- The values in at least a given number of streams, as a stream. A draw passes some events.
   abbrev pub multiway_at_least : Stream (MultiwayAtLeast T I A N) T N
   multiway_at_least = asking integer
       (λ s item t. PassesSome (at_least_telling s) (at_least_telling t))

@@ -1,4 +1,4 @@
--- What lies in all of the given streams.
+-- The values in all of the given streams.
 use Rattle.std.specs.Prelude.{ℕ, Option}
 use Rattle.std.specs.declared.ops.RangeInclusive.{RangeInclusive}
 use Rattle.rsb_integer.specs.Rank.{intervals_of}
@@ -29,7 +29,8 @@ module _ {T N I A : Type 0} (integer : Elements T N) (stream : Stream I T N) whe
       multiway_union_inputs integer (not_iter integer stream) from s.iter.iter
 
   -- Whether a draw passes over some ranges of the union. If at most one range of each input was
-  -- held, that is still so, and each range used of it lies within one of these.
+  -- held, that is still so, and each range of an input that was used lies within one of those
+  -- passed over.
   pub record AsksOfAll (s : MultiwayIntersection T I A N) (item : Option (RangeInclusive T))
       (t : MultiwayIntersection T I A N) : Type 0 where
     pub passes : PassesOver integer left_out s.iter item t.iter

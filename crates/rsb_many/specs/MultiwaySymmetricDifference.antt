@@ -1,4 +1,4 @@
--- What lies in an odd number of streams.
+-- The values in an odd number of streams.
 use Rattle.std.specs.Prelude.{◌≡◌, ℕ, [], MatchBool}
 use Rattle.rsb_integer.specs.declared.integer.Integer.{Ghosts as Elements}
 use Rattle.rsb_streams.specs.Lookahead.{Input}

@@ -11,7 +11,7 @@ use Rattle.rsb_many.specs.KMerge.{kmerge, kmerge_inputs}
 use Rattle.rsb_many.specs.declared.kmerge.KMerge.{KMerge}
 use Rattle.rsb_many.specs.declared.operation_results.multiway_union.MultiwayUnion.{MultiwayUnion}
 
--- A decision whether two places are equal.
+-- A test of whether two places are equal, with a proof of its answer.
 abbrev pub same_place : Sameness ℕ
 same_place one other = cases_eq one other
 

@@ -1,4 +1,4 @@
--- What a list of streams becomes as an iterator.
+-- The iterator that a list of streams converts into.
 use Rattle.std.specs.Iterator.Runs.{EveryRun, ItemsAre}
 use Rattle.std.specs.Prelude.{◌≡◌, List, All}
 use Rattle.std.specs.Vec.Iter.{into_iter_items, into_iter_steps}

@@ -1,4 +1,4 @@
-//! What lies in at least the given number of streams, as pieces that may touch.
+//! The values in at least the given number of streams, as pieces that may touch.
 
 ghost use Rattle.std.specs.Prelude.{◌≡◌, ◌<◌, false, IfSome};
 ghost use Rattle.rsb_many.specs.DeepPieces.{
@@ -21,8 +21,8 @@ use rsb_streams::Draw;
 use std::alloc::{Allocator, Global};
 use std::ops::RangeInclusive;
 
-/// What lies in at least `least` streams of a sweep, as pieces that may touch. A piece begins where
-/// `least` ranges have started and not ended. It ends where there are fewer.
+/// The values in at least `least` streams of a sweep, as pieces that may touch. A piece begins
+/// where `least` ranges have started and not ended. It ends where there are fewer.
 #[derive(Debug, Drop)]
 pub(crate) struct DeepPieces<T: Integer, I, A: Allocator = Global> {
     sweep: MultiwaySweep<T, I, A>,

@@ -1,4 +1,4 @@
-//! The streams of many inputs, with the heads drawn from them.
+//! Many input streams, with the heads drawn from them.
 
 ghost use Rattle.std.specs.Prelude.{◌≡◌, ◌+◌, ◌*◌, ◌<◌, ◌≤◌, [], length, slice_get, All, IfOk, IfSome, MatchOption, None};
 ghost use Rattle.rsb_many.specs.Drawn.{DrawnReady, HasNoHead, IsBegunOf, PutsBack, Refills, TakesHead};
@@ -80,8 +80,8 @@ impl<T: Integer, I: Draw<T>, A: Allocator> Drawn<T, I, A> {
         }
     }
 
-    /// Takes the least head out and returns it, or returns `None` if there is none. No range may be
-    /// due. Afterwards the next range of the head's input is due.
+    /// Takes the least head out and returns it, or returns `None` if there is none. There must be
+    /// no range due. Afterwards the next range of the head's input is due.
     pub(crate) fn take(&mut self) -> Option<Head<T>>
         requires none { self.old.used ≡ None }
         ensures taken { MatchOption result (HasNoHead self.old self.new)

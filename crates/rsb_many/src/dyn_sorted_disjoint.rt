@@ -111,7 +111,8 @@ pub(crate) fn one_more_taken<T: Integer, A: Allocator + Copy, I: DrawDisjoint<T>
 ) -> Result<Vec<DynSortedDisjoint<T, A>, A>, AllocError>
     requires taken { All ⟦<DynSortedDisjoint<T, A> as Draw<T>>⟧.can_draw taken.items }
     requires can { I.can_draw stream }
-    ensures ready { IfOk result (λ streams. All ⟦<DynSortedDisjoint<T, A> as Draw<T>>⟧.can_draw streams.items) }
+    ensures ready { IfOk result
+        (λ streams. All ⟦<DynSortedDisjoint<T, A> as Draw<T>>⟧.can_draw streams.items) }
     ensures more { IfOk result (λ streams.
         TakesOneMore ⟦<DynSortedDisjoint<T, A> as Draw<T>>⟧.may_give (I.may_give stream) taken.items
         streams.items) }

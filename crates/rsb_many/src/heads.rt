@@ -22,8 +22,8 @@ use std::alloc::{AllocError, Allocator, Global};
 use std::marker::Model;
 use std::ops::RangeInclusive;
 
-/// A range that was drawn from an input and is not used up. A sweep reports its start and later its
-/// end; a merge reports the whole range. The fields `start` and `end` are not adjacent. If they
+/// A range that was drawn from an input and is not used up yet. A sweep reports its start and later
+/// its end; a merge reports the whole range. The fields `start` and `end` are not adjacent. If they
 /// were, one load would read both just after two stores wrote them, and the processor would have to
 /// wait for the stores.
 #[derive(Clone, Copy, Debug, Drop)]

@@ -1,4 +1,4 @@
-//! Laws that callers rely on. The clause of each function is the law; the function does nothing.
+//! Laws that callers rely on. Each function does nothing, and its clauses state the law.
 
 ghost use Rattle.std.specs.Prelude.{◌≡◌, All, List};
 ghost use Rattle.rsb_integer.specs.Runs.{Interval};

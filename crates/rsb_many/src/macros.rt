@@ -15,8 +15,8 @@ macro_rules! union_dyn {
 
 /// Returns the intersection of the given streams: `intersection_dyn!(alloc, a, b, ..)`. The streams
 /// must be ready and may have different types. It collects the ranges of each into a list. If there
-/// are no streams, the result is every value. If allocation fails, it still evaluates the arguments
-/// that follow, and drops every stream.
+/// are no streams, the result has every value. If allocation fails, it still evaluates the
+/// arguments that follow, and drops every stream.
 #[macro_export]
 macro_rules! intersection_dyn {
     ($alloc:expr $(, $stream:expr)* $(,)?) => {{
@@ -26,10 +26,10 @@ macro_rules! intersection_dyn {
     }};
 }
 
-/// Returns what lies in an odd number of the given streams: `symmetric_difference_dyn!(alloc, a, b,
-/// ..)`. The streams must be ready and may have different types. It collects the ranges of each
-/// into a list. If there are no streams, the result is empty. If allocation fails, it still
-/// evaluates the arguments that follow, and drops every stream.
+/// Returns the values in an odd number of the given streams:
+/// `symmetric_difference_dyn!(alloc, a, b, ..)`. The streams must be ready and may have different
+/// types. It collects the ranges of each into a list. If there are no streams, the result is empty.
+/// If allocation fails, it still evaluates the arguments that follow, and drops every stream.
 #[macro_export]
 macro_rules! symmetric_difference_dyn {
     ($alloc:expr $(, $stream:expr)* $(,)?) => {{

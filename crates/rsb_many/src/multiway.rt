@@ -21,8 +21,9 @@ use rsb_streams::{Draw, DrawDisjoint, NotIter};
 use std::alloc::{AllocError, Allocator};
 
 /// Set algebra over finitely many streams of one type, each of which must be ready. Each call
-/// allocates only to build its result, and then draws the first range of each stream. If allocation
-/// fails, the streams are dropped. (`MultiwaySortedDisjoint` in range-set-blaze.)
+/// allocates only to build its result, and then draws the first range of each stream, or its first
+/// gap for `intersection`. If allocation fails, the streams are dropped. (`MultiwaySortedDisjoint`
+/// in range-set-blaze.)
 pub trait MultiwaySortedDisjoint<T: Integer, I: DrawDisjoint<T>>: IntoIterator<Item = I> {
     /// Returns the union of the streams, which is empty if there are none. It looks ahead by at
     /// most one range of each. (`MultiwaySortedDisjoint::union`.)
@@ -32,8 +33,10 @@ pub trait MultiwaySortedDisjoint<T: Integer, I: DrawDisjoint<T>>: IntoIterator<I
     ) -> Result<MultiwayUnion<T, I, A>, AllocError>
     where
         Self: Sized,
-        requires ends { IsEnding Self.into_iter_gives Self.IntoIter.can_next Self.IntoIter.remaining self }
-        requires can { EachGaveRun Self.into_iter_gives Self.IntoIter.next_gives self (All I.can_draw) }
+        requires ends { IsEnding Self.into_iter_gives Self.IntoIter.can_next Self.IntoIter.remaining
+            self }
+        requires can { EachGaveRun Self.into_iter_gives Self.IntoIter.next_gives self
+            (All I.can_draw) }
         ensures ready { IfOk result ⟦<MultiwayUnion<T, I, A> as Draw<T>>⟧.can_draw }
         ensures made { IfOk result (λ union.
             GaveRun Self.into_iter_gives Self.IntoIter.next_gives self
@@ -44,16 +47,18 @@ pub trait MultiwaySortedDisjoint<T: Integer, I: DrawDisjoint<T>>: IntoIterator<I
         Ok(MultiwayUnion::of(merge))
     }
 
-    /// Returns the intersection of the streams, which is every value if there are none. It holds at
-    /// most one gap of each. (`MultiwaySortedDisjoint::intersection`.)
+    /// Returns the intersection of the streams, which has every value if there are no streams. It
+    /// holds at most one gap of each. (`MultiwaySortedDisjoint::intersection`.)
     final fn intersection<A: Allocator + Copy>(
         self,
         alloc: A,
     ) -> Result<MultiwayIntersection<T, I, A>, AllocError>
     where
         Self: Sized,
-        requires ends { IsEnding Self.into_iter_gives Self.IntoIter.can_next Self.IntoIter.remaining self }
-        requires can { EachGaveRun Self.into_iter_gives Self.IntoIter.next_gives self (All I.can_draw) }
+        requires ends { IsEnding Self.into_iter_gives Self.IntoIter.can_next Self.IntoIter.remaining
+            self }
+        requires can { EachGaveRun Self.into_iter_gives Self.IntoIter.next_gives self
+            (All I.can_draw) }
         ensures ready { IfOk result ⟦<MultiwayIntersection<T, I, A> as Draw<T>>⟧.can_draw }
         ensures made { IfOk result (λ intersection.
             GaveRun Self.into_iter_gives Self.IntoIter.next_gives self
@@ -65,16 +70,18 @@ pub trait MultiwaySortedDisjoint<T: Integer, I: DrawDisjoint<T>>: IntoIterator<I
         Ok(MultiwayIntersection::of(merge))
     }
 
-    /// Returns what lies in an odd number of the streams: nothing if there are none. It holds at
-    /// most one range of each. (`MultiwaySortedDisjoint::symmetric_difference`.)
+    /// Returns the values in an odd number of the streams: none if there are no streams. It holds
+    /// at most one range of each. (`MultiwaySortedDisjoint::symmetric_difference`.)
     final fn symmetric_difference<A: Allocator + Copy>(
         self,
         alloc: A,
     ) -> Result<MultiwaySymmetricDifference<T, I, A>, AllocError>
     where
         Self: Sized,
-        requires ends { IsEnding Self.into_iter_gives Self.IntoIter.can_next Self.IntoIter.remaining self }
-        requires can { EachGaveRun Self.into_iter_gives Self.IntoIter.next_gives self (All I.can_draw) }
+        requires ends { IsEnding Self.into_iter_gives Self.IntoIter.can_next Self.IntoIter.remaining
+            self }
+        requires can { EachGaveRun Self.into_iter_gives Self.IntoIter.next_gives self
+            (All I.can_draw) }
         ensures ready { IfOk result ⟦<MultiwaySymmetricDifference<T, I, A> as Draw<T>>⟧.can_draw }
         ensures made { IfOk result (λ difference.
             GaveRun Self.into_iter_gives Self.IntoIter.next_gives self
@@ -85,9 +92,9 @@ pub trait MultiwaySortedDisjoint<T: Integer, I: DrawDisjoint<T>>: IntoIterator<I
         Ok(MultiwaySymmetricDifference::of(sweep))
     }
 
-    /// Returns what lies in at least `k` of the streams: every value if `k` is 0, and nothing if
+    /// Returns the values in at least `k` of the streams: every value if `k` is 0, and none if
     /// there are fewer than `k` streams. It holds at most one range of each. If `k` is at least 1,
-    /// it gives at most as many ranges as all streams together. Not in range-set-blaze.
+    /// it gives at most as many ranges as all the streams together. Not in range-set-blaze.
     final fn at_least<A: Allocator + Copy>(
         self,
         alloc: A,
@@ -95,8 +102,10 @@ pub trait MultiwaySortedDisjoint<T: Integer, I: DrawDisjoint<T>>: IntoIterator<I
     ) -> Result<MultiwayAtLeast<T, I, A>, AllocError>
     where
         Self: Sized,
-        requires ends { IsEnding Self.into_iter_gives Self.IntoIter.can_next Self.IntoIter.remaining self }
-        requires can { EachGaveRun Self.into_iter_gives Self.IntoIter.next_gives self (All I.can_draw) }
+        requires ends { IsEnding Self.into_iter_gives Self.IntoIter.can_next Self.IntoIter.remaining
+            self }
+        requires can { EachGaveRun Self.into_iter_gives Self.IntoIter.next_gives self
+            (All I.can_draw) }
         ensures ready { IfOk result ⟦<MultiwayAtLeast<T, I, A> as Draw<T>>⟧.can_draw }
         ensures made { IfOk result (λ deep.
             GaveRun Self.into_iter_gives Self.IntoIter.next_gives self

@@ -1,4 +1,4 @@
-//! What lies in at least the given number of streams.
+//! The values in at least the given number of streams.
 
 ghost use Rattle.std.specs.Prelude.{◌<◌, List};
 ghost use Rattle.rsb_streams.specs.StreamLaws.{canonical_stream-starts, drawn-itself};
@@ -18,16 +18,16 @@ use std::alloc::{Allocator, Global};
 use std::iter::FusedIterator;
 use std::ops::RangeInclusive;
 
-/// What lies in at least a given number of the streams: every value if that number is 0, and
-/// nothing if there are fewer streams. It draws the first range of each stream when it is built,
-/// and holds at most one range of each. It allocates only when it is built. Not in range-set-blaze.
+/// The values in at least a given number of streams: every value if that number is 0, and none if
+/// there are fewer streams. It draws the first range of each stream when it is built, and holds at
+/// most one range of each. It allocates only when it is built. Not in range-set-blaze.
 #[derive(Debug, Drop)]
 pub struct MultiwayAtLeast<T: Integer, I, A: Allocator = Global> {
     iter: UnionIter<T, DeepPieces<T, I, A>>,
 }
 
 impl<T: Integer, I: Draw<T>, A: Allocator> MultiwayAtLeast<T, I, A> {
-    /// Returns what lies in at least `least` streams of a sweep that was just made. It draws
+    /// Returns the values in at least `least` streams of a sweep that was just built. It draws
     /// nothing more.
     pub(crate) fn of(sweep: MultiwaySweep<T, I, A>, least: usize) -> Self
         requires { (streams : List I) × SweepsOver T.Integer.own I.Draw streams sweep }

@@ -1,4 +1,4 @@
-//! What lies in an odd number of streams.
+//! The values in an odd number of streams.
 
 ghost use Rattle.std.specs.Prelude.{All, IfOk, List};
 ghost use Rattle.rsb_streams.specs.Items.{GaveRun, IsEnding};
@@ -17,18 +17,18 @@ use std::alloc::{AllocError, Allocator, Global};
 use std::iter::FusedIterator;
 use std::ops::RangeInclusive;
 
-/// What lies in an odd number of the streams: nothing if there are none. It draws the first range
-/// of each stream when it is built, and holds at most one range of each. It allocates only when it
-/// is built. (`MultiwaySymmetricDifference` in range-set-blaze.)
+/// The values in an odd number of the streams: none if there are no streams. It draws the first
+/// range of each stream when it is built, and holds at most one range of each. It allocates only
+/// when it is built. (`MultiwaySymmetricDifference` in range-set-blaze.)
 #[derive(Debug, Drop)]
 pub struct MultiwaySymmetricDifference<T: Integer, I, A: Allocator = Global> {
     iter: UnionIter<T, SweepPieces<T, I, A>>,
 }
 
 impl<T: Integer, I: SortedTouching<T>, A: Allocator + Copy> MultiwaySymmetricDifference<T, I, A> {
-    /// Returns what lies in an odd number of finitely many streams: nothing if there are none. Each
-    /// stream must be ready, and its ranges may touch. It allocates room for all streams and draws
-    /// the first range of each. If allocation fails, the streams are dropped. Not in
+    /// Returns the values in an odd number of finitely many streams: none if there are no streams.
+    /// Each stream must be ready, and its ranges may touch. It allocates room for all streams and
+    /// draws the first range of each. If allocation fails, the streams are dropped. Not in
     /// range-set-blaze.
     pub fn new_touching<K: IntoIterator<Item = I>>(alloc: A, inputs: K) -> Result<Self, AllocError>
         requires ends { IsEnding K.into_iter_gives K.IntoIter.can_next K.IntoIter.remaining inputs }
@@ -45,7 +45,7 @@ impl<T: Integer, I: SortedTouching<T>, A: Allocator + Copy> MultiwaySymmetricDif
 }
 
 impl<T: Integer, I: Draw<T>, A: Allocator> MultiwaySymmetricDifference<T, I, A> {
-    /// Returns what lies in an odd number of the streams of a sweep that was just made. It draws
+    /// Returns the values in an odd number of the streams of a sweep that was just built. It draws
     /// nothing more.
     pub(crate) fn of(sweep: MultiwaySweep<T, I, A>) -> Self
         requires { (streams : List I) × SweepsOver T.Integer.own I.Draw streams sweep }

@@ -10,9 +10,9 @@ use std::marker::{Model, PhantomData};
 use std::vec::IntoIter;
 
 /// Ready streams of one type, in the order in which they were added. A loop that fills it needs no
-/// invariant. Every operation on many streams takes it by value, such as `streams.union(alloc)?` or
-/// `MultiwaySweep::new(alloc, streams)?`. Contracts see it as the list of its streams. Not in
-/// range-set-blaze.
+/// invariant. Every operation on many streams takes it by value, for example
+/// `streams.union(alloc)?` or `MultiwaySweep::new(alloc, streams)?`. Contracts see it as the list
+/// of its streams. Not in range-set-blaze.
 #[derive(Drop)]
 pub struct Streams<T: Integer, I: Draw<T>, A: Allocator = Global> {
     list: Vec<I, A>,

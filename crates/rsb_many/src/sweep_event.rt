@@ -10,7 +10,7 @@ pub enum SweepEvent<T> {
         range: RangeInclusive<T>,
         input: usize,
     },
-    /// The range of the input that started last ends at this value.
+    /// The input's range that started last ends at this value.
     End {
         at: T,
         input: usize,

@@ -1,4 +1,4 @@
-//! What lies in an odd number of streams, as pieces that may touch.
+//! The values in an odd number of streams, as pieces that may touch.
 
 ghost use Rattle.std.specs.Prelude.{◌≡◌, ◌+◌, ◌<◌, IfSome, None};
 ghost use Rattle.rsb_many.specs.Sweep.{event_of};
@@ -12,7 +12,7 @@ use rsb_streams::Draw;
 use std::alloc::{Allocator, Global};
 use std::ops::RangeInclusive;
 
-/// What lies in an odd number of the streams of a sweep, as pieces that may touch. Each event ends
+/// The values in an odd number of the streams of a sweep, as pieces that may touch. Each event ends
 /// a piece or begins one.
 #[derive(Debug, Drop)]
 pub(crate) struct SweepPieces<T: Integer, I, A: Allocator = Global> {
@@ -50,7 +50,7 @@ fn pass_start<T: Integer>(start: &mut Option<T>, next: T) -> Option<RangeInclusi
 }
 
 /// Passes the end of a range. A piece that has begun ends there, and is returned unless it is
-/// empty. If none has begun, one begins just past it, unless that is past the type.
+/// empty. If none has begun, one begins just past it, unless there is no value past it.
 fn pass_end<T: Integer>(start: &mut Option<T>, last: T) -> Option<RangeInclusive<T>>
     requires start { IfSome start.old (λ value. T.rank value < T.value_count) }
     requires last { T.rank last < T.value_count }

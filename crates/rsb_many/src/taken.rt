@@ -54,8 +54,9 @@ pub fn union_of_taken<T: Integer, A: Allocator + Copy>(
     MultiwaySortedDisjoint::union(taken?, alloc)
 }
 
-/// Returns the intersection of the collected streams, which is every value if there are none. They
-/// must be ready. An earlier error is passed on. If allocation fails, it drops every stream.
+/// Returns the intersection of the collected streams, which has every value if there are no
+/// streams. They must be ready. An earlier error is passed on. If allocation fails, it drops every
+/// stream.
 pub fn intersection_of_taken<T: Integer, A: Allocator + Copy>(
     alloc: A,
     taken: Result<Vec<DynSortedDisjoint<T, A>, A>, AllocError>,

@@ -29,7 +29,7 @@ pub record IsSlot (word : List ℕ) (slot : ℕ) : Type 0 where
   pub one_digit : slot < 10
 
 -- Whether the word is an optional sign and at least one decimal digit, and spells `number`, which
--- fits 32 bits.
+-- fits in 32 bits.
 pub record IsNumber (word : List ℕ) (number : ℤ) : Type 0 where
   pub digits : IsNumeral 10 (without_leading_sign word)
   pub value : number ≡ signed_digits_value 10 word
@@ -151,7 +151,8 @@ pub record BeginsWith (Holds : List ℕ → Type 0) (line rest : List ℕ) : Typ
   pub parts : words line ≡ word ∷ words rest
   pub holds : Holds word
 
--- Whether the fact holds of no value at the first word of the line. A line without words lacks one.
+-- Whether the fact holds of no value at the first word of the line. This is so for a line without
+-- words.
 abbrev pub LacksFirst : {X : Type 0} → (List ℕ → X → Type 0) → List ℕ → Type 0
 LacksFirst {X} Holds line =
     (word : List ℕ) (others : List (List ℕ)) → words line ≡ word ∷ others

@@ -1,28 +1,28 @@
-//! The commands to the ten sets.
+//! The commands for the ten sets.
 
 use crate::set_no::SetNo;
 
-/// A command to the sets in the given slots. A target may also be a source: the result is computed
+/// A command for the sets in the given slots. A target may also be a source: the result is computed
 /// from the sets as they were before the command.
 #[derive(Clone, Copy, Debug, PartialEq, Eq)]
 pub enum Command<T> {
-    /// Adds the values from `first` to `last`, and reports whether one of them was new.
+    /// Adds the values from `first` to `last`, and reports whether any of them was new.
     Add {
         slot: SetNo,
         first: T,
         last: T,
     },
-    /// Removes a value, and reports whether the set had it.
+    /// Removes a value, and reports whether the set contained it.
     Del {
         slot: SetNo,
         value: T,
     },
-    /// Reports whether the set has the value.
+    /// Reports whether the set contains the value.
     Has {
         slot: SetNo,
         value: T,
     },
-    /// Reports the run or the gap that the value lies in.
+    /// Reports the run or the gap that contains the value.
     Gap {
         slot: SetNo,
         value: T,

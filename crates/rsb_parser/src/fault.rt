@@ -8,14 +8,16 @@ use std::alloc::{AllocError, AllocFailed};
 use std::error::Error;
 use std::fmt;
 
-/// The first fault that was met.
+/// The first fault that was encountered.
 #[derive(Clone, Copy, Debug, PartialEq, Eq)]
 pub enum Fault {
-    /// A line is not a command. The number is that of the first such line, counted from 1.
+    /// A line has words but is not a command. The number is that of the first such line, counted
+    /// from 1.
     BadLine(u64),
     /// An allocation failed.
     NoMemory,
-    /// A read or a write failed.
+    /// A read or a write failed, or the input is too long. It is too long if it has 2^64 lines or
+    /// more, or has not ended after 2^64 - 1 reads.
     Io,
 }
 

@@ -1,4 +1,4 @@
-//! Commands to ten sets, read from the lines that spell them.
+//! Commands for ten sets, read from the lines that spell them.
 #![tactic(auto)]
 
 pub mod command;

@@ -15,8 +15,9 @@ use memchr::memchr_iter;
 use std::alloc::Allocator;
 
 /// Returns the commands that the lines spell, or `BadLine` with the number of the first line that
-/// spells none. It allocates only for the list of commands, and returns `NoMemory` if that fails.
-/// So `NoMemory` is possible only if the first line with words spells a command.
+/// has words but spells no command. It allocates only for the list of commands, and returns
+/// `NoMemory` if that fails. So `NoMemory` is possible only if the first line with words spells a
+/// command.
 pub fn parse_commands<A: Allocator + Copy>(
     alloc: A,
     input: &[u8],

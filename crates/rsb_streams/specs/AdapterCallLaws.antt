@@ -29,7 +29,8 @@ module _ {S T : Type 0} (rank : T → ℕ) (P : S → Outcomes)
     (steps : S → Option (RangeInclusive T) → S → Type 0)
     (gives : (s t : S) (range : RangeInclusive T) → steps s (Some range) t
     → Answers rank P s (Some range) t) where
-  -- What calls returned, followed by what may still come, might come before the calls.
+  -- Before the calls, what they returned, followed by what may still come, was one of the lists
+  -- that might come.
   pub passed : (ranges : List (RangeInclusive T)) (s t : S) (rest : List Interval)
       → Yields steps s ranges t → P t rest → P s (intervals_of rank ranges ++ rest)
   passed [] s t rest all may = subst (λ each. P each rest) (sym all) may
@@ -37,7 +38,7 @@ module _ {S T : Type 0} (rank : T → ℕ) (P : S → Outcomes)
       gives s all.0 range all.1 (intervals_of rank ranges ++ rest)
       (passed ranges all.0 t rest all.2 may)
 
-  -- So might ranges that were passed over, followed by one more.
+  -- The same holds of ranges that were passed over, followed by one more and what may still come.
   passed-then : (ranges : List (RangeInclusive T)) (s t : S) (range : RangeInclusive T)
       (rest : List Interval) → YieldsThen steps s ranges (Some range) t → P t rest
       → P s (intervals_of rank ranges ++ interval_of rank range ∷ rest)
@@ -46,7 +47,7 @@ module _ {S T : Type 0} (rank : T → ℕ) (P : S → Outcomes)
       (gives call.0 t range call.2 rest may)
 
   module _ {F : Type 0} (call : Mut F (Bor (RangeInclusive T) × Unit {0}) Bool) where
-    -- A call of `Filter` that returns a range fits what it may give.
+    -- A call to `Filter` that returns a range fits what it may give.
     pub filter-gives : (s t : Filter S F) (range : RangeInclusive T)
         → filter_steps steps call s (Some range) t
         → Answers rank (filter_may_give P) s (Some range) t
@@ -65,7 +66,7 @@ module _ {S T : Type 0} (rank : T → ℕ) (P : S → Outcomes)
       pub after : take_while_done t ≡ false
       pub source : steps (take_while_source s) (Some range) (take_while_source t)
 
-    -- The cases are what the closure returned.
+    -- By cases on what the closure returned.
     takes-passed : (s t : TakeWhile S F) (range each : RangeInclusive T) (passes : Bool)
         → take_while_done s ≡ false
         → steps (take_while_source s) (Some each) (take_while_source t)
@@ -80,7 +81,7 @@ module _ {S T : Type 0} (rank : T → ℕ) (P : S → Outcomes)
     }
     takes-passed s t range each false before step answer = let no = answer.0 in absurd (cc)
 
-    -- The cases are what the stream returned, and whether the `TakeWhile` was done.
+    -- By cases on what the stream returned, and on whether the `TakeWhile` was done.
     takes-asked : (s t : TakeWhile S F) (range : RangeInclusive T)
         (asked : Option (RangeInclusive T)) → take_while_done s ≡ false
         → steps (take_while_source s) asked (take_while_source t)
@@ -105,7 +106,7 @@ module _ {S T : Type 0} (rank : T → ℕ) (P : S → Outcomes)
     takes-by s t range true is answer = let no = answer.0 in absurd (cc)
     takes-by s t range false is answer = takes-asked s t range answer.0 is answer.1 answer.2
 
-    -- A call of `TakeWhile` that returns a range fits what it may give.
+    -- A call to `TakeWhile` that returns a range fits what it may give.
     pub take_while-gives : (s t : TakeWhile S F) (range : RangeInclusive T)
         → take_while_steps steps call s (Some range) t
         → Answers rank (take_while_may_give P) s (Some range) t
@@ -124,8 +125,8 @@ module _ {S T : Type 0} (rank : T → ℕ) (P : S → Outcomes)
         (subst (λ done. MatchBool done (run ∷ rest ≡ []) (IsPrefix (run ∷ rest) (run ∷ given)))
         (sym takes.before) longer))
 
-    -- What follows if a `SkipWhile` returns a range: it passed over ranges before it, none if it
-    -- had stopped skipping, and it skips no more.
+    -- What follows if a `SkipWhile` returns a range: it passed over some ranges before that one, or
+    -- none if it had already stopped skipping, and it skips no more.
     pub record SkipsTo (s : SkipWhile S F) (range : RangeInclusive T) (t : SkipWhile S F) : Type
         0 where
       pub passed : List (RangeInclusive T)
@@ -155,8 +156,8 @@ module _ {S T : Type 0} (rank : T → ℕ) (P : S → Outcomes)
       none = λ started. absurd (cc);
     }
 
-    -- A call of `SkipWhile` that returns a range fits what it may give. The cases are whether it
-    -- had stopped skipping before the call.
+    -- A call to `SkipWhile` that returns a range fits what it may give. By cases on whether it had
+    -- stopped skipping before the call.
     skip_while-by : (started after : Bool) (ranges : List (RangeInclusive T)) (s t : S)
         (range : RangeInclusive T) (rest given : List Interval) → after ≡ true
         → (started ≡ true → ranges ≡ [])
@@ -185,7 +186,8 @@ module _ {S T : Type 0} (rank : T → ℕ) (P : S → Outcomes)
         (skip_while-by (skip_while_done_skipping s) (skip_while_done_skipping t) skips.passed
         (skip_while_source s) (skip_while_source t) range rest given skips.after skips.none part))
 
-  -- With one range put before a list, its first ranges are one more.
+  -- If `rest` has the first `count` intervals of a list, then `run` followed by `rest` has the
+  -- first `count + 1` intervals of the list with `run` in front.
   take-one_more : (run : Interval) (count more : ℕ) (rest given : List Interval)
       → count + 1 ≡ more → rest ≡ take count given → run ∷ rest ≡ take more (run ∷ given)
   take-one_more run count zero rest given is part = absurd (omega (arith, is))
@@ -193,7 +195,7 @@ module _ {S T : Type 0} (rank : T → ℕ) (P : S → Outcomes)
       let same : count ≡ more = omega (arith, is) in
       rw (sym same) (ap (λ runs. run ∷ runs) part)
 
-  -- A call of `Take` that returns a range fits what it may give.
+  -- A call to `Take` that returns a range fits what it may give.
   pub take-gives : (s t : Take S) (range : RangeInclusive T) → take_steps steps s (Some range) t
       → Answers rank (take_may_give P) s (Some range) t
   take-gives s t range call rest may = λ nothing. may (λ given at part.
@@ -217,7 +219,7 @@ module _ {S T : Type 0} (rank : T → ℕ) (P : S → Outcomes)
       subst (λ each. drop each (intervals_of rank ranges ++ runs) ≡ runs)
       (length-map ranges (interval_of rank) ∙ is) (drop-append_seam (intervals_of rank ranges) runs)
 
-  -- A call of `Skip` that returns a range fits what it may give.
+  -- A call to `Skip` that returns a range fits what it may give.
   pub skip-gives : (s t : Skip S) (range : RangeInclusive T) → skip_steps steps s (Some range) t
       → Answers rank (skip_may_give steps P) s (Some range) t
   skip-gives s t range call rest may = λ nothing. may (λ given at part.
@@ -229,8 +231,7 @@ module _ {S T : Type 0} (rank : T → ℕ) (P : S → Outcomes)
       (passed-then passed (skip_source s) (skip_source t) range given call.1.1 at)
       (inl (ap (λ runs. run ∷ runs) left ∙ sym dropped)))
 
-  -- A call of `Fuse` that returns a range fits what it may give. The cases are whether it had
-  -- ended.
+  -- A call to `Fuse` that returns a range fits what it may give. By cases on whether it had ended.
   fuse-by : (done after : Bool) (s t : S) (range : RangeInclusive T) (rest : List Interval)
       → MatchBool done (Some range ≡ None) (steps s (Some range) t) → after ≡ false
       → unless after (P t) rest → unless done (P s) (interval_of rank range ∷ rest)

@@ -34,7 +34,7 @@ module _ {S T N : Type 0} (integer : Elements T N) (stream : Stream S T N)
     (sorted : IsSorted integer stream) (drawn : NextIsDraw stream next) where
   open integer use {rank, value_count as n}
 
-  -- A call of `next` of the stream that returns a range fits what the stream may give.
+  -- A call to the stream's `next` that returns a range fits what the stream may give.
   gives : (s t : S) (range : RangeInclusive T) → next.next_gives s (Some range) t
       → Answers rank stream.may_give s (Some range) t
   gives s t range call = answers s t (Some range) (drawn.gives s t range call)
@@ -129,7 +129,7 @@ module _ {S T N : Type 0} (integer : Elements T N) (stream : Stream S T N)
         (stream.draws_left source) (next.remaining source) (finite source ready.source)
         (sorted source ready.source)
 
-    -- If a `SkipWhile` returns `None`, it may give the empty list. The cases are whether it has
+    -- If a `SkipWhile` returns `None`, it may give the empty list. By cases on whether it has
     -- stopped skipping.
     skip_while-none : (started : Bool) (s t : S) → next.can_next s
         → MatchBool started (next.next_gives s None t) (Unit {0})
@@ -184,8 +184,8 @@ module _ {S T N : Type 0} (integer : Elements T N) (stream : Stream S T N)
         (stream.draws_left source) (next.remaining source) (finite source ready.source)
         (sorted source ready.source)
 
-  -- If a `Take` returns `None`, it may give the empty list. The cases are how many ranges it still
-  -- gives.
+  -- If a `Take` returns `None`, it may give the empty list. By cases on how many ranges it may
+  -- still give.
   take-none : (count : ℕ) (s t : S) → next.can_next s → (0 < count → next.next_gives s None t)
       → part_of (stream.may_give s) (λ runs given. runs ≡ take count given) []
   take-none zero s t can each = λ nothing. some s can (λ given at. nothing given at refl)
@@ -215,7 +215,7 @@ module _ {S T N : Type 0} (integer : Elements T N) (stream : Stream S T N)
       part-keeps n (take-is_part (take_count s)) (stream.may_give source)
       (stream.draws_left source) (takes.remaining s) tt (sorted source ready.source)
 
-  -- If a `Skip` returns `None`, it may give the empty list. The cases are how many ranges it still
+  -- If a `Skip` returns `None`, it may give the empty list. By cases on how many ranges it still
   -- skips.
   skip-none : (count : ℕ) (s t : S) (ranges : List (RangeInclusive T)) → next.can_next s
       → YieldsThen next.next_gives s ranges None t → length ranges ≤ count
@@ -252,8 +252,8 @@ module _ {S T N : Type 0} (integer : Elements T N) (stream : Stream S T N)
       (stream.draws_left source) (skips.remaining s) (finite source ready.source)
       (sorted source ready.source)
 
-  -- If a `Fuse` returns `None`, it may give the empty list. The cases are whether it had ended
-  -- before.
+  -- If a `Fuse` returns `None`, it may give the empty list. By cases on whether it had already
+  -- ended.
   fuse-none : (done : Bool) (s t : S) → (done ≡ false → next.can_next s)
       → MatchBool done (◌≡◌ {A = Option (RangeInclusive T)} None None) (next.next_gives s None t) → unless done (stream.may_give s) []
   fuse-none true s t can each = refl

@@ -41,7 +41,7 @@ abbrev pub skip_while_may_give : {S F : Type 0} → (S → Outcomes) → SkipWhi
 skip_while_may_give may_give s = part_of (may_give (skip_while_source s))
     (λ runs given. MatchBool (skip_while_done_skipping s) (runs ≡ given) (IsSuffix runs given))
 
--- The given number of first ranges of what the stream may give.
+-- The first ranges of what the stream may give, up to the given number.
 abbrev pub take_may_give : {S : Type 0} → (S → Outcomes) → Take S → Outcomes
 take_may_give may_give s =
     part_of (may_give (take_source s)) (λ runs given. runs ≡ take (take_count s) given)
@@ -51,14 +51,14 @@ abbrev pub EndsWithin : {S A : Type 0} → (S → Option A → S → Type 0) →
 EndsWithin {S} {A} steps s count =
     (items : List A) × (t : S) × YieldsThen steps s items None t × (length items ≤ count)
 
--- Whether `runs` is `given` without the given number of first ranges, or is empty because the calls
--- may end before them.
+-- Whether `runs` is `given` without its first `count` ranges, or is empty because the calls may end
+-- within those.
 abbrev pub IsSkipped : {S A : Type 0} → (S → Option A → S → Type 0) → S → ℕ
     → List Interval → List Interval → Type 0
 IsSkipped steps s count runs given = (runs ≡ drop count given)
     ⊎ ((0 < count) × (runs ≡ []) × EndsWithin steps s count)
 
--- What the stream may give, without as many first ranges as are skipped.
+-- What the stream may give, without the ranges at its start that are skipped.
 abbrev pub skip_may_give : {S A : Type 0} → (S → Option A → S → Type 0) → (S → Outcomes)
     → Skip S → Outcomes
 skip_may_give steps may_give s =
@@ -66,7 +66,7 @@ skip_may_give steps may_give s =
 
 -- ---- when they are ready, and what a draw returns
 
--- Whether a draw is a call of `next` that fits what may be given.
+-- Whether a draw is a call to `next` that fits what may be given.
 pub record IsCall {S T : Type 0} (rank : T → ℕ)
     (next_gives : S → Option (RangeInclusive T) → S → Type 0) (may_give : S → Outcomes)
     (s : S) (item : Option (RangeInclusive T)) (t : S) : Type 0 where
@@ -81,7 +81,7 @@ pub record MayDraw (Source Closure Drawn : Type 0) : Type 0 where
   pub drawn : Drawn
 
 -- Whether the `next` of a stream is its `draw`. This is a fact and not a bound: with a bound, what
--- the compiler passes would double at each level of a nest of adapters.
+-- the compiler passes would double at each level of nested adapters.
 abbrev pub NextIsDraw : {S T N : Type 0} → Stream S T N → Iteration S (RangeInclusive T) → Type 0
 NextIsDraw stream next = IsDrawn stream.can_draw stream.draw_gives stream.draws_left
     next.can_next next.next_gives next.remaining
@@ -128,7 +128,7 @@ module _ {S T N : Type 0} (integer : Elements T N) (stream : Stream S T N)
         (λ s. CallableWhileAt next.next_gives call true (take_while_source s) (take_while_callee s))
         (take_while_may_give stream.may_give)
 
-    -- `SkipWhile` as a stream: the ranges starting at the first that fails the test.
+    -- `SkipWhile` as a stream: the first range that fails the test, and all ranges after it.
     abbrev pub skip_while_draws : Iteration (SkipWhile S F) (RangeInclusive T)
         → Stream (SkipWhile S F) T N
     skip_while_draws own = adapted own (λ s. stream.can_draw (skip_while_source s))

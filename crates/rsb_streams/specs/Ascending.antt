@@ -1,4 +1,5 @@
--- Streams known by one law of one call: where the range is, and where the next one may start.
+-- Streams of which one law about a single call is known: where its range is, and where the next one
+-- may start.
 use Rattle.std.specs.Prelude.{ℕ, ◌+◌, ◌<◌, ◌≤◌}
 use Rattle.std.specs.Iterator.{Count, IsNearerEnd}
 use Rattle.std.specs.declared.ops.RangeInclusive.{RangeInclusive}
@@ -6,8 +7,8 @@ use Rattle.rsb_integer.specs.Rank.{interval_of}
 
 module _ {S T : Type 0} (rank : T → ℕ) (n : ℕ) (can_next : S → Type 0) (remaining : S → Count)
     (low : S → ℕ) where
-  -- Whether the range of a call from `s` is non-empty, within the type, and starts at `low s` or
-  -- later. Whatever comes after it leaves a gap, and fewer ranges are left.
+  -- Whether the range of a call from `s` is non-empty, is within the type, and starts at `low s` or
+  -- later. Whatever comes after it leaves a gap, and fewer ranges are still to come.
   pub record Ascends (s : S) (range : RangeInclusive T) (t : S) : Type 0 where
     pub from_low : low s ≤ (interval_of rank range).first
     pub in_order : (interval_of rank range).first ≤ (interval_of rank range).last

@@ -1,4 +1,5 @@
--- The laws of streams known by one law of one call: they are canonical, or ascend and may touch.
+-- The laws of streams of which one law about a single call is known: they are canonical, or ascend
+-- and may touch.
 use Rattle.std.proofs.Common.{ℕ, ◌+◌, ◌<◌, ◌≤◌, List, [], ◌∷◌, subst, sym, arith}
 use Rattle.std.proofs.lemmas.List.Elements.{All-cons, All-nil}
 use Rattle.std.specs.Prelude.{Option, Some}
@@ -49,7 +50,7 @@ module _ {S T : Type 0} (rank : T → ℕ) (n : ℕ) (can_next : S → Type 0)
     (steps : S → Option (RangeInclusive T) → S → Type 0) (remaining : S → Count) (low : S → ℕ)
     (ascends : (s t : S) (range : RangeInclusive T) → can_next s → steps s (Some range) t
     → AscendsTouching rank n can_next remaining low s range t) where
-  -- What calls give ascends from each rank that is at most `low`, and may touch.
+  -- The ranges that calls give ascend from each rank that is at most `low`, and may touch.
   touching-from : (ranges : List (RangeInclusive T)) (s t : S) (from : ℕ) → can_next s
       → from ≤ low s
       → Yields steps s ranges t

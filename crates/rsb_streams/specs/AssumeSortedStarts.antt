@@ -9,7 +9,7 @@ use Rattle.rsb_streams.specs.Stream.{HasSortedStarts}
 use Rattle.rsb_streams.specs.declared.assume_sorted_starts.AssumeSortedStarts.{AssumeSortedStarts}
 use Rattle.rsb_streams.specs.declared.draw.Draw.{Ghosts as Stream}
 
--- What calls of the iterator may give, and nothing once it has ended.
+-- What calls to the iterator may give, and nothing once it has ended.
 abbrev pub assume_sorted_starts : {I T N : Type 0} → Elements T N → Iteration I (RangeInclusive T)
     → Stream (AssumeSortedStarts T I) T N
 assume_sorted_starts integer iterator = through (λ s. s.iter)

@@ -10,8 +10,8 @@ use Rattle.rsb_streams.specs.Stream.{Outcomes}
 use Rattle.rsb_streams.specs.declared.draw.Draw.{Ghosts as Stream}
 
 module _ {S T : Type 0} (rank : T → ℕ) (call : S → Option (RangeInclusive T) → S → Type 0) where
-  -- The lists that calls from `s` may give before they return `None`, or before no call can return
-  -- a range.
+  -- The lists that calls from `s` may give until they return `None`, or until no call can return a
+  -- range.
   abbrev pub gives_by : S → Outcomes
   gives_by s runs = (ranges : List (RangeInclusive T)) × (t : S) × (runs ≡ intervals_of rank ranges)
       × Yields call s ranges t
@@ -29,7 +29,7 @@ module _ {I T : Type 0} (rank : T → ℕ) (iterator : Iteration I (RangeInclusi
   abbrev pub calls_give : I → Outcomes
   calls_give = gives_by rank Call
 
-  -- Whether the iterator may be called, ends, and whatever its calls have given at any point
+  -- Whether the iterator may be called and ends, and whatever its calls have given at any point
   -- satisfies the law.
   pub record IsSource (law : List Interval → Type 0) (s : I) : Type 0 where
     pub callable : iterator.can_next s
@@ -37,11 +37,11 @@ module _ {I T : Type 0} (rank : T → ℕ) (iterator : Iteration I (RangeInclusi
     pub fronts : (ranges : List (RangeInclusive T)) (t : I) → Yields Call s ranges t
         → law (intervals_of rank ranges)
 
-  -- Whether every iterator that the value becomes is such a source.
+  -- Whether every iterator that the value converts into is such a source.
   abbrev pub GivesOnly : {J : Type 0} → (J → I → Type 0) → (List Interval → Type 0) → J → Type 0
   GivesOnly becomes law value = (iter : I) → becomes value iter → IsSource law iter
 
-  -- What the iterator that the value becomes may give.
+  -- What the iterator that the value converts into may give.
   abbrev pub gives_as : {J : Type 0} → (J → I → Type 0) → J → Outcomes
   gives_as becomes value runs = (iter : I) × becomes value iter × calls_give iter runs
 

@@ -28,8 +28,8 @@ module _ {S T : Type 0} (rank : T → ℕ) (call : S → Option (RangeInclusive 
     at.4,
   )
 
-  -- If each range leaves fewer to come, calls give something. `more` is at least the number that is
-  -- left.
+  -- If fewer ranges are still to come after each range, calls give something. `more` is at least
+  -- the number still to come.
   pub gives_by-some : (can_next : S → Type 0) (left : S → ℕ)
       → ((s t : S) (range : RangeInclusive T) → can_next s → call s (Some range) t
       → can_next t × (left t < left s))
@@ -54,7 +54,7 @@ module _ {S T : Type 0} (rank : T → ℕ) (call : S → Option (RangeInclusive 
   )
 
 module _ {I T : Type 0} (rank : T → ℕ) (iterator : Iteration I (RangeInclusive T)) where
-  -- A call that returns a range leaves fewer.
+  -- After a call that returns a range, fewer are still to come.
   fewer : (s t : I) (range : RangeInclusive T) → IsFinite (iterator.remaining s)
       → Call rank iterator s (Some range) t
       → IsFinite (iterator.remaining t) × (size (iterator.remaining t) < size (iterator.remaining s))

@@ -9,7 +9,7 @@ use Rattle.rsb_streams.specs.Rows.{through}
 use Rattle.rsb_streams.specs.declared.check_sorted_disjoint.CheckSortedDisjoint.{CheckSortedDisjoint}
 use Rattle.rsb_streams.specs.declared.draw.Draw.{Ghosts as Stream}
 
--- What calls of the iterator may give, and nothing once it has ended.
+-- What calls to the iterator may give, and nothing once it has ended.
 abbrev pub check_sorted_disjoint : {I T N : Type 0} → Elements T N → Iteration I (RangeInclusive T)
     → Stream (CheckSortedDisjoint T I) T N
 check_sorted_disjoint integer iterator = through (λ s. s.iter)

@@ -9,7 +9,7 @@ use Rattle.rsb_streams.specs.Touching.{IsTouchingIn}
 use Rattle.rsb_streams.specs.declared.check_sorted_touching.CheckSortedTouching.{CheckSortedTouching}
 use Rattle.rsb_streams.specs.declared.draw.Draw.{Ghosts as Stream}
 
--- What calls of the iterator may give, and nothing once it has ended.
+-- What calls to the iterator may give, and nothing once it has ended.
 abbrev pub check_sorted_touching : {I T N : Type 0} → Elements T N → Iteration I (RangeInclusive T)
     → Stream (CheckSortedTouching T I) T N
 check_sorted_touching integer iterator = through (λ s. s.iter)

@@ -37,7 +37,7 @@ abbrev pub values_from : {T : Type 0} → (T → ℕ) → ℕ → Option T → �
 values_from rank n None = 0
 values_from rank n (Some start) = n - rank start
 
--- At most as many runs and gaps are left as values.
+-- At most as many runs and gaps are left as there are values left.
 abbrev pub fill_remaining : {T N I : Type 0} → Elements T N → FillGapsIter T I → Count
 fill_remaining integer s = at_most (values_from integer.rank integer.value_count s.start)
 

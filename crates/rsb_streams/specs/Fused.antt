@@ -15,7 +15,7 @@ fuse_may_give may_give s = unless (fuse_done s) (may_give (fuse_source s))
 abbrev pub fuse_can_next : {S : Type 0} → (S → Type 0) → Fuse S → Type 0
 fuse_can_next can_next s = fuse_done s ≡ false → can_next (fuse_source s)
 
--- The number of items left in a `Fuse`: as many as in its stream, and none once that has ended.
+-- The greatest number of items left in a `Fuse`: that of its stream, or 0 once that has ended.
 abbrev pub fuse_remaining : {S : Type 0} → (S → Count) → Fuse S → Count
 fuse_remaining remaining s = count_unless (fuse_done s) (remaining (fuse_source s))
 
@@ -32,13 +32,13 @@ fused_may_give may_give s = unless s.done (may_give s.iter)
 abbrev pub fused_can : {S : Type 0} → (S → Type 0) → Fused S → Type 0
 fused_can can s = s.done ≡ false → can s.iter
 
--- The number of ranges left in a stream with a flag: as many as in the stream, and none once that
+-- The greatest number of ranges left in a stream with a flag: that of the stream, or 0 once that
 -- has ended.
 abbrev pub fused_left : {S : Type 0} → (S → Count) → Fused S → Count
 fused_left left s = count_unless s.done (left s.iter)
 
--- Whether a call is one of the stream, or returns `None` because that has ended. The flag is set
--- exactly if the call returns `None`.
+-- Whether a call is a call to the stream, or returns `None` because the stream has ended. The flag
+-- is set exactly when the call returns `None`.
 abbrev pub fused_steps : {S A : Type 0} → (S → Option A → S → Type 0) → Fused S → Option A
     → Fused S → Type 0
 fused_steps steps s item t = MatchBool s.done (item ≡ None) (steps s.iter item t.iter)

@@ -14,7 +14,7 @@ use Rattle.rsb_streams.specs.declared.draw.Draw.{Ghosts as Stream}
 
 module _ {S T N : Type 0} (integer : Elements T N) (stream : Stream S T N)
     (answers : IsAnswered integer stream) where
-  -- A call fits what may be given. The cases are whether the stream had ended before it, and after
+  -- A call fits what may be given. By cases on whether the stream had ended before it, and after
   -- it.
   answers-by : (done after : Bool) (s t : S) (item : Option (RangeInclusive T))
       → MatchBool done (item ≡ None) (stream.draw_gives s item t)
@@ -28,18 +28,18 @@ module _ {S T N : Type 0} (integer : Elements T N) (stream : Stream S T N)
   answers-by false true s t (Some range) call end = absurd (cc)
   answers-by false false s t (Some range) call end = answers s t (Some range) call
 
-  -- A call of a `Fuse` fits what may be given.
+  -- A call to a `Fuse` fits what may be given.
   pub fuse-answered : IsAnswered integer (fuse stream)
   fuse-answered s t item call =
       answers-by (fuse_done s) (fuse_done t) (fuse_source s) (fuse_source t) item call.0 call.1
 
-  -- A call of a stream with a flag fits what may be given.
+  -- A call to a stream with a flag fits what may be given.
   pub fused-answered : IsAnswered integer (fused stream)
   fused-answered s t item call = answers-by s.done t.done s.iter t.iter item call.0 call.1
 
 module _ {S T N : Type 0} (stream : Stream S T N) (law : List Interval → Type 0) (none : law [])
     (keeps : KeepsLaw law stream) where
-  -- What may be given satisfies the law. The cases are whether the stream has ended.
+  -- What may be given satisfies the law. By cases on whether the stream has ended.
   keeps-by : (done : Bool) (s : S) → (done ≡ false → stream.can_draw s)
       → Keeps law (unless done (stream.may_give s)) (count_unless done (stream.draws_left s))
   keeps-by true s can = record {

@@ -1,9 +1,9 @@
--- Values that become iterators, by the items that their calls give.
+-- Values that convert into iterators, described by the items that calls to these return.
 use Rattle.std.specs.Prelude.{List, Option}
 use Rattle.std.specs.Iterator.{Count, Drains, IsFinite}
 use Rattle.std.specs.Iterator.Runs.{WholeRun}
 
--- Whether every iterator that the value becomes may be called, and ends.
+-- Whether every iterator that the value converts into may be called, and ends.
 abbrev pub IsEnding : {J I : Type 0} → (J → I → Type 0) → (I → Type 0) → (I → Count) → J → Type 0
 IsEnding {I = I} becomes can_next remaining value = (iter : I) → becomes value iter
     → can_next iter × IsFinite (remaining iter)

@@ -14,8 +14,8 @@ pub record Input : Type 1 where
   pub held : List Interval
   pub undrawn : Outcomes
 
--- Whether the ranges were drawn from an input: followed by what it may still give, they might come
--- before.
+-- Whether the ranges were drawn from an input: before the draws, they might have come, followed by
+-- what the input may still give.
 abbrev pub Drew : Outcomes → List Interval → Outcomes → Type 0
 Drew before drawn now = (rest : List Interval) → now rest → before (drawn ++ rest)
 
@@ -63,14 +63,15 @@ IsOneFrom first (run ∷ []) = first ≤ run.first
 IsOneFrom first (run ∷ other ∷ runs) = ⊥
 
 -- Whether a call uses only ranges of an input that lie within the returned range. At most one range
--- is held after the call, which starts past the end of the returned one, with a gap between.
+-- is held after the call. It starts past the end of the returned one, with a gap between.
 pub record LooksAhead (answer : Interval) (before now : Input) : Type 0 where
   pub used : List Interval
   pub uses : Uses before used now
   pub within : AreWithin answer used
   pub ahead : IsOneFrom (answer.last + 2) now.held
 
--- Whether a call drew at most one range more from a stream than lie within the returned range.
+-- Whether the ranges that a call drew from a stream outnumber those that lie within the returned
+-- range by at most one.
 pub record DrawsFew (answer : Interval) (before now : Outcomes) : Type 0 where
   pub drawn : List Interval
   pub inside : List Interval
@@ -80,7 +81,7 @@ pub record DrawsFew (answer : Interval) (before now : Outcomes) : Type 0 where
 
 -- ---- inputs at places
 
--- A decision for any two places whether they are the same.
+-- A test of whether any two places are the same, with a proof of its answer.
 abbrev pub Sameness : Type 0 → Type 0
 Sameness Place = (one other : Place) → (one ≡ other) ⊎ (¬ (one ≡ other))
 
@@ -107,7 +108,7 @@ left-not_right same = absurd (cc)
 pub right-not_left : ¬ (Right ≡ Left)
 right-not_left same = absurd (cc)
 
--- The decision whether two sides are the same.
+-- Such a test for two sides.
 abbrev pub same_side : Sameness Side
 same_side Left Left = inl refl
 same_side Right Right = inl refl
@@ -126,8 +127,8 @@ pub record GivesFrom (before : Input) (run : Interval) (now : Input) : Type 0 wh
   pub uses : Uses before (run ∷ []) now
   pub room : now.held ≡ []
 
--- Whether a call uses nothing of an input. At most one range of it is held afterwards, which starts
--- no earlier than the returned range.
+-- Whether a call uses nothing of an input. At most one range of it is held afterwards, and that
+-- range starts no earlier than the returned one.
 pub record Spares (before : Input) (run : Interval) (now : Input) : Type 0 where
   pub uses : Uses before [] now
   pub later : IsOneFrom run.first now.held

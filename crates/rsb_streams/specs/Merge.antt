@@ -1,4 +1,4 @@
--- The merge of two streams by their starts.
+-- The merge of two streams by the starts of their ranges.
 use Rattle.std.specs.Iterator.{count_add}
 use Rattle.rsb_integer.specs.declared.integer.Integer.{Ghosts as Elements}
 use Rattle.rsb_streams.specs.Lookahead.{at_side, AreUndrawn, AsksOne, Input, Left, Right, Side}
@@ -21,7 +21,8 @@ module _ {T N L R : Type 0} (integer : Elements T N) (lefts : Stream L T N)
   merge_inputs s Right = input_of integer rights s.right
 
   -- The merge: what is held and still to come of both streams, sorted by start. A draw takes one
-  -- range of one stream. As many are left as in both streams together, with those held.
+  -- range of one stream. At most as many are left as in both streams together, including those
+  -- held.
   abbrev pub merge : Stream (Merge T L R) T N
   merge = asking integer (AsksOne integer.rank merge_inputs) MergeReady
       (λ s. count_add ((put_back integer lefts).draws_left s.left)

@@ -61,7 +61,7 @@ pub merge-exists : (n : ℕ) (left right : List Interval) → HasSortedStarts n 
 merge-exists n left right first second =
     merge-from n (length left + length right) 0 left right (omega arith) first second
 
--- The sum of two counts that end ends.
+-- The sum of two finite counts is finite.
 pub both-finite : (left right : Count) → IsFinite left → IsFinite right
     → IsFinite (count_add left right)
 both-finite left right first second = elim (true_or_false left.bounded) [

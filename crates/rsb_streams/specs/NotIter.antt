@@ -33,8 +33,8 @@ module _ {T N I : Type 0} (integer : Elements T N) (stream : Stream I T N) where
         ⊎ (YieldsThen stream.draw_gives s.iter used None t.iter × (t.start ≡ None))
 
   -- The gaps of the input, from where the next gap would start. The stream is ready if it has given
-  -- its last gap, or if the input is ready for the next one. It has one gap more left than the
-  -- input has ranges, and none after the last gap.
+  -- its last gap, or if the input is ready for the next one. It has at most one more gap left than
+  -- the input has ranges, and none after the last gap.
   abbrev pub not_iter : Stream (NotIter T I) T N
   not_iter = asking integer PassesOver
       (λ s. IfSome s.start (NotReady s.iter))

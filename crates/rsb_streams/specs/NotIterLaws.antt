@@ -15,7 +15,7 @@ use Rattle.rsb_streams.specs.declared.draw.Draw.{Ghosts as Stream}
 module _ {T N I : Type 0} (integer : Elements T N) (stream : Stream I T N) where
   open integer use {rank, value_count as n}
 
-  -- The complement may give something, its gaps are canonical, and it ends. The cases are whether
+  -- The complement may give something, its gaps are canonical, and it ends. By cases on whether
   -- there is a value for the next gap to start at.
   keeps-by : IsSorted integer stream → (start : Option T) (iter : I)
       → IfSome start (λ each. NotReady integer stream iter each)

@@ -1,11 +1,15 @@
--- The pieces of ranges that an odd number of them covers, if no rank is in more than two of them.
-use Rattle.std.proofs.Common.{◌≡◌, ℕ, ◌+◌, ◌≤◌, false, max, min, List, [], ◌∷◌, ◌++◌, length, map}
+-- The pieces that an odd number of ranges cover, if no rank is in more than two of the ranges.
+use Rattle.std.proofs.Common.{◌≡◌, ◌⊎◌, ℕ, ◌+◌, ◌≤◌, false, max, min, List, [], ◌∷◌, ◌++◌, length, map}
 use Rattle.std.specs.Prelude.{Option, Some, None}
-use Rattle.std.specs.Iterator.{Count, count_map, count_unless}
+use Rattle.std.specs.Iterator.{Count, count_map, count_unless, Yields, YieldsThen}
+use Rattle.std.specs.declared.ops.RangeInclusive.{RangeInclusive}
+use Rattle.rsb_integer.specs.Rank.{interval_of, intervals_of}
 use Rattle.rsb_integer.specs.Runs.{Interval, cover, covers, members}
 use Rattle.rsb_integer.specs.Selection.{Selection, Agree, odd_of}
 use Rattle.rsb_integer.specs.declared.integer.Integer.{Ghosts as Elements}
-use Rattle.rsb_streams.specs.Rows.{answering}
+use Rattle.rsb_streams.specs.Fused.{fused, Fused}
+use Rattle.rsb_streams.specs.Lookahead.{IsOneFrom}
+use Rattle.rsb_streams.specs.Rows.{asking}
 use Rattle.rsb_streams.specs.Stream.{Outcomes, HasSortedStarts, SomeOutcome, unless}
 use Rattle.rsb_streams.specs.declared.draw.Draw.{Ghosts as Stream}
 use Rattle.rsb_streams.specs.declared.odd_pieces.OddPieces.{OddPieces}
@@ -78,6 +82,23 @@ abbrev pub holding : {T I : Type 0} → OddPieces T I → List (Option T) → Od
 holding s ends =
     record { iter = s.iter; done = s.done; start = s.start; end = first_end ends }
 
+-- ---- what is pending after a draw
+
+-- The rank after a returned piece, or 0 if no piece was returned.
+abbrev pub rank_after : {T : Type 0} → (T → ℕ) → Option (RangeInclusive T) → ℕ
+rank_after rank None = 0
+rank_after rank (Some piece) = (interval_of rank piece).last + 1
+
+-- Whether `left` is what the drawn ranges leave from a rank on: at most one interval, which has
+-- exactly the ranks from there on that an odd number of them covers.
+pub record IsLeft (drawn : List Interval) (from : ℕ) (left : List Interval) : Type 0 where
+  pub one : IsOneFrom from left
+  pub same : (rank : ℕ) → from ≤ rank → members left rank ≡ oddly_covered drawn rank
+
+-- The source, with the flag for its end.
+abbrev pub source_of : {T I : Type 0} → OddPieces T I → Fused I
+source_of s = record { iter = s.iter; done = s.done }
+
 module _ {T N I : Type 0} (integer : Elements T N) (stream : Stream I T N) where
   -- Whether the source is ready, and no rank is in more than two of the ranges, pending and still
   -- to come.
@@ -86,17 +107,29 @@ module _ {T N I : Type 0} (integer : Elements T N) (stream : Stream I T N) where
     pub twofold : (given : List Interval) → stream.may_give s.iter given
         → IsTwofold integer.value_count (pending integer.rank s ++ given)
 
-  -- The pieces of the ranks in an odd number of the pending range and those to come. Once the
-  -- source has ended and all was given, there are none.
+  -- The pieces of the ranks in an odd number of ranges, counting the pending one and those to come.
+  -- Once the source has ended and all was given, there are none.
   abbrev pub odd_may_give : OddPieces T I → Outcomes
   odd_may_give s = unless s.done
       (pieces_of integer.value_count (pending integer.rank s) (stream.may_give s.iter))
 
-  -- One piece for each range that is pending or still to come.
+  -- The greatest number of pieces left: one for each range that is pending or still to come.
   abbrev pub odd_remaining : OddPieces T I → Count
   odd_remaining s = count_unless s.done
       (count_map (λ left. left + length (ends_of s.end)) (stream.draws_left s.iter))
 
+  -- Which ranges a draw takes from the source, and that the range pending afterwards is what these
+  -- and the one pending before leave past the returned piece. So as many ends are pending, one or
+  -- none, as ranges have begun and not ended.
+  pub record TakesForPiece (s : OddPieces T I) (item : Option (RangeInclusive T))
+      (t : OddPieces T I) : Type 0 where
+    pub drawn : List (RangeInclusive T)
+    pub draws : Yields (fused stream).draw_gives (source_of s) drawn (source_of t)
+        ⊎ YieldsThen (fused stream).draw_gives (source_of s) drawn None (source_of t)
+    pub left : IsLeft (pending integer.rank s ++ intervals_of integer.rank drawn)
+        (rank_after integer.rank item) (pending integer.rank t)
+
   -- The pieces of a source, as a stream. It is ready while it is going, and after all was given.
   abbrev pub odd_pieces : Stream (OddPieces T I) T N
-  odd_pieces = answering integer (λ s. s.done ≡ false → IsGoing s) odd_remaining odd_may_give
+  odd_pieces = asking integer TakesForPiece (λ s. s.done ≡ false → IsGoing s) odd_remaining
+      odd_may_give

@@ -2,7 +2,8 @@
 use Rattle.std.specs.Prelude.{ℕ, Bool, true, false, ◌+◌, ◌<◌, ◌≤◌, List, [], ◌∷◌, length, take, Option, Some, None}
 use Rattle.rsb_integer.specs.Runs.{Interval, AllEndBelow}
 
--- Whether the intervals before the position satisfy the law, and no longer do with the one there.
+-- Whether the intervals before the position satisfy the law, but no longer do if the one at the
+-- position is added.
 pub record IsFirstBad (law : List Interval → Type 0) (runs : List Interval) (position : ℕ)
     : Type 0 where
   pub within : position < length runs
@@ -27,6 +28,6 @@ IsPlacedFrom may_touch low [] = Unit {0}
 IsPlacedFrom may_touch low (run ∷ runs) = (low ≤ run.first) × (run.first ≤ run.last)
     × IsPlacedFrom may_touch (past_end may_touch run.last) runs
 
--- Whether the list is placed so, wherever it starts, within a type of n values.
+-- Whether the list is placed in this way, wherever it starts, within a type of n values.
 abbrev pub IsPlacedIn : Bool → ℕ → List Interval → Type 0
 IsPlacedIn may_touch n runs = IsPlacedFrom may_touch 0 runs × AllEndBelow n runs

@@ -51,14 +51,14 @@ rest-is_part false = record {
   some = λ given. (given, record { passed = []; parts = refl });
 }
 
--- The given number of first intervals is such a part.
+-- The first intervals, up to the given number, are such a part.
 pub take-is_part : (count : ℕ) → IsPart (λ runs given. runs ≡ take count given)
 take-is_part count = record {
   within = λ runs given part. rw part (sublist-take count given);
   some = λ given. (take count given, refl);
 }
 
--- The rest after the given number of first intervals is such a part.
+-- The intervals after the given number of skipped ones are such a part.
 pub skip-is_part : {S A : Type 0} (steps : S → Option A → S → Type 0) (s : S) (count : ℕ)
     → IsPart (IsSkipped steps s count)
 skip-is_part steps s count = record {
@@ -87,7 +87,7 @@ module _ (n : ℕ) {Part : List Interval → List Interval → Type 0} (part : I
     ends = ends;
   }
 
--- A `Fuse` over a canonical stream is canonical. The cases are whether it has ended.
+-- A `Fuse` over a canonical stream is canonical. By cases on whether it has ended.
 fuse-canonical_by : (n : ℕ) (done : Bool) (P : Outcomes) → (done ≡ false → P ⊆ IsCanonicalIn n)
     → unless done P ⊆ IsCanonicalIn n
 fuse-canonical_by n true P canonical runs may =

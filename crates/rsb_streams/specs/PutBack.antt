@@ -55,8 +55,8 @@ module _ {T N I : Type 0} (integer : Elements T N) (stream : Stream I T N) where
     pub callable : (fused stream).can_draw (fused_of s)
     pub sorted : put_back_may_give s ⊆ HasSortedStarts integer.value_count
 
-  -- The stream to which a range may be put back. As many ranges are left as in the stream, and one
-  -- more if one is held.
+  -- The stream to which a range may be put back. At most as many ranges are left as in the stream,
+  -- plus one if one is held.
   abbrev pub put_back : Stream (PutBack T I) T N
   put_back = record {
     can_draw = PutBackReady;

@@ -16,7 +16,7 @@ module _ {T N I : Type 0} (integer : Elements T N) (stream : Stream I T N) where
   open integer use {rank, value_count as n}
 
   module _ (answers : IsAnswered integer stream) where
-    -- A call fits what may be given. The cases are whether a range was held.
+    -- A call fits what may be given. By cases on whether a range was held.
     answers-by : (held : Option (RangeInclusive T)) (s t : Fused I)
         (item : Option (RangeInclusive T))
         → MatchOption held ((fused stream).draw_gives s item t)

@@ -1,4 +1,4 @@
--- How many runs the results of operations on streams have, from how many there were.
+-- How many runs the results of operations on streams have, given how many the operands have.
 use Rattle.std.specs.Prelude.{◌≡◌, ℕ, ◌+◌, ◌<◌, ◌≤◌, List, length}
 use Rattle.rsb_integer.specs.declared.integer.Integer.{Ghosts as Elements}
 use Rattle.rsb_integer.specs.Runs.{Interval, members, AreRuns}
@@ -6,7 +6,7 @@ use Rattle.rsb_integer.specs.Selection.{Selection, complement, intersection}
 use Rattle.rsb_streams.specs.Stream.{Outcomes, ◌⊆◌, SomeOutcome, SomeOutcomes}
 use Rattle.rsb_streams.specs.declared.draw.Draw.{Ghosts as Stream}
 
--- Whether the new list has at most one run more than the old one.
+-- Whether the new list has at most one more run than the old one.
 abbrev pub HasOneRunMoreAtMost : List Interval → List Interval → Type 0
 HasOneRunMoreAtMost old new = length new ≤ length old + 1
 

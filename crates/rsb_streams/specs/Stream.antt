@@ -20,8 +20,8 @@ HasSortedStartsFrom n low (run ∷ runs) =
 abbrev pub HasSortedStarts : ℕ → List Interval → Type 0
 HasSortedStarts n runs = HasSortedStartsFrom n 0 runs
 
--- Whether the last list has the intervals of both others, each as often as they do together, in the
--- order of each.
+-- Whether the last list is a merge of the two others: it has the intervals of both, each as often
+-- as the two have it together, and keeps the order of each list.
 abbrev pub IsMergeOf : List Interval → List Interval → List Interval → Type 0
 IsMergeOf left right [] = (left ≡ []) × (right ≡ [])
 IsMergeOf left right (run ∷ runs) =
@@ -45,7 +45,7 @@ abbrev pub just : List Interval → Outcomes
 just runs others = others ≡ runs
 
 -- Whether there is a list that may be given. A closure might not return, so this names no list: it
--- only excludes that there is none.
+-- only rules out that there is none.
 abbrev pub HasOutcome : Outcomes → Type 0
 HasOutcome P = ¬ ((runs : List Interval) → ¬ (P runs))
 
@@ -110,7 +110,7 @@ abbrev pub Rests : {S T : Type 0} → (S → Type 0) → (S → Outcomes)
 Rests can_next may_give item t = MatchOption item (can_next t × (may_give t ⊆ just []))
     (λ _. Unit {0})
 
--- Both of these: all that is known of a call of a stream of this crate.
+-- Both of these: all that is known about a call to a stream of this crate.
 pub record AnswersAndRests {S T : Type 0} (rank : T → ℕ) (can_next : S → Type 0)
     (may_give : S → Outcomes)
     (s : S) (item : Option (RangeInclusive T)) (t : S) : Type 0 where
@@ -170,7 +170,8 @@ pub record IsMade {S : Type 0} (can_next : S → Type 0) (s : S) (Gives New : Ty
 
 -- Whether `next` is `draw`: it may be called exactly when `draw` may, does what `draw` does, and
 -- has as many ranges to come. For a call that returns `None`, this is stated only if the call is
--- allowed. A closure in a stream can end it when nothing else is known.
+-- allowed. The reason is a closure in a stream, such as that of a `Filter`, which may reject every
+-- range that is left. That the empty list might come is then known only if the stream is ready.
 pub record IsDrawn {S T : Type 0} (can_draw : S → Type 0)
     (draw_gives : S → Option (RangeInclusive T) → S → Type 0) (draws_left : S → Count)
     (can_next : S → Type 0) (next_gives : S → Option (RangeInclusive T) → S → Type 0)

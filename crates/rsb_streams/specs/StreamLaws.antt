@@ -1,4 +1,4 @@
--- The laws of streams: of lists of intervals, and of what may be given of them.
+-- The laws of streams: facts about lists of intervals, and about what a stream may give.
 use Rattle.std.proofs.Common.{◌≡◌, ℕ, zero, suc, ◌+◌, ◌<◌, ◌≤◌, true, false, List, [], ◌∷◌, refl, sym, ap, ◌∙◌, inl, inr, arith}
 use Rattle.std.proofs.lemmas.Bool.{cases_lt}
 use Rattle.std.proofs.lemmas.List.Elements.{All-head, All-tail, All-cons, All-nil}
@@ -142,7 +142,7 @@ record AreRunsFrom (n : ℕ) (selected : Selection) (low : ℕ) (runs : List Int
   pub below : AllEndBelow n runs
   pub same : (rank : ℕ) → low ≤ rank → rank < n → members runs rank ≡ selected rank
 
--- If the rank before is not selected, the runs stay the same.
+-- If the rank right before the runs is not selected, the runs stay the same.
 runs-gap : (n : ℕ) (selected : Selection) (low : ℕ) (runs : List Interval) → selected low ≡ false
     → AreRunsFrom n selected (low + 1) runs → AreRunsFrom n selected low runs
 runs-gap n selected low runs gap all = record {
@@ -156,7 +156,7 @@ runs-gap n selected low runs gap all = record {
   ];
 }
 
--- If the rank before is selected and apart from the first run, it is a new run.
+-- If the rank right before the runs is selected and apart from the first run, it is a new run.
 runs-new : (n : ℕ) (selected : Selection) (low : ℕ) (runs : List Interval) → selected low ≡ true
     → low < n → IsCanonicalFrom (low + 2) runs → AreRunsFrom n selected (low + 1) runs
     → AreRunsFrom n selected low (record { first = low; last = low } ∷ runs)
@@ -173,7 +173,8 @@ runs-new n selected low runs here below apart all =
       ];
     }
 
--- If the rank before is selected and touches the first run, it makes that run longer.
+-- If the rank right before the runs is selected and touches the first run, it makes that run
+-- longer.
 runs-longer : (n : ℕ) (selected : Selection) (low : ℕ) (run : Interval) (runs : List Interval)
     → selected low ≡ true → run.first ≡ low + 1 → AreRunsFrom n selected (low + 1) (run ∷ runs)
     → AreRunsFrom n selected low (record { first = low; last = run.last } ∷ runs)
@@ -202,7 +203,8 @@ runs-longer n selected low run runs here touching all =
       ];
     }
 
--- If the rank before is selected, there are runs with it, whether it touches the first run or not.
+-- If the rank right before the runs is selected, there are runs with it, whether it touches the
+-- first run or not.
 runs-before : (n : ℕ) (selected : Selection) (low : ℕ) (runs : List Interval) → selected low ≡ true
     → low < n → AreRunsFrom n selected (low + 1) runs → (others : List Interval)
     × AreRunsFrom n selected low others
@@ -251,7 +253,7 @@ runs-exist n selected =
 
 -- ---- `next` and `draw`
 
--- `next` is `draw` if both have the same members.
+-- `next` is `draw` if both have the same ghost members.
 pub drawn-itself : {S T : Type 0} {can_next : S → Type 0}
     {next_gives : S → Option (RangeInclusive T) → S → Type 0} {remaining : S → Count}
     → IsDrawn can_next next_gives remaining can_next next_gives remaining

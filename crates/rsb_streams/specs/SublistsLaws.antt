@@ -24,19 +24,19 @@ module _ {X : Type 0} where
   sublist-after [] items all sub = sub
   sublist-after (first ∷ others) items all sub = inl (sublist-after others items all sub)
 
-  -- A prefix is a sublist.
+  -- A prefix of a list is a sublist of it.
   pub sublist-front : (items rest : List X) → IsSublist items (items ++ rest)
   sublist-front [] rest = sublist-none rest
   sublist-front (first ∷ items) rest = inr (items, refl, sublist-front items rest)
 
-  -- The given number of first items is a sublist.
+  -- The first items of a list, up to the given number, are a sublist of it.
   pub sublist-take : (count : ℕ) (all : List X) → IsSublist (take count all) all
   sublist-take zero all = sublist-none all
   sublist-take (suc count) [] = refl
   sublist-take (suc count) (first ∷ others) =
       inr (take count others, refl, sublist-take count others)
 
-  -- The rest after the given number of first items is a sublist.
+  -- The items of a list after the given number of skipped ones are a sublist of it.
   pub sublist-drop : (count : ℕ) (all : List X) → IsSublist (drop count all) all
   sublist-drop zero all = sublist-all all
   sublist-drop (suc count) [] = refl

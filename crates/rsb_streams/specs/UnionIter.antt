@@ -37,8 +37,8 @@ module _ {T N S : Type 0} (integer : Elements T N) (stream : Stream S T N) where
   abbrev pub AsksToJoin : UnionIter T S → Option (RangeInclusive T) → UnionIter T S → Type 0
   AsksToJoin s item t = MatchOption item (JoinsNothing s t) (λ answer. Joins s answer t)
 
-  -- The runs of what is held and still to come. As many are left as in the stream, and one more if
-  -- a range is held.
+  -- The runs of what is held and still to come. At most as many are left as in the stream, plus one
+  -- if a range is held.
   abbrev pub union_iter : Stream (UnionIter T S) T N
   union_iter = asking integer AsksToJoin
       (λ s. (put_back integer stream).can_draw s.iter)

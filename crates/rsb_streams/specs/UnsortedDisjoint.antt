@@ -78,7 +78,7 @@ pub record IsPiece (items : List Interval) (span : Interval) : Type 0 where
   pub spans : IsSpan items span
   pub together : HoldsTogether items
 
--- As many ranges as the iterator has left, and one more if one is held.
+-- At most as many ranges are left as in the iterator, plus one if one is held.
 abbrev pub unsorted_remaining : {T I : Type 0} → (I → Count) → UnsortedDisjoint T I → Count
 unsorted_remaining remaining s =
     count_map (λ left. left + option_len s.gathered) (fuse_remaining remaining s.iter)

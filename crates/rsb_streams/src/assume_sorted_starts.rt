@@ -22,12 +22,12 @@ pub struct AssumeSortedStarts<T, I> {
 }
 
 impl<T: Integer, I: Iterator> AssumeSortedStarts<T, I> {
-    /// Returns the ranges of `iter` as a stream. Requires that `iter` becomes an iterator that ends
-    /// and whose `next` can be called. Its ranges must be non-empty and sorted by start. Does not
-    /// allocate. (`AssumeSortedStarts::new`.)
+    /// Returns the ranges of `iter` as a stream. Requires that `iter` converts into an iterator
+    /// that ends and whose `next` can be called. Its ranges must be non-empty and sorted by start.
+    /// Does not allocate. (`AssumeSortedStarts::new`.)
     pub fn new<J: IntoIterator<Item = RangeInclusive<T>, IntoIter = I>>(iter: J) -> Self
-        requires { GivesOnly T.rank ⟦<I as Iterator>⟧ J.into_iter_gives (HasSortedStarts T.value_count)
-            iter }
+        requires { GivesOnly T.rank ⟦<I as Iterator>⟧ J.into_iter_gives
+            (HasSortedStarts T.value_count) iter }
         ensures ready { ⟦<AssumeSortedStarts<T, I> as Draw<T>>⟧.can_draw result }
         ensures gives { ⟦<AssumeSortedStarts<T, I> as Draw<T>>⟧.may_give result
             ⊆ gives_as T.rank ⟦<I as Iterator>⟧ J.into_iter_gives iter }
@@ -69,8 +69,8 @@ impl<T: Integer, I: Iterator<Item = RangeInclusive<T>>> Draw<T> for AssumeSorted
         self.next()
     }
 
-    ghost answers = { λ s t. known-answered T.Integer.own ⟦<I as Iterator>⟧ (HasSortedStarts T.value_count)
-        s.iter t.iter };
+    ghost answers = { λ s t. known-answered T.Integer.own ⟦<I as Iterator>⟧
+        (HasSortedStarts T.value_count) s.iter t.iter };
 
     ghost sorted = { λ s. known-sorted T.Integer.own ⟦<I as Iterator>⟧ s.iter };
 }

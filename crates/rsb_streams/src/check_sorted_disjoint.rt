@@ -31,12 +31,12 @@ pub struct CheckSortedDisjoint<T, I> {
 }
 
 impl<T: Integer, I: Iterator> CheckSortedDisjoint<T, I> {
-    /// Returns the ranges of `iter` as a stream. Requires that `iter` becomes an iterator that ends
-    /// and whose `next` can be called, and that its ranges are canonical. Does not allocate.
-    /// (`CheckSortedDisjoint::new`.)
+    /// Returns the ranges of `iter` as a stream. Requires that `iter` converts into an iterator
+    /// that ends and whose `next` can be called, and that its ranges are canonical. Does not
+    /// allocate. (`CheckSortedDisjoint::new`.)
     pub fn new<J: IntoIterator<Item = RangeInclusive<T>, IntoIter = I>>(iter: J) -> Self
-        requires { GivesOnly T.rank ⟦<I as Iterator>⟧ J.into_iter_gives (IsCanonicalIn T.value_count)
-            iter }
+        requires { GivesOnly T.rank ⟦<I as Iterator>⟧ J.into_iter_gives
+            (IsCanonicalIn T.value_count) iter }
         ensures ready { ⟦<CheckSortedDisjoint<T, I> as Draw<T>>⟧.can_draw result }
         ensures gives { ⟦<CheckSortedDisjoint<T, I> as Draw<T>>⟧.may_give result
             ⊆ gives_as T.rank ⟦<I as Iterator>⟧ J.into_iter_gives iter }
@@ -62,7 +62,8 @@ impl<T: Integer, A: Allocator> CheckSortedDisjoint<T, IntoIter<RangeInclusive<T>
         ensures position { IfErr result (λ refused. IsFirstBad (IsCanonicalIn T.value_count)
             (intervals_of T.rank ranges.items) refused.position) }
 
-        // All ranges up to that position end in the type, so only the order is wrong.
+        // All ranges up to that position end in the type. So the one there is empty or starts too
+        // early.
         ensures value { IfErr result (λ refused. AllEndBelow T.value_count
             (take (refused.position + 1) (intervals_of T.rank ranges.items))) }
     {
@@ -117,8 +118,8 @@ impl<T: Integer, I: Iterator<Item = RangeInclusive<T>>> Draw<T> for CheckSortedD
         self.next()
     }
 
-    ghost answers = { λ s t. known-answered T.Integer.own ⟦<I as Iterator>⟧ (IsCanonicalIn T.value_count)
-        s.iter t.iter };
+    ghost answers = { λ s t. known-answered T.Integer.own ⟦<I as Iterator>⟧
+        (IsCanonicalIn T.value_count) s.iter t.iter };
 
     ghost sorted = { λ s can. canonical_stream-starts T.value_count _ _
         (known-disjoint T.Integer.own ⟦<I as Iterator>⟧ s.iter can) };

@@ -33,9 +33,9 @@ pub struct CheckSortedTouching<T, I> {
 }
 
 impl<T: Integer, I: Iterator> CheckSortedTouching<T, I> {
-    /// Returns the ranges of `iter` as a stream. Requires that `iter` becomes an iterator that ends
-    /// and whose `next` can be called. Each of its ranges must be non-empty and start past the end
-    /// of the one before. Does not allocate. Not in range-set-blaze.
+    /// Returns the ranges of `iter` as a stream. Requires that `iter` converts into an iterator
+    /// that ends and whose `next` can be called. Each of its ranges must be non-empty and start
+    /// past the end of the one before. Does not allocate. Not in range-set-blaze.
     pub fn new<J: IntoIterator<Item = RangeInclusive<T>, IntoIter = I>>(iter: J) -> Self
         requires { GivesOnly T.rank ⟦<I as Iterator>⟧ J.into_iter_gives (IsTouchingIn T.value_count)
             iter }
@@ -65,7 +65,8 @@ impl<T: Integer, A: Allocator> CheckSortedTouching<T, IntoIter<RangeInclusive<T>
         ensures position { IfErr result (λ refused. IsFirstBad (IsTouchingIn T.value_count)
             (intervals_of T.rank ranges.items) refused.position) }
 
-        // All ranges up to that position end in the type, so only the order is wrong.
+        // All ranges up to that position end in the type. So the one there is empty or starts too
+        // early.
         ensures value { IfErr result (λ refused. AllEndBelow T.value_count
             (take (refused.position + 1) (intervals_of T.rank ranges.items))) }
     {
@@ -106,8 +107,8 @@ impl<T: Integer, I: Iterator<Item = RangeInclusive<T>>> Draw<T> for CheckSortedT
         self.next()
     }
 
-    ghost answers = { λ s t. known-answered T.Integer.own ⟦<I as Iterator>⟧ (IsTouchingIn T.value_count)
-        s.iter t.iter };
+    ghost answers = { λ s t. known-answered T.Integer.own ⟦<I as Iterator>⟧
+        (IsTouchingIn T.value_count) s.iter t.iter };
 
     ghost sorted = { λ s can. touching-starts T.value_count _ _
         (known-touching T.Integer.own ⟦<I as Iterator>⟧ s.iter can) };

@@ -13,7 +13,7 @@ use std::ops::RangeInclusive;
 /// `SortedStarts` is one, and its `draw` is its `next`.
 ///
 /// A stream that is built from other streams requires only this of them. The trait has no
-/// supertrait with members, so each level of nesting adds only one dictionary to those that a call
+/// supertrait except `Drop`, so each level of nesting adds only one dictionary to those that a call
 /// passes. A source is ready if a range may be drawn from it (`can_draw`).
 pub trait Draw<T: Integer>: Drop {
     // Whether the source is ready, that is, a range may be drawn from it. Every call on streams

@@ -1,4 +1,4 @@
-//! Laws that callers rely on. Each function has a law as its clause, and does nothing.
+//! Laws that callers rely on. Each function does nothing, and its clauses state the law.
 
 ghost use Rattle.std.specs.Prelude.{◌≡◌, Bool, List};
 ghost use Rattle.rsb_integer.specs.Runs.{Interval};

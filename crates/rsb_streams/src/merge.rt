@@ -1,4 +1,4 @@
-//! The merge of two streams by their starts.
+//! The merge of two streams by the starts of their ranges.
 
 ghost use Rattle.rsb_streams.specs.Merge.{merge, MergesUndrawn};
 ghost use Rattle.rsb_streams.specs.MergeLaws.{merge-sorted};
@@ -15,7 +15,7 @@ use std::ops::RangeInclusive;
 
 /// The ranges of two streams, sorted by start. The order of two ranges with the same start is
 /// unspecified. It holds at most one range of each stream. When asked for a range, it draws from a
-/// stream only if it holds none of that stream. (`Merge` in range-set-blaze.)
+/// stream only if it holds no range of that stream. (`Merge` in range-set-blaze.)
 #[derive(Clone, Debug, Drop)]
 pub struct Merge<T, L, R> {
     left: PutBack<T, L>,
@@ -91,7 +91,8 @@ impl<T: Integer, L: Draw<T>, R: Draw<T>> Draw<T> for Merge<T, L, R> {
 
     ghost answers = { λ s t item gives. gives.answers };
 
-    ghost sorted = { merge-sorted T.Integer.own ⟦<L as Draw<T>>⟧ ⟦<R as Draw<T>>⟧ L.sorted R.sorted };
+    ghost sorted = { merge-sorted T.Integer.own
+        ⟦<L as Draw<T>>⟧ ⟦<R as Draw<T>>⟧ L.sorted R.sorted };
 }
 
 impl<T: Integer, L: Draw<T>, R: Draw<T>> SortedStarts<T> for Merge<T, L, R> {

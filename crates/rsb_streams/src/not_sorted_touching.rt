@@ -1,4 +1,4 @@
-//! The error for a list of ranges that does not ascend, though ranges may touch.
+//! The error for a list of ranges that does not ascend, where ranges are allowed to touch.
 
 use std::alloc::{Allocator, Global};
 use std::error::Error;
@@ -6,7 +6,7 @@ use std::fmt;
 use std::ops::RangeInclusive;
 
 /// A list of ranges with an empty range, or with one that does not start past the end of the range
-/// before. It has the first such position, counted from 0. Not in range-set-blaze.
+/// before, and the first such position, counted from 0. Not in range-set-blaze.
 #[derive(Debug, Drop, PartialEq, Eq)]
 pub struct NotSortedTouching<T, A: Allocator = Global> {
     /// The first bad position, counted from 0.

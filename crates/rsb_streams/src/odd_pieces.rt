@@ -1,6 +1,7 @@
 //! The values in exactly one range of a source, if no value is in more than two of its ranges.
 //!
-//! Pieces may touch. The `UnionIter` above joins them, and so looks ahead by one range more.
+//! Pieces may touch. The `UnionIter` that draws them joins them, and so looks ahead by one more
+//! range.
 
 ghost use Rattle.std.specs.Iterator.{MakesProgress};
 ghost use Rattle.std.specs.Prelude.{
@@ -89,8 +90,8 @@ fn first_end<T: Copy>(ends: &ArrayVec<Option<T>, 2>) -> Option<T>
     *ends.first()?
 }
 
-/// Removes the lesser of two pending ends, or both if they are equal, so that what both ranges have
-/// is left out. If an end is left, `start` becomes the value after the removed one.
+/// Removes the lesser of two pending ends, or both if they are equal, so that the values in both
+/// ranges are left out. If an end is left, `start` becomes the value after the removed one.
 fn pass_lesser<T: Integer>(start: &mut T, ends: &mut ArrayVec<Option<T>, 2>, end: T, next_end: T)
     requires end { T.rank end < T.value_count }
     requires next_end { T.rank next_end < T.value_count }

@@ -45,13 +45,13 @@ use std::ops::RangeInclusive;
 /// A stream of non-empty ranges, sorted by start. (`SortedStarts` in range-set-blaze.)
 ///
 /// For a stream of your own, `Draw` states what it may give. Its `draw` must do what its `next`
-/// does; the law here is then `drawn-itself`. After `None`, the streams of this crate return `None`
-/// again. No law says so for other streams, so the streams of this crate never call another stream
-/// again after its end.
+/// does; then `drawn-itself` proves the law below. After `None`, the streams of this crate return
+/// `None` again. No law says so for other streams, so the streams of this crate never call another
+/// stream again after its end.
 pub trait SortedStarts<T: Integer>: Iterator<Item = RangeInclusive<T>> + FusedIterator + Draw<T> {
-    /// Does nothing. In an implementation for a type that contains a closure, the bound on the
-    /// closure is known only if the implementation has a function of its own. This can be that
-    /// function. Not in range-set-blaze.
+    /// Does nothing. If an implementation is for a type that contains a closure, it must define a
+    /// function of its own, or the bound on the closure is unknown. This function can serve for
+    /// that. Not in range-set-blaze.
     fn mark_sorted(&self) {}
 
     // `next` does what `draw` does.
@@ -61,17 +61,18 @@ pub trait SortedStarts<T: Integer>: Iterator<Item = RangeInclusive<T>> + FusedIt
 
 /// A source of ranges in ascending order that neither overlap nor touch, with the operations on it.
 /// Not in range-set-blaze; every `SortedDisjoint` is one. `Draw` is its only supertrait, because a
-/// call of an operation passes a dictionary for each of its bounds and for each supertrait of
-/// those.
+/// call to an operation passes a dictionary for each of its bounds and for each of their
+/// supertraits.
 pub trait DrawDisjoint<T: Integer>: Draw<T> {
-    /// Returns the gaps of a ready stream, from the least value of the type to the greatest. It has
-    /// at most one run more than the stream. Does not allocate, and draws nothing yet.
+    /// Returns the gaps of a ready stream, from the least value of the type to the greatest. The
+    /// result has at most one more run than the stream. Does not allocate, and draws nothing yet.
     /// (`SortedDisjoint::complement`.)
     final fn complement(self) -> NotIter<T, Self>
     where
         Self: Sized,
         requires { Self.can_draw self }
-        ensures made { MakesComplement T.Integer.own Self.Draw ⟦<NotIter<T, Self> as Draw<T>>⟧ self result }
+        ensures made { MakesComplement T.Integer.own Self.Draw
+            ⟦<NotIter<T, Self> as Draw<T>>⟧ self result }
         ensures run_count { GivesOneRunMoreAtMost T.Integer.own Self.Draw
             ⟦<NotIter<T, Self> as Draw<T>>⟧ self result }
     {
@@ -95,15 +96,15 @@ pub trait DrawDisjoint<T: Integer>: Draw<T> {
     }
 
     /// Returns the intersection of two ready streams. If either has no runs, the result has none;
-    /// otherwise it has fewer runs than both together. Does not allocate.
+    /// otherwise it has fewer runs than both together. Does not allocate, and draws nothing yet.
     /// (`SortedDisjoint::intersection`.)
     final fn intersection<R: DrawDisjoint<T>>(self, other: R) -> Intersection<T, Self, R>
     where
         Self: Sized,
         requires left { Self.can_draw self }
         requires right { R.can_draw other }
-        ensures made { MakesIntersection T.Integer.own Self.Draw R.Draw ⟦<Intersection<T, Self, R> as Draw<T>>⟧
-            self other result }
+        ensures made { MakesIntersection T.Integer.own Self.Draw R.Draw
+            ⟦<Intersection<T, Self, R> as Draw<T>>⟧ self other result }
         ensures run_count { GivesFewerRunsThanBoth T.Integer.own Self.Draw R.Draw
             ⟦<Intersection<T, Self, R> as Draw<T>>⟧ self other result }
     {
@@ -111,15 +112,15 @@ pub trait DrawDisjoint<T: Integer>: Draw<T> {
     }
 
     /// Returns the difference of two ready streams: the values in `self` that are not in `other`.
-    /// It has at most as many runs as both together. Does not allocate.
+    /// It has at most as many runs as both together. Does not allocate, and draws nothing yet.
     /// (`SortedDisjoint::difference`.)
     final fn difference<R: DrawDisjoint<T>>(self, other: R) -> Difference<T, Self, R>
     where
         Self: Sized,
         requires left { Self.can_draw self }
         requires right { R.can_draw other }
-        ensures made { MakesDifference T.Integer.own Self.Draw R.Draw ⟦<Difference<T, Self, R> as Draw<T>>⟧
-            self other result }
+        ensures made { MakesDifference T.Integer.own Self.Draw R.Draw
+            ⟦<Difference<T, Self, R> as Draw<T>>⟧ self other result }
         ensures run_count { GivesRunsOfBothAtMost difference T.Integer.own Self.Draw R.Draw
             ⟦<Difference<T, Self, R> as Draw<T>>⟧ self other result }
     {
@@ -127,7 +128,7 @@ pub trait DrawDisjoint<T: Integer>: Draw<T> {
     }
 
     /// Returns the symmetric difference of two ready streams: the values in exactly one of them. It
-    /// has at most as many runs as both together. Does not allocate.
+    /// has at most as many runs as both together. Does not allocate, and draws nothing yet.
     /// (`SortedDisjoint::symmetric_difference`.)
     final fn symmetric_difference<R: DrawDisjoint<T>>(
         self,
@@ -137,16 +138,17 @@ pub trait DrawDisjoint<T: Integer>: Draw<T> {
         Self: Sized,
         requires left { Self.can_draw self }
         requires right { R.can_draw other }
-        ensures made { MakesSymmetricDifference T.Integer.own Self.Draw R.Draw ⟦<SymmetricDifference<T, Self, R> as Draw<T>>⟧
-            self other result }
-        ensures run_count { GivesRunsOfBothAtMost symmetric_difference T.Integer.own Self.Draw R.Draw
+        ensures made { MakesSymmetricDifference T.Integer.own Self.Draw R.Draw
             ⟦<SymmetricDifference<T, Self, R> as Draw<T>>⟧ self other result }
+        ensures run_count { GivesRunsOfBothAtMost symmetric_difference T.Integer.own Self.Draw
+            R.Draw ⟦<SymmetricDifference<T, Self, R> as Draw<T>>⟧ self other result }
     {
         SymmetricDifference::from((self, other))
     }
 
     /// Returns all runs of a ready stream with `true` and all its gaps with `false`, from the least
-    /// value to the greatest. Does not allocate. (`SortedDisjoint::fill_gaps`.)
+    /// value to the greatest. Does not allocate, and draws nothing yet.
+    /// (`SortedDisjoint::fill_gaps`.)
     final fn fill_gaps(self) -> FillGapsIter<T, Self>
     where
         Self: Sized,
@@ -158,9 +160,10 @@ pub trait DrawDisjoint<T: Integer>: Draw<T> {
         FillGapsIter::over(self, T::min_value())
     }
 
-    /// Returns the number of members of a ready stream. If the stream may give several lists, the
-    /// number is that of one of them. Draws to the end, and does not allocate. Not in
-    /// range-set-blaze. It is not called `len` or `count`, since iterators already have those.
+    /// Returns the number of members of a ready stream. If the stream may give any of several
+    /// lists, it is the number of members of one of them. Draws to the end, and does not allocate.
+    /// Not in range-set-blaze. It is not called `len` or `count`, since iterators already have
+    /// those.
     final fn members_len(self) -> T::SafeLen
     where
         Self: Sized,
@@ -209,8 +212,8 @@ pub trait DrawDisjoint<T: Integer>: Draw<T> {
         T::max_value() <= end
     }
 
-    /// Returns whether two ready streams have the same members. Draws from both alternately, up to
-    /// the first range that differs or to both ends. Does not allocate. (`SortedDisjoint::equal`.)
+    /// Returns whether two ready streams have the same members. Draws from both alternately, until
+    /// two ranges differ or a stream ends. Does not allocate. (`SortedDisjoint::equal`.)
     final fn equal<R: DrawDisjoint<T>>(self, other: R) -> bool
     where
         Self: Sized,
@@ -233,8 +236,8 @@ pub trait DrawDisjoint<T: Integer>: Draw<T> {
     }
 
     /// Returns whether each member of `self` is a member of `other`. Both must be ready. If some
-    /// members are not, it draws from each stream no further than the second run of such members,
-    /// and one more range. Otherwise it draws to both ends. Does not allocate.
+    /// members are not, it draws from each stream at most one range past the second run of such
+    /// members. Otherwise it draws both to their ends. Does not allocate.
     /// (`SortedDisjoint::is_subset`.)
     final fn is_subset<R: DrawDisjoint<T>>(self, other: R) -> bool
     where
@@ -260,9 +263,9 @@ pub trait DrawDisjoint<T: Integer>: Draw<T> {
         other.is_subset(self)
     }
 
-    /// Returns whether two ready streams have no member in common. If they have some, it draws from
-    /// each stream no further than the second run of common members, and one more range. Otherwise
-    /// it draws to both ends. Does not allocate. (`SortedDisjoint::is_disjoint`.)
+    /// Returns whether two ready streams have no member in common. If they do have some, it draws
+    /// from each stream at most one range past the second run of common members. Otherwise it draws
+    /// both to their ends. Does not allocate. (`SortedDisjoint::is_disjoint`.)
     final fn is_disjoint<R: DrawDisjoint<T>>(self, other: R) -> bool
     where
         Self: Sized,
@@ -274,9 +277,9 @@ pub trait DrawDisjoint<T: Integer>: Draw<T> {
         self.intersection(other).is_empty()
     }
 
-    /// Does nothing. In an implementation for a type that contains a closure, the bound on the
-    /// closure is known only if the implementation has a function of its own. This can be that
-    /// function. Not in range-set-blaze.
+    /// Does nothing. If an implementation is for a type that contains a closure, it must define a
+    /// function of its own, or the bound on the closure is unknown. This function can serve for
+    /// that. Not in range-set-blaze.
     fn mark_disjoint(&self) {}
 
     // Whatever a ready stream may give is canonical.

@@ -1,4 +1,4 @@
-//! Ranges in any order, sorted by their starts.
+//! Ranges that come in any order, collected into a list and sorted by start.
 
 ghost use Rattle.std.specs.Prelude.{IfOk};
 ghost use Rattle.rsb_streams.specs.Items.{GaveAll, IsEnding};
@@ -18,11 +18,11 @@ use std::vec::IntoIter;
 pub type SortedStartsInVec<T, A = Global> = AssumeSortedStarts<T, IntoIter<RangeInclusive<T>, A>>;
 
 impl<T: Integer, A: Allocator> UnionIter<T, SortedStartsInVec<T, A>> {
-    /// Returns the union of ranges, which may come in any order and may be empty. Requires that
-    /// `ranges` becomes an iterator that ends and whose `next` can be called. It collects the
-    /// ranges, joined as `UnsortedDisjoint` joins them, so ranges that are nearly in order need
-    /// little memory. Then it sorts them once, in place. If allocation fails, it returns the error
-    /// and builds nothing. (`FromIterator` of `UnionIter`.)
+    /// Returns the union of the given ranges, which may come in any order and may be empty.
+    /// Requires that `ranges` converts into an iterator that ends and whose `next` can be called.
+    /// It collects the ranges, joined as `UnsortedDisjoint` joins them, so ranges that are nearly
+    /// in order need little memory. Then it sorts them once, in place. If allocation fails, it
+    /// returns the error and builds nothing. (`FromIterator` of `UnionIter`.)
     pub fn from_iter<J: IntoIterator<Item = RangeInclusive<T>>>(
         alloc: A,
         ranges: J,

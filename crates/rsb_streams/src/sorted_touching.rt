@@ -12,8 +12,8 @@ use rsb_integer::Integer;
 /// A stream of ranges in ascending order that do not overlap, but may touch. Not in
 /// range-set-blaze.
 ///
-/// Your own stream states in `touching` that each range it may give starts past the end of the one
-/// before.
+/// An implementation for your own stream proves in `touching` that each range that the stream may
+/// give starts past the end of the one before.
 pub trait SortedTouching<T: Integer>: SortedStarts<T> {
     /// Returns the ranges of a ready stream, joined if they touch. Does not allocate, and draws
     /// nothing yet. Not in range-set-blaze.
@@ -29,9 +29,9 @@ pub trait SortedTouching<T: Integer>: SortedStarts<T> {
         UnionIter::new(self)
     }
 
-    /// Does nothing. In an implementation for a type that contains a closure, the bound on the
-    /// closure is known only if the implementation has a function of its own. This can be that
-    /// function. Not in range-set-blaze.
+    /// Does nothing. If an implementation is for a type that contains a closure, it must define a
+    /// function of its own, or the bound on the closure is unknown. This function can serve for
+    /// that. Not in range-set-blaze.
     fn mark_touching(&self) {}
 
     // Whatever a ready stream may give ascends, and no two ranges of it overlap.

@@ -20,7 +20,7 @@ use std::ops::RangeInclusive;
 
 /// The ranges of an iterator, in its order, with neighbors joined. A range that overlaps or touches
 /// the one gathered so far is joined to it. Otherwise the gathered range is returned, and the new
-/// one takes its place. So ranges that are nearly in order, or in clusters, become few. Empty
+/// one takes its place. So few ranges are left if they come nearly in order or in clusters. Empty
 /// ranges are skipped. It holds at most one range. (`UnsortedDisjoint` in range-set-blaze, where it
 /// is private.)
 #[derive(Drop)]

@@ -18,27 +18,27 @@ use Rattle.range_set_blaze.specs.Set.{IsGreatest, IsLeast}
 use Rattle.range_set_blaze.specs.declared.iter.Iter.{Iter}
 use Rattle.range_set_blaze.proofs.elements.Shortened.{shorter-first, shorter-last, taken, IsShorter, IsTaken}
 
--- where two counts are one, a call makes progress by both
+-- If two counts are the same, a call that makes progress by one makes progress by the other.
 pub counted-alike : {S A : Type 0} {can : S → Type 0} {left other : S → Count} {s t : S}
     {item : Option A} → ((s : S) → left s ≡ other s) → MakesProgress can left s item t
     → MakesProgress can other s item t
 counted-alike {can = can} {s = s} {t = t} {item = item} same goes =
     subst (λ count. MakesProgress can count s item t) (λ i each. same each i) goes
 
--- intervals next to an end, and then others: behind these, or in front of them
+-- Intervals next to an end, and others after them or before them.
 abbrev put : (List Interval → List Interval) → (List Interval → List Interval) → List Interval
     → List Interval → List Interval
 put front back own others = front others ++ (own ++ back others)
 
 module _ {T : Type 0} (I : Type 0) (rank : T → ℕ) (n : ℕ) where
-  -- an end, at which elements are taken
+  -- An end at which elements are taken.
   pub record End : Type 1 where
-    -- what is held there, and at the other end
+    -- What is held at this end, and at the other one.
     pub near : Iter T I → Interval
     pub far : Iter T I → Interval
     pub lengths : (s : Iter T I) → length_of (interval_of rank s.front)
         + length_of (interval_of rank s.back) ≡ length_of (near s) + length_of (far s)
-    -- what comes before others, and what after them
+    -- Which of the others come before the intervals at this end, and which come after them.
     pub front : List Interval → List Interval
     pub back : List Interval → List Interval
     pub apart : (s : Iter T I) (rest : List Interval) → between_ends rank s rest
@@ -49,7 +49,8 @@ module _ {T : Type 0} (I : Type 0) (rank : T → ℕ) (n : ℕ) where
         ≡ put front back (run ∷ []) (put front back rest (run_if_any (far s)))
     pub alone : (s : Iter T I) → HasNoRanks (near s) → between_ends rank s []
         ≡ put front back (run_if_any (far s)) []
-    -- which rank is taken of an interval, and what a call there says of the item and the rest
+    -- Which rank is taken from an interval, and what a call at this end states about the item and
+    -- the rest.
     pub edge : Interval → ℕ
     pub Pops : Interval → Option T → Interval → Type 0
     pub none : {run rest : Interval} {item : Option T} → Pops run item rest
@@ -59,37 +60,37 @@ module _ {T : Type 0} (I : Type 0) (rank : T → ℕ) (n : ℕ) where
     pub below : {run rest : Interval} {item : Option T} → Pops run item rest → run.last < n
     pub shorter : {run rest : Interval} {item : Option T} → Pops run item rest
         → IsShorter run rest (edge run)
-    -- which member of a set is taken
+    -- Which member of a set is taken.
     pub IsFound : Selection → ℕ → Type 0
     pub found : {run rest : Interval} {others : List Interval}
         → IsTaken 0 n (front others) (back others) run rest (edge run)
         → IsFound (members (put front back (run ∷ []) others)) (edge run)
 
-  -- where nothing is held at the front, what is drawn comes first
+  -- If nothing is held at the front, a drawn range comes first.
   pub between_ends-without_front : (s : Iter T I) (run : Interval) (rest : List Interval)
       → HasNoRanks (interval_of rank s.front)
       → between_ends rank s ((run ∷ []) ++ rest)
       ≡ (run ∷ []) ++ (rest ++ run_if_any (interval_of rank s.back))
   between_ends-without_front s run rest empty = grind (arith, none-if_empty _ empty)
 
-  -- or what is held at the back
+  -- If nothing is held at the front and nothing is drawn, what is held at the back is left.
   pub between_ends-back_alone : (s : Iter T I) → HasNoRanks (interval_of rank s.front)
       → between_ends rank s [] ≡ run_if_any (interval_of rank s.back) ++ []
   between_ends-back_alone s empty = grind (arith, none-if_empty _ empty, append-nil)
 
-  -- where nothing is held at the back, what is drawn comes last
+  -- If nothing is held at the back, a drawn range comes last.
   pub between_ends-without_back : (s : Iter T I) (run : Interval) (rest : List Interval)
       → HasNoRanks (interval_of rank s.back)
       → between_ends rank s (rest ++ ((run ∷ []) ++ []))
       ≡ (run_if_any (interval_of rank s.front) ++ (rest ++ [])) ++ ((run ∷ []) ++ [])
   between_ends-without_back s run rest empty = grind (arith, none-if_empty _ empty, append-nil, append_assoc)
 
-  -- or what is held at the front
+  -- If nothing is held at the back and nothing is drawn, what is held at the front is left.
   pub between_ends-front_alone : (s : Iter T I) → HasNoRanks (interval_of rank s.back)
       → between_ends rank s [] ≡ run_if_any (interval_of rank s.front) ++ []
   between_ends-front_alone s empty = grind (arith, none-if_empty _ empty, append-nil)
 
-  -- where the least element is taken
+  -- The end at which the least element is taken.
   abbrev pub least : End
   least = record {
     near = λ s. interval_of rank s.front;
@@ -116,7 +117,7 @@ module _ {T : Type 0} (I : Type 0) (rank : T → ℕ) (n : ℕ) where
     found = λ is. record { in_type = is.in_type; here = is.here; least = is.least refl refl };
   }
 
-  -- where the greatest element is taken
+  -- The end at which the greatest element is taken.
   abbrev pub greatest : End
   greatest = record {
     near = λ s. interval_of rank s.back;
@@ -144,22 +145,22 @@ module _ {T : Type 0} (I : Type 0) (rank : T → ℕ) (n : ℕ) where
   }
 
 module _ {T I N : Type 0} {rank : T → ℕ} {n : ℕ} (stream : Stream I T N) (e : End I rank n) where
-  -- intervals next to the end, and then others
+  -- Intervals next to the end, and others after them or before them.
   abbrev placed : List Interval → List Interval → List Interval
   placed = put e.front e.back
 
-  -- an interval of which no item is taken is empty, and stays so
+  -- If no item is taken from an interval, it is empty and stays so.
   pops-none : {run rest : Interval} → e.Pops run None rest → HasNoRanks run × HasNoRanks rest
   pops-none pops =
       let empty = (e.none pops).0 refl in
       (empty, grind (arith, empty, (e.shorter pops).within))
 
-  -- and one of which an item is taken is not
+  -- If an item is taken from an interval, it is non-empty.
   pops-some : {run rest : Interval} {value : T} → e.Pops run (Some value) rest
       → run.first ≤ run.last
   pops-some pops = grind (arith, (e.none pops).1)
 
-  -- so a call makes progress where less of an interval is left
+  -- A call makes progress if fewer elements are left once the interval is shorter.
   pops-goes : {S : Type 0} {can : S → Type 0} {left : S → Count} {s t : S} {run rest : Interval}
       (item : Option T) → e.Pops run item rest → can t → (IsFinite (left s) → IsFinite (left t))
       → (IsFinite (left s) → length_of rest < length_of run → size (left t) < size (left s))
@@ -172,12 +173,12 @@ module _ {T I N : Type 0} {rank : T → ℕ} {n : ℕ} (stream : Stream I T N) (
     rests = λ finite. tt;
   }
 
-  -- a list of intervals, and what is left of it: canonical again, and the item is taken of it
+  -- Whether the new list is canonical, and the item was taken from the old one.
   abbrev Turns : List Interval → Option T → List Interval → Type 0
   Turns old item new = IsCanonicalIn n new × Takes rank e.IsFound (members old) item (members new)
 
-  -- an item is taken of the interval next to the end, where that has any, and else there are no
-  -- others
+  -- What is taken from the interval next to the end is taken from the whole list. If nothing is
+  -- taken, there must be no others.
   turns : {run rest : Interval} {others : List Interval} {item : Option T} → e.Pops run item rest
       → (IsNone item → others ≡ []) → IsCanonicalIn n (placed (run_if_any run) others)
       → Turns (placed (run_if_any run) others) item (placed (run_if_any rest) others)
@@ -201,11 +202,11 @@ module _ {T I N : Type 0} {rank : T → ℕ} {n : ℕ} (stream : Stream I T N) (
         },
       )
 
-  -- the iterator may be called
+  -- Whether the iterator may be called.
   abbrev Ready : Iter T I → Type 0
   Ready = ElementsReady rank n stream.can_draw stream.may_give
 
-  -- the item is taken, and progress is made
+  -- Whether the item is taken from what was left, and the call makes progress.
   abbrev Turned : (Iter T I → Type 0) → Iter T I → Option T → Iter T I → Type 0
   Turned can s item t = record {
     steps : Gives rank n stream.can_draw stream.may_give e.IsFound s item t;
@@ -214,7 +215,8 @@ module _ {T I N : Type 0} {rank : T → ℕ} {n : ℕ} (stream : Stream I T N) (
 
   module _ {can : Iter T I → Type 0} {s t : Iter T I} {item : Option T} (ready : Ready s)
       (again : Ready t → can t) where
-    -- a call is told by what might come before it, and by the interval of which the item is taken
+    -- To show this of a call, it is enough to know what might come before it, and the interval from
+    -- which the item is taken.
     turned : {run now : Interval} → e.Pops run item now
         → (t.done ≡ false → stream.can_draw t.ranges)
         → ((rest : List Interval) → unless t.done (stream.may_give t.ranges) rest
@@ -251,7 +253,7 @@ module _ {T I N : Type 0} {rank : T → ℕ} {n : ℕ} (stream : Stream I T N) (
           goes = pops-goes item pops (again may_call) ends fewer;
         }
 
-    -- the item is taken of what is held at this end
+    -- The item is taken from what is held at this end.
     pub turned-held : t.ranges ≡ s.ranges → t.done ≡ s.done → e.far t ≡ e.far s → ¬ (IsNone item)
         → e.Pops (e.near s) item (e.near t) → Turned can s item t
     turned-held same over other some pops = turned pops
@@ -265,7 +267,7 @@ module _ {T I N : Type 0} {rank : T → ℕ} {n : ℕ} (stream : Stream I T N) (
         (λ finite fewer. rw (same, over)
         (omega (arith, fewer, e.lengths s, e.lengths t, ap length_of other)))
 
-    -- it is taken of a range that comes next at this end, where nothing is held there
+    -- If nothing is held at this end, the item is taken from the range that is drawn there.
     pub turned-drawn : {ask : I → Type 0} {gone : Interval} (range : RangeInclusive T)
         → s.done ≡ false → t.done ≡ s.done → e.far t ≡ e.far s → e.Pops (e.near s) None gone
         → ((rest : List Interval) → stream.may_give t.ranges rest
@@ -298,7 +300,8 @@ module _ {T I N : Type 0} {rank : T → ℕ} {n : ℕ} (stream : Stream I T N) (
         rw (same, undone) (omega
         (arith, fewer, e.below pops, fits, e.lengths s, e.lengths t, ap length_of other)))
 
-    -- it is taken of what is held at the other end, once the stream has ended
+    -- If nothing is held at this end and the stream has ended, the item is taken from what is held
+    -- at the other end.
     pub turned-far : t.done ≡ true → unless s.done (stream.may_give s.ranges) []
         → (IsFinite (stream.draws_left s.ranges) → IsFinite (stream.draws_left t.ranges))
         → e.Pops (e.near s) None (e.near t) → e.Pops (e.far s) item (e.far t) → Turned can s item t

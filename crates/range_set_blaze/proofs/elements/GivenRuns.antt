@@ -9,7 +9,7 @@ use Rattle.rsb_integer.specs.Runs.{members, AreRuns, Interval, IsMaximalRun}
 use Rattle.rsb_integer.proofs.ListLemmas.{Contains-head, Contains-tail}
 
 module _ {T : Type 0} (rank : T → ℕ) where
-  -- a range that comes after some calls is one of the list
+  -- The range that comes after some calls is one of the list.
   pub given-contained : (given ranges here next : List (RangeInclusive T)) (range : RangeInclusive T)
       → Yields (YieldsFirst (λ (left : List (RangeInclusive T)). left)) ranges given here
       → here ≡ range ∷ next → Contains (intervals_of rank ranges) (interval_of rank range)
@@ -21,7 +21,7 @@ module _ {T : Type 0} (rank : T → ℕ) where
       (Contains-tail (interval_of rank first) (intervals_of rank came.0) (interval_of rank range)
       (given-contained given came.0 here next range came.2 is))
 
-  -- so it is a maximal run of the set whose runs the list has
+  -- So if the list has the runs of a set, that range is a maximal run of the set.
   pub given-run : (n : ℕ) (set : List Interval) (given ranges here next : List (RangeInclusive T))
       (range : RangeInclusive T) → intervals_of rank ranges ≡ set → AreRuns n (members set) set
       → Yields (YieldsFirst (λ (left : List (RangeInclusive T)). left)) ranges given here

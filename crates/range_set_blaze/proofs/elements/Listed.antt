@@ -18,7 +18,7 @@ use Rattle.rsb_streams.proofs.checking.Fresh.{none-if_empty}
 use Rattle.range_set_blaze.specs.BothEnds.{elements_ready, is_ready, left_between, ranges_left, runs_left, AnswersLast, Gives, IsListReady, IsOverSet, IsWhole, ListedReady, Takes}
 use Rattle.range_set_blaze.specs.declared.iter.Iter.{Iter}
 
--- where a member is taken of a set, progress is made
+-- A call that takes a member from a set makes progress.
 pub takes-goes : {T : Type 0} {rank : T → ℕ} {n : ℕ} {IsFound : Selection → ℕ → Type 0}
     {old new : List Interval} (item : Option T)
     → ((point : ℕ) → IsFound (members old) point → (point < n) × (members old point ≡ true))
@@ -32,7 +32,7 @@ takes-goes {rank = rank} {n = n} {old = old} {new = new} (Some value) member tak
     (grind (arith, nat_tests, takes.rest (rank value))) in
     record { on = λ finite. (tt, tt, less); keeps = tt; rests = λ finite. tt }
 
--- a canonical list has no fewer members than intervals
+-- A canonical list has at least as many members as intervals.
 length-sum : (low : ℕ) (runs : List Interval) → IsCanonicalFrom low runs
     → length runs ≤ sum_by length_of runs
 length-sum low [] canonical = omega arith
@@ -41,11 +41,11 @@ length-sum low (run ∷ runs) canonical =
     omega (arith, sum_by-cons length_of run runs, rest, canonical.1)
 
 module _ {T : Type 0} (rank : T → ℕ) (n : ℕ) where
-  -- what a list may still give
+  -- What a list may still give.
   abbrev given : List (RangeInclusive T) → Outcomes
   given = listed_may_give rank (λ ranges. ranges)
 
-  -- what may be left of the iterator is one list
+  -- What may be left of the iterator is only one list.
   listed-left : (s : Iter T (List (RangeInclusive T))) (runs : List Interval)
       → left_between rank given s runs ↔ (runs ≡ runs_left rank s)
   listed-left s runs = (
@@ -53,7 +53,7 @@ module _ {T : Type 0} (rank : T → ℕ) (n : ℕ) where
     (λ is. (cond s.done [] (intervals_of rank s.ranges), grind arith, is)),
   )
 
-  -- so what a call takes is taken of it
+  -- So what a call takes is taken from this list.
   pub listed-takes : {IsFound : Selection → ℕ → Type 0} {s t : Iter T (List (RangeInclusive T))}
       {item : Option T} → Gives rank n (IsListReady rank n) given IsFound s item t
       → Takes rank IsFound (members (runs_left rank s)) item (members (runs_left rank t))
@@ -61,7 +61,7 @@ module _ {T : Type 0} (rank : T → ℕ) (n : ℕ) where
       let taken = gives.takes (runs_left rank t) ((listed-left t (runs_left rank t)).1 refl) in
       rw (← (listed-left s taken.0).0 taken.1) taken.2
 
-  -- it has no fewer members than ranges that the stream still gives, since it is canonical
+  -- It has at least as many members as the stream still has ranges, since it is canonical.
   pub hint-count : (s : Iter T (List (RangeInclusive T))) → ListedReady rank n s → (low : ℕ)
       → IsWithinCount low (ranges_left (item_count (λ (each : List (RangeInclusive T)). each)) s)
       → low ≤ count n (members (runs_left rank s))
@@ -74,7 +74,7 @@ module _ {T : Type 0} (rank : T → ℕ) (n : ℕ) where
       let some = within tt in
       grind (arith, length-append, length-map, least, all, some)
 
-  -- the last of the list is what may come last
+  -- The last range of the list is what may come last.
   listed-last : (s t : List (RangeInclusive T)) (item : Option (RangeInclusive T))
       → YieldsLast (λ (ranges : List (RangeInclusive T)). ranges) s item t
       → AnswersLast rank n (IsListReady rank n) given s item t
@@ -82,7 +82,8 @@ module _ {T : Type 0} (rank : T → ℕ) (n : ℕ) where
   listed-last s t (Some range) call = λ rest at.
       rw (at, call) (sym (map-append (interval_of rank) t (range ∷ [])))
 
-  -- an iterator of which nothing is taken yet has the runs of the list, and goes from both ends
+  -- If nothing has been taken from an iterator yet, it has the runs of the list, and may be called
+  -- from both ends.
   pub whole-over : {ranges : List (RangeInclusive T)} {set : List Interval}
       (s : Iter T (List (RangeInclusive T))) → IsWhole rank ranges s
       → IsCanonicalIn n (intervals_of rank ranges) → intervals_of rank ranges ≡ set

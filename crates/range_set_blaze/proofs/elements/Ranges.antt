@@ -10,18 +10,18 @@ use Rattle.rsb_integer.proofs.CanonicalLemmas.{canonical-front}
 use Rattle.rsb_many.proofs.inputs.Listed.{canonical-goes}
 use Rattle.range_set_blaze.specs.Kept.{range_of, ranges_of, runs_of}
 
--- the ranges of runs have the intervals of the runs
+-- The ranges of runs have the intervals of the runs.
 pub intervals_of-ranges : {T : Type 0} (rank : T → ℕ) (runs : List (T × T))
     → intervals_of rank (ranges_of runs) ≡ runs_of rank runs
 intervals_of-ranges rank = map-map (interval_of rank) range_of
 
 module _ {T : Type 0} (rank : T → ℕ) (n : ℕ) where
-  -- canonical ranges are left, so a call that takes one makes progress
+  -- Whether a call that takes a range makes progress: canonical ranges are left.
   abbrev Goes : List (RangeInclusive T) → RangeInclusive T → List (RangeInclusive T) → Type 0
   Goes ranges item rest = MakesProgress (λ each. IsCanonicalIn n (intervals_of rank each))
       (item_count (λ (each : List (RangeInclusive T)). each)) ranges (Some item) rest
 
-  -- where it takes the first
+  -- A call that takes the first range makes progress.
   pub goes-first : {ranges : List (RangeInclusive T)} {entries others : List (T × T)}
       {entry : T × T} {item : RangeInclusive T} → ranges_of entries ≡ ranges
       → IsCanonicalIn n (intervals_of rank ranges) → entries ≡ entry ∷ others
@@ -29,7 +29,7 @@ module _ {T : Type 0} (rank : T → ℕ) (n : ℕ) where
   goes-first are canonical is =
       canonical-goes rank n _ _ _ _ (sym are ∙ ap ranges_of is) canonical
 
-  -- and where it takes the last
+  -- A call that takes the last range makes progress.
   pub goes-last : {ranges : List (RangeInclusive T)} {entries : List (T × T)}
       {item : RangeInclusive T} (others : List (T × T)) (entry : T × T) → ranges_of entries ≡ ranges
       → IsCanonicalIn n (intervals_of rank ranges) → entries ≡ others ++ entry ∷ []

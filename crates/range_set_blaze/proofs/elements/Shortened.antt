@@ -8,14 +8,14 @@ use Rattle.rsb_integer.proofs.MembersLemmas.{members-below}
 use Rattle.rsb_streams.specs.Stream.{run_if_any}
 use Rattle.range_set_blaze.specs.Set.{only, Removes}
 
--- what is left of an interval without one of its ranks, if it has any
+-- Whether `rest` is what is left of `run` without the rank `point`, if `run` has any ranks.
 pub record IsShorter (run rest : Interval) (point : ℕ) : Type 0 where
   pub within : rest.first ≤ rest.last → (run.first ≤ rest.first) × (rest.last ≤ run.last)
   pub fewer : run.first ≤ run.last → length_of rest < length_of run
   pub same : run.first ≤ run.last → (other : ℕ)
       → cond (covers rest other) 1 0 + cond (only point other) 1 0 ≡ cond (covers run other) 1 0
 
--- without its first rank
+-- An interval without its first rank is as `IsShorter` states.
 pub shorter-first : (run rest : Interval) → IsAfterFirst run rest → IsShorter run rest run.first
 shorter-first run rest after = record {
   within = λ left. grind (arith, after.more, after.none);
@@ -23,7 +23,7 @@ shorter-first run rest after = record {
   same = λ some other. grind (arith, nat_tests, after.more, after.none);
 }
 
--- without its last rank
+-- An interval without its last rank is as `IsShorter` states.
 pub shorter-last : (run rest : Interval) → IsBeforeLast run rest → IsShorter run rest run.last
 shorter-last run rest before = record {
   within = λ left. grind (arith, before.more, before.none);
@@ -31,12 +31,13 @@ shorter-last run rest before = record {
   same = λ some other. grind (arith, nat_tests, before.more, before.none);
 }
 
--- a list is canonical from a rank on, in a type of n values
+-- Whether a list is canonical from a rank on, in a type of n values.
 abbrev IsCanonicalBetween : ℕ → ℕ → List Interval → Type 0
 IsCanonicalBetween low n runs = IsCanonicalFrom low runs × AllEndBelow n runs
 
--- a canonical list in which one interval lost a rank is canonical, and has the other members; and
--- which rank that is, where the interval is the first or the last
+-- Whether a canonical list in which an interval loses a rank stays canonical, and keeps the other
+-- members. The first rank of the first interval is the least member, and the last rank of the last
+-- is the greatest.
 pub record IsTaken (low n : ℕ) (before after : List Interval) (run rest : Interval) (point : ℕ)
     : Type 0 where
   pub starts : low ≤ point
@@ -51,7 +52,7 @@ pub record IsTaken (low n : ℕ) (before after : List Interval) (run rest : Inte
 
 module _ (n : ℕ) (after : List Interval) (run rest : Interval) (point : ℕ)
     (shorter : IsShorter run rest point) (below : run.last < n) where
-  -- by induction along the intervals before it
+  -- This holds for each interval, by induction along the intervals before it.
   pub taken : (low : ℕ) (before : List Interval)
       → IsCanonicalBetween low n (before ++ run ∷ after) → IsTaken low n before after run rest point
   taken low [] known =

@@ -20,14 +20,14 @@ use Rattle.range_set_blaze.proofs.windows.Parts.{canonical-raise}
 
 -- ---- runs
 
--- the runs that are left, where those of the list that were passed are too short
+-- Whether `rest` has the runs that are left, and all runs that were passed are too short.
 pub record ArePassed (n len : ℕ) (all rest : List Interval) : Type 0 where
   pub canonical : IsCanonicalIn n rest
   pub among : (run : Interval) → Contains rest run → Contains all run
   pub passed : (run : Interval) → Contains all run → Contains rest run ⊎ (length_of run < len)
 
 module _ (n len : ℕ) (all : List Interval) (canonical : IsCanonicalIn n all) where
-  -- at first all are left
+  -- At first all runs are left.
   pub passed-none : ArePassed n len all all
   passed-none = record {
     canonical = canonical;
@@ -36,7 +36,7 @@ module _ (n len : ℕ) (all : List Interval) (canonical : IsCanonicalIn n all) w
   }
 
   module _ (run : Interval) (rest : List Interval) (left : ArePassed n len all (run ∷ rest)) where
-    -- one that is too short is passed
+    -- A run that is too short is passed.
     pub passed-next : length_of run < len → ArePassed n len all rest
     passed-next short = record {
       canonical = canonical-tail n run rest left.canonical;
@@ -50,7 +50,7 @@ module _ (n len : ℕ) (all : List Interval) (canonical : IsCanonicalIn n all) w
       ];
     }
 
-    -- one that is not is the first
+    -- A run that is long enough is the first such run.
     pub passed-fit : len ≤ length_of run → IsFirstFit n (members all) len run
     passed-fit long = record {
       maximal = contained-maximal n all canonical run
@@ -72,7 +72,7 @@ module _ (n len : ℕ) (all : List Interval) (canonical : IsCanonicalIn n all) w
           ];
     }
 
-  -- where none is left, all are too short
+  -- If no run is left, all runs are too short.
   pub passed-all : ArePassed n len all [] → AllShorter n (members all) len
   passed-all left run maximal = elim (left.passed run
       ((canonical-runs n all canonical.0 canonical.1).complete run maximal)) [
@@ -83,7 +83,7 @@ module _ (n len : ℕ) (all : List Interval) (canonical : IsCanonicalIn n all) w
 -- ---- maximal runs of any selection
 
 module _ (n : ℕ) (selected : Selection) where
-  -- where no rank is selected, there are none
+  -- If no rank is selected, all maximal runs are too short, since there are none.
   pub none-shorter : (len : ℕ) → ((rank : ℕ) → rank < n → selected rank ≡ false)
       → AllShorter n selected len
   none-shorter len none run maximal =
@@ -93,7 +93,7 @@ module _ (n : ℕ) (selected : Selection) where
       (maximal.whole run.first (covers-inside run run.first (omega arith) order))
       (none run.first (omega (arith, order, within))))
 
-  -- one that starts inside another is no longer than that
+  -- A maximal run that starts inside another is no longer than that.
   inside-shorter : (run other : Interval) → IsMaximalRun n selected run
       → IsMaximalRun n selected other → run.first ≤ other.first → other.first ≤ run.last
       → length_of other ≤ length_of run
@@ -107,7 +107,8 @@ module _ (n : ℕ) (selected : Selection) where
         (maximal.ends_here (omega (arith, more, within))))
   ]
 
-  -- a run that is too short, after those that are, up to a rank before which no other starts
+  -- Suppose that `run` and all maximal runs before it are too short, and no rank between its end
+  -- and `rank` is selected. Then all maximal runs that start before `rank` are too short.
   pub shorter-past : (len rank : ℕ) (run : Interval) → IsMaximalRun n selected run
       → AllShorterBefore n selected len run.first → length_of run < len
       → ((other : ℕ) → run.last < other → other < rank → selected other ≡ false)
@@ -127,7 +128,7 @@ module _ (n : ℕ) (selected : Selection) where
         ]
       ]
 
-  -- before the end of the type all start
+  -- If all maximal runs that start before the end of the type are too short, all of them are.
   pub shorter-all : (len : ℕ) → AllShorterBefore n selected len n → AllShorter n selected len
   shorter-all len shorter run maximal =
       let order = maximal.in_order in
@@ -136,8 +137,8 @@ module _ (n : ℕ) (selected : Selection) where
 
 -- ---- gaps
 
--- the gaps that start before the rank are too short, the next one starts there, and the runs that
--- are left lie past it
+-- Whether the gaps that start before `start` are too short, the next gap starts there, and the runs
+-- that are left are past it.
 pub record AreGapsPassed (n : ℕ) (free : Selection) (len start : ℕ) (rest : List Interval) : Type 0
   where
     pub later : IsCanonicalFrom (start + 1) rest
@@ -147,11 +148,11 @@ pub record AreGapsPassed (n : ℕ) (free : Selection) (len start : ℕ) (rest : 
     pub begins : 0 < start → free (start - 1) ≡ false
     pub shorter : AllShorterBefore n free len start
 
--- the ranks from one on that no run has
+-- The ranks at or past `from` that no run has.
 abbrev pub free_from : ℕ → List Interval → Selection
 free_from from runs = intersection (complement (members runs)) (from_on from)
 
--- at first none was passed
+-- At first no gap is passed.
 pub gaps-none : (n len from : ℕ) (runs : List Interval) → IsCanonicalFrom (from + 1) runs
     → AllEndBelow n runs → from < n → AreGapsPassed n (free_from from runs) len from runs
 gaps-none n len from runs later within known = record {
@@ -169,14 +170,14 @@ gaps-none n len from runs later within known = record {
 module _ (n : ℕ) (free : Selection) (len start : ℕ) where
   module _ (run : Interval) (rest : List Interval)
       (left : AreGapsPassed n free len start (run ∷ rest)) (end : ℕ) (ends : end + 1 ≡ run.first) where
-    -- what the next run has is not free
+    -- The ranks of the next run are not free.
     taken : (rank : ℕ) → run.first ≤ rank → rank ≤ run.last → free rank ≡ false
     taken rank from to =
         let later = left.later.0 in
         left.same rank (omega (arith, later, from))
         ∙ ap not (members-head run rest rank from to)
 
-    -- the gap up to the next run is maximal
+    -- The gap up to the next run is maximal.
     gap-maximal : IsMaximalRun n free (from_to start end)
     gap-maximal =
         let later = left.later.0 in
@@ -194,18 +195,18 @@ module _ (n : ℕ) (free : Selection) (len start : ℕ) where
           ends_here = λ more. taken (end + 1) (omega (arith, ends)) (omega (arith, ends, order));
         }
 
-    -- so it is the first where it is long enough
+    -- So if it is long enough, it is the first such gap.
     pub gaps-fit : len ≤ length_of (from_to start end) → IsFirstFit n free len (from_to start end)
     gaps-fit long = record { maximal = gap-maximal; long = long; first = left.shorter }
 
-    -- else none that starts before the end of the run is
+    -- Otherwise no gap that starts at or before the end of that run is long enough.
     gaps-short : length_of (from_to start end) < len → (rank : ℕ) → rank ≡ run.last + 1
         → AllShorterBefore n free len rank
     gaps-short short rank past =
         shorter-past n free len rank (from_to start end) gap-maximal left.shorter short
         (λ other more less. taken other (omega (arith, more, ends)) (omega (arith, less, past)))
 
-    -- the next gap starts after the run
+    -- The next gap starts right past that run.
     pub gaps-next : length_of (from_to start end) < len → (next : ℕ) → next ≡ run.last + 1 → next < n
         → AreGapsPassed n free len next rest
     gaps-next short next past known = record {
@@ -223,12 +224,12 @@ module _ (n : ℕ) (free : Selection) (len start : ℕ) where
       shorter = gaps-short short next past;
     }
 
-    -- and where the type ends with the run, that were all
+    -- If the type ends with that run, all gaps are too short.
     pub gaps-done : length_of (from_to start end) < len → run.last + 1 ≡ n → AllShorter n free len
     gaps-done short last = shorter-all n free len (gaps-short short n (sym last))
 
   module _ (left : AreGapsPassed n free len start []) (end : ℕ) (ends : end + 1 ≡ n) where
-    -- after all runs the gap goes on to the end of the type
+    -- After all runs, the gap extends to the end of the type.
     last-maximal : IsMaximalRun n free (from_to start end)
     last-maximal =
         let known = left.in_type in
@@ -255,7 +256,7 @@ module _ (n : ℕ) (free : Selection) (len start : ℕ) where
 
 module _ (n : ℕ) (runs : List Interval) (canonical : IsCanonicalIn n runs) where
   module _ (start : ℕ) (gap : members runs start ≡ false) where
-    -- the runs past a free rank are canonical from the next one on
+    -- The runs past a free rank are canonical, and start at the next rank or later.
     pub past-later : IsCanonicalFrom (start + 1) (past start runs)
     past-later =
         canonical-raise 0 (start + 1) (past start runs)
@@ -267,7 +268,7 @@ module _ (n : ℕ) (runs : List Interval) (canonical : IsCanonicalIn n runs) whe
     pub past-within : AllEndBelow n (past start runs)
     past-within = (starting-canonical_in (λ first. nat_lt start first) n runs canonical).1
 
-    -- and have the members from there on
+    -- From the free rank on, they have the members of all runs.
     past-same : (rank : ℕ) → start ≤ rank → members (past start runs) rank ≡ members runs rank
     past-same rank from =
         let some = starting-members (λ first. nat_lt start first) runs rank true
@@ -281,7 +282,8 @@ module _ (n : ℕ) (runs : List Interval) (canonical : IsCanonicalIn n runs) whe
         ]) in
         grind (arith, some)
 
-  -- so they leave free what all runs do, from a value on where the rank is the first free one
+  -- If it is the first free rank from a value on, these runs leave the same ranks free as all runs
+  -- do.
   pub past-free : (value start : ℕ) → IsFirstFree n runs value start
       → free_from start (past start runs) ≡ free_from value runs
   past-free value start first = λ i rank. same rank i
@@ -300,7 +302,8 @@ module _ (n : ℕ) (runs : List Interval) (canonical : IsCanonicalIn n runs) whe
             grind (arith, nat_tests, more, later, some)
       ]
 
-  -- where all are members from a value on, nothing is free
+  -- If all ranks from a value on are members, all gaps from there on are too short, since there are
+  -- none.
   pub none-free : (len value : ℕ) → HasAllFrom n runs value → AllShorter n (free_from value runs) len
   none-free len value has =
       none-shorter n (free_from value runs) len
@@ -309,7 +312,7 @@ module _ (n : ℕ) (runs : List Interval) (canonical : IsCanonicalIn n runs) whe
         | inr from ↦ let member = has rank from less in grind (arith, nat_tests, from, member)
       ])
 
--- from 0 on all is free that no run has
+-- From 0 on, the free ranks are those that no run has.
 pub free_from-0 : (runs : List Interval) → free_from 0 runs ≡ complement (members runs)
 free_from-0 runs = λ i rank. same rank i
   where
@@ -320,7 +323,7 @@ free_from-0 runs = λ i rank. same rank i
 
 module _ (n : ℕ) (runs : List Interval) (value len start : ℕ) (from : value ≤ start) (some : 0 < len)
     (block : IsFree n runs start len) where
-  -- a free block lies in a gap that is as long
+  -- A free block lies in a gap that is at least as long.
   block-gap : (gap : Interval) × IsMaximalRun n (free_from value runs) gap × (gap.first ≤ start)
       × (len ≤ length_of gap)
   block-gap =
@@ -342,7 +345,7 @@ module _ (n : ℕ) (runs : List Interval) (value len start : ℕ) (from : value 
         ],
       )
 
-  -- so none starts below the first gap that is long enough
+  -- So no free block starts below the first gap that is long enough.
   pub none-lower : (gap : Interval) → AllShorterBefore n (free_from value runs) len gap.first
       → start < gap.first → ⊥
   none-lower gap shorter less =
@@ -350,31 +353,31 @@ module _ (n : ℕ) (runs : List Interval) (value len start : ℕ) (from : value 
       let short = shorter found.0 found.1 (omega (arith, found.2, less)) in
       omega (arith, short, found.3)
 
-  -- and none at all where every gap is shorter
+  -- If every gap is shorter, there is no free block.
   pub none-anywhere : AllShorter n (free_from value runs) len → ⊥
   none-anywhere shorter =
       let found = block-gap in
       let short = shorter found.0 found.1 in
       omega (arith, short, found.3)
 
--- ---- what a gap that fits is to callers
+-- ---- what callers know of a gap that fits
 
 module _ (n : ℕ) (runs : List Interval) (value len : ℕ) (gap : Interval)
     (fit : IsFirstFit n (free_from value runs) len gap) where
-  -- no member lies in it
+  -- No rank of the gap is a member.
   pub fit-free : (rank : ℕ) → covers gap rank ≡ true → members runs rank ≡ false
   fit-free rank here =
       let free = fit.maximal.whole rank here in
       grind (arith, free)
 
-  -- it starts at the value or past it
+  -- The gap starts at the value or past it.
   pub fit-from : value ≤ gap.first
   fit-from =
       let order = fit.maximal.in_order in
       let free = fit.maximal.whole gap.first (covers-inside gap gap.first (omega arith) order) in
       grind (arith, nat_tests, free)
 
-  -- a block fits at its start
+  -- A block fits at the start of the gap.
   pub fit-block : IsFree n runs gap.first len
   fit-block =
       let order = fit.maximal.in_order in

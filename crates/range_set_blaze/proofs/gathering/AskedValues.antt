@@ -1,4 +1,4 @@
--- Values that a test is asked about one after the other, and those that are kept.
+-- Values on which a closure is called one after the other, and those that are kept.
 use Rattle.std.proofs.Common.{◌≡◌, ℕ, zero, suc, Bool, true, ◌&&◌, ◌||◌, cond, nat_le, nat_lt, ◌+◌, ◌-◌, ◌<◌, ◌≤◌, List, [], ◌∷◌, ◌++◌, map, Option, None, Some, MatchOption, append_assoc, refl, sym, ap, ◌∙◌, arith}
 use Rattle.std.proofs.lemmas.Bool.Decides.{nat_tests}
 use Rattle.std.proofs.lemmas.Fn.{FoldsTo-push}
@@ -20,7 +20,7 @@ use Rattle.range_set_blaze.specs.declared.set.run.Run.{Run}
 
 -- ---- canonical runs in a type
 
--- a list that is canonical and ends below n is canonical in a type of n values
+-- A canonical list that ends below n is canonical in a type of n values.
 pub canonical-below : (n low : ℕ) (runs : List Interval) → IsCanonicalFrom low runs
     → AllEndBelow n runs → IsCanonicalBelow n low runs
 canonical-below n low [] canonical below = tt
@@ -32,7 +32,7 @@ canonical-below n low (run ∷ runs) canonical below =
       canonical-below n (run.last + 2) runs canonical.2 (All-tail Ends run runs below),
     )
 
--- it may be asked to start earlier
+-- A list that is canonical from a rank on is also canonical from a lower one on.
 pub below-lower : (n low lower : ℕ) (runs : List Interval) → lower ≤ low
     → IsCanonicalBelow n low runs → IsCanonicalBelow n lower runs
 below-lower n low lower [] less canonical = tt
@@ -45,7 +45,7 @@ below-lower n low lower (run ∷ runs) less canonical = (
 
 -- ---- members in ascending order
 
--- so many ranks, and then others
+-- A list that starts with `many` ranks from `first` on has those ranks and the ranks of the others.
 ranks_from-then : (first many : ℕ) (others : List ℕ) (point : ℕ)
     → any_of (map only (ranks_from first many ++ others)) point
     ≡ ((nat_le first point && nat_lt point (first + many)) || any_of (map only others) point)
@@ -54,7 +54,7 @@ ranks_from-then first zero others point = grind (arith, nat_tests)
 ranks_from-then first (suc many) others point =
     let more = ranks_from-then (first + 1) many others point in grind (arith, nat_tests, more)
 
--- the members of a list are those that come in ascending order
+-- The ranks in `ascending_ranks` are the members of the runs.
 members-ascending : (runs : List Interval) (point : ℕ)
     → any_of (map only (ascending_ranks runs)) point ≡ members runs point
 members-ascending [] point = refl
@@ -64,7 +64,7 @@ members-ascending (run ∷ runs) point =
     let front = ranks_from-then run.first (length_of run) (ascending_ranks runs) point in
     grind (arith, nat_tests, rest, first, front)
 
--- the ranks of a run are its first, and those from the next on
+-- The ranks of a run are its first rank, followed by those from the next one on.
 pub ranks_from-first : (first last : ℕ) → first ≤ last → ranks_from first (last + 1 - first)
     ≡ first ∷ ranks_from (first + 1) (last + 1 - (first + 1))
 unfolding ranks_from
@@ -72,14 +72,14 @@ ranks_from-first first last ordered =
     let count : last + 1 - first ≡ suc (last + 1 - (first + 1)) = omega arith in
     ap (ranks_from first) count
 
--- the next entry is the first of those that are left
+-- If the next run is that of the first entry, the runs that are left are those of all entries.
 pub left_runs-next : {T : Type 0} (rank : T → ℕ) (next : Option (Run T)) (old new : List (T × T))
     → MatchOption next (old ≡ []) (λ run. old ≡ entry_of run ∷ new)
     → left_runs rank next new ≡ runs_of rank old
 left_runs-next rank None old new is = sym (ap (runs_of rank) is)
 left_runs-next rank (Some run) old new is = sym (ap (runs_of rank) is)
 
--- members that come after those that were asked about, the first of which is asked about next
+-- If `value` is the first of the members that are left, it may be moved to those of earlier calls.
 pub listed-next : {T : Type 0} (rank : T → ℕ) (asked : List T) (value : T) (all rest more : List ℕ)
     → all ≡ map rank asked ++ rest → rest ≡ rank value ∷ more
     → all ≡ map rank (asked ++ value ∷ []) ++ more
@@ -90,17 +90,19 @@ listed-next rank asked value all rest more listed first = rw (
   append_assoc (map rank asked) (rank value ∷ []) more,
 )
 
--- a rank of a list is among its ranks
+-- A rank in a list is among the ranks of the list.
 among : (before : List ℕ) (rank : ℕ) (after : List ℕ)
     → any_of (map only (before ++ rank ∷ after)) rank ≡ true
 among [] rank after = grind (arith, nat_tests)
 among (first ∷ before) rank after =
     let more = among before rank after in grind (arith, nat_tests, more)
 
--- ---- what a test has answered
+-- ---- what a closure has returned
 
 module _ {F T : Type 0} (rank : T → ℕ) (n : ℕ) (g : Mut F (Bor T × Unit {0}) Bool) (f : F) where
-  -- calls at these values lead to a state of the test, and those with true are selected
+  -- Calls on these values led from `f` to the closure `now`, and `has` selects some of their ranks.
+  -- If what the closure returns depends only on the rank, these are the ranks for which it returns
+  -- true.
   pub record HasAnswered (asked : List T) (now : F) (has : Selection) : Type 0 where
     pub callable : always_mut g f → always_mut g now
     pub calls : IsAsked g f asked now
@@ -109,7 +111,7 @@ module _ {F T : Type 0} (rank : T → ℕ) (n : ℕ) (g : Mut F (Bor T × Unit {
         → AnswersByRank rank n g keeps now
         × ((point : ℕ) → has point ≡ intersection (ranks_of rank asked) keeps point)
 
-  -- the first rank of what is left is the next one to be asked about
+  -- A value at the first rank that is left is the next member.
   pub next-member : {asked : List T} {now : F} {has : Selection} (old : List Interval) (value : T)
       (run : Interval) (rest : List Interval) → HasAnswered asked now has
       → ascending_ranks old ≡ map rank asked ++ ascending_ranks (run ∷ rest)
@@ -132,7 +134,7 @@ module _ {F T : Type 0} (rank : T → ℕ) (n : ℕ) (g : Mut F (Bor T × Unit {
         callable = answered.callable;
       }
 
-  -- one more
+  -- The same holds after one more call, with its value.
   pub answered-next : {asked : List T} {now : F} {has : Selection} (next : F) (more : Selection)
       (shown : Bor T) (answer : Bool) → HasAnswered asked now has
       → Called g now (shown, tt) answer next
@@ -167,7 +169,8 @@ module _ {F T : Type 0} (rank : T → ℕ) (n : ℕ) (g : Mut F (Bor T × Unit {
             );
       }
 
-  -- once all members were asked about
+  -- Once the closure was called on all members, the set has some of them. If what it returns
+  -- depends only on the rank, these are the members for which it returns true.
   pub answered-all : {asked : List T} {now : F} {has : Selection} (old set : List Interval)
       → HasAnswered asked now has → ascending_ranks old ≡ map rank asked → IsSetOf set has
       → ((point : ℕ) → members set point ≡ true → members old point ≡ true)

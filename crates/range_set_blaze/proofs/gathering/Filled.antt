@@ -1,4 +1,4 @@
--- A map that was made of a list of entries in order.
+-- A map that is built from a list of entries in order.
 use Rattle.std.proofs.Common.{◌≡◌, ℕ, ◌+◌, ◌<◌, Bool, true, false, List, [], ◌∷◌, Option, Some, None, Less, Equal, Greater, refl, sym, ap, ◌∙◌, arith}
 use Rattle.std.proofs.lemmas.Cmp.{eq_by_cmp_equiv, tied_itself}
 use Rattle.std.proofs.lemmas.Map.{lookup-none}
@@ -18,12 +18,12 @@ use Rattle.range_set_blaze.specs.Kept.{runs_of}
 use Rattle.range_set_blaze.specs.Starts.{StartsAscendFrom}
 use Rattle.range_set_blaze.specs.OrderLaws.{nat_cmp-less}
 
--- two look-ups that find the same find the same values
+-- If two look-ups have the same result, they find the same value.
 one-value : {X : Type 0} (x y : X) (left right : Option X) → left ≡ right → left ≡ Some x
     → right ≡ Some y → x ≡ y
 one-value x y left right same at other = same_Some x y (sym at ∙ same ∙ other)
 
--- and not one a value and the other none
+-- If two look-ups have the same result, not only one of them finds a value.
 one-found : {X P : Type 0} (x : X) (left right : Option X) → left ≡ right → left ≡ Some x
     → right ≡ None → P
 one-found x left right same at none = absurd (none-some x (sym none ∙ sym same ∙ at))
@@ -31,7 +31,7 @@ one-found x left right same at none = absurd (none-some x (sym none ∙ sym same
 module _ {T : Type 0} (cmp : T → T → Ordering) (order : IsTotalOrder cmp) (rank : T → ℕ) (n : ℕ)
     (in_order : (x y : T) → rank x < n → rank y < n → cmp x y ≡ nat_cmp (rank x) (rank y))
     (exact : CmpEqualImpliesEq cmp) where
-  -- entries that ascend past a value are past it in the order of keys
+  -- If the starts of entries ascend past the rank of a value, their keys are past that value.
   later : (value : T) (low : ℕ) (entries : List (T × T)) → rank value < n → rank value < low
       → StartsAscendFrom n low (runs_of rank entries)
       → AllByRecursion (λ key. cmp value key ≡ Less) (keys_of entries)
@@ -43,7 +43,7 @@ module _ {T : Type 0} (cmp : T → T → Ordering) (order : IsTotalOrder cmp) (r
         later value (rank entry.0 + 1) entries valued (omega (arith, below, from)) ascending.2,
       )
 
-  -- so the keys of entries that ascend do
+  -- So if the starts of entries ascend, their keys do.
   sorted-keys : (low : ℕ) (entries : List (T × T)) → StartsAscendFrom n low (runs_of rank entries)
       → IsStrictlySortedBy cmp (keys_of entries)
   unfolding IsStrictlySortedBy
@@ -53,7 +53,7 @@ module _ {T : Type 0} (cmp : T → T → Ordering) (order : IsTotalOrder cmp) (r
     sorted-keys (rank entry.0 + 1) entries ascending.2,
   )
 
-  -- two lists of entries in order that no look-up tells apart are the same
+  -- Two lists of entries in order are the same if all look-ups have the same result in both.
   same-entries : (low : ℕ) (entries others : List (T × T))
       → IsStrictlySortedBy cmp (keys_of entries) → StartsAscendFrom n low (runs_of rank others)
       → ((key : T) → lookup (is_at (cmp key)) entries ≡ lookup (is_at (cmp key)) others)
@@ -70,11 +70,11 @@ module _ {T : Type 0} (cmp : T → T → Ordering) (order : IsTotalOrder cmp) (r
       (sorted_tail cmp entry.0 (keys_of entries) sorted) ascending.2 (rest-same keys))
       (cmp entry.0 other.0) refl
     where
-      -- the others are in order too
+      -- The other list is in order too.
       others-sorted : IsStrictlySortedBy cmp (keys_of (other ∷ others))
       others-sorted = sorted-keys low (other ∷ others) ascending
 
-      -- the first of each is found at its key
+      -- The first entry of each list is found at its key.
       entry-found : lookup (is_at (cmp entry.0)) (entry ∷ entries) ≡ Some entry.1
       entry-found =
           lookup_head (is_at (cmp entry.0)) entry entries (ap is_eq (tied_itself order entry.0))
@@ -83,12 +83,12 @@ module _ {T : Type 0} (cmp : T → T → Ordering) (order : IsTotalOrder cmp) (r
       other-found =
           lookup_head (is_at (cmp other.0)) other others (ap is_eq (tied_itself order other.0))
 
-      -- what comes after them is not told apart either
+      -- Look-ups have the same result in the lists without their first entries.
       rest-same : entry.0 ≡ other.0 → (key : T)
           → lookup (is_at (cmp key)) entries ≡ lookup (is_at (cmp key)) others
       rest-same keys key = at (is_at (cmp key) entry.0) refl
         where
-          -- by whether the key is that of the first
+          -- This depends on whether the key is that of the first entry.
           at : (here : Bool) → is_at (cmp key) entry.0 ≡ here
               → lookup (is_at (cmp key)) entries ≡ lookup (is_at (cmp key)) others
           at true is =
@@ -103,7 +103,7 @@ module _ {T : Type 0} (cmp : T → T → Ordering) (order : IsTotalOrder cmp) (r
               sym (lookup_tail (is_at (cmp key)) entry entries is) ∙ same key
               ∙ lookup_tail (is_at (cmp key)) other others (ap (is_at (cmp key)) (sym keys) ∙ is)
 
-      -- the first of each are one, and then what comes after them is the same
+      -- The two first entries are the same, and so are the lists after them.
       by : (entry.0 ≡ other.0 → entries ≡ others) → (found : Ordering)
           → cmp entry.0 other.0 ≡ found → entry ∷ entries ≡ other ∷ others
       by rest Less is =
@@ -122,7 +122,7 @@ module _ {T : Type 0} (cmp : T → T → Ordering) (order : IsTotalOrder cmp) (r
           let others_same = rest keys in
           λ i. (keys i, found i) ∷ others_same i
 
-  -- so a map that was made of entries in order has these
+  -- So a map that is built from entries in order has exactly these.
   pub made-entries : (items entries : List (T × T)) (made : BTreeMap T T)
       → IsFromIterResult cmp items made → items ≡ entries → StartsAscendFrom n 0 (runs_of rank entries)
       → made.entries ≡ entries

@@ -1,4 +1,4 @@
--- Values and ranges that an iterator lends, and what they come to by value.
+-- Values and ranges that an iterator gives by reference, and the same by value.
 use denote.Ref.{Bor}
 use Rattle.std.proofs.Common.{◌≡◌, ◌||◌, ℕ, List, [], ◌∷◌, refl, sym, ap, subst, ◌∙◌, arith}
 use Rattle.std.proofs.lemmas.Bool.Decides.{nat_tests}
@@ -17,25 +17,25 @@ use Rattle.range_set_blaze.specs.Lent.{lent_steps, pointed_to}
 use Rattle.range_set_blaze.specs.Set.{IsSetOf}
 use Rattle.range_set_blaze.specs.declared.set.lent_ranges.LentRanges.{LentRanges}
 
--- intervals with no rank cover the same: nothing
+-- Intervals without ranks cover the same ranks, namely none.
 pub same-nothing : (one other : Interval) → HasNoRanks one → HasNoRanks other → (point : ℕ)
     → covers one point ≡ covers other point
 same-nothing one other empty none point = grind (arith, nat_tests)
 
 module _ {T : Type 0} where
-  -- a copy is one of what a reference points to
+  -- A value that was copied is one that a reference points to.
   copied-some : (lent : Option (Bor T)) (value : T) → Some value ≡ option_copied lent
       → (reference : Bor T) × (lent ≡ Some reference) × (reference.now ≡ value)
   copied-some None value is = absurd (cc)
   copied-some (Some reference) value is = (reference, refl, cc)
 
-  -- and none comes where there is no reference
+  -- If no value was copied, there is no reference.
   copied-none : (lent : Option (Bor T)) → None ≡ option_copied lent → lent ≡ None
   copied-none None is = refl
   copied-none (Some reference) is = absurd (cc)
 
 module _ {T I : Type 0} (steps : I → Option (Bor T) → I → Type 0) where
-  -- the calls that gave copies gave references to them inside
+  -- If calls gave copies, calls of the iterator inside gave references to these values.
   copied-yields : (values : List T) (s t : Copied I) → Yields (copied_steps steps) s values t
       → (lent : List (Bor T)) × Yields steps (copied_source s) lent (copied_source t)
       × (pointed_to lent ≡ values)
@@ -55,7 +55,7 @@ module _ {T I : Type 0} (steps : I → Option (Bor T) → I → Type 0) where
         cc,
       )
 
-  -- so what holds of the copies holds of what the references point to
+  -- So what holds of the copies holds of the values that the references point to.
   pub copied-gave : {J : Type 0} (becomes : J → I → Type 0) (value : J) (iter : I) (copied : Copied I)
       (Fact : List T → Type 0) → becomes value iter → copied_source copied ≡ iter
       → GaveAll (λ s other. other ≡ s) (copied_steps steps) copied Fact
@@ -80,7 +80,8 @@ module _ {T I : Type 0} (steps : I → Option (Bor T) → I → Type 0) where
 
 module _ {T I : Type 0} (rank : T → ℕ) (steps : I → Option (Bor (RangeInclusive T)) → I → Type 0)
   where
-    -- the calls that gave ranges were lent ranges with the same members
+    -- If calls gave ranges, calls of the iterator inside gave references to ranges with the same
+    -- members.
     lent-yields : (ranges : List (RangeInclusive T)) (s t : LentRanges I)
         → Yields (lent_steps rank steps) s ranges t
         → (lent : List (Bor (RangeInclusive T))) × Yields steps s.ranges lent t.ranges
@@ -101,7 +102,7 @@ module _ {T I : Type 0} (rank : T → ℕ) (steps : I → Option (Bor (RangeIncl
               (intervals_of rank (pointed_to rest.0)) point),
         )
 
-    -- so the set of those is the set of these
+    -- So a set of the members of these ranges is the set of the members of those.
     pub lent-gave : {J : Type 0} (becomes : J → I → Type 0) (value : J) (iter : I)
         (lending : LentRanges I) (set : List Interval) → becomes value iter → lending.ranges ≡ iter
         → GaveAll (λ s other. other ≡ s) (lent_steps rank steps) lending

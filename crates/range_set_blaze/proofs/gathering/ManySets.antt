@@ -1,4 +1,4 @@
--- Sets made of any number of sets, by the streams of their ranges.
+-- Sets built from any number of sets, by the streams of their ranges.
 use Rattle.std.proofs.Common.{◌≡◌, ℕ, ◌+◌, ◌<◌, ◌≤◌, cond, List, [], ◌∷◌, map, refl, subst, arith}
 use Rattle.std.proofs.lemmas.Bool.Decides.{nat_tests}
 use Rattle.std.proofs.lemmas.List.Elements.{All-head, All-tail}
@@ -22,12 +22,12 @@ use Rattle.range_set_blaze.proofs.gathering.SetOperations.{set-of_runs}
 
 module _ {S : Type 0} (n : ℕ) (may_give : S → Outcomes) (given : S → List Interval)
     (known : (s : S) → may_give s ⊆ just (given s)) where
-  -- so many streams give these lists
+  -- The streams give these lists, one each.
   give-these : (streams : List S) → GiveThese may_give streams (map given streams)
   give-these [] = tt
   give-these (s ∷ streams) = (known s, give-these streams)
 
-  -- none of them has a rank past the type's end
+  -- No list has a rank past the end of the type.
   how_many-end : (rank : ℕ) (streams : List S) → All (λ s. IsCanonicalIn n (given s)) streams
       → n ≤ rank → how_many (map members (map given streams)) rank ≡ 0
   how_many-end rank [] canonical past = refl
@@ -37,12 +37,14 @@ module _ {S : Type 0} (n : ℕ) (may_give : S → Outcomes) (given : S → List 
       let rest = how_many-end rank streams (All-tail Can s streams canonical) past in
       λ i. cond (first i) 1 0 + rest i
 
-  -- some sets that came have the lists that the streams give, and a set is made of the streams
+  -- The sets that calls gave have the lists that the streams give, and a set is built from the
+  -- streams.
   module _ {J I X E : Type 0} (becomes : J → I → Type 0) (steps : I → Option X → I → Type 0)
       (value : J) (shown : List X → List (List Interval)) (streams : List S)
       (came : GaveRun becomes steps value (λ items. map given streams ≡ shown items))
       (result : Result (List Interval) E) (gives : Outcomes) (made : IfOk result gives) where
-    -- what is known of the set and of the lists is known of the sets that came
+    -- A fact that holds of the set and of these lists holds of the set and of the sets that calls
+    -- gave.
     made-each : (Fact : List (List Interval) → List Interval → Type 0)
         → ((set : List Interval) → gives set → Fact (map given streams) set)
         → IfOk result (λ set. GaveRun becomes steps value (λ items. Fact (shown items) set))
@@ -52,20 +54,20 @@ module _ {S : Type 0} (n : ℕ) (may_give : S → Outcomes) (given : S → List 
 
     module _ (operation : List Selection → Selection)
         (by_all : GivesByAll operation n may_give streams gives) where
-      -- what comes are the runs of what the operation selects on the lists
+      -- The stream gives the runs of what the operation selects from the lists.
       these-runs : (set : List Interval) → gives set
           → AreRuns n (operation (map members (map given streams))) set
       these-runs set may = runs_by_all-these n operation may_give streams (map given streams)
           (give-these streams) set (by_all set may)
 
-      -- so the set is made of the sets by the operation
+      -- So the set is built from the sets by the operation.
       pub known-made : IfOk result (λ set. GaveRun becomes steps value
           (λ items. IsMadeOf n operation (shown items) set))
       known-made = made-each (IsMadeOf n operation) (λ set may.
           runs-members n (operation (map members (map given streams))) set (these-runs set may))
 
-    -- of what lies in at least so many; where these are some, it has nothing else, and at most as
-    -- many runs as the sets have together
+    -- The set has the ranks that are in at least `least` of the sets. If `least` is not 0, it has
+    -- no others, and at most as many runs as the sets together.
     pub known-at_least : (least : ℕ) → All (λ s. IsCanonicalIn n (given s)) streams
         → GivesByAll (at_least least) n may_give streams gives
         → (0 < least → GivesRunsOfAllAtMost least n may_give streams gives)

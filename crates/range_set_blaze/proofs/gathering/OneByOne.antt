@@ -15,30 +15,31 @@ use Rattle.rsb_streams.specs.Stream.{Outcomes, ◌⊆◌, run_if_any, HasOutcome
 use Rattle.range_set_blaze.specs.Kept.{entry_run, runs_of}
 use Rattle.range_set_blaze.proofs.runs.Kept.{sum_by-within}
 
--- the streams before and after a call that answered the run: what was taken before it is `taken`
+-- What a stream may give at first (`all`), and after a call that returned `run`. The runs taken
+-- before that call are `taken`.
 module _ (n : ℕ) (all after : Outcomes) (canonical : all ⊆ IsCanonicalIn n)
     (taken : List Interval) (run : Interval)
     (given : (rest : List Interval) → after rest → all (taken ++ run ∷ rest))
     (some : HasOutcome after) where
-  -- what was taken and the run are canonical
+  -- The runs taken before and the run are canonical.
   pub taken-canonical : IsCanonicalIn n (taken ++ run ∷ [])
   taken-canonical = settled_canonical_in n (taken ++ run ∷ []) (λ fails. some (λ rest may. fails
       (canonical-front n (taken ++ run ∷ []) rest
       (subst (IsCanonicalIn n) (sym (append_assoc taken (run ∷ []) rest))
       (canonical (taken ++ run ∷ rest) (given rest may))))))
 
-  -- so the run is in order
+  -- So the run is non-empty.
   pub taken-ordered : run.first ≤ run.last
   taken-ordered = (canonical-parts 0 taken (run ∷ []) taken-canonical.0).1.1
 
-  -- and all of them together have n ranks at most
+  -- All of them together have at most n ranks.
   pub taken-within : sum_by length_of taken + length_of run ≤ n
   taken-within =
       let all_of = sum_by-within n (taken ++ run ∷ []) taken-canonical in
       let sum = sum_by-append length_of taken (run ∷ []) in
       omega (arith, all_of, sum)
 
--- a run that is kept has the ranks of its range
+-- The run that is stored for a range has the ranks of the range.
 pub runs_of-taken : {T : Type 0} (rank : T → ℕ) (runs new : List (T × T)) (run : T × T)
     (range : RangeInclusive T) → new ≡ runs ++ run ∷ []
     → run.0 ≡ range_inclusive_start range → run.1 ≡ range_inclusive_end range
@@ -51,7 +52,7 @@ runs_of-taken {T} rank runs new run range is starts ends ordered =
     ap (runs_of rank) is ∙ map-append (entry_run rank) runs (run ∷ [])
     ∙ ap (λ (last : Interval). runs_of rank runs ++ last ∷ []) same
 
--- the members of one interval are its ranks
+-- The members of the list of one interval are its ranks, even if the interval is empty.
 pub members-run_if_any : (run : Interval) (rank : ℕ) → members (run_if_any run) rank
     ≡ covers run rank
 members-run_if_any run rank = grind (arith, nat_tests)

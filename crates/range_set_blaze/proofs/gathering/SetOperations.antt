@@ -1,4 +1,4 @@
--- Sets made of one list of runs or two by an operation.
+-- Sets built from one or two lists of runs by an operation.
 use Rattle.std.proofs.Common.{◌≡◌, ℕ, Bool, false, not, ◌&&◌, ◌≤◌, nat_lt, List, refl, sym, ◌∙◌, inl, inr, arith}
 use Rattle.std.specs.Prelude.{IfOk, Result}
 use Rattle.std.proofs.lemmas.Bool.{and_parts, cases_lt}
@@ -14,7 +14,7 @@ use Rattle.rsb_streams.specs.Stream.{◌⊆◌, just, runs_by, runs_by_two, Outc
 use Rattle.rsb_many.proofs.calling.Results.{settled_runs}
 use Rattle.range_set_blaze.specs.Set.{IsSetOf}
 
--- the runs of a selection that ends in the type are the set of it
+-- If a selection ends within the type, a set with its runs has exactly its ranks.
 pub set-of_runs : (n : ℕ) (selected : Selection) (set : List Interval)
     → ((rank : ℕ) → n ≤ rank → selected rank ≡ false) → AreRuns n selected set
     → IsSetOf set selected
@@ -26,7 +26,7 @@ set-of_runs n selected set ends are rank = elim (cases_lt rank n) [
 
 module _ (n : ℕ) {E : Type 0} (result : Result (List Interval) E) (gives : Outcomes)
     (made : IfOk result gives) where
-  -- what is made of the gaps of a set is its complement, with one run more at most
+  -- A set that is built from the gaps of a set is its complement, with at most one run more.
   pub set-of_complement : {P : Outcomes} (given : List Interval) → P ⊆ just given
       → AreRuns n (members given) given → gives ⊆ runs_by n complement P
       → IfOk result (λ set. IsSetOf set (complement_in n (members given)))
@@ -48,7 +48,8 @@ module _ (n : ℕ) {E : Type 0} (result : Result (List Interval) E) (gives : Out
   module _ {P Q : Outcomes} (these those : List Interval) (is : P ⊆ just these)
       (also : Q ⊆ just those) (one : AreRuns n (members these) these)
       (other : AreRuns n (members those) those) where
-    -- what is made of two sets by an operation that selects nothing of nothing
+    -- If an operation selects no rank that neither set has, a set built by it has exactly what it
+    -- selects.
     set-of_two : (operation : Selection → Selection → Selection) (Bound : List Interval → Type 0)
         → ((rank : ℕ) → members these rank ≡ false → members those rank ≡ false
         → operation (members these) (members those) rank ≡ false)
@@ -68,7 +69,8 @@ module _ (n : ℕ) {E : Type 0} (result : Result (List Interval) E) (gives : Out
           IfOk-weaker result _ _ (λ set may. bounds set (are set may)) made,
         )
 
-    -- rank by rank, it has at most as many runs as both together
+    -- If the operation works rank by rank, the result has at most as many runs as both sets
+    -- together.
     pub set-of_operation : (op : Bool → Bool → Bool) → op false false ≡ false
         → gives ⊆ runs_by_two n (λ lefts rights rank. op (lefts rank) (rights rank)) P Q
         → IfOk result (λ set. IsSetOf set (λ rank. op (members these rank) (members those rank)))
@@ -77,7 +79,7 @@ module _ (n : ℕ) {E : Type 0} (result : Result (List Interval) E) (gives : Out
         (HasRunsOfBothAtMost these those) (λ rank here there. rw (here, there) none)
         (λ set. runs-of_one op none n (members these) (members those) these those set one other)
 
-    -- and what both have has fewer
+    -- An intersection has no runs if either set has none, and otherwise fewer than both together.
     pub set-of_intersection : gives ⊆ runs_by_two n intersection P Q
         → IfOk result (λ set. IsSetOf set (intersection (members these) (members those)))
         × IfOk result (HasFewerRunsThanBoth these those)

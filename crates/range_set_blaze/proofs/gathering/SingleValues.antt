@@ -1,4 +1,4 @@
--- Values as ranges of one.
+-- Values as ranges of one value each.
 use Rattle.std.proofs.Common.{◌≡◌, ℕ, List, [], ◌∷◌, refl, ap, ◌∙◌, arith}
 use Rattle.std.proofs.lemmas.Bool.Decides.{nat_tests}
 use Rattle.std.specs.Iterator.{Yields}
@@ -14,7 +14,7 @@ use Rattle.range_set_blaze.specs.Singles.{range_of_one, singles_steps}
 use Rattle.range_set_blaze.specs.declared.set.singles.Singles.{Singles}
 
 module _ {T I : Type 0} (rank : T → ℕ) (steps : I → Option T → I → Type 0) where
-  -- the calls that gave ranges gave their values inside
+  -- If calls gave ranges, calls of the iterator inside gave their values.
   singles-yields : (ranges : List (RangeInclusive T)) (s t : Singles I)
       → Yields (singles_steps steps) s ranges t
       → (values : List T) × Yields steps s.values values t.values
@@ -32,7 +32,7 @@ module _ {T I : Type 0} (rank : T → ℕ) (steps : I → Option T → I → Typ
             rw calls.1.2 (grind (arith, nat_tests)),
       )
 
-  -- so the set of the ranges is that of the values
+  -- So a set of the members of these ranges is the set of these values.
   pub singles-gave : {J : Type 0} (becomes : J → I → Type 0) (value : J) (iter : I)
       (singles : Singles I) (set : List Interval) → becomes value iter → singles.values ≡ iter
       → GaveAll (λ s other. other ≡ s) (singles_steps steps) singles

@@ -4,7 +4,7 @@ use Rattle.std.proofs.lemmas.Bool.Decides.{nat_tests}
 use Rattle.rsb_integer.specs.Runs.{Interval, members}
 use Rattle.range_set_blaze.specs.Set.{only, Adds}
 
--- the ranks from one to itself are that one alone
+-- Adding the ranks from a rank to itself adds only that rank.
 pub adds-only : (old new : List Interval) (rank : ℕ)
     → Adds old new (λ other. nat_le rank other && nat_lt other (rank + 1))
     → Adds old new (only rank)

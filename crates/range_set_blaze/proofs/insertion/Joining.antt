@@ -1,4 +1,4 @@
--- What a run makes with those that it touches.
+-- A run joined with the runs that it touches.
 use Rattle.std.proofs.Common.{◌≡◌, ◌↔◌, ℕ, Bool, true, false, ◌+◌, ◌-◌, ◌<◌, ◌≤◌, min, max, List, refl, sym, ap, ◌∙◌, inl, inr, arith, subst, Option, Some, None, IfSome, IsFalse, IsTrue, MatchOption}
 use Rattle.std.specs.List.{Contains}
 use Rattle.std.proofs.lemmas.Bool.{cases_lt}
@@ -19,7 +19,8 @@ module _ {T : Type 0} (rank : T → ℕ) (n : ℕ) (runs : List Interval)
 
   module _ (run joined : Run T) (order : rank run.start ≤ rank run.end) (value : rank run.end < n)
       (bound : ℕ) (bound_is : bound ≡ min (rank run.end + 1) (n - 1) + 1) where
-    -- it begins with the run that reaches the start, or else with the run itself
+    -- The joined run begins with the run that contains or touches the start, or otherwise with the
+    -- new run.
     pub joined-begins : (first : Option (Run T))
         → MatchOption first (IsUnreached runs (rank run.start))
         (λ first. IsReaching runs (rank run.start) (run_of rank first))
@@ -43,7 +44,7 @@ module _ {T : Type 0} (rank : T → ℕ) (n : ℕ) (runs : List Interval)
               reached.among (omega (arith, from, same)) (omega (arith, to, reached.reaches))),
         )
 
-    -- it ends with the last run that it touches, or else with the run itself
+    -- It ends with the new run or with the last run that the new one touches, whichever ends later.
     pub joined-ends : (last before : Option (Run T))
         → IsLastTwo rank runs bound last before
         → MatchOption last (joined.end ≡ run.end)
@@ -94,7 +95,7 @@ module _ {T : Type 0} (rank : T → ℕ) (n : ℕ) (runs : List Interval)
               )
         ]
 
-    -- the first has the whole run, where it ends no earlier
+    -- If the first run ends no earlier than the new one, all ranks of the new run are members.
     pub reached-has : (first : Option (Run T))
         → MatchOption first (IsUnreached runs (rank run.start))
         (λ first. IsReaching runs (rank run.start) (run_of rank first))
@@ -108,7 +109,7 @@ module _ {T : Type 0} (rank : T → ℕ) (n : ℕ) (runs : List Interval)
         contained-members n runs canonical (run_of rank first) point reached.among
         (omega (arith, reached.starts, bounds.0)) (omega (arith, ends, bounds.1))
 
-    -- else it lacks some of it
+    -- Otherwise some rank of the new run is not a member.
     pub reached-lacks : (first : Option (Run T))
         → MatchOption first (IsUnreached runs (rank run.start))
         (λ first. IsReaching runs (rank run.start) (run_of rank first))
@@ -143,7 +144,7 @@ module _ {T : Type 0} (rank : T → ℕ) (n : ℕ) (runs : List Interval)
         (two : IsLastTwo rank runs bound last before)
         (ends : MatchOption last (joined.end ≡ run.end)
         (λ last. rank joined.end ≡ max (rank run.end) (rank last.end))) where
-      -- it has what the run has and what the runs have that this touches
+      -- The joined run is the hull of the new run and the runs that it touches.
       pub joined-hull : IsHull runs (run_of rank run) (run_of rank joined)
       joined-hull =
           let from = joined-begins first reached starts in
@@ -166,7 +167,7 @@ module _ {T : Type 0} (rank : T → ℕ) (n : ℕ) (runs : List Interval)
             ends = to.2;
           }
 
-      -- a run that starts inside it is one of those up to the last
+      -- A run that starts inside the joined one starts below the bound.
       inside-bound : (other : Interval) → IsInside runs (run_of rank joined) other
           → other.first < bound
       inside-bound other inside = by last two ends
@@ -194,7 +195,7 @@ module _ {T : Type 0} (rank : T → ℕ) (n : ℕ) (runs : List Interval)
                 | inr less ↦ omega (arith, bound_is, less, value)
               ]
 
-      -- no other run starts inside it than the last, where the one before that does not
+      -- If the run before the last does not start inside it, at most the last does.
       inside-only : (last : Run T) (before : Option (Run T))
           → IsLastTwo rank runs bound (Some last) before
           → IfSome before (λ run. rank run.start ≤ rank joined.start)
@@ -216,7 +217,7 @@ module _ {T : Type 0} (rank : T → ℕ) (n : ℕ) (runs : List Interval)
               let down = found.last other inside.among less in
               omega (arith, down, below, inside.later)
 
-      -- none starts inside it where the last does not
+      -- If the last run does not start inside it, no run does.
       inside-none : (last : Option (Run T))
           → IsLastTwo rank runs bound last before
           → IfSome last (λ run. rank run.start ≤ rank joined.start)
@@ -227,7 +228,8 @@ module _ {T : Type 0} (rank : T → ℕ) (n : ℕ) (runs : List Interval)
           let up = two.0.last other inside.among (inside-bound other inside) in
           omega (arith, up, below, inside.later)
 
-      -- the runs that start inside it are known, where the last two are asked whether they do
+      -- If it is known which of the last two runs start past its start, `KnowsInside` holds of
+      -- these.
       pub joined-inside : (later earlier : Option (Run T))
           → MatchOption later (IfSome last (λ run. rank run.start ≤ rank joined.start))
           (λ later. (last ≡ Some later) × (rank joined.start < rank later.start))
@@ -244,12 +246,12 @@ module _ {T : Type 0} (rank : T → ℕ) (n : ℕ) (runs : List Interval)
         by earlier also,
       )
         where
-          -- the two that were found
+          -- The last two runs that start below the bound.
           last_two : IsLastTwo rank runs bound (Some later) before
           last_two = subst (λ (last : Option (Run T)).
               IsLastTwo rank runs bound last before) is.0 two
 
-          -- the last one ends in the joined run
+          -- The last one starts inside the joined run.
           within : rank later.start ≤ rank joined.end
           within =
               let end : rank joined.end ≡ max (rank run.end) (rank later.end) =
@@ -281,7 +283,8 @@ module _ {T : Type 0} (rank : T → ℕ) (n : ℕ) (runs : List Interval)
                 less,
               )
 
-      -- the joined run touches those that were found, where the first does not have the run
+      -- If the first run ends before the new one, the joined run covers the runs that were found,
+      -- and touches no others.
       pub joined-joining : (later earlier : Option (Run T))
           → MatchOption later (IfSome last (λ run. rank run.start ≤ rank joined.start))
           (λ later. (last ≡ Some later) × (rank joined.start < rank later.start))

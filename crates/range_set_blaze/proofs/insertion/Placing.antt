@@ -1,4 +1,4 @@
--- What a run makes with those that it touches is put over them.
+-- A joined run is inserted over the runs that it covers.
 use Rattle.std.proofs.Common.{◌≡◌, ℕ, true, false, not, ◌==◌, ◌||◌, ◌+◌, ◌<◌, ◌≤◌, List, refl, sym, ap, ◌∙◌, inl, inr, arith, subst, Option, Some, None, IfSome, IsSome, MatchOption}
 use Rattle.std.specs.List.{Contains}
 use Rattle.std.proofs.Math.Bool.{and-true}
@@ -18,7 +18,8 @@ use Rattle.range_set_blaze.proofs.runs.Starts.{canonical-rises, starting-all, st
 module _ {T : Type 0} (rank : T → ℕ) (n : ℕ) (runs : List Interval)
     (canonical : IsCanonicalIn n runs) where
   module _ (joining : Joining T) (is : IsJoining rank n runs joining) where
-    -- without the run that starts where it does, the runs have the same members outside it
+    -- Without the run that starts where the joined run does, the runs have the same members outside
+    -- the joined run.
     first-members : (point : ℕ) → covers (run_of rank joining.joined) point ≡ false
         → members (without_start (rank joining.joined.start) runs) point ≡ members runs point
     first-members point outside =
@@ -57,7 +58,7 @@ module _ {T : Type 0} (rank : T → ℕ) (n : ℕ) (runs : List Interval)
               | inr differs ↦ rw differs refl
             ]
 
-    -- a run starts where it does, where a first one was found
+    -- If there is a first run, a run of the list starts where the joined run does.
     pub first-there : IsSome joining.first
         → (run : Interval) × Contains runs run × (run.first ≡ rank joining.joined.start)
     first-there some = by joining.first is.first some
@@ -71,7 +72,7 @@ module _ {T : Type 0} (rank : T → ℕ) (n : ℕ) (runs : List Interval)
         by None none some = absurd (cc)
         by (Some first) found some = (run_of rank first, found.0, found.1)
 
-    -- that run has a member, and all of its own are counted
+    -- The first run is non-empty, and its members are among those that are counted.
     pub first-some : IfSome joining.first (λ first. rank first.start ≤ rank first.end)
     first-some = by joining.first is.first
       where
@@ -100,7 +101,7 @@ module _ {T : Type 0} (rank : T → ℕ) (n : ℕ) (runs : List Interval)
             let number = (without_start-joined n runs canonical (run_of rank first) found.0).counted in
             omega (arith, number, counted)
 
-    -- how many members there are without it
+    -- Subtracting the length of the first run gives the number of members of the others.
     pub first-counted : (total others : ℕ) → total ≡ count n (members runs)
         → MatchOption joining.first (others ≡ total)
         (λ first. others + length_of (run_of rank first) ≡ total)
@@ -128,7 +129,7 @@ module _ {T : Type 0} (rank : T → ℕ) (n : ℕ) (runs : List Interval)
             subst (λ start. others ≡ count n (members (without_start start runs))) found.1
             (omega (arith, number, left, counted))
 
-    -- it stands over the others
+    -- The joined run is over the others, as `IsOver` states.
     pub joining-over : (others : ℕ)
         → others ≡ count n (members (without_start (rank joining.joined.start) runs))
         → IsOver n (with_run (run_of rank joining.joined) runs) (run_of rank joining.joined) others
@@ -152,7 +153,7 @@ module _ {T : Type 0} (rank : T → ℕ) (n : ℕ) (runs : List Interval)
           counted = counted;
         }
 
-    -- with it the members are those of the runs and its own
+    -- With the joined run, the members are those of the runs and its own ranks.
     pub joining-members : (point : ℕ)
         → members (with_run (run_of rank joining.joined) runs) point
         ≡ (members runs point || covers (run_of rank joining.joined) point)
@@ -176,12 +177,12 @@ module _ {T : Type 0} (rank : T → ℕ) (n : ℕ) (runs : List Interval)
               (first-members point outside)
         ]
 
-    -- what starts inside it is known as before
+    -- After the insertion, `KnowsInside` still holds.
     pub joining-inside : KnowsInside rank (with_run (run_of rank joining.joined) runs)
         (run_of rank joining.joined) joining.last joining.before
     joining-inside = by joining.last joining.before is.inside
       where
-        -- the same runs start inside it
+        -- The same runs start inside the joined one as before.
         old : (run : Interval) → IsInside (with_run (run_of rank joining.joined) runs)
             (run_of rank joining.joined) run → IsInside runs (run_of rank joining.joined) run
         old run inside = elim (with_run-contains (run_of rank joining.joined) runs run inside.among) [

@@ -1,4 +1,4 @@
--- A run that stands over others, and takes them in one after the other.
+-- A run that is over others, which are removed one after the other.
 use Rattle.std.proofs.Common.{◌≡◌, ℕ, not, ◌==◌, ◌||◌, ◌+◌, ◌-◌, ◌<◌, ◌≤◌, List, sym, ap, ◌∙◌, inl, inr, arith, subst, Option, Some, None, MatchOption}
 use Rattle.std.specs.List.{Contains}
 use Rattle.std.proofs.lemmas.Bool.{cases_lt}
@@ -16,7 +16,7 @@ use Rattle.range_set_blaze.proofs.runs.Starts.{canonical-rises, starting-contain
 
 module _ (n : ℕ) (now : List Interval) (joined : Interval) (others : ℕ)
     (over : IsOver n now joined others) where
-  -- the starts ascend
+  -- The starts of the runs ascend.
   pub over-ascending : StartsAscendFrom n 0 now
   over-ascending =
       rw over.parts
@@ -24,14 +24,14 @@ module _ (n : ℕ) (now : List Interval) (joined : Interval) (others : ℕ)
       (canonical-rises n 0 over.rest over.canonical.0 over.canonical.1) (omega arith)
       (omega (arith, over.ordered, over.in_type)))
 
-  -- the members are those of the others, and what it has
+  -- The members are those of the others and the ranks of the joined run.
   pub over-members : (rank : ℕ) → members now rank ≡ (members over.rest rank || covers joined rank)
   over-members rank =
       rw over.parts
       (with_run-members n 0 joined over.rest rank
       (canonical-rises n 0 over.rest over.canonical.0 over.canonical.1) over.elsewhere)
 
-  -- a run that starts inside it is one of the others
+  -- A run that starts inside the joined one is one of the others.
   pub inside-rest : (run : Interval) → IsInside now joined run → Contains over.rest run
   inside-rest run inside =
       elim (with_run-contains joined over.rest run
@@ -42,7 +42,7 @@ module _ (n : ℕ) (now : List Interval) (joined : Interval) (others : ℕ)
         | inr found ↦ found.0
       ]
 
-  -- and ends inside it
+  -- Such a run ends inside it too.
   pub inside-ends : (run : Interval) → IsInside now joined run → run.last ≤ joined.last
   inside-ends run inside = elim (cases_lt joined.last run.last) [
     | inl more ↦ absurd (not_both (members over.rest (joined.last + 1))
@@ -51,13 +51,13 @@ module _ (n : ℕ) (now : List Interval) (joined : Interval) (others : ℕ)
     | inr ends ↦ ends
   ]
 
-  -- how many members the others have
+  -- Without such a run, the others differ only by it.
   pub inside-joined : (run : Interval) → IsInside now joined run
       → IsJoined n (without_start run.first over.rest) run over.rest
   inside-joined run inside =
       without_start-joined n over.rest over.canonical run (inside-rest run inside)
 
-  -- it has a member, and all of its own are counted
+  -- Such a run is non-empty, and its members are among those that are counted.
   pub inside-some : (run : Interval) → IsInside now joined run → run.first ≤ run.last
   inside-some run inside =
       (contained-maximal n over.rest over.canonical run (inside-rest run inside)).in_order
@@ -66,11 +66,11 @@ module _ (n : ℕ) (now : List Interval) (joined : Interval) (others : ℕ)
   inside-counted run inside =
       let number = (inside-joined run inside).counted in omega (arith, number, over.counted)
 
-  -- the others have no more than there are
+  -- The others have at most n members.
   pub over-within : others ≤ n
   over-within = let within = count-within n (members over.rest) in omega (arith, within, over.counted)
 
-  -- without that run it stands at its place among the others
+  -- Without such a run, the joined run is still at its place among the others.
   without-parts : (run : Interval) → IsInside now joined run
       → without_start run.first now ≡ with_run joined (without_start run.first over.rest)
   without-parts run inside =
@@ -79,7 +79,7 @@ module _ (n : ℕ) (now : List Interval) (joined : Interval) (others : ℕ)
       ∙ starting-with_run (λ start. not (start == run.first)) joined over.rest
       (grind (arith, nat_tests, later))
 
-  -- and over them
+  -- The joined run is still over the others.
   pub over-without : (run : Interval) → IsInside now joined run → (fewer : ℕ)
       → fewer + length_of run ≡ others → IsOver n (without_start run.first now) joined fewer
   over-without run inside fewer counted =
@@ -99,7 +99,7 @@ module _ (n : ℕ) (now : List Interval) (joined : Interval) (others : ℕ)
         counted = omega (arith, counted, number, over.counted);
       }
 
-  -- taking it in changes no member
+  -- Removing such a run does not change the members.
   pub without-members : (run : Interval) → IsInside now joined run → (rank : ℕ)
       → members (without_start run.first now) rank ≡ members now rank
   without-members run inside rank =
@@ -122,13 +122,13 @@ module _ (n : ℕ) (now : List Interval) (joined : Interval) (others : ℕ)
         | inr lacks ↦ grind (arith, some, all, has, lacks)
       ]
 
-  -- where none starts inside it, it is apart from the others
+  -- If no run starts inside the joined one, it touches no other.
   pub over-joined : NoneInside now joined → IsJoined n over.rest joined now
   over-joined none =
       subst (IsJoined n over.rest joined) (sym over.parts)
       (with_run-joined n over.rest over.canonical joined over.ordered over.in_type free)
     where
-      -- no member of the others is near
+      -- No member of the others is in the joined run or next to it.
       free : LeavesApart over.rest joined.first joined.last
       free rank from to = elim (true_or_false (members over.rest rank)) [
         | inr lacks ↦ lacks
@@ -161,7 +161,7 @@ module _ (n : ℕ) (now : List Interval) (joined : Interval) (others : ℕ)
             ]
       ]
 
--- once the one that is known is out, the other is next
+-- Once the last run that starts inside is removed, the one before it starts inside, or no run does.
 pub without-inside : {T : Type 0} (rank : T → ℕ) (runs : List Interval) (joined : Interval) (last : Run T)
     (before : Option (Run T)) → KnowsInside rank runs joined (Some last) before
     → MatchOption before (NoneInside (without_start (rank last.start) runs) joined)

@@ -13,7 +13,7 @@ use Rattle.range_set_blaze.proofs.runs.Apart.{contained-maximal, contained-membe
 use Rattle.range_set_blaze.proofs.runs.Starts.{ascending-contains, canonical-rises, starting-ascending, starting-contains, Contains-starting}
 
 module _ (n : ℕ) (runs : List Interval) (canonical : IsCanonicalIn n runs) (point : ℕ) where
-  -- the run around a rank
+  -- A run of the list that has the rank is the run around it.
   pub contained-around : (run : Interval) → Contains runs run → run.first ≤ point → point ≤ run.last
       → IsRunAround n (members runs) point run
   contained-around run found from to = record {
@@ -21,7 +21,7 @@ module _ (n : ℕ) (runs : List Interval) (canonical : IsCanonicalIn n runs) (po
     around = covers-inside run point from to;
   }
 
-  -- the first of those that start past it
+  -- The first of the runs that start past the rank is in the list, and starts past the rank.
   pub past-first : (run : Interval) → StartsWith (past point runs) run
       → Contains runs run × (point < run.first)
   past-first run first =
@@ -31,7 +31,7 @@ module _ (n : ℕ) (runs : List Interval) (canonical : IsCanonicalIn n runs) (po
       (is.0, grind (arith, nat_tests, is.1))
 
   module _ (gap : members runs point ≡ false) where
-    -- a member past a gap is of a run that starts past it
+    -- If the rank is not a member, each member past it is in a run that starts past it.
     past-members : (rank : ℕ) → point < rank → members runs rank ≡ true
         → (run : Interval) × Contains (past point runs) run × (run.first ≤ rank)
     past-members rank more member =
@@ -48,7 +48,7 @@ module _ (n : ℕ) (runs : List Interval) (canonical : IsCanonicalIn n runs) (po
           bounds.0,
         )
 
-    -- where no run starts past it, the gap ends with the type
+    -- If no run starts past the rank, the gap ends with the type.
     pub gap-last : (last : ℕ) → point < n → past point runs ≡ [] → last + 1 ≡ n
         → IsGapEnd n runs point last
     gap-last last known none ends = record {
@@ -64,7 +64,7 @@ module _ (n : ℕ) (runs : List Interval) (canonical : IsCanonicalIn n runs) (po
       ends = λ within. absurd (omega (arith, within, ends));
     }
 
-    -- else the gap ends right before the first that does
+    -- Otherwise the gap ends right before the first run that does.
     pub gap-next : (run : Interval) (last : ℕ) → StartsWith (past point runs) run
         → last + 1 ≡ run.first → IsGapEnd n runs point last
     gap-next run last first ends =
@@ -90,7 +90,8 @@ module _ (n : ℕ) (runs : List Interval) (canonical : IsCanonicalIn n runs) (po
               (omega (arith, ends)) (omega (arith, ends, maximal.in_order));
         }
 
-  -- the gap around a rank
+  -- If no rank from `start` up to the rank is a member, but the one before `start` is, the gap
+  -- around the rank starts there.
   gap-around : (start end : ℕ) → start ≤ point → IsGapEnd n runs point end
       → ((rank : ℕ) → start ≤ rank → rank ≤ point → members runs rank ≡ false)
       → (0 < start → members runs (start - 1) ≡ true)
@@ -111,7 +112,8 @@ module _ (n : ℕ) (runs : List Interval) (canonical : IsCanonicalIn n runs) (po
     around = covers-inside (record { first = start; last = end }) point from ends.from;
   }
 
-  -- after the last run that starts up to it, where that one ends below it
+  -- If the last run that starts at or before the rank ends below it, the gap starts right after
+  -- that run.
   pub gap-found : (run : Interval) (end : ℕ) → IsLastBelow runs (point + 1) run → run.last < point
       → IsGapEnd n runs point end
       → IsRunAround n (complement (members runs)) point (record { first = run.last + 1; last = end })
@@ -123,7 +125,7 @@ module _ (n : ℕ) (runs : List Interval) (canonical : IsCanonicalIn n runs) (po
       (λ some. contained-members n runs canonical run (run.last + 1 - 1) found.among
       (omega (arith, own)) (omega arith))
 
-  -- or from the first value on, where no run starts up to it
+  -- If no run starts at or before the rank, the gap starts at 0.
   pub gap-first : (end : ℕ) → NoneBelow runs (point + 1) → IsGapEnd n runs point end
       → IsRunAround n (complement (members runs)) point (record { first = 0; last = end })
   gap-first end none ends =

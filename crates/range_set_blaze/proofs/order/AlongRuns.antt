@@ -1,4 +1,4 @@
--- A list that is made rank by rank is made run by run, where a canonical list has the ranks.
+-- A list that is built rank by rank is also built run by run, if a canonical list has the ranks.
 use Rattle.std.proofs.Common.{◌≡◌, ℕ, zero, suc, false, ◌+◌, ◌-◌, ◌<◌, ◌≤◌, List, [], ◌∷◌, ◌++◌, ◌∙◌, refl, ap, inr, arith}
 use Rattle.std.proofs.lemmas.List.Elements.{All-tail}
 use Rattle.std.specs.Prelude.{flat_map, All}
@@ -7,8 +7,8 @@ use Rattle.rsb_integer.proofs.CanonicalLemmas.{canonical-lower}
 use Rattle.rsb_integer.proofs.MembersLemmas.{members-below, members-tail}
 use Rattle.rsb_integer.proofs.RunsLemmas.{canonical-maximal}
 
--- what is made of so many ranks from a rank on: those outside a canonical list add nothing, and
--- each run of it adds a list of its own
+-- `made low more` is what is built from `more` ranks, starting at `low`. Ranks outside the
+-- canonical list `whole` add nothing to it, and each run of that list adds `of run`.
 module _ (made : ℕ → ℕ → List ℕ) (n : ℕ) (whole : List Interval) (of : Interval → List ℕ)
     (canonical : IsCanonicalIn n whole) (ended : (low : ℕ) → made low 0 ≡ [])
     (outside : (rank left : ℕ) → members whole rank ≡ false
@@ -16,7 +16,7 @@ module _ (made : ℕ → ℕ → List ℕ) (n : ℕ) (whole : List Interval) (of
     (run-made : (run : Interval) → IsMaximalRun n (members whole) run
     → members whole (suc run.last) ≡ false
     → made run.first (n - run.first) ≡ of run ++ made (suc run.last) (n - suc run.last)) where
-  -- a gap may be passed
+  -- A gap adds nothing.
   made-passed : (low more gap high rest : ℕ) → low + gap ≡ high → more ≡ gap + rest
       → ((rank : ℕ) → low ≤ rank → rank < high → members whole rank ≡ false)
       → made low more ≡ made high rest
@@ -30,7 +30,7 @@ module _ (made : ℕ → ℕ → List ℕ) (n : ℕ) (whole : List Interval) (of
       ∙ made-passed (suc low) more gap high rest (omega arith) (omega arith)
       (λ rank past. lacks rank (omega arith))
 
-  -- the last runs of the list add theirs
+  -- From `low` on, the runs that are left add their lists.
   made-from : (low more : ℕ) (runs : List Interval) → low + more ≡ n → IsCanonicalFrom low runs
       → All (IsMaximalRun n (members whole)) runs
       → ((rank : ℕ) → low ≤ rank → members whole rank ≡ members runs rank)
@@ -55,7 +55,7 @@ module _ (made : ℕ → ℕ → List ℕ) (n : ℕ) (whole : List Interval) (of
       (All-tail (IsMaximalRun n (members whole)) run runs maximal)
       (λ rank past. later rank (omega arith)))
 
-  -- all runs of the list add theirs
+  -- From 0 on, all runs of the list add theirs.
   pub made-canonical : made 0 n ≡ flat_map of whole
   made-canonical =
       made-from 0 n whole (omega arith) canonical.0

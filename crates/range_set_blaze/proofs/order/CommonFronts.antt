@@ -18,19 +18,19 @@ use Rattle.range_set_blaze.specs.Order.{elements_from, order, start_alike, AreTu
 use Rattle.range_set_blaze.specs.OrderLaws.{nat_cmp-greater, nat_cmp-same}
 use Rattle.range_set_blaze.proofs.order.AlongRuns.{made-canonical}
 
--- so many ranks from `low` on
+-- The given number of ranks, starting at `low`.
 abbrev ranks_from : ℕ → ℕ → List ℕ
 ranks_from low count = elements_from low count (λ rank. true)
 
--- the ranks of a run, which has one
+-- The ranks of a run that has at least one.
 abbrev pub ranks_of_run : Interval → List ℕ
 ranks_of_run run = run.first ∷ ranks_from (suc run.first) (run.last - run.first)
 
--- the ranks of some runs, one after the other
+-- The ranks of the runs, one after the other.
 abbrev pub elements_of : List Interval → List ℕ
 elements_of runs = flat_map ranks_of_run runs
 
--- ranks that are selected are elements
+-- If the next ranks are selected, they are the next elements.
 elements_from-inside : (selected : Selection) (low count more high rest : ℕ) → more ≡ count + rest
     → low + count ≡ high → ((rank : ℕ) → low ≤ rank → rank < high → selected rank ≡ true)
     → elements_from low more selected ≡ ranks_from low count ++ elements_from high rest selected
@@ -46,7 +46,7 @@ elements_from-inside selected low (suc count) (suc more) high rest all end here 
     (elements_from-inside selected (suc low) count more high rest (omega arith) (omega arith)
     (λ rank from. here rank (omega arith))))
 
--- the elements of a canonical list's members are the ranks of its runs
+-- The elements of the set of a canonical list are the ranks of its runs.
 pub elements_from-members : (n : ℕ) (runs : List Interval) → IsCanonicalIn n runs
     → elements_from 0 n (members runs) ≡ elements_of runs
 unfolding elements_from
@@ -60,14 +60,15 @@ elements_from-members n runs canonical =
     (n - run.first) (suc run.last) (n - suc run.last) (omega arith) (omega arith)
     (λ rank from to. maximal.whole rank (covers-inside run rank from (omega arith))))
 
--- a common front does not count
+-- A common prefix does not change how two lists compare.
 slice_cmp-front : (front left right : List ℕ)
     → slice_cmp nat_cmp (front ++ left) (front ++ right) ≡ slice_cmp nat_cmp left right
 slice_cmp-front [] left right = refl
 slice_cmp-front (rank ∷ front) left right =
     rw (nat_cmp-same rank) (slice_cmp-front front left right)
 
--- what is first to end is less where nothing follows, and greater where something does
+-- If one of two runs with the same start ends first, its list is less if no run follows, and
+-- greater if one does.
 slice_cmp-shorter : {T : Type 0} (rank : T → ℕ) (low lower count most bound : ℕ)
     (entries : List (T × T)) (others : List ℕ) → low ≡ lower → count < most → low + count < bound
     → IsCanonicalFrom bound (runs_of rank entries)
@@ -88,13 +89,13 @@ slice_cmp-shorter rank low lower (suc count) (suc most) bound entries others sam
 
 -- ---- what the loop that compares two lists has passed
 
--- the lists do not begin with the same run
+-- Whether the lists do not start with the same run.
 abbrev pub AreApart : List Interval → List Interval → Type 0
 AreApart [] right = Unit {0}
 AreApart (run ∷ left) [] = Unit {0}
 AreApart (run ∷ left) (other ∷ right) = run.first ≡ other.first → ¬ (run.last ≡ other.last)
 
--- a common front is no longer than one behind which the lists are apart
+-- If two lists go on apart after a common prefix, no common prefix is longer.
 longest-front : (front left right : List Interval) → AreApart left right
     → (other one two : List Interval) → front ++ left ≡ other ++ one → front ++ right ≡ other ++ two
     → length other ≤ length front
@@ -105,7 +106,8 @@ longest-front (head ∷ front) left right apart (run ∷ other) one two is also 
     let shorter = longest-front front left right apart other one two (cc) (cc) in
     omega (arith, shorter)
 
--- so many turns passed a common front of two canonical lists
+-- Whether `turns` iterations passed a common prefix of two canonical lists, and `left` and `right`
+-- are what is left of them.
 pub record IsPassing (n : ℕ) (whole total left right : List Interval) (turns : ℕ) : Type 0 where
   pub front : List Interval
   pub left_parts : whole ≡ front ++ left
@@ -114,7 +116,7 @@ pub record IsPassing (n : ℕ) (whole total left right : List Interval) (turns :
   pub left_rest : IsCanonicalIn n left
   pub right_rest : IsCanonicalIn n right
 
--- at first it passed nothing
+-- At first nothing is passed.
 pub passing-none : (n : ℕ) (whole total : List Interval) → IsCanonicalIn n whole
     → IsCanonicalIn n total → IsPassing n whole total whole total 0
 passing-none n whole total left right = record {
@@ -126,14 +128,15 @@ passing-none n whole total left right = record {
   right_rest = right;
 }
 
--- the sets of two lists have this order, and it takes so many turns
+-- Whether the sets of two lists have this order, and finding it takes the given number of
+-- iterations.
 abbrev pub TellsOrder : ℕ → List Interval → List Interval → Ordering → ℕ → Type 0
 TellsOrder n whole total ordering turns = record {
   order : ordering ≡ order n (members whole) (members total);
   turns : AreTurns whole total turns;
 }
 
--- what is left tells, where it begins apart
+-- If what is left of both lists starts apart, it determines the order.
 pub passing-tells : {n : ℕ} {whole total left right : List Interval} {turns all : ℕ}
     {ordering : Ordering} → IsCanonicalIn n whole → IsCanonicalIn n total
     → IsPassing n whole total left right turns → AreApart left right
@@ -168,8 +171,9 @@ passing-tells {n} {whole} {total} {left} {right} one two passing apart is told =
       };
     }
 
--- what some iterations tell, by how the last two runs compare by their ends: that no run told, or
--- the order, of which the next iteration is the last
+-- What the iterations so far determine, by how the last two runs compare by their ends. If they end
+-- alike, a common prefix was passed. If not, the order is determined, and the next iteration is the
+-- last.
 abbrev pub TellsBy : {T : Type 0} → (T → ℕ) → ℕ → List Interval → List Interval → Ordering
     → List (T × T) → List (T × T) → ℕ → Type 0
 TellsBy rank n whole total Less left right turns =
@@ -179,7 +183,8 @@ TellsBy rank n whole total Equal left right turns =
 TellsBy rank n whole total Greater left right turns = TellsOrder n whole total
     (ordering_reverse (cond (nat_lt 0 (length right)) Greater Less)) (turns + 1)
 
--- each iteration passed a run of the left list
+-- Whether each iteration took a run of the left list, and the iterations determine what `TellsBy`
+-- states.
 pub record HasCompared {T : Type 0} (rank : T → ℕ) (n : ℕ) (whole total : List Interval)
     (ends : Ordering) (left right : List (T × T)) (turns : ℕ) : Type 0 where
   pub counted : turns + length (runs_of rank left) ≡ length whole
@@ -194,7 +199,7 @@ module _ {T : Type 0} {rank : T → ℕ} {n : ℕ} {cmp : T → T → Ordering}
     (passing : IsPassing n whole total (run_of rank run ∷ runs_of rank left)
     (run_of rank other ∷ runs_of rank right) turns)
     {starts : Ordering} (starts_by : starts ≡ cmp run.start other.start) where
-  -- first runs compare as their ranks do
+  -- The next two runs compare by their starts and by their ends as their ranks do.
   heads-ranked : (cmp run.start other.start ≡ nat_cmp (rank run.start) (rank other.start))
       × (cmp run.end other.end ≡ nat_cmp (rank run.end) (rank other.end))
   heads-ranked =
@@ -204,7 +209,7 @@ module _ {T : Type 0} {rank : T → ℕ} {n : ℕ} {cmp : T → T → Ordering}
       let also = passing.right_rest.1 0 (run_of rank other) (omega arith) in
       (in_order _ _ (omega arith) (omega arith), in_order _ _ below also)
 
-  -- runs that start apart tell
+  -- If the next two runs have different starts, these determine the order.
   pub starts-tell : true ≡ is_ne starts → TellsOrder n whole total starts (turns + 1)
   starts-tell apart =
       let by = starts_by ∙ heads-ranked.0 in
@@ -213,11 +218,11 @@ module _ {T : Type 0} {rank : T → ℕ} {n : ℕ} {cmp : T → T → Ordering}
       (rw (← by) (grind (arith, apart))) (grind (arith, nat_tests))
 
   module _ (level : false ≡ is_ne starts) where
-    -- they start alike
+    -- The next two runs have the same start.
     same_start : rank run.start ≡ rank other.start
     same_start = let by = starts_by ∙ heads-ranked.0 in grind (arith, nat_tests)
 
-    -- a run of the left list that ends first tells
+    -- If the run of the left list ends first, the runs after it determine the order.
     left-tells : Less ≡ cmp run.end other.end → TellsOrder n whole total
         (cond (nat_lt 0 (length left)) Greater Less) (turns + 1 + 1)
     unfolding elements_from
@@ -231,7 +236,7 @@ module _ {T : Type 0} {rank : T → ℕ} {n : ℕ} {cmp : T → T → Ordering}
         (omega arith) (omega arith) passing.left_rest.0.2)
         (grind (arith, nat_tests))
 
-    -- or one of the right list
+    -- If the run of the right list ends first, the runs after that one do.
     right-tells : Greater ≡ cmp run.end other.end → TellsOrder n whole total
         (ordering_reverse (cond (nat_lt 0 (length right)) Greater Less)) (turns + 1 + 1)
     unfolding elements_from
@@ -247,7 +252,7 @@ module _ {T : Type 0} {rank : T → ℕ} {n : ℕ} {cmp : T → T → Ordering}
         (elements_of (run_of rank other ∷ runs_of rank right))))
         (grind (arith, nat_tests))
 
-    -- and where they end alike, they are passed
+    -- If both end alike, they are passed.
     alike-passed : Equal ≡ cmp run.end other.end
         → IsPassing n whole total (runs_of rank left) (runs_of rank right) (turns + 1)
     alike-passed is =
@@ -267,14 +272,14 @@ module _ {T : Type 0} {rank : T → ℕ} {n : ℕ} {cmp : T → T → Ordering}
           right_rest = canonical-tail n _ (runs_of rank right) passing.right_rest;
         }
 
-    -- so their ends tell
+    -- So how their ends compare determines what `TellsBy` states.
     ends-tell : (ends : Ordering) → ends ≡ cmp run.end other.end
         → TellsBy rank n whole total ends left right (turns + 1)
     ends-tell Less is = left-tells is
     ends-tell Equal is = alike-passed is
     ends-tell Greater is = right-tells is
 
-    -- and one more iteration is done
+    -- So the same holds after one more iteration.
     pub ends-compared : (ends : Ordering) → ends ≡ cmp run.end other.end
         → HasCompared rank n whole total ends left right (turns + 1)
     ends-compared ends is =

@@ -1,4 +1,4 @@
--- The least and the greatest member of a set that is kept as its runs, and when there is none.
+-- The least and the greatest member of a set that is stored as its runs, and whether it has any.
 use Rattle.std.proofs.Common.{◌≡◌, ◌↔◌, ℕ, zero, suc, ◌+◌, ◌-◌, ◌<◌, ◌≤◌, true, List, [], ◌∷◌, length, get_or, slice_get, Some, refl, sym, ◌∙◌, ap, inl, inr, subst, arith}
 use Rattle.std.proofs.lemmas.Bool.{cases_lt}
 use Rattle.std.proofs.lemmas.List.{get_or-map, length-map}
@@ -13,7 +13,7 @@ use Rattle.rsb_integer.proofs.RunsLemmas.{canonical-maximal}
 use Rattle.range_set_blaze.specs.Kept.{entry_run, runs_of, IsKept}
 use Rattle.range_set_blaze.specs.Set.{IsGreatest, IsLeast}
 
--- every run of a canonical list ends at the end of the last one at most, which ends past its start
+-- The last run of a canonical list ends at `low` or later, and no run ends after it.
 ends-last : (low i : ℕ) (runs : List Interval) (run : Interval) → IsCanonicalFrom low runs
     → i + 1 ≡ length runs
     → (low ≤ (get_or runs i run).last) × AllEndBelow ((get_or runs i run).last + 1) runs
@@ -36,20 +36,20 @@ ends-last low (suc i) (first ∷ runs) run canonical last =
           (omega arith) rest.1,
     )
 
--- as many runs are kept as entries
+-- There are as many runs as entries.
 pub length-runs_of : {T : Type 0} (rank : T → ℕ) (entries : List (T × T))
     → length (runs_of rank entries) ≡ length entries
 length-runs_of rank entries = length-map entries (entry_run rank)
 
 module _ {T : Type 0} (rank : T → ℕ) (n : ℕ) where
-  -- nothing is kept of the empty set, and its length is 0
+  -- No entries and the length 0 represent the empty set.
   pub kept-nil : (kept : ℕ) → kept ≡ 0 → IsKept rank n [] kept
   kept-nil kept none = record {
     canonical = (tt, All-nil (λ (each : Interval). each.last < n));
     length = none ∙ sym (count-none n (members []) (λ point below. refl));
   }
 
-  -- the first run starts with the least member
+  -- The first run starts with the least member.
   pub first-least : (entries : List (T × T)) (run : T × T) → IsCanonicalIn n (runs_of rank entries)
       → slice_get entries 0 ≡ Some run → IsLeast n (members (runs_of rank entries)) (rank run.0)
   first-least [] run canonical found = absurd (cc)
@@ -71,7 +71,7 @@ module _ {T : Type 0} (rank : T → ℕ) (n : ℕ) where
         ];
       })
 
-  -- the last run ends with the greatest member
+  -- The last run ends with the greatest member.
   pub last-greatest : (entries : List (T × T)) (run : T × T)
       → IsCanonicalIn n (runs_of rank entries) → slice_get entries (length entries - 1) ≡ Some run
       → IsGreatest n (members (runs_of rank entries)) (rank run.1)
@@ -97,7 +97,7 @@ module _ {T : Type 0} (rank : T → ℕ) (n : ℕ) where
         ];
       })
 
-  -- a set with no run has no member, and one with a run has one
+  -- A set has no runs exactly if it has no members.
   pub nothing-kept : (entries : List (T × T)) → IsCanonical (runs_of rank entries)
       → (length entries ≡ 0) ↔ IsEmpty (members (runs_of rank entries))
   nothing-kept [] canonical = ((λ none point. refl), (λ nothing. refl))
@@ -106,7 +106,7 @@ module _ {T : Type 0} (rank : T → ℕ) (n : ℕ) where
       canonical.1 in
       ((λ none. absurd (omega (arith, none))), (λ nothing. absurd (not_both _ here (nothing _))))
 
--- a set counts as many ranks as there are exactly where it has each of them
+-- A set has n members below n exactly if it has each rank below n.
 pub count-everything : (n : ℕ) (selected : Selection)
     → (count n selected ≡ n) ↔ IsUniversal n selected
 count-everything n selected = (

@@ -1,4 +1,4 @@
--- What a set that is kept as its runs feeds a hasher.
+-- What a set that is stored as its runs feeds a hasher.
 use Rattle.std.proofs.Common.{◌≡◌, ℕ, Bool, zero, suc, true, false, not, cond, ◌+◌, ◌-◌, ◌<◌, ◌≤◌, List, [], ◌∷◌, ◌++◌, append_assoc, refl, sym, ap, ◌∙◌, inl, inr, arith}
 use Rattle.std.proofs.lemmas.Bool.{cases_lt}
 use Rattle.std.proofs.lemmas.Bool.Decides.{nat_tests}
@@ -16,18 +16,19 @@ use Rattle.range_set_blaze.proofs.order.AlongRuns.{made-canonical}
 module _ (n : ℕ) (runs : List Interval) (run : Interval)
     (maximal : IsMaximalRun n (members runs) run) (stops : members runs (suc run.last) ≡ false)
   where
-    -- the run's ranks are members
+    -- The ranks of the run are members.
     here : (rank : ℕ) → run.first ≤ rank → rank ≤ run.last → members runs rank ≡ true
     here rank from to = maximal.whole rank (covers-inside run rank from to)
 
-    -- and no rank comes right before the first
+    -- No member is right before the first rank of the run.
     begins : (rank : ℕ) → rank ≡ run.first → selected_before (members runs) rank ≡ false
     begins zero is = refl
     begins (suc rank) is =
         let at : run.first - 1 ≡ rank = omega arith in
         ap (members runs) (sym at) ∙ maximal.begins_here (omega arith)
 
-    -- from a rank of the run on, the bounds are that rank, where the run begins there, and the last
+    -- From a rank of the run on, the bounds are that rank if the run begins there, the last rank,
+    -- and later ones.
     bounds_from-run : (count low : ℕ) (begun : Bool) → low + count ≡ run.last → run.first ≤ low
         → selected_before (members runs) low ≡ begun
         → bounds_from (members runs) low (n - low) ≡ cond (not begun) (low ∷ []) []
@@ -53,7 +54,7 @@ module _ (n : ℕ) (runs : List Interval) (run : Interval)
         )
         refl
 
--- every member of a list in a type of n values is below n
+-- Every member of a list that ends below n is below n.
 selected_below-members : (n : ℕ) (runs : List Interval) → AllEndBelow n runs → (rank : ℕ)
     → selected_below n (members runs) rank ≡ members runs rank
 selected_below-members n runs within rank = elim (cases_lt rank n) [
@@ -61,7 +62,8 @@ selected_below-members n runs within rank = elim (cases_lt rank n) [
   | inr most ↦ let none = members-end n runs rank within most in grind (arith, nat_tests, none)
 ]
 
--- the first and the last ranks of the runs of a canonical list in a type of n values are its own
+-- For a canonical list in a type of n values, the bounds are the first and the last ranks of its
+-- runs.
 pub run_bounds-canonical : (n : ℕ) (runs : List Interval) → IsCanonicalIn n runs
     → run_bounds n (members runs) ≡ ends_of_runs runs
 unfolding bounds_from
@@ -76,7 +78,7 @@ run_bounds-canonical n runs canonical =
 
 module _ {T : Type 0} (rank : T → ℕ) (n : ℕ) (value_at : ℕ → T)
     (placed : (x : T) → rank x < n → value_at (rank x) ≡ x) (fed : T → HashWrites) where
-  -- each run's start and end feed what the values at their ranks feed
+  -- The start and the end of each run feed what the values at their ranks feed.
   pub entries-fed : (selected : Selection) (entries : List (T × T))
       → All (IsMaximalRun n selected) (runs_of rank entries)
       → flat_map (λ entry. fed entry.0 ++ fed entry.1) entries

@@ -1,15 +1,16 @@
--- A test of two lists that are known.
+-- Tests of two streams whose lists are known.
 use Rattle.std.proofs.Common.{◌≡◌, ◌↔◌, ℕ, ◌<◌, Bool, true, List}
 use Rattle.rsb_integer.specs.Runs.{Interval, members}
 use Rattle.rsb_streams.proofs.calling.Results.{settled-same}
 use Rattle.rsb_streams.specs.Stream.{SomeOutcomes, just}
 
--- each member of the one list is one of the other, or none is
+-- Whether each member of the left list is a member of the right one, or none is, as `wanted` says.
 abbrev pub AllAnswer : ℕ → Bool → List Interval → List Interval → Type 0
 AllAnswer n wanted left right = (rank : ℕ) → rank < n → members left rank ≡ true
     → members right rank ≡ wanted
 
--- what a test tells of lists that may be given, it tells of the two that are
+-- If two streams may each give only one list, a test of what they may give is a test of these
+-- lists.
 pub known-test : (n : ℕ) (wanted : Bool) (left right : List Interval) (test : Bool)
     → SomeOutcomes (just left) (just right)
     (λ these those. (test ≡ true) ↔ AllAnswer n wanted these those)

@@ -1,4 +1,4 @@
--- Two sets have one order.
+-- Two sets have only one order.
 use Rattle.std.proofs.Common.{◌≡◌, ℕ, true, ◌≤◌, refl, sym, ◌∙◌, subst, inl, inr, arith}
 use Rattle.std.proofs.lemmas.Bool.{cases_lt}
 use Rattle.std.specs.declared.cmp.Ordering.{Ordering}
@@ -8,7 +8,7 @@ use Rattle.rsb_integer.proofs.ListLemmas.{not_both}
 use Rattle.range_set_blaze.specs.Order.{DiffersAt, HasLater, HasOrder, IsLess}
 use Rattle.range_set_blaze.specs.OrderLaws.{less-not}
 
--- sets differ nowhere below the least rank in which they differ
+-- If two sets agree below a point, the least rank at which they differ is not below it.
 differs-from : (n rank point : ℕ) (left right : Selection) → DiffersAt n left right rank
     → Agree point left right → point ≤ rank
 differs-from n rank point left right differs all = elim (cases_lt rank point) [
@@ -17,7 +17,7 @@ differs-from n rank point left right differs all = elim (cases_lt rank point) [
   | inr most ↦ most
 ]
 
--- there is one such rank
+-- There is only one such rank.
 differs-same : (n rank other : ℕ) (left right : Selection) → DiffersAt n left right rank
     → DiffersAt n left right other → rank ≡ other
 differs-same n rank other left right differs also =
@@ -25,7 +25,7 @@ differs-same n rank other left right differs also =
     let two = differs-from n other rank left right also differs.least in
     omega (arith, one, two)
 
--- and one of the sets has it
+-- Only one of the sets has it.
 differs-apart : (n rank other : ℕ) (left right : Selection) → DiffersAt n left right rank
     → ¬ DiffersAt n right left other
 differs-apart n rank other left right differs also =
@@ -36,7 +36,7 @@ differs-apart n rank other left right differs also =
     let at : rank ≡ other = omega (arith, one, two) in
     not_both (left other) (subst (λ each. left each ≡ true) at differs.here) also.lacks
 
--- of two sets only one is less
+-- At most one of two sets is less than the other.
 less-one : (n : ℕ) (left right : Selection) → IsLess n left right → ¬ IsLess n right left
 less-one n left right (inl less) (inl more) =
     differs-apart n less.rank more.rank left right less.differs more.differs
@@ -49,7 +49,7 @@ less-one n left right (inr less) (inl more) =
 less-one n left right (inr less) (inr more) =
     differs-apart n less.rank more.rank right left less.differs more.differs
 
--- so they have one order
+-- So two sets have only one order.
 pub order-unique : (n : ℕ) (left right : Selection) (ordering other : Ordering)
     → HasOrder n left right ordering → HasOrder n left right other → ordering ≡ other
 order-unique n left right Less Less one two = refl

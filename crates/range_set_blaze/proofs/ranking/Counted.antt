@@ -1,4 +1,5 @@
--- How many members of a list of runs are below a rank, and the member that has so many below it.
+-- How many members of a list of runs are below a rank, and the member that has a given number below
+-- it.
 use Rattle.std.proofs.Common.{◌≡◌, ℕ, true, ◌+◌, ◌-◌, ◌<◌, ◌≤◌, min, List, [], ◌∷◌, refl, ◌∙◌, inr, arith}
 use Rattle.std.proofs.lemmas.List.Elements.{All-head, All-tail}
 use Rattle.rsb_integer.specs.Runs.{Interval, covers, length_of, members, AllEndBelow, IsCanonicalFrom, IsCanonicalIn}
@@ -8,7 +9,7 @@ use Rattle.rsb_integer.proofs.CountLemmas.{count-covers, count-none, count-union
 use Rattle.rsb_integer.proofs.MembersLemmas.{covers-bounds, members-below, members-cons, members-head, members-tail}
 use Rattle.range_set_blaze.specs.Ranked.{IsPartBelow}
 
--- the members below a bound are those of the first run and those of the others
+-- The members below a bound are those of the first run and those of the others.
 count-next : (bound low : ℕ) (run : Interval) (rest : List Interval)
     → IsCanonicalFrom low (run ∷ rest)
     → count bound (members (run ∷ rest))
@@ -21,7 +22,7 @@ count-next bound low run rest canonical =
     let one = count-covers bound run in
     omega (arith, both, one)
 
--- a list that starts at the bound or past it has none below it
+-- If a list starts at the bound or past it, no member is below the bound.
 count-below : (bound low : ℕ) (runs : List Interval) → IsCanonicalFrom low runs → bound ≤ low
     → count bound (members runs) ≡ 0
 count-below bound low runs canonical less =
@@ -30,7 +31,8 @@ count-below bound low runs canonical less =
 
 -- ---- how many are below a bound
 
--- those that were counted and those of the runs that are left are all
+-- Whether the members that were counted and those of the runs that are left are all members below
+-- the bound.
 pub record AreCounted (n : ℕ) (all rest : List Interval) (bound counted : ℕ) : Type 0 where
   pub canonical : IsCanonicalIn n rest
   pub in_type : bound ≤ n
@@ -39,7 +41,7 @@ pub record AreCounted (n : ℕ) (all rest : List Interval) (bound counted : ℕ)
 module _ (n : ℕ) (all rest : List Interval) (run : Interval) (bound counted : ℕ)
     (left : AreCounted n all (run ∷ rest) bound counted) where
   module _ (part : Interval) (is : IsPartBelow run bound part) where
-    -- the part of the next run is counted
+    -- The sum stays the same once the part of the next run is counted.
     counted-sum : counted + length_of part + count bound (members rest) ≡ count bound (members all)
     counted-sum =
         let next = count-next bound 0 run rest left.canonical.0 in
@@ -50,7 +52,7 @@ module _ (n : ℕ) (all rest : List Interval) (run : Interval) (bound counted : 
         let order = left.canonical.0.1 in
         omega (arith, next, sum, first, last, some, order)
 
-    -- it has a rank
+    -- This part is non-empty.
     pub counted-some : part.first ≤ part.last
     counted-some =
         let first = is.first in
@@ -59,7 +61,7 @@ module _ (n : ℕ) (all rest : List Interval) (run : Interval) (bound counted : 
         let order = left.canonical.0.1 in
         omega (arith, first, last, some, order)
 
-    -- the count fits in the type
+    -- The number that was counted, with this part, is at most n.
     pub counted-fits : counted + length_of part ≤ n
     counted-fits =
         let sum = counted-sum in
@@ -74,7 +76,7 @@ module _ (n : ℕ) (all rest : List Interval) (run : Interval) (bound counted : 
       sum = counted-sum;
     }
 
-  -- a run that starts at the bound or past it ends the count
+  -- If the next run starts at the bound or past it, all members below the bound are counted.
   pub counted-past : bound ≤ run.first → counted ≡ count bound (members all)
   counted-past less =
       let none = count-below bound run.first (run ∷ rest)
@@ -82,7 +84,7 @@ module _ (n : ℕ) (all rest : List Interval) (run : Interval) (bound counted : 
       let sum = left.sum in
       omega (arith, none, sum)
 
--- and so does the end of the list
+-- If no run is left, all members below the bound are counted.
 pub counted-all : (n : ℕ) (all : List Interval) (bound counted : ℕ) → AreCounted n all [] bound counted
     → counted ≡ count bound (members all)
 counted-all n all bound counted left =
@@ -90,10 +92,10 @@ counted-all n all bound counted left =
     let sum = left.sum in
     omega (arith, none, sum)
 
--- ---- the member that has so many below it
+-- ---- the member that has a given number below it
 
--- the runs that are left start at a rank or past it, and so many as `left` of the members below the
--- wanted one are still to be passed
+-- Whether the runs that are left start at some rank or past it. `left` of the members below the
+-- wanted one are still to be passed.
 pub record AreLeft (n : ℕ) (all rest : List Interval) (wanted left : ℕ) : Type 0 where
   pub from : ℕ
   pub in_type : from ≤ n
@@ -103,7 +105,7 @@ pub record AreLeft (n : ℕ) (all rest : List Interval) (wanted left : ℕ) : Ty
   pub counted : (rank : ℕ) → from ≤ rank
       → count rank (members all) + left ≡ count rank (members rest) + wanted
 
--- at first all are
+-- At first all runs are left.
 pub left-all : (n : ℕ) (all : List Interval) (wanted : ℕ) → IsCanonicalIn n all
     → AreLeft n all all wanted wanted
 left-all n all wanted canonical = record {
@@ -117,7 +119,7 @@ left-all n all wanted canonical = record {
 
 module _ (n : ℕ) (all rest : List Interval) (run : Interval) (wanted left : ℕ)
     (are : AreLeft n all (run ∷ rest) wanted left) where
-  -- a run that has no more is passed
+  -- If the next run has at most `left` members, it is passed.
   pub left-next : (less : ℕ) → less + length_of run ≡ left → AreLeft n all rest wanted less
   left-next less passed =
       let starts = are.later.0 in
@@ -138,7 +140,7 @@ module _ (n : ℕ) (all rest : List Interval) (run : Interval) (wanted left : �
       }
 
   module _ (rank : ℕ) (fewer : left < length_of run) (is : rank ≡ run.first + left) where
-    -- else it has the wanted member
+    -- Otherwise the wanted member is in it.
     pub left-member : members all rank ≡ true
     left-member =
         let starts = are.later.0 in
@@ -153,7 +155,7 @@ module _ (n : ℕ) (all rest : List Interval) (run : Interval) (wanted left : �
         let none = count-below rank (run.last + 2) rest are.later.2 (omega (arith, is, fewer)) in
         omega (arith, sum, next, none, is, fewer)
 
-  -- and there are more members than are wanted
+  -- In this case, more than `wanted` ranks are members.
   pub left-more : left < length_of run → wanted < count n (members all)
   left-more fewer =
       let last = All-head (λ (each : Interval). each.last < n) run rest are.within in
@@ -161,7 +163,7 @@ module _ (n : ℕ) (all rest : List Interval) (run : Interval) (wanted left : �
       let next = count-next n are.from run rest are.later in
       omega (arith, sum, next, fewer, last)
 
--- where no run is left, there are no more
+-- If no run is left, at most `wanted` ranks are members.
 pub left-none : (n : ℕ) (all : List Interval) (wanted left : ℕ) → AreLeft n all [] wanted left
     → count n (members all) ≤ wanted
 left-none n all wanted left are =

@@ -4,7 +4,7 @@ use Rattle.std.proofs.lemmas.Bool.Decides.{nat_tests}
 use Rattle.rsb_integer.specs.Runs.{Interval, covers}
 use Rattle.rsb_integer.specs.Selection.{Selection}
 
--- from the least rank that a start lets in to the last before the first that an end keeps out
+-- The ranks from `low` on, up to the one before `past`.
 abbrev between : ℕ → ℕ → Selection
 between low past rank = nat_le low rank && nat_lt rank past
 

@@ -1,4 +1,4 @@
--- Ranks in a row that are taken out of the run that has them.
+-- Consecutive ranks that are removed from the run that has them.
 use Rattle.std.proofs.Common.{◌≡◌, ℕ, true, false, not, ◌==◌, nat_lt, ◌&&◌, ◌||◌, ◌+◌, ◌<◌, ◌≤◌, List, refl, sym, ap, ◌∙◌, inl, inr, arith, subst}
 use Rattle.std.specs.List.{Contains}
 use Rattle.std.proofs.lemmas.Bool.Decides.{nat_tests}
@@ -14,11 +14,12 @@ use Rattle.range_set_blaze.proofs.runs.Starts.{canonical-rises, starting-with_ru
 
 module _ (n : ℕ) (runs : List Interval) (canonical : IsCanonicalIn n runs) (run : Interval)
     (among : Contains runs run) (point : ℕ) (from : run.first ≤ point) (to : point ≤ run.last) where
-  -- the other runs
+  -- Without the run, the list differs only by it.
   joins : IsJoined n (without_start run.first runs) run runs
   joins = without_start-joined n runs canonical run among
 
-  -- nothing lies above the last rank
+  -- If the run ends at the point or before it, no part of the run is above, and the list is as
+  -- `IsCutAbove` states.
   pub cut-last : run.last ≤ point → IsCutAbove n runs run point runs
   cut-last ends = record {
     ascending = canonical-rises n 0 runs canonical.0 canonical.1;
@@ -34,7 +35,7 @@ module _ (n : ℕ) (runs : List Interval) (canonical : IsCanonicalIn n runs) (ru
     counted = omega (arith, ends, to);
   }
 
-  -- what lies above another is put in
+  -- Otherwise the list is as `IsCutAbove` states once the part above the point is inserted.
   pub cut-above : (above : Interval) → above.first ≡ point + 1 → above.last ≡ run.last
       → point < run.last → IsCutAbove n runs run point (with_run above runs)
   cut-above above starts ends less =
@@ -66,10 +67,12 @@ module _ (n : ℕ) (runs : List Interval) (canonical : IsCanonicalIn n runs) (ru
             ∙ omega (arith, number, starts, ends, less);
       }
 
-  -- with what lies below the first rank of a piece, or nothing, the piece alone is out
+  -- Only the piece is removed once the part below it takes the place of the run. If there is no
+  -- such part, the run itself is removed.
   module _ (first : ℕ) (starts : run.first ≤ first) (order : first ≤ point) (now : List Interval)
       (above : IsCutAbove n runs run point now) where
-    -- each other member is one still, where the rest and what is put in are told
+    -- If the new list has the members of the rest and the ranks of the run below `first`, it lacks
+    -- exactly the piece.
     cut-removes : (new : List Interval) → ((rank : ℕ) → members new rank
         ≡ (members (without_start run.first now) rank || (covers run rank && nat_lt rank first)))
         → Removes runs new (covers (from_to first point))
@@ -92,7 +95,7 @@ module _ (n : ℕ) (runs : List Interval) (canonical : IsCanonicalIn n runs) (ru
           ]
         ]
 
-    -- what lies below it takes the run's place
+    -- The part below the piece takes the place of the run.
     pub cut-low : (low : Interval) → low.first ≡ run.first → low.last + 1 ≡ first
         → run.first < first → IsRemoved n runs (with_run low now) (from_to first point)
     cut-low low begins ends less =
@@ -121,7 +124,7 @@ module _ (n : ℕ) (runs : List Interval) (canonical : IsCanonicalIn n runs) (ru
           counted = omega (arith, number, rest, all, old_number, begins, ends, less, order, to);
         }
 
-    -- or nothing does
+    -- If there is no such part, the run is removed.
     pub cut-none : first ≤ run.first → IsRemoved n runs (without_start run.first now)
         (from_to first point)
     cut-none less =
@@ -141,7 +144,7 @@ module _ (n : ℕ) (runs : List Interval) (canonical : IsCanonicalIn n runs) (ru
           counted = omega (arith, rest, all, starts, order, to, less);
         }
 
--- a piece of one rank is that alone
+-- Removing a piece of one rank removes only that rank.
 pub removes-only : (old new : List Interval) (point : ℕ)
     → Removes old new (covers (from_to point point)) → Removes old new (only point)
 removes-only old new point removes rank =

@@ -1,4 +1,4 @@
--- A range that is taken out of the runs that it meets, from the last on.
+-- A range that is removed from the runs that it meets, starting with the last.
 use Rattle.std.proofs.Common.{◌≡◌, ◌↔◌, ℕ, Bool, true, false, not, ◌&&◌, ◌+◌, ◌<◌, ◌≤◌, List, IsTrue, ◌∙◌, inl, inr, arith, refl}
 use Rattle.std.proofs.lemmas.Bool.{cases_lt, false≢true}
 use Rattle.rsb_integer.specs.Runs.{Interval, covers, length_of, members, IsCanonicalIn}
@@ -15,7 +15,7 @@ use Rattle.range_set_blaze.proofs.runs.Kept.{lt-fails}
 
 -- ---- ranges that meet no run
 
--- where none of its ranks is a member, the two have none in common
+-- If no rank of the range is a member, the runs and the range have no rank in common.
 common-none : (runs : List Interval) (range : Interval)
     → ((rank : ℕ) → range.first ≤ rank → rank ≤ range.last → members runs rank ≡ false)
     → IsEmpty (intersection (members runs) (covers range))
@@ -27,7 +27,7 @@ common-none runs range free rank = elim (true_or_false (covers range rank)) [
   | inr outside ↦ grind (arith, outside)
 ]
 
--- and where one is, they have some
+-- If some rank of the range is a member, they have one in common.
 pub some-common : (runs : List Interval) (range : Interval)
     → IsEmpty (intersection (members runs) (covers range)) → HasSome (members runs) (covers range) → ⊥
 some-common runs range none some =
@@ -37,30 +37,30 @@ some-common runs range none some =
     not_both (members runs some.0 && covers range some.0) (grind (arith, here, member)) lacks
 
 module _ (n : ℕ) (runs : List Interval) (canonical : IsCanonicalIn n runs) (range : Interval) where
-  -- no run starts up to its end
+  -- If no run starts at or before the end of the range, none meets it.
   pub none-meets : NoneBelow runs (range.last + 1)
       → IsEmpty (intersection (members runs) (covers range))
   none-meets none = common-none runs range (λ rank from to.
       none-gap n runs canonical (range.last + 1) none rank (omega (arith, to)))
 
-  -- or the last that does ends below its start
+  -- If the last of those runs ends before the range, none meets it.
   pub last-before : (run : Interval) → IsLastBelow runs (range.last + 1) run → run.last < range.first
       → IsEmpty (intersection (members runs) (covers range))
   last-before run found less = common-none runs range (λ rank from to.
       last-gap n runs canonical (range.last + 1) run found rank (omega (arith, less, from))
       (omega (arith, to)))
 
--- ---- a run that has a rank of it
+-- ---- a run that has a rank of the range
 
 module _ (n : ℕ) (runs : List Interval) (canonical : IsCanonicalIn n runs) (range run : Interval)
     (order : range.first ≤ range.last) (meets : IsLastMeeting runs range run) where
-  -- the run is one of values
+  -- The run is non-empty, and ends within the type.
   pub meeting-value : (run.first ≤ run.last) × (run.last < n)
   meeting-value =
       let maximal = contained-maximal n runs canonical run meets.last.among in
       (maximal.in_order, maximal.in_type)
 
-  -- it has one that is a member
+  -- Some rank of the range is a member.
   pub meeting-some : HasSome (members runs) (covers range)
   meeting-some =
       let starts = meets.last.starts in
@@ -79,7 +79,7 @@ module _ (n : ℕ) (runs : List Interval) (canonical : IsCanonicalIn n runs) (ra
         )
       ]
 
-  -- where the rank after the range is no member, it does not go on past the range
+  -- If the rank right after the range is not a member, the run does not extend past the range.
   pub meeting-within : Lacks n runs (range.last + 1) → run.last ≤ range.last
   meeting-within lacks = elim (cases_lt range.last run.last) [
     | inl more ↦
@@ -91,7 +91,7 @@ module _ (n : ℕ) (runs : List Interval) (canonical : IsCanonicalIn n runs) (ra
     | inr ends ↦ ends
   ]
 
-  -- nor where the last rank of the range is none
+  -- If the last rank of the range is not a member, the run does not extend past the range.
   pub meeting-ends : members runs range.last ≡ false → run.last ≤ range.last
   meeting-ends lacks = elim (cases_lt range.last run.last) [
     | inl more ↦
@@ -103,7 +103,7 @@ module _ (n : ℕ) (runs : List Interval) (canonical : IsCanonicalIn n runs) (ra
   ]
 
   module _ (piece : Interval) (common : IsCommon run range piece) where
-    -- what they have in common lies in both
+    -- What the run and the range have in common is non-empty and lies in both.
     pub piece-from : run.first ≤ piece.first
     piece-from = omega (arith, common.first)
 
@@ -126,7 +126,7 @@ module _ (n : ℕ) (runs : List Interval) (canonical : IsCanonicalIn n runs) (ra
     piece-ends ends = omega (arith, common.last, ends)
 
     module _ (new : List Interval) (removed : IsRemoved n runs new piece) where
-      -- without it nothing else is changed
+      -- Removing the piece changes nothing outside the range.
       pub taken-outside : IsSameOutside range runs new
       taken-outside rank outside =
           removed.removes rank
@@ -139,7 +139,7 @@ module _ (n : ℕ) (runs : List Interval) (canonical : IsCanonicalIn n runs) (ra
             | inr lacks ↦ grind (arith, lacks)
           ]
 
-      -- and the last rank of the range is no member
+      -- After that, the last rank of the range is not a member.
       pub taken-ends : members new range.last ≡ false
       taken-ends =
           removed.removes range.last
@@ -155,23 +155,23 @@ module _ (n : ℕ) (runs : List Interval) (canonical : IsCanonicalIn n runs) (ra
                 grind (arith, here)
           ]
 
-      -- so there are fewer
+      -- So there are fewer members.
       pub taken-fewer : count n (members new) < count n (members runs)
       taken-fewer = omega (arith, removed.counted, piece-order)
 
-      -- and the piece is counted among them
+      -- The ranks of the piece are among the members that were counted.
       pub taken-counted : length_of piece ≤ count n (members runs)
       taken-counted = omega (arith, removed.counted)
 
--- ---- ranges that are taken out
+-- ---- ranges that are removed
 
--- outside the range one change after another leaves all as it was
+-- If two changes leave everything outside the range as it is, so do both together.
 pub outside-then : (range : Interval) (old mid new : List Interval) → IsSameOutside range old mid
     → IsSameOutside range mid new → IsSameOutside range old new
 outside-then range old mid new first second rank outside =
     second rank outside ∙ first rank outside
 
--- where no member is left in it, it is out
+-- If no member is left in the range, exactly its ranks are removed.
 pub outside-removes : (range : Interval) (old new : List Interval) → IsSameOutside range old new
     → IsEmpty (intersection (members new) (covers range)) → Removes old new (covers range)
 outside-removes range old new outside none rank = elim (true_or_false (covers range rank)) [
@@ -179,18 +179,19 @@ outside-removes range old new outside none rank = elim (true_or_false (covers ra
   | inr beyond ↦ let same = outside rank beyond in grind (arith, beyond, same)
 ]
 
--- ---- ranges that are asked about
+-- ---- whether a set has a whole range
 
 module _ (n : ℕ) (runs : List Interval) (canonical : IsCanonicalIn n runs) (range : Interval)
     (order : range.first ≤ range.last) where
-  -- where no run starts up to the start, that is no member
+  -- If no run starts at or before the start of the range, the set does not have the whole range.
   pub none-has : NoneBelow runs (range.first + 1) → Has runs (covers range) → ⊥
   none-has none has = not_both (members runs range.first)
       (has range.first (covers-inside range range.first (omega arith) order))
       (none-gap n runs canonical (range.first + 1) none range.first (omega arith))
 
   module _ (run : Interval) (found : IsLastBelow runs (range.first + 1) run) where
-    -- the last that does has all, where it ends at the end or past it
+    -- If the last of those runs ends at the end of the range or past it, the set has the whole
+    -- range.
     pub last-has : range.last ≤ run.last → Has runs (covers range)
     last-has ends rank here =
         let bounds = covers-bounds range rank here in
@@ -198,7 +199,7 @@ module _ (n : ℕ) (runs : List Interval) (canonical : IsCanonicalIn n runs) (ra
         contained-members n runs canonical run rank found.among (omega (arith, starts, bounds.0))
         (omega (arith, bounds.1, ends))
 
-    -- else one is no member
+    -- Otherwise the set does not have the whole range.
     pub last-lacks : run.last < range.last → Has runs (covers range) → ⊥
     last-lacks less has = elim (cases_lt run.last range.first) [
       | inl before ↦ not_both (members runs range.first)
@@ -210,7 +211,7 @@ module _ (n : ℕ) (runs : List Interval) (canonical : IsCanonicalIn n runs) (ra
           (contained-after n runs canonical run (run.last + 1) found.among refl)
     ]
 
-    -- so a test of where it ends tells
+    -- So where that run ends determines whether the set has the whole range.
     pub has-told : (less : Bool) → IsTrue less ↔ (run.last < range.last)
         → IsTrue (not less) ↔ Has runs (covers range)
     has-told true tells = (

@@ -1,14 +1,14 @@
--- A piece that one value more makes longer.
+-- A piece that grows by one value.
 use Rattle.std.proofs.Common.{◌≡◌, ℕ, ◌+◌, ◌≤◌, ◌||◌, arith}
 use Rattle.std.proofs.lemmas.Bool.Decides.{nat_tests}
 use Rattle.rsb_integer.specs.Runs.{covers, from_to}
 use Rattle.range_set_blaze.specs.Set.{only}
 
--- the interval of one rank has that rank alone
+-- The interval of one rank has only that rank.
 pub covers-one : (point rank : ℕ) → covers (from_to point point) rank ≡ only point rank
 covers-one point rank = grind (arith, nat_tests)
 
--- an interval up to the next rank has what it had, and that rank
+-- An interval that is extended to the next rank has its old ranks and that one.
 pub covers-longer : (first last point rank : ℕ) → first ≤ last → last + 1 ≤ point → point ≤ last + 1
     → covers (from_to first point) rank ≡ (covers (from_to first last) rank || only point rank)
 covers-longer first last point rank order past touching = grind (arith, nat_tests)

@@ -1,4 +1,4 @@
--- Runs that are kept by a test, one after the other.
+-- Runs that a closure keeps, one after the other.
 use Rattle.std.proofs.Common.{◌≡◌, ℕ, Bool, true, false, cond, not, ◌==◌, nat_lt, ◌+◌, ◌-◌, ◌<◌, ◌≤◌, List, [], ◌∷◌, ◌++◌, append_assoc, append-nil, Option, Some, None, MatchOption, refl, sym, ap, ◌∙◌, inl, inr, arith, subst}
 use denote.Param.Always.{always_mut, mut_next}
 use denote.Param.Members.{Called, Mut}
@@ -24,7 +24,7 @@ use Rattle.range_set_blaze.proofs.runs.Starts.{starting-all, starting-contains, 
 
 -- ---- lists
 
--- items of one list, and then of another
+-- Sublists of two lists, one after the other, are a sublist of both lists, one after the other.
 sublist-append : {X : Type 0} (kept done more rest : List X) → IsSublist kept done
     → IsSublist more rest → IsSublist (kept ++ more) (done ++ rest)
 sublist-append kept [] more rest sub others = rw sub others
@@ -37,7 +37,8 @@ sublist-append kept (first ∷ done) more rest sub others = elim sub [
   )
 ]
 
--- the runs of a canonical list but one, and those past it
+-- A canonical list without one of its runs has the runs before it and those after it. The runs past
+-- its end are those after it.
 starting-parts : (low : ℕ) (front : List Interval) (run : Interval) (rest : List Interval)
     → IsCanonicalFrom low (front ++ run ∷ rest) → (low ≤ run.first) × (run.first ≤ run.last)
     × (without_start run.first (front ++ run ∷ rest) ≡ front ++ rest)
@@ -70,12 +71,12 @@ starting-parts low (first ∷ front) run rest canonical =
 
 -- ---- the loop
 
--- no more runs than these are to come
+-- The number of ranks from the next run on, which bounds the number of runs to come.
 abbrev pub to_come : {T : Type 0} → (T → ℕ) → ℕ → Option (Run T) → ℕ
 to_come rank n None = 0
 to_come rank n (Some run) = n - rank run.start
 
--- fewer after one
+-- This number is less after each run.
 pub fewer-to_come : {T : Type 0} (rank : T → ℕ) (n : ℕ) (run : Run T) (next : Option (Run T))
     (after : List Interval) → rank run.start ≤ rank run.end → rank run.end < n
     → MatchOption next (past (rank run.end) after ≡ [])
@@ -89,7 +90,8 @@ fewer-to_come rank n run (Some other) after ordered in_type found =
 
 module _ {F T : Type 0} (rank : T → ℕ) (n : ℕ)
     (g : Mut F (Bor (RangeInclusive T) × Unit {0}) Bool) (f : F) (old : List Interval) where
-  -- of the runs that were asked about those with true are kept, and the others are still there
+  -- Whether the closure was called on the runs `done`. Those that it kept, and the runs `todo` that
+  -- are still to come, are in the new list.
   pub record IsRetaining (new : List Interval) (number : ℕ) (next : Option (Run T)) (now : F)
       : Type 0 where
     pub done : List Interval
@@ -113,7 +115,7 @@ module _ {F T : Type 0} (rank : T → ℕ) (n : ℕ)
     before : IsRetaining new number (Some run) now
     before = rw some at held
 
-    -- the next run is one of those that are there
+    -- The next run is one of the new list.
     next-parts : new ≡ before.kept ++ run_of rank run ∷ before.next_is.rest
     next-parts = before.new_parts ∙ (λ i. before.kept ++ before.next_is.parts i)
 
@@ -122,15 +124,15 @@ module _ {F T : Type 0} (rank : T → ℕ) (n : ℕ)
         (Contains-append_right before.kept (run_of rank run ∷ before.next_is.rest) (run_of rank run)
         (Contains-head (run_of rank run) before.next_is.rest))
 
-    -- it is in order, and lies in the type
+    -- It is a maximal run of the new list.
     pub next-maximal : IsMaximalRun n (members new) (run_of rank run)
     next-maximal = contained-maximal n new before.canonical (run_of rank run) next-contained
 
-    -- it may be taken out
+    -- Without it, the new list differs only by this run.
     pub next-joined : IsJoined n (without_start (rank run.start) new) (run_of rank run) new
     next-joined = without_start-joined n new before.canonical (run_of rank run) next-contained
 
-    -- it is the next one to be asked about
+    -- It is the next run on which the closure may be called.
     pub next-asked : (range : RangeInclusive T) → IsCanonicalIn n old
         → range.start ≡ run.start → range.end ≡ run.end → range.exhausted ≡ false
         → IsNextRun rank n g f old now range
@@ -160,7 +162,8 @@ module _ {F T : Type 0} (rank : T → ℕ) (n : ℕ)
           callable = before.callable;
         }
 
-    -- those that are there after it was asked about
+    -- Once the closure was called on the next run, the list has the runs kept before, that run if
+    -- it is kept, and the others.
     next-one : (test : Bool) (after : List Interval) (fewer : ℕ)
         → after ≡ cond test new (without_start (rank run.start) new)
         → fewer + cond test 0 (length_of (run_of rank run)) ≡ number
@@ -193,7 +196,7 @@ module _ {F T : Type 0} (rank : T → ℕ) (n : ℕ)
           omega (arith, less, next-joined.counted, before.counted),
         )
 
-    -- once it was, one more is done
+    -- After this call, `IsRetaining` holds with one more run done.
     pub retaining-next : (answer : Bool) (after : List Interval) (fewer : ℕ)
         (other : Option (Run T)) (shown : Bor (RangeInclusive T)) (then : F)
         → after ≡ cond answer new (without_start (rank run.start) new)

@@ -1,4 +1,4 @@
--- Canonical lists that differ by one run, which lies apart from all others.
+-- Canonical lists that differ by one run, which touches no other.
 use Rattle.std.proofs.Common.{◌≡◌, ◌⊎◌, ℕ, Bool, true, false, not, ◌==◌, nat_lt, ◌&&◌, ◌||◌, ◌+◌, ◌-◌, ◌<◌, ◌≤◌, List, [], ◌∷◌, refl, sym, ap, ◌∙◌, inl, inr, arith}
 use Rattle.std.specs.List.{Contains}
 use Rattle.std.proofs.lemmas.Bool.{cases_lt}
@@ -15,7 +15,8 @@ use Rattle.range_set_blaze.proofs.runs.Starts.{canonical-rises, starting-canonic
 
 -- ---- members
 
--- where each run that has a rank passes a test or fails it as one says, so does the rank
+-- Suppose that the test gives `chosen` for each run that has the rank. Then the rank is a member of
+-- the runs that pass exactly if it is a member and `chosen` is true.
 pub starting-members : (test : ℕ → Bool) (runs : List Interval) (rank : ℕ) (chosen : Bool)
     → ((run : Interval) → Contains runs run → covers run rank ≡ true → test run.first ≡ chosen)
     → members (starting test runs) rank ≡ (members runs rank && chosen)
@@ -37,7 +38,7 @@ starting-members test (run ∷ runs) rank chosen same =
         let all = members-cons run runs rank in
         rw is (grind (arith, all, is, first, rest))
 
--- so what is no member of all is none of some
+-- A rank that is not a member of a list is not a member of the runs of the list that pass a test.
 pub starting-lacks : (test : ℕ → Bool) (runs : List Interval) (rank : ℕ) → members runs rank ≡ false
     → members (starting test runs) rank ≡ false
 starting-lacks test runs rank lacks = elim (true_or_false (members (starting test runs) rank)) [
@@ -48,7 +49,7 @@ starting-lacks test runs rank lacks = elim (true_or_false (members (starting tes
       (members-from runs found.0 rank (starting-contains test runs found.0 found.1).0 found.2) lacks)
 ]
 
--- with a run where none starts, what it has is a member too
+-- If no run of the list starts where `run` does, inserting `run` adds its ranks to the members.
 pub with_run-members : (n low : ℕ) (run : Interval) (runs : List Interval) (rank : ℕ)
     → StartsAscendFrom n low runs
     → ((other : Interval) → Contains runs other → other.first ≡ run.first → ⊥)
@@ -76,19 +77,19 @@ with_run-members n low run (first ∷ runs) rank ascending apart =
 -- ---- runs of a canonical list
 
 module _ (n : ℕ) (runs : List Interval) (canonical : IsCanonicalIn n runs) where
-  -- each is maximal
+  -- Each run of the list is maximal.
   pub contained-maximal : (run : Interval) → Contains runs run → IsMaximalRun n (members runs) run
   contained-maximal run found =
       All-contains (IsMaximalRun n (members runs)) runs run
       (canonical-maximal n 0 runs canonical.0 canonical.1) found
 
-  -- what it has is a member
+  -- The ranks of a run of the list are members.
   pub contained-members : (run : Interval) (rank : ℕ) → Contains runs run → run.first ≤ rank
       → rank ≤ run.last → members runs rank ≡ true
   contained-members run rank found from to =
       members-from runs run rank found (covers-inside run rank from to)
 
-  -- the rank before it is no member
+  -- The rank right before a run of the list is not a member.
   pub contained-before : (run : Interval) (rank : ℕ) → Contains runs run → rank + 1 ≡ run.first
       → members runs rank ≡ false
   contained-before run rank found before =
@@ -96,7 +97,7 @@ module _ (n : ℕ) (runs : List Interval) (canonical : IsCanonicalIn n runs) whe
       ap (members runs) (sym same)
       ∙ (contained-maximal run found).begins_here (omega (arith, before))
 
-  -- nor is the rank after it
+  -- The rank right after a run of the list is not a member.
   pub contained-after : (run : Interval) (rank : ℕ) → Contains runs run → rank ≡ run.last + 1
       → members runs rank ≡ false
   contained-after run rank found after = elim (cases_lt rank n) [
@@ -106,7 +107,7 @@ module _ (n : ℕ) (runs : List Interval) (canonical : IsCanonicalIn n runs) whe
     | inr past ↦ members-end n runs rank canonical.1 past
   ]
 
-  -- one that shares a rank with another starts no later
+  -- If `run` and `other` share a rank, `run` starts no later.
   pub contained-starts : (run other : Interval) (rank : ℕ) → Contains runs run → Contains runs other
       → covers run rank ≡ true → covers other rank ≡ true → run.first ≤ other.first
   contained-starts run other rank found also here there = elim (cases_lt other.first run.first) [
@@ -120,7 +121,7 @@ module _ (n : ℕ) (runs : List Interval) (canonical : IsCanonicalIn n runs) whe
     | inr starts ↦ starts
   ]
 
-  -- and ends no earlier
+  -- If they share a rank, `run` ends no earlier.
   pub contained-ends : (run other : Interval) (rank : ℕ) → Contains runs run → Contains runs other
       → covers run rank ≡ true → covers other rank ≡ true → other.last ≤ run.last
   contained-ends run other rank found also here there = elim (cases_lt run.last other.last) [
@@ -134,7 +135,7 @@ module _ (n : ℕ) (runs : List Interval) (canonical : IsCanonicalIn n runs) whe
     | inr ends ↦ ends
   ]
 
-  -- so two that share a rank are one
+  -- Two runs of the list that share a rank are the same.
   pub contained-one : (run other : Interval) (rank : ℕ) → Contains runs run → Contains runs other
       → covers run rank ≡ true → covers other rank ≡ true → run ≡ other
   contained-one run other rank found also here there =
@@ -144,7 +145,7 @@ module _ (n : ℕ) (runs : List Interval) (canonical : IsCanonicalIn n runs) whe
       let up = contained-ends other run rank also found there here in
       same_interval run other (omega (arith, from, back)) (omega (arith, to, up))
 
-  -- no rank past the last run that starts below a bound, up to the bound, is a member
+  -- Between the end of the last run that starts below a bound and the bound, no rank is a member.
   pub last-gap : (bound : ℕ) (run : Interval) → IsLastBelow runs bound run → (rank : ℕ)
       → run.last < rank → rank < bound → members runs rank ≡ false
   last-gap bound run is rank more less = elim (true_or_false (members runs rank)) [
@@ -160,7 +161,7 @@ module _ (n : ℕ) (runs : List Interval) (canonical : IsCanonicalIn n runs) whe
     | inr lacks ↦ lacks
   ]
 
-  -- no rank below a bound is a member where no run starts below it
+  -- If no run starts below a bound, no rank below it is a member.
   pub none-gap : (bound : ℕ) → NoneBelow runs bound → (rank : ℕ) → rank < bound
       → members runs rank ≡ false
   none-gap bound none rank less = elim (true_or_false (members runs rank)) [
@@ -173,7 +174,8 @@ module _ (n : ℕ) (runs : List Interval) (canonical : IsCanonicalIn n runs) whe
 
 -- ---- one run more, or one fewer
 
--- how many members there are with some more
+-- If the ranks of a run were not members, adding them increases the number of members by the length
+-- of the run.
 joined-counted : (n : ℕ) (fewer more : Selection) (run : Interval) → run.last < n
     → ((rank : ℕ) → more rank ≡ (fewer rank || covers run rank))
     → ((rank : ℕ) → covers run rank ≡ true → fewer rank ≡ false)
@@ -188,7 +190,7 @@ joined-counted n fewer more run ends has apart =
     ∙ ap (λ number. count n fewer + number) (one ∙ omega (arith, ends))
 
 module _ (n : ℕ) (runs : List Interval) (canonical : IsCanonicalIn n runs) (run : Interval) where
-  -- a run that is there is apart from all others
+  -- Without one of its runs, a list differs only by that run, which touches no other.
   pub without_start-joined : Contains runs run
       → IsJoined n (without_start run.first runs) run runs
   without_start-joined found =
@@ -242,7 +244,8 @@ module _ (n : ℕ) (runs : List Interval) (canonical : IsCanonicalIn n runs) (ru
 
   module _ (ordered : run.first ≤ run.last) (ends : run.last < n)
       (free : LeavesApart runs run.first run.last) where
-    -- where no member is near, each run ends well before it, or starts well past it
+    -- Each run of the list ends at least two ranks before `run`, or starts at least two ranks after
+    -- it.
     free-apart : (other : Interval) → Contains runs other
         → (other.last + 2 ≤ run.first) ⊎ (run.last + 2 ≤ other.first)
     free-apart other found =
@@ -263,7 +266,7 @@ module _ (n : ℕ) (runs : List Interval) (canonical : IsCanonicalIn n runs) (ru
           ]
         ]
 
-    -- with it they are canonical
+    -- Inserting a run that is so far from all others leaves the list canonical.
     free-canonical : (low : ℕ) (items : List Interval) → IsCanonicalFrom low items
         → AllEndBelow n items → low ≤ run.first
         → ((other : Interval) → Contains items other
@@ -288,7 +291,7 @@ module _ (n : ℕ) (runs : List Interval) (canonical : IsCanonicalIn n runs) (ru
               (from, ordered, (later, rises.1, rises.2))
         ]
 
-    -- it may join them
+    -- Inserting `run` changes the list only by this run, which touches no other.
     pub with_run-joined : IsJoined n runs run (with_run run runs)
     with_run-joined =
         let has : (rank : ℕ) → members (with_run run runs) rank

@@ -10,7 +10,7 @@ use Rattle.range_set_blaze.specs.Set.{only, Adds, Removes}
 
 module _ (n : ℕ) (old new : List Interval) (before : IsCanonicalIn n old)
     (after : IsCanonicalIn n new) where
-  -- the ranks of a run were added
+  -- Adding the ranks of a run makes at most one run more.
   pub run_count-added : (run : Interval) → run.first ≤ run.last → run.last < n
       → Adds old new (covers run) → HasOneRunMoreAtMost old new
   run_count-added run ordered below adds =
@@ -19,7 +19,7 @@ module _ (n : ℕ) (old new : List Interval) (before : IsCanonicalIn n old)
       (runs-from_canonical n (union (members old) (covers run)) new after.0 after.1
       (λ rank within. adds rank))
 
-  -- the ranks of a run were taken out
+  -- Removing the ranks of a run makes at most one run more.
   pub run_count-without : (run : Interval) → run.first ≤ run.last → run.last < n
       → Removes old new (covers run) → HasOneRunMoreAtMost old new
   run_count-without run ordered below removes =
@@ -28,7 +28,7 @@ module _ (n : ℕ) (old new : List Interval) (before : IsCanonicalIn n old)
       (runs-from_canonical n (difference (members old) (covers run)) new after.0 after.1
       (λ rank within. removes rank))
 
-  -- a rank was taken out
+  -- Removing one rank makes at most one run more.
   pub run_count-removed : (point : ℕ) → point < n → Removes old new (only point)
       → HasOneRunMoreAtMost old new
   run_count-removed point below removes =

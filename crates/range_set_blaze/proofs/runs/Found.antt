@@ -11,7 +11,8 @@ use Rattle.range_set_blaze.proofs.runs.Starts.{below-none, below-push, starting-
 
 module _ {T : Type 0} (rank : T → ℕ) (n : ℕ) (runs : List Interval)
     (ascending : StartsAscendFrom n 0 runs) where
-  -- what was taken off the end of a front of the list is the last run of that
+  -- The last of the entries that start below a bound is that of the last run that starts below it.
+  -- If there are no such entries, there is no such run.
   pub found-last : (bound : ℕ) (items left : List (T × T)) (result : Option (Run T))
       → runs_of rank items ≡ below bound runs
       → MatchOption result (items ≡ []) (λ run. items ≡ left ++ entry_of run ∷ [])
@@ -26,7 +27,7 @@ module _ {T : Type 0} (rank : T → ℕ) (n : ℕ) (runs : List Interval)
             ∙ map-append (entry_run rank) left (entry_of run ∷ []);
       })
 
-  -- and what is taken off after it is the last before it
+  -- The last two of these entries are those of the last two runs that start below the bound.
   pub found-two : (bound : ℕ) (items left rest : List (T × T)) (last before : Option (Run T))
       → runs_of rank items ≡ below bound runs
       → MatchOption last (items ≡ []) (λ run. items ≡ left ++ entry_of run ∷ [])
@@ -53,7 +54,8 @@ module _ {T : Type 0} (rank : T → ℕ) (n : ℕ) (runs : List Interval)
 
 -- ---- lower bounds
 
--- the last run that starts below a bound is the last below a lower one that it starts below
+-- The last run that starts below a bound is also the last that starts below a lower one, if it
+-- does.
 pub last-lower : (runs : List Interval) (low bound : ℕ) (run : Interval) → low ≤ bound → run.first < low
     → IsLastBelow runs bound run → IsLastBelow runs low run
 last-lower runs low bound run less starts found = record {
@@ -62,14 +64,14 @@ last-lower runs low bound run less starts found = record {
   last = λ other also under. found.last other also (omega (arith, less, under));
 }
 
--- and where none starts below it, none starts below a lower one
+-- If no run starts below a bound, none starts below a lower one.
 pub none-lower : (runs : List Interval) (low bound : ℕ) → low ≤ bound → NoneBelow runs bound
     → NoneBelow runs low
 none-lower runs low bound less none run found under = none run found (omega (arith, less, under))
 
 module _ {T : Type 0} (rank : T → ℕ) (n : ℕ) (runs : List Interval)
     (canonical : IsCanonicalIn n runs) (bound : ℕ) where
-  -- a run of the list is of values
+  -- The last run that starts below a bound starts and ends within the type.
   pub last-value : (run : Run T) → IsLastBelow runs bound (run_of rank run)
       → (rank run.start < n) × (rank run.end < n)
   last-value run found =
@@ -78,7 +80,7 @@ module _ {T : Type 0} (rank : T → ℕ) (n : ℕ) (runs : List Interval)
 
 module _ {T : Type 0} (rank : T → ℕ) (runs : List Interval) (bound : ℕ) (last before : Option (Run T))
     (two : IsLastTwo rank runs bound last before) where
-  -- the last of two that was found, and what comes before it
+  -- What `IsLastTwo` states if it is known whether `last` and `before` are runs.
   pub two-last : (run : Run T) → last ≡ Some run → IsLastTwo rank runs bound (Some run) before
   two-last run is = subst (λ (each : Option (Run T)). IsLastTwo rank runs bound each before) is two
 

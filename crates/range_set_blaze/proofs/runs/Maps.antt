@@ -1,4 +1,4 @@
--- What the calls of a map make of the runs of its entries, and find among them.
+-- What calls of a map do to the runs of its entries, and which runs they find.
 use Rattle.std.proofs.Common.{◌≡◌, ◌⊎◌, ℕ, Bool, true, false, not, ◌==◌, nat_le, nat_lt, ◌+◌, ◌<◌, cond, List, [], ◌∷◌, refl, sym, ap, ◌∙◌, inl, inr, arith, Less, Equal, Greater, Some, None}
 use Rattle.std.specs.List.{Contains, filter}
 use Rattle.std.specs.Map.{lookup, remove_entry}
@@ -15,7 +15,8 @@ use Rattle.range_set_blaze.specs.Kept.{entry_run, runs_of}
 use Rattle.range_set_blaze.specs.Starts.{below, past, starting, starting_from, with_run, without_start, StartsAscendFrom}
 use Rattle.range_set_blaze.proofs.runs.Starts.{ascending-all, ascending-contains, with_run-first, with_run-here, with_run-later}
 
--- entries whose keys pass a test are those whose starts pass another that says the same
+-- If a test of keys agrees with a test of their ranks, the entries whose keys pass have the runs
+-- whose starts pass.
 pub runs-filter : {T : Type 0} (rank : T → ℕ) (n : ℕ) (keeps : T → Bool) (test : ℕ → Bool) (low : ℕ)
     (entries : List (T × T)) → ((key : T) → rank key < n → keeps key ≡ test (rank key))
     → StartsAscendFrom n low (runs_of rank entries)
@@ -38,7 +39,7 @@ runs-filter {T} rank n keeps test low (entry ∷ entries) same ascending =
 
 module _ {T : Type 0} (cmp : T → T → Ordering) (rank : T → ℕ) (n : ℕ)
     (in_order : (x y : T) → rank x < n → rank y < n → cmp x y ≡ nat_cmp (rank x) (rank y)) where
-  -- values compare as their ranks do
+  -- Values compare as their ranks do.
   pub order-cases : (x y : T) → rank x < n → rank y < n
       → ((rank x < rank y) × (cmp x y ≡ Less))
       ⊎ ((rank x ≡ rank y) × (cmp x y ≡ Equal)) ⊎ ((rank y < rank x) × (cmp x y ≡ Greater))
@@ -60,7 +61,7 @@ module _ {T : Type 0} (cmp : T → T → Ordering) (rank : T → ℕ) (n : ℕ)
     ]
   ]
 
-  -- an entry goes to its place
+  -- Inserting an entry puts its run at its place, in place of any run with the same start.
   pub runs-insert_entry : (key end : T) → rank key < n → (low : ℕ) (entries : List (T × T))
       → StartsAscendFrom n low (runs_of rank entries)
       → runs_of rank (insert_entry cmp entries key end)
@@ -87,7 +88,7 @@ module _ {T : Type 0} (cmp : T → T → Ordering) (rank : T → ℕ) (n : ℕ)
             ∙ sym (with_run-later run first runs more.0))
       ]
 
-  -- the entry at a key goes out
+  -- Removing the entry at a key removes the run that starts there.
   pub runs-remove_entry : (key : T) → rank key < n → (low : ℕ) (entries : List (T × T))
       → StartsAscendFrom n low (runs_of rank entries)
       → runs_of rank (remove_entry (is_at (cmp key)) entries)
@@ -111,7 +112,7 @@ module _ {T : Type 0} (cmp : T → T → Ordering) (rank : T → ℕ) (n : ℕ)
             rw (more.1, differs) rest
       ]
 
-  -- a look-up that finds nothing tells that no run starts at the key
+  -- If a look-up finds nothing, no run starts at the key.
   pub lookup-none : (key : T) → rank key < n → (low : ℕ) (entries : List (T × T))
       → StartsAscendFrom n low (runs_of rank entries) → lookup (is_at (cmp key)) entries ≡ None
       → (run : Interval) → Contains (runs_of rank entries) run → run.first ≡ rank key → ⊥
@@ -141,7 +142,7 @@ module _ {T : Type 0} (cmp : T → T → Ordering) (rank : T → ℕ) (n : ℕ)
 
   -- ---- ranges of a map
 
-  -- the entries up to a value are those that start below the next rank
+  -- The entries up to a value have the runs that start below the next rank.
   pub runs-up_to : (value : T) → rank value < n → (entries : List (T × T))
       → StartsAscendFrom n 0 (runs_of rank entries)
       → runs_of rank
@@ -156,7 +157,7 @@ module _ {T : Type 0} (cmp : T → T → Ordering) (rank : T → ℕ) (n : ℕ)
         | inr (inr more) ↦ rw more.1 (grind (arith, nat_tests, more.0))
       ]) ascending
 
-  -- and those after a value are those that start past its rank
+  -- The entries after a value have the runs that start past its rank.
   pub runs-after : (value : T) → rank value < n → (entries : List (T × T))
       → StartsAscendFrom n 0 (runs_of rank entries)
       → runs_of rank
@@ -171,7 +172,8 @@ module _ {T : Type 0} (cmp : T → T → Ordering) (rank : T → ℕ) (n : ℕ)
         | inr (inr more) ↦ rw more.1 (grind (arith, nat_tests, more.0))
       ]) ascending
 
-  -- the parts of a map that is split at a value are those that start below its rank, and the others
+  -- If a map is split at a value, one part has the runs that start below its rank. The other part
+  -- has the others.
   pub runs-below : (value : T) → rank value < n → (entries : List (T × T))
       → StartsAscendFrom n 0 (runs_of rank entries)
       → runs_of rank (entries_below (cmp value) entries) ≡ below (rank value) (runs_of rank entries)

@@ -11,7 +11,7 @@ use Rattle.range_set_blaze.specs.Starts.{below, past, starting, with_run, withou
 
 -- ---- runs that pass a test
 
--- one test after another lets in what passes both
+-- The runs that pass one test and then another are those that pass both.
 pub starting-starting : (outer inner both : ℕ → Bool) (runs : List Interval)
     → ((start : ℕ) → (inner start && outer start) ≡ both start)
     → starting outer (starting inner runs) ≡ starting both runs
@@ -31,7 +31,7 @@ starting-starting outer inner both (run ∷ runs) same =
         ap (λ test. test && outer run.first) (sym is) ∙ same run.first in
         rw is (λ i. cond (none i) (run ∷ rest i) (rest i))
 
--- two tests may change places
+-- Two tests may change places.
 pub starting-swap : (outer inner : ℕ → Bool) (runs : List Interval)
     → starting outer (starting inner runs) ≡ starting inner (starting outer runs)
 starting-swap outer inner runs =
@@ -39,7 +39,7 @@ starting-swap outer inner runs =
     ∙ sym (starting-starting inner outer (λ start. inner start && outer start) runs
     (λ start. grind (arith, outer start, inner start)))
 
--- a test that all pass lets all in
+-- If all runs pass a test, the runs that pass are the whole list.
 pub starting-all : (test : ℕ → Bool) (runs : List Interval)
     → ((run : Interval) → Contains runs run → test run.first ≡ true) → starting test runs ≡ runs
 starting-all test [] passes = refl
@@ -48,7 +48,7 @@ starting-all test (run ∷ runs) passes =
     (ap (λ (rest : List Interval). run ∷ rest)
     (starting-all test runs (λ other found. passes other (Contains-tail run runs other found))))
 
--- a run that passes is among those that do
+-- A run of the list that passes is among those that pass.
 pub Contains-starting : (test : ℕ → Bool) (runs : List Interval) (run : Interval)
     → Contains runs run → test run.first ≡ true → Contains (starting test runs) run
 Contains-starting test [] run found passes = let none = found.1 in absurd (omega arith)
@@ -70,7 +70,7 @@ Contains-starting test (first ∷ runs) run found passes =
       | inr later ↦ rw is (rest later passes)
     ]
 
--- and those that do are runs of the list that pass
+-- Each run that passes is one of the list, and its start passes the test.
 pub starting-contains : (test : ℕ → Bool) (runs : List Interval) (run : Interval)
     → Contains (starting test runs) run → Contains runs run × (test run.first ≡ true)
 starting-contains test runs run found = (
@@ -81,7 +81,7 @@ starting-contains test runs run found = (
       (filter_passes (λ (each : Interval). test each.first) runs) found,
 )
 
--- they are canonical where all are
+-- The runs of a canonical list that pass a test are canonical.
 pub starting-canonical : (test : ℕ → Bool) (low : ℕ) (runs : List Interval) → IsCanonicalFrom low runs
     → IsCanonicalFrom low (starting test runs)
 starting-canonical test low [] canonical = tt
@@ -98,7 +98,7 @@ starting-canonical test low (run ∷ runs) canonical =
     by true is rest all = rw is (canonical.0, canonical.1, rest)
     by false is rest all = rw is all
 
--- and so in a type
+-- The same holds within a type.
 pub starting-canonical_in : (test : ℕ → Bool) (n : ℕ) (runs : List Interval) → IsCanonicalIn n runs
     → IsCanonicalIn n (starting test runs)
 starting-canonical_in test n runs canonical = (
@@ -108,14 +108,14 @@ starting-canonical_in test n runs canonical = (
 
 -- ---- starts that ascend
 
--- they ascend from a lower rank on, too
+-- Starts that ascend from `low` on also ascend from a lower rank on.
 pub ascending-lower : (n low lower : ℕ) (runs : List Interval) → lower ≤ low
     → StartsAscendFrom n low runs → StartsAscendFrom n lower runs
 ascending-lower n low lower [] less ascending = tt
 ascending-lower n low lower (run ∷ runs) less ascending =
     let starts = ascending.0 in (omega (arith, starts, less), ascending.1, ascending.2)
 
--- those of canonical runs do
+-- The starts of canonical runs ascend.
 pub canonical-rises : (n low : ℕ) (runs : List Interval) → IsCanonicalFrom low runs
     → AllEndBelow n runs → StartsAscendFrom n low runs
 canonical-rises n low [] canonical ends = tt
@@ -129,7 +129,7 @@ canonical-rises n low (run ∷ runs) canonical ends =
       ascending-lower n (run.last + 2) (run.first + 1) runs (omega (arith, ordered)) rest,
     )
 
--- those of runs that pass a test do
+-- If the starts of a list ascend, so do those of the runs that pass a test.
 pub starting-ascending : (test : ℕ → Bool) (n low : ℕ) (runs : List Interval)
     → StartsAscendFrom n low runs → StartsAscendFrom n low (starting test runs)
 starting-ascending test n low [] ascending = tt
@@ -146,7 +146,7 @@ starting-ascending test n low (run ∷ runs) ascending =
     by true is rest all = rw is (ascending.0, ascending.1, rest)
     by false is rest all = rw is all
 
--- a test that all starts from a rank on pass lets all in
+-- If all ranks from `low` on pass a test, the runs that pass are the whole list.
 pub ascending-all : (test : ℕ → Bool) (n low : ℕ) (runs : List Interval) → StartsAscendFrom n low runs
     → ((start : ℕ) → low ≤ start → test start ≡ true) → starting test runs ≡ runs
 ascending-all test n low [] ascending passes = refl
@@ -156,7 +156,7 @@ ascending-all test n low (run ∷ runs) ascending passes =
     (ascending-all test n (run.first + 1) runs ascending.2
     (λ start from. passes start (omega (arith, from, ascending.0)))))
 
--- and one that they fail none
+-- If all of those ranks fail it, no run passes.
 pub ascending-none : (test : ℕ → Bool) (n low : ℕ) (runs : List Interval) → StartsAscendFrom n low runs
     → ((start : ℕ) → low ≤ start → test start ≡ false) → starting test runs ≡ []
 ascending-none test n low [] ascending fails = refl
@@ -165,7 +165,7 @@ ascending-none test n low (run ∷ runs) ascending fails =
     (ascending-none test n (run.first + 1) runs ascending.2
     (λ start from. fails start (omega (arith, from, ascending.0))))
 
--- one of them starts no lower
+-- Each run starts at `low` or later.
 pub ascending-contains : (n low : ℕ) (runs : List Interval) (run : Interval) → StartsAscendFrom n low runs
     → Contains runs run → low ≤ run.first
 ascending-contains n low [] run ascending found = let none = found.1 in absurd (omega arith)
@@ -178,7 +178,7 @@ ascending-contains n low (first ∷ runs) run ascending found =
           omega (arith, starts, more)
     ]
 
--- and one before another starts lower
+-- Each run before the last starts below it.
 pub ascending-before : (n low : ℕ) (front : List Interval) (last : Interval) (run : Interval)
     → StartsAscendFrom n low (front ++ last ∷ []) → Contains front run → run.first < last.first
 ascending-before n low [] last run ascending found = let none = found.1 in absurd (omega arith)
@@ -191,7 +191,7 @@ ascending-before n low (first ∷ front) last run ascending found =
       | inr later ↦ ascending-before n (first.first + 1) front last run ascending.2 later
     ]
 
--- those that start below the last are all before it
+-- The runs that start below the last run are all the runs before it.
 pub below-push : (n low : ℕ) (front : List Interval) (last : Interval)
     → StartsAscendFrom n low (front ++ last ∷ []) → below last.first (front ++ last ∷ []) ≡ front
 below-push n low [] last ascending =
@@ -204,7 +204,7 @@ below-push n low (first ∷ front) last ascending =
     rw is_below (ap (λ (rest : List Interval). first ∷ rest)
     (below-push n (first.first + 1) front last ascending.2))
 
--- the last of those that start below a bound is the last of a front of the list
+-- The last of the runs that start below a bound is as `IsLastBelow` states.
 pub EndsWith-last : (n : ℕ) (bound : ℕ) (runs : List Interval) (run : Interval)
     → StartsAscendFrom n 0 runs → EndsWith (below bound runs) run → IsLastBelow runs bound run
 EndsWith-last n bound runs run ascending found =
@@ -231,7 +231,7 @@ EndsWith-last n bound runs run ascending found =
           ];
     }
 
--- none starts below the bound where the front is empty
+-- If the list of these runs is empty, no run starts below the bound.
 pub below-none : (bound : ℕ) (runs : List Interval) → below bound runs ≡ [] → NoneBelow runs bound
 below-none bound runs none run found less =
     let under : nat_lt run.first bound ≡ true = grind (arith, nat_tests, less) in
@@ -241,7 +241,7 @@ below-none bound runs none run found less =
 
 -- ---- a run at its place
 
--- before runs that all start past it, it comes first
+-- A run that is inserted before runs that all start past it comes first.
 pub with_run-first : (n : ℕ) (run : Interval) (runs : List Interval)
     → StartsAscendFrom n (run.first + 1) runs → with_run run runs ≡ run ∷ runs
 with_run-first n run runs ascending = λ i.
@@ -250,7 +250,7 @@ with_run-first n run runs ascending = λ i.
     ++ run ∷ ascending-all (λ start. nat_lt run.first start) n (run.first + 1) runs ascending
     (λ start from. grind (arith, nat_tests, from)) i
 
--- behind a run that starts below it, it goes among those after that one
+-- If the first run of a list starts below the inserted one, this goes among the others.
 pub with_run-later : (run first : Interval) (runs : List Interval) → first.first < run.first
     → with_run run (first ∷ runs) ≡ first ∷ with_run run runs
 with_run-later run first runs less =
@@ -258,7 +258,8 @@ with_run-later run first runs less =
     let not_past : nat_lt run.first first.first ≡ false = grind (arith, nat_tests, less) in
     rw (is_below, not_past) refl
 
--- it goes before a run that starts where it does or past it, in the place of the former
+-- If the first run of a list has the start of the inserted one, the result is as without that first
+-- run.
 pub with_run-here : (run first : Interval) (runs : List Interval) → run.first ≡ first.first
     → with_run run (first ∷ runs) ≡ with_run run runs
 with_run-here run first runs same =
@@ -266,7 +267,7 @@ with_run-here run first runs same =
     let not_past : nat_lt run.first first.first ≡ false = grind (arith, nat_tests, same) in
     rw (not_below, not_past) refl
 
--- with it the starts still ascend
+-- After the insertion, the starts still ascend.
 pub with_run-ascending : (n low : ℕ) (run : Interval) (runs : List Interval) → StartsAscendFrom n low runs
     → low ≤ run.first → run.first < n → StartsAscendFrom n low (with_run run runs)
 with_run-ascending n low run [] ascending from value = (from, value, tt)
@@ -292,7 +293,7 @@ with_run-ascending n low run (first ∷ runs) ascending from value =
       ]
     ]
 
--- a test that it passes may be asked before
+-- If the inserted run passes a test, the test may be applied before the insertion.
 pub starting-with_run : (test : ℕ → Bool) (run : Interval) (runs : List Interval)
     → test run.first ≡ true → starting test (with_run run runs) ≡ with_run run (starting test runs)
 starting-with_run test run runs passes =
@@ -301,7 +302,8 @@ starting-with_run test run runs passes =
     ∙ rw passes (λ i. starting-swap test (λ start. nat_lt start run.first) runs i
     ++ run ∷ starting-swap test (λ start. nat_lt run.first start) runs i)
 
--- and of one that it fails, only the others matter
+-- If the inserted run and all starts past it fail a test, the insertion does not change which runs
+-- pass.
 pub starting-with_run_not : (test : ℕ → Bool) (run : Interval) (runs : List Interval)
     → test run.first ≡ false → ((start : ℕ) → run.first < start → test start ≡ false)
     → starting test (with_run run runs) ≡ starting test runs
@@ -329,12 +331,12 @@ starting-with_run_not test run runs fails above =
     ∙ ap (λ (rest : List Interval). starting test runs ++ rest) (starting-none runs)
     ∙ append-nil (starting test runs)
   where
-    -- a test that none passes lets none in
+    -- No run passes a test that always fails.
     starting-none : (items : List Interval) → starting (λ start. false) items ≡ []
     starting-none [] = refl
     starting-none (item ∷ items) = starting-none items
 
--- out again, it leaves what was there
+-- If a run is inserted where no other starts, removing it again gives the old list.
 pub without_start-with_run : (n low : ℕ) (run : Interval) (runs : List Interval)
     → StartsAscendFrom n low runs
     → ((other : Interval) → Contains runs other → other.first ≡ run.first → ⊥)
@@ -364,7 +366,7 @@ without_start-with_run n low run (first ∷ runs) ascending elsewhere =
       ]
     ]
 
--- what starts where it does makes no difference
+-- The result of an insertion does not depend on a run that starts at the same rank.
 pub with_run-without_start : (run : Interval) (runs : List Interval)
     → with_run run (without_start run.first runs) ≡ with_run run runs
 with_run-without_start run runs = λ i.
@@ -373,7 +375,7 @@ with_run-without_start run runs = λ i.
     ++ run ∷ starting-starting (λ start. nat_lt run.first start) (λ start. not (start == run.first))
     (λ start. nat_lt run.first start) runs (λ start. grind (arith, nat_tests)) i
 
--- the others are runs of the list that start elsewhere
+-- Each run of the result is the inserted one, or a run of the old list that starts elsewhere.
 pub with_run-contains : (run : Interval) (runs : List Interval) (other : Interval)
     → Contains (with_run run runs) other → (run ≡ other)
     ⊎ (Contains runs other × ((other.first ≡ run.first) → ⊥))
@@ -390,7 +392,7 @@ with_run-contains run runs other found =
       ]
     ]
 
--- and all of those are
+-- Each run of the old list that starts elsewhere is in the result.
 pub Contains-with_run : (run : Interval) (runs : List Interval) (other : Interval)
     → Contains runs other → ((other.first ≡ run.first) → ⊥) → Contains (with_run run runs) other
 Contains-with_run run runs other found elsewhere = elim (cases_lt other.first run.first) [

@@ -1,4 +1,4 @@
--- Runs that are parted at a rank.
+-- Runs that are split at a rank.
 use Rattle.std.proofs.Common.{◌≡◌, ℕ, not, ◌==◌, nat_le, nat_lt, ◌&&◌, ◌+◌, ◌<◌, ◌≤◌, List, ◌∷◌, sym, ap, ◌∙◌, inl, inr, arith, subst}
 use Rattle.std.specs.List.{sum_by, Contains}
 use Rattle.std.proofs.lemmas.List.Sums.{sum_by-cons}
@@ -16,7 +16,8 @@ use Rattle.range_set_blaze.proofs.runs.Kept.{sum_by-within}
 use Rattle.range_set_blaze.proofs.runs.Apart.{contained-ends, contained-maximal, contained-members, contained-starts, starting-lacks, starting-members, with_run-joined, without_start-joined}
 use Rattle.range_set_blaze.proofs.runs.Starts.{canonical-rises, starting-canonical_in, starting-starting, starting-swap, starting-with_run, starting-with_run_not, with_run-without_start, with_run-ascending, without_start-with_run, Contains-starting, Contains-with_run}
 
--- runs with the members below a rank, and runs with the others, part them
+-- Canonical runs with the members below a rank, and canonical runs with the others, are the two
+-- parts at that rank.
 parts-parting : (n : ℕ) (old low high : List Interval) (point : ℕ) → IsCanonicalIn n low
     → IsCanonicalIn n high → Removes old low (from_on point)
     → IsSetOf high (intersection (members old) (from_on point)) → IsParting n old low high point
@@ -32,7 +33,7 @@ parts-parting n old low high point low_canonical high_canonical removes from = r
 }
 
 module _ (n : ℕ) (runs : List Interval) (canonical : IsCanonicalIn n runs) (point : ℕ) where
-  -- no run goes on over the rank, where the last that starts below it does not
+  -- If the last run that starts below the rank ends below it, no run extends over the rank.
   pub last-over : (run : Interval) → IsLastBelow runs point run → run.last < point
       → NoneOver runs point
   last-over run found less other also starts reaches =
@@ -44,7 +45,7 @@ module _ (n : ℕ) (runs : List Interval) (canonical : IsCanonicalIn n runs) (po
       omega (arith, ends, less, reaches)
 
   module _ (none : NoneOver runs point) where
-    -- then those that start below it have the members below it
+    -- Then the runs that start below the rank have the members below it.
     below-members : (rank : ℕ) → members (below point runs) rank
         ≡ (members runs rank && nat_lt rank point)
     below-members rank =
@@ -59,7 +60,7 @@ module _ (n : ℕ) (runs : List Interval) (canonical : IsCanonicalIn n runs) (po
           | inr from ↦ grind (arith, nat_tests, from, bounds.0)
         ])
 
-    -- and the others have the others
+    -- The other runs have the other members.
     from-members : (rank : ℕ) → members (starting_from point runs) rank
         ≡ (members runs rank && nat_le point rank)
     from-members rank =
@@ -74,7 +75,7 @@ module _ (n : ℕ) (runs : List Interval) (canonical : IsCanonicalIn n runs) (po
           | inr from ↦ grind (arith, nat_tests, from, bounds.0)
         ])
 
-    -- so they part the runs
+    -- So they are the two parts.
     pub over-parting : IsParting n runs (below point runs) (starting_from point runs) point
     over-parting =
         parts-parting n runs (below point runs) (starting_from point runs) point
@@ -83,16 +84,16 @@ module _ (n : ℕ) (runs : List Interval) (canonical : IsCanonicalIn n runs) (po
         (λ rank. let one = below-members rank in grind (arith, nat_tests, one))
         from-members
 
--- ---- a run goes on over the rank
+-- ---- a run extends over the rank
 
 module _ (n : ℕ) (runs : List Interval) (canonical : IsCanonicalIn n runs) (point : ℕ)
     (run : Interval) (among : Contains runs run) (above : run.first < point)
     (within : point ≤ run.last) where
-  -- the other runs
+  -- Without this run, the list differs only by it.
   joins : IsJoined n (without_start run.first runs) run runs
   joins = without_start-joined n runs canonical run among
 
-  -- none of them goes on over the rank
+  -- None of the other runs extends over the rank.
   rest-over : NoneOver (without_start run.first runs) point
   rest-over other found starts reaches =
       not_both (members (without_start run.first runs) point)
@@ -100,7 +101,8 @@ module _ (n : ℕ) (runs : List Interval) (canonical : IsCanonicalIn n runs) (po
       (omega (arith, starts)) reaches)
       (joins.free point (omega (arith, above)) (omega (arith, within)))
 
-  -- with its high part the runs are parted by their starts, and the low part takes its place
+  -- Once the high part of the run is inserted, the runs are split by their starts. Then the low
+  -- part takes the place of the run.
   pub within-parting : (low high : Interval) → low.first ≡ run.first → low.last + 1 ≡ point
       → high.first ≡ point → high.last ≡ run.last
       → IsParting n runs (with_run low (below point (with_run high runs)))
@@ -149,7 +151,7 @@ module _ (n : ℕ) (runs : List Interval) (canonical : IsCanonicalIn n runs) (po
       let all = joins.has rank in
       grind (arith, nat_tests, has, one, all, high_starts, high_ends, above)))
 
-  -- the starts ascend with the high part
+  -- With the high part, the starts still ascend.
   pub within-ascending : (high : Interval) → high.first ≡ point
       → StartsAscendFrom n 0 (with_run high runs)
   within-ascending high starts =
@@ -157,7 +159,7 @@ module _ (n : ℕ) (runs : List Interval) (canonical : IsCanonicalIn n runs) (po
       with_run-ascending n 0 high runs (canonical-rises n 0 runs canonical.0 canonical.1)
       (omega arith) (omega (arith, starts, within, maximal.in_type))
 
-  -- and the run is below
+  -- The run is among those that start below the rank.
   pub within-there : (high : Interval) → high.first ≡ point
       → Contains (below point (with_run high runs)) run
   within-there high starts =
@@ -165,7 +167,7 @@ module _ (n : ℕ) (runs : List Interval) (canonical : IsCanonicalIn n runs) (po
       (Contains-with_run high runs run among (λ same. omega (arith, same, starts, above)))
       (grind (arith, nat_tests, above))
 
-  -- without the high part they are as they were
+  -- Without the high part, the runs are as they were.
   pub within-without : (high : Interval) → high.first ≡ point
       → without_start point (with_run high runs) ≡ runs
   within-without high starts =
@@ -180,7 +182,8 @@ module _ (n : ℕ) (runs : List Interval) (canonical : IsCanonicalIn n runs) (po
 
 -- ---- how many members a part has
 
--- a run that is counted next fits in the type, and leaves the others to be counted
+-- The lengths so far and that of the next run add up to at most n. Those of the others are left to
+-- be counted.
 pub counted-next : (n number : ℕ) (all rest : List Interval) (run : Interval) → IsCanonicalIn n all
     → number + sum_by length_of (run ∷ rest) ≡ sum_by length_of all
     → (number + length_of run ≤ n)

@@ -11,18 +11,19 @@ use Rattle.rsb_integer.specs.Selection.{Selection}
 use Rattle.range_set_blaze.specs.Kept.{entry_run, runs_of}
 use Rattle.range_set_blaze.specs.Written.{ends_text, run_text}
 
--- the fact holds of the text that there is
+-- If a fact holds of an optional text and there is a text, the fact holds of that text.
 pub if_some_at : (text : Option (List ℕ)) (Fact : List ℕ → Type 0) (whole : List ℕ)
     → IfSome text Fact → text ≡ Some whole → Fact whole
 if_some_at text Fact whole h is = subst (λ (t : Option (List ℕ)). IfSome t Fact) is h
 
--- a fact of the text that there is, if there is one
+-- A fact holds of an optional text if it holds of any text that there is.
 pub if_some : (text : Option (List ℕ)) (Fact : List ℕ → Type 0)
     → ((whole : List ℕ) → text ≡ Some whole → Fact whole) → IfSome text Fact
 if_some None Fact h = tt
 if_some (Some whole) Fact h = h whole refl
 
--- the pieces of a text
+-- The pieces of a text: `lead`, the text `head` of the first item, and the text `tail` of the
+-- others.
 pub record Parts (lead : List ℕ) (first others : Option (List ℕ)) (left : List ℕ) : Type 0 where
   pub head : List ℕ
   pub tail : List ℕ
@@ -37,7 +38,7 @@ parted lead (Some head) None left is = cc
 parted lead (Some head) (Some tail) left is =
     record { head = head; tail = tail; first_is = refl; others_are = refl; whole = cc }
 
--- what was written leads, with the texts of the items that are left, to those of all
+-- What was written, followed by the texts of the items that are left, is the text of all items.
 pub record Leads {W X : Type 0} (took : W → List ℕ → W → Type 0) (text : X → Option (List ℕ))
     (start now : Formatter W) (lead : List ℕ) (rest : List X) (whole : List ℕ) : Type 0 where
   pub done : List ℕ
@@ -46,7 +47,7 @@ pub record Leads {W X : Type 0} (took : W → List ℕ → W → Type 0) (text :
   pub is_left : debug_items text lead rest ≡ Some left
   pub is_whole : done ++ left ≡ whole
 
--- the same where all items have a text, and the formatter began plain
+-- The same, if all items have a text and the formatter was plain at first.
 abbrev pub WritesOn : {W X : Type 0} → (W → List ℕ → W → Type 0) → (X → Option (List ℕ))
     → Formatter W → Formatter W → List ℕ → List X → List X → Type 0
 WritesOn took text start now lead rest all = (whole : List ℕ) → debug_items text [] all ≡ Some whole
@@ -93,7 +94,7 @@ module _ {W X : Type 0} (took : W → List ℕ → W → Type 0) (text : X → O
       (sym (append-nil so_far.done) ∙ ap (λ (t : List ℕ). so_far.done ++ t) left ∙ so_far.is_whole)
       so_far.written
 
--- the texts of entries are those of their runs
+-- The texts of entries are those of their runs.
 module _ {T : Type 0} (rank : T → ℕ) (n : ℕ) (value_at : ℕ → T)
     (placed : (x : T) → rank x < n → value_at (rank x) ≡ x) (text : T → Option (List ℕ)) where
   pub items-runs : (selected : Selection) (lead : List ℕ) (entries : List (T × T))

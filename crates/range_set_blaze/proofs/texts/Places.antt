@@ -12,23 +12,24 @@ use Rattle.range_set_blaze.specs.declared.set.parse.Place.TheVariants.{Start, Be
 
 -- ---- bytes
 
--- a list with an item is not empty
+-- A list with an item is not empty.
 nothing-follows : (byte : ℕ) (rest : List ℕ) → byte ∷ rest ≡ [] → ⊥
 nothing-follows byte rest is = cc
 
--- a blank is no digit, sign, dot or comma
+-- A blank is not a digit, a sign or a dot.
 blank-digit : (byte : ℕ) → is_blank byte ≡ true → digit_value byte < 10 → ⊥
 blank-digit byte blank digit = grind (arith, nat_tests)
 
 blank-sign : (byte : ℕ) → is_blank byte ≡ true → (byte ≢ 43) × (byte ≢ 45) × (byte ≢ 46)
 blank-sign byte blank = (λ is. cc (ap is_blank is), λ is. cc (ap is_blank is), λ is. cc (ap is_blank is))
 
--- a digit is no dot
+-- A digit is not a dot.
 digit-dot : (byte : ℕ) → digit_value byte < 10 → byte ≢ 46
 digit-dot byte digit is = omega (arith, ap digit_value is)
 
 module _ {T : Type 0} (number : T → ℤ) (fits : ℤ → Type 0) where
-  -- a byte leads where it leads from a place that is the same to it
+  -- If the same texts that start with a byte may follow at two places, the byte leads from both to
+  -- the same result.
   pub leads-back : (place other : Place T) (byte : ℕ) (result : Option (Place T))
       → ((more : List (RangeInclusive T)) (rest : List ℕ)
       → Follows number fits place more (byte ∷ rest) ↔ Follows number fits other more (byte ∷ rest))
@@ -41,13 +42,13 @@ module _ {T : Type 0} (number : T → ℤ) (fits : ℤ → Type 0) where
 
   -- ---- what comes after a number
 
-  -- other ranges begin with a comma
+  -- A byte that is not a comma does not start further ranges.
   pub no_others : (others : List (RangeInclusive T)) (byte : ℕ) (rest : List ℕ) → byte ≢ 44
       → OthersFollow number fits others (byte ∷ rest) → ⊥
   no_others [] byte rest other h = cc
   no_others (range ∷ others) byte rest other h = other h.0
 
-  -- a byte that is no dot does not go on after a number
+  -- Directly after a number and its blanks, only a comma or a dot may come.
   no_next : (start : Option T) (range : RangeInclusive T) (others : List (RangeInclusive T)) (value : T)
       (byte : ℕ) (rest : List ℕ) → byte ≢ 44 → byte ≢ 46
       → NextThen number fits start range (OthersFollow number fits others) value (byte ∷ rest) → ⊥
@@ -56,14 +57,14 @@ module _ {T : Type 0} (number : T → ℤ) (fits : ℤ → Type 0) where
   no_next (Some start) range others value byte rest other dot h =
       no_others others byte rest other h.1
 
-  -- nor does any after the second one
+  -- Directly after the second number of a range and its blanks, only a comma may come.
   no_third : (start : T) (range : RangeInclusive T) (others : List (RangeInclusive T)) (value : T)
       (byte : ℕ) (rest : List ℕ) → byte ≢ 44
       → NextThen number fits (Some start) range (OthersFollow number fits others) value (byte ∷ rest)
       → ⊥
   no_third start range others value byte rest other h = no_others others byte rest other h.1
 
-  -- ---- behind a number
+  -- ---- after a number, at the place `Behind`
 
   pub behind-blank : (start : Option T) (value : T) (byte : ℕ) → byte ≢ 44 → is_blank byte ≡ true
       → (more : List (RangeInclusive T)) (rest : List ℕ)
@@ -109,7 +110,7 @@ module _ {T : Type 0} (number : T → ℤ) (fits : ℤ → Type 0) where
   -- ---- digits
 
   module _ (differ : (x y : T) → number x ≡ number y → x ≡ y) where
-    -- there is one value with the digit
+    -- Only one value is the number with the digit.
     one_value : (negative : Bool) (magnitude digit : ℕ) (x y : T)
         → HasDigit number fits negative magnitude digit x
         → HasDigit number fits negative magnitude digit y → x ≡ y
@@ -197,7 +198,7 @@ module _ {T : Type 0} (number : T → ℤ) (fits : ℤ → Type 0) where
       digits-none start negative before byte other below
       (subst (λ (d : ℕ). ¬ fits (signed_by negative (unsigned_abs (number before) * 10 + d))) is none)
 
-  -- a byte that is no digit ends the number
+  -- A byte that is not a digit ends the number.
   pub digits-ended : (start : Option T) (negative : Bool) (value : T) (byte : ℕ)
       → ¬ (digit_value byte < 10) → (more : List (RangeInclusive T)) (rest : List ℕ)
       → Follows number fits (Digits start negative value) more (byte ∷ rest)
@@ -213,7 +214,7 @@ module _ {T : Type 0} (number : T → ℤ) (fits : ℤ → Type 0) where
   -- ---- before a number
 
   module _ (Rest : T → List ℕ → Type 0) where
-    -- a number goes on after a blank
+    -- A blank before a number may be skipped.
     number-blank : (byte : ℕ) (rest : List ℕ) → is_blank byte ≡ true
         → NumberThen number fits Rest (byte ∷ rest) ↔ NumberThen number fits Rest rest
     number-blank byte rest blank = (to, λ h. inr (blank, h))
@@ -224,7 +225,7 @@ module _ {T : Type 0} (number : T → ℤ) (fits : ℤ → Type 0) where
         to (inl (inr (inr h))) = absurd ((blank-sign byte blank).1 h.0)
         to (inr h) = h.1
 
-    -- a sign, and a digit
+    -- The digits of a number come after its sign, or at once if there is no sign.
     number-plus : (byte : ℕ) (rest : List ℕ) → byte ≡ 43
         → NumberThen number fits Rest (byte ∷ rest)
         ↔ NumeralThen number fits false (λ value. BlanksThen (Rest value)) rest
@@ -307,7 +308,7 @@ module _ {T : Type 0} (number : T → ℤ) (fits : ℤ → Type 0) where
   start-blank byte blank (range ∷ others) rest =
       number-blank (NextThen number fits None range (OthersFollow number fits others)) byte rest blank
 
-  -- it is as before a number
+  -- A byte that is not a blank leads where it would lead before a number.
   pub start-full : (byte : ℕ) → is_blank byte ≡ false
       → (more : List (RangeInclusive T)) (rest : List ℕ)
       → Follows number fits Start more (byte ∷ rest) ↔ Follows number fits (Before None) more (byte ∷ rest)
@@ -367,7 +368,7 @@ module _ {T : Type 0} (number : T → ℤ) (fits : ℤ → Type 0) where
   others-end [] h = refl
   others-end (range ∷ others) h = absurd h
 
-  -- after a comma come the others
+  -- After a comma, the other ranges come.
   finishes-comma : (start : Option T) (value : T) (more : List (RangeInclusive T)) (rest : List ℕ)
       → Follows number fits (Behind start value) more (44 ∷ rest)
       → (others : List (RangeInclusive T)) × (more ≡ range_of (start_or start value, value) ∷ others)
@@ -411,7 +412,7 @@ module _ {T : Type 0} (number : T → ℤ) (fits : ℤ → Type 0) where
     last = finishes-last start value;
   }
 
-  -- the end of a text is as behind the number
+  -- If the text ends after a digit, it ends as it would after the number.
   digits-end : (start : Option T) (negative : Bool) (value : T) (more : List (RangeInclusive T))
       → Follows number fits (Digits start negative value) more []
       → Follows number fits (Behind start value) more []

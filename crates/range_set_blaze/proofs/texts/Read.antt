@@ -11,14 +11,14 @@ use Rattle.range_set_blaze.specs.declared.set.parse.Place.{Place}
 use Rattle.range_set_blaze.specs.declared.set.parse.Place.TheVariants.{Start, Before, Signed, Digits, Behind, Dot, Dots}
 use Rattle.range_set_blaze.proofs.texts.Places.{start-end}
 
--- a text that can go on at a place
+-- A text that may follow at a place, and the ranges that it spells from there.
 pub record CanGoOn {T : Type 0} (number : T → ℤ) (fits : ℤ → Type 0) (place : Place T) : Type 0 where
   pub rest : List ℕ
   pub more : List (RangeInclusive T)
   pub follows : Follows number fits place more rest
 
 module _ {T : Type 0} (number : T → ℤ) (fits : ℤ → Type 0) where
-  -- nothing was read yet
+  -- At first nothing was read, and the place is the start.
   pub has_read-nil : HasRead number fits [] [] Start
   has_read-nil = record { into = into; from = from }
     where
@@ -32,7 +32,7 @@ module _ {T : Type 0} (number : T → ℤ) (fits : ℤ → Type 0) where
       from [] rest h = h
       from (range ∷ others) rest h = h
 
-  -- a byte more
+  -- If a byte leads to a next place, `HasRead` holds there once the byte is read.
   has_read-byte : (read : List ℕ) (ranges : List (RangeInclusive T)) (place next : Place T) (byte : ℕ)
       → HasRead number fits read ranges place
       → ((more : List (RangeInclusive T)) (rest : List ℕ)
@@ -57,7 +57,7 @@ module _ {T : Type 0} (number : T → ℤ) (fits : ℤ → Type 0) where
       (sym (take_more text at 0 below))
       (has_read-byte (take at text) ranges place next (get_or text at 0) had step)
 
-  -- a comma
+  -- If a range may end at the place, `HasRead` holds after a comma, with that range.
   has_read-range : (read : List ℕ) (ranges : List (RangeInclusive T)) (place : Place T)
       (range : RangeInclusive T) → HasRead number fits read ranges place
       → Finishes number fits place (Some range)
@@ -90,7 +90,7 @@ module _ {T : Type 0} (number : T → ℤ) (fits : ℤ → Type 0) where
       (ap (λ (byte : ℕ). take at text ++ byte ∷ []) (sym comma) ∙ sym (take_more text at 0 below))
       (has_read-range (take at text) ranges place range had finish)
 
-  -- all bytes were read
+  -- If all bytes are read, `HasRead` holds for the whole text.
   pub has_read-all : (text : List ℕ) (at : ℕ) (ranges : List (RangeInclusive T)) (place : Place T)
       → length text ≤ at → at ≤ length text → HasRead number fits (take at text) ranges place
       → HasRead number fits text ranges place
@@ -101,7 +101,7 @@ module _ {T : Type 0} (number : T → ℤ) (fits : ℤ → Type 0) where
 
   -- ---- the end
 
-  -- no range
+  -- If the place at the end is still the start, the text spells the ranges read so far.
   pub spells-none : (text : List ℕ) (ranges : List (RangeInclusive T))
       → HasRead number fits text ranges Start → Spells number fits text ranges
   spells-none text ranges had =
@@ -117,7 +117,8 @@ module _ {T : Type 0} (number : T → ℤ) (fits : ℤ → Type 0) where
       in found.1 ∙ ap (λ (more : List (RangeInclusive T)). ranges ++ more)
       (start-end number fits found.0 found.2) ∙ append-nil ranges
 
-  -- the last range
+  -- If a range may end at that place, the text spells the ranges read so far, followed by that
+  -- range.
   pub spells-last : (text : List ℕ) (ranges : List (RangeInclusive T)) (place : Place T)
       (range : RangeInclusive T) → HasRead number fits text ranges place
       → Finishes number fits place (Some range) → Spells number fits text (ranges ++ range ∷ [])
@@ -134,15 +135,15 @@ module _ {T : Type 0} (number : T → ℤ) (fits : ℤ → Type 0) where
       (subst (λ (bytes : List ℕ). Spells number fits bytes others) (sym (append-nil text)) h)
       in found.1 ∙ ap (λ (more : List (RangeInclusive T)). ranges ++ more) (finish.end found.0 found.2)
 
-  -- ---- bytes that fit nothing
+  -- ---- unexpected bytes
 
   module _ (zero : T) (is_zero : number zero ≡ pos 0) (zero_fits : fits (pos 0)) where
-    -- 0 is a number with either sign
+    -- The digit 0 is a number of the type with either sign.
     zero-digit : (negative : Bool) → HasDigit number fits negative 0 0 zero
     zero-digit true = record { is = is_zero; of_type = zero_fits }
     zero-digit false = record { is = is_zero; of_type = zero_fits }
 
-    -- at each place a text can go on, to one range more or to none
+    -- At each place some text may follow, with at most one range more.
     pub can_go_on : (place : Place T) → CanGoOn number fits place
     can_go_on Start = record { rest = []; more = []; follows = refl }
     can_go_on (Before None) = record {
@@ -196,14 +197,14 @@ module _ {T : Type 0} (number : T → ℤ) (fits : ℤ → Type 0) where
       follows = (refl, inl (inl (zero, lit< tt, zero-digit false, (refl, refl))));
     }
 
-    -- the bytes before a place begin a text
+    -- Some text that spells ranges starts with the bytes read so far.
     begun : (read : List ℕ) (ranges : List (RangeInclusive T)) (place : Place T)
         → HasRead number fits read ranges place
         → (more : List ℕ) × (all : List (RangeInclusive T)) × Spells number fits (read ++ more) all
     begun read ranges place had =
         let on = can_go_on place in (on.rest, ranges ++ on.more, had.from on.more on.rest on.follows)
 
-    -- a byte fits nothing
+    -- If no text that starts with the next byte may follow, that byte is the first unexpected one.
     pub unexpected_byte : (text : List ℕ) (at : ℕ) (ranges : List (RangeInclusive T)) (place : Place T)
         → at < length text → HasRead number fits (take at text) ranges place
         → ((more : List (RangeInclusive T)) (rest : List ℕ)
@@ -221,7 +222,7 @@ module _ {T : Type 0} (number : T → ℤ) (fits : ℤ → Type 0) where
       ends = λ is all h. absurd (omega arith);
     }
 
-    -- a text ends too early
+    -- If the text may not end at its last place, its end is the first unexpected place.
     pub unexpected_end : (text : List ℕ) (ranges : List (RangeInclusive T)) (place : Place T)
         → HasRead number fits text ranges place
         → ((more : List (RangeInclusive T)) → ¬ Follows number fits place more [])
@@ -237,7 +238,7 @@ module _ {T : Type 0} (number : T → ℤ) (fits : ℤ → Type 0) where
           in none found.0 found.2;
     }
 
--- a text with an unexpected byte spells no ranges
+-- A text with an unexpected byte or end spells no ranges.
 pub unexpected-none : {T : Type 0} (number : T → ℤ) (fits : ℤ → Type 0) (text : List ℕ) (place : ℕ)
     → IsFirstUnexpected number fits text place → (ranges : List (RangeInclusive T))
     → ¬ Spells number fits text ranges

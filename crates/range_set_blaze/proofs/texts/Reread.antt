@@ -1,4 +1,4 @@
--- The text that a set is written as spells its runs.
+-- The text that `Display` writes for a set spells its runs.
 use Rattle.std.proofs.Common.{◌≡◌, ℕ, ℤ, pos, negsuc, zero, suc, Bool, true, false, ◌+◌, ◌*◌, ◌<◌, ◌≤◌, ◌++◌, inl, inr, List, [], ◌∷◌, Option, Some, length, map, sym, ap, ◌∙◌, subst, refl, arith, append_assoc, unsigned_abs, codes, decimal}
 use Rattle.std.proofs.lemmas.Fmt.{decimal_is_IsNumeral_wide}
 use Rattle.std.proofs.lemmas.List.Elements.{All-head, All-tail, All-weaker}
@@ -18,13 +18,13 @@ use Rattle.range_set_blaze.specs.Text.{BlanksThen, DigitsThen, EndThen, HasDigit
 use Rattle.range_set_blaze.specs.Written.{ends_text, runs_text}
 use Rattle.range_set_blaze.proofs.texts.Pieces.{parted}
 
--- digits only make a number larger
+-- Further digits do not make a magnitude smaller.
 value_after-ge : (before : ℕ) (digits : List ℕ) → before ≤ digits_value_after 10 before digits
 value_after-ge before [] = omega arith
 value_after-ge before (digit ∷ digits) =
     omega (arith, value_after-ge (before * 10 + digit_value digit) digits)
 
--- the magnitude of a number with a sign
+-- A number with a sign has the magnitude that it was built from.
 abs-signed_by : (negative : Bool) (magnitude : ℕ) → unsigned_abs (signed_by negative magnitude) ≡ magnitude
 abs-signed_by true zero = refl
 abs-signed_by true (suc n) = refl
@@ -41,7 +41,7 @@ module _ {T : Type 0} (rank : T → ℕ) (n : ℕ) (number : T → ℤ) (fits : 
   digits-stop negative Rest value [] h = h
   digits-stop negative Rest value (first ∷ rest) h = inl h
 
-  -- a number goes on with its digits
+  -- If a number is `before` so far, its other digits lead to its value.
   digits-written : (negative : Bool) (Rest : T → List ℕ → Type 0) (digits rest : List ℕ)
       (magnitude : ℕ) (before value : T) → AllDigits 10 digits
       → number before ≡ signed_by negative magnitude
@@ -67,7 +67,7 @@ module _ {T : Type 0} (rank : T → ℕ) (n : ℕ) (number : T → ℤ) (fits : 
         digits-written negative Rest digits rest longer next.0 value all.1 next.1 total fit h,
       )
 
-  -- and begins with the first of them
+  -- The digits of a number lead to its value.
   numeral-written : (negative : Bool) (Rest : T → List ℕ → Type 0) (digits rest : List ℕ) (value : T)
       → 0 < length digits → AllDigits 10 digits
       → number value ≡ signed_by negative (digits_value 10 digits)
@@ -133,7 +133,7 @@ module _ {T : Type 0} (rank : T → ℕ) (n : ℕ) (number : T → ℤ) (fits : 
         ),
       ))
 
-  -- the text of a range
+  -- The text of a range is its start in decimal, `..=`, and its end in decimal.
   ends-written : (start end : T) → ends_text (written start) (written end)
       ≡ Some (signed_decimal (number start) ++ (codes "..=" ++ signed_decimal (number end)))
   ends-written start end = rw (numbers.decimal start, numbers.decimal end) refl
@@ -141,7 +141,7 @@ module _ {T : Type 0} (rank : T → ℕ) (n : ℕ) (number : T → ℤ) (fits : 
   three : (a b c d : List ℕ) → a ++ (b ++ (c ++ d)) ≡ (a ++ (b ++ c)) ++ d
   three a b c d = sym (append_assoc a (b ++ c) d ∙ ap (λ (t : List ℕ). a ++ t) (append_assoc b c d))
 
-  -- items that stand for ranges, by their ends
+  -- Items that stand for ranges, by their starts and ends.
   module _ {X : Type 0} (start end : X → T) where
     abbrev pub IsOfType : X → Type 0
     IsOfType item = (rank (start item) < n) × (rank (end item) < n)
@@ -152,7 +152,8 @@ module _ {T : Type 0} (rank : T → ℕ) (n : ℕ) (number : T → ℤ) (fits : 
     abbrev pub text_at : X → Option (List ℕ)
     text_at item = ends_text (written (start item)) (written (end item))
 
-    -- one of them, and others
+    -- The text of an item, followed by another text, spells the range of the item and goes on with
+    -- that text.
     item-written : (Rest : List ℕ → Type 0) (item : X) (head tail : List ℕ) → IsOfType item
         → text_at item ≡ Some head → Rest tail
         → NumberThen number fits (StartThen number fits (range_of (start item, end item)) Rest)
@@ -185,7 +186,7 @@ module _ {T : Type 0} (rank : T → ℕ) (n : ℕ) (number : T → ℤ) (fits : 
           ),
         )
 
-    -- all of them
+    -- The texts of items, with commas between them, spell their ranges.
     pub spells-written : (items : List X) (text : List ℕ) → All IsOfType items
         → debug_items text_at [] items ≡ Some text → Spells number fits text (ranges_at items)
     spells-written [] text valid is =
@@ -199,7 +200,7 @@ module _ {T : Type 0} (rank : T → ℕ) (n : ℕ) (number : T → ℤ) (fits : 
         (item-written (OthersFollow number fits (ranges_at items)) item parts.head parts.tail
         (All-head IsOfType item items valid) parts.first_is others)
 
--- runs in a type, each as the range of the values at its ends
+-- Runs in a type, each as the range of the values at its ends.
 module _ {T : Type 0} (rank : T → ℕ) (n : ℕ) (value_at : ℕ → T)
     (ranks : (place : ℕ) → place < n → rank (value_at place) ≡ place) where
   abbrev pub ranges_of_runs : List Interval → List (RangeInclusive T)
@@ -229,7 +230,7 @@ module _ {T : Type 0} (rank : T → ℕ) (n : ℕ) (value_at : ℕ → T)
       let rest = intervals-of_runs selected runs (All-tail (IsMaximalRun n selected) run runs maximal) in
       λ i. record { first = first i; last = last i } ∷ rest i
 
-  -- the text of runs spells them
+  -- The text of canonical runs spells them.
   pub runs-spelled : (number : T → ℤ) (fits : ℤ → Type 0) (written : T → Option (List ℕ))
       → AreNumbers rank n number fits written → (runs : List Interval) (text : List ℕ)
       → IsCanonicalIn n runs → runs_text (λ place. written (value_at place)) runs ≡ Some text
@@ -238,7 +239,7 @@ module _ {T : Type 0} (rank : T → ℕ) (n : ℕ) (value_at : ℕ → T)
       spells-written rank n number fits written numbers (λ (run : Interval). value_at run.first)
       (λ (run : Interval). value_at run.last) runs text (runs-of_type runs canonical) is
 
-  -- and a set of what it spells has these runs
+  -- A set with the members of these ranges has these runs.
   pub set-reread : (set runs : List Interval) → AreRuns n (members set) set → IsCanonicalIn n runs
       → IsSetOf set (members (intervals_of rank (ranges_of_runs runs))) → set ≡ runs
   set-reread set runs are canonical has =

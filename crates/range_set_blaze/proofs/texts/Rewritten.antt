@@ -12,14 +12,14 @@ module _ {T : Type 0} (rank : T → ℕ) (n : ℕ) (value_at : ℕ → T) (numbe
   abbrev text_at : ℕ → Option (List ℕ)
   text_at place = written (value_at place)
 
-  -- a run has one
+  -- Each run has a text.
   run-text : (run : Interval) → (text : List ℕ) × (run_text text_at run ≡ Some text)
   run-text run = (
     _,
     λ i. ends_text (numbers.decimal (value_at run.first) i) (numbers.decimal (value_at run.last) i),
   )
 
-  -- and so has a list of them
+  -- Each list of runs has a text.
   items-text : (lead : List ℕ) (runs : List Interval)
       → (text : List ℕ) × (debug_items (run_text text_at) lead runs ≡ Some text)
   items-text lead [] = ([], refl)
@@ -32,7 +32,7 @@ module _ {T : Type 0} (rank : T → ℕ) (n : ℕ) (value_at : ℕ → T) (numbe
       → (text : List ℕ) × (runs_text text_at runs ≡ Some text)
   text-exists runs = items-text [] runs
 
-  -- what `to_string` of a set gave is its text
+  -- What `to_string` returns for a set is the text of its runs.
   pub text-is : (runs : List Interval) (text : List ℕ)
       → IfSome (runs_text text_at runs) (λ bytes. text ≡ bytes)
       → runs_text text_at runs ≡ Some text

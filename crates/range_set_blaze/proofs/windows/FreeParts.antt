@@ -1,4 +1,4 @@
--- The gaps in an interval, by the runs between the first and the last of its ranks that are free.
+-- The gaps in an interval, from the runs between its first and its last free rank.
 use Rattle.std.proofs.Common.{◌≡◌, ℕ, true, false, nat_le, ◌&&◌, ◌+◌, ◌<◌, ◌≤◌, List, inl, inr, arith}
 use Rattle.std.specs.List.{Contains}
 use Rattle.std.proofs.lemmas.Bool.{cases_lt}
@@ -21,7 +21,7 @@ module _ (n : ℕ) (runs : List Interval) (canonical : IsCanonicalIn n runs) (wi
   abbrev within : List Interval
   within = starting_within part.first part.last runs
 
-  -- no run has a free rank
+  -- No run has a free rank.
   not-over : (run : Interval) (rank : ℕ) → Contains runs run → members runs rank ≡ false
       → run.first ≤ rank → rank ≤ run.last → ⊥
   not-over run rank found lacks from to =
@@ -45,7 +45,7 @@ module _ (n : ℕ) (runs : List Interval) (canonical : IsCanonicalIn n runs) (wi
         | inr over ↦ absurd (not-over run part.last is.0 free.last_free is.2 over)
       ]
 
-  -- they lie between the ends
+  -- The runs that start in the part lie between its ends.
   pub within-between : LieBetween n part.first part.last within
   within-between =
       let to = free.to in
@@ -59,7 +59,7 @@ module _ (n : ℕ) (runs : List Interval) (canonical : IsCanonicalIn n runs) (wi
             within-ends within (All-contains_itself within);
       }
 
-  -- and have the members there
+  -- They have the members of the part.
   within-members : (rank : ℕ) → part.first ≤ rank → rank ≤ part.last
       → members within rank ≡ members runs rank
   within-members rank from to =
@@ -77,11 +77,11 @@ module _ (n : ℕ) (runs : List Interval) (canonical : IsCanonicalIn n runs) (wi
   abbrev gaps : List Interval
   gaps = gaps_between part.first part.last within
 
-  -- so the gaps that they leave are canonical
+  -- So the gaps that they leave are canonical.
   pub free-canonical : IsCanonicalIn n gaps
   free-canonical = gaps-canonical n part.first part.last within within-between
 
-  -- and the set of what is free in the interval
+  -- These gaps have the ranks of the interval that are not members.
   pub free-members : IsSetOf gaps (difference (covers window) (members runs))
   free-members rank =
       let all = gaps-members n part.first part.last within within-between rank in

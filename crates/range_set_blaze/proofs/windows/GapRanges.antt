@@ -13,7 +13,7 @@ use Rattle.range_set_blaze.specs.Set.{IsSetOf}
 use Rattle.range_set_blaze.specs.declared.set.run.Run.{Run}
 use Rattle.range_set_blaze.proofs.windows.Gaps.{gaps-canonical, last-apart}
 
--- the runs of some entries, of which the run is the last
+-- If the last entry is that of the run, the runs of the entries end with this run.
 pub last-runs : {T : Type 0} (rank : T → ℕ) {entries : List (T × T)} (front : List (T × T))
     (run : Run T) → entries ≡ front ++ entry_of run ∷ []
     → runs_of rank entries ≡ runs_of rank front ++ run_of rank run ∷ []
@@ -21,7 +21,7 @@ last-runs rank front run parts =
     ap (runs_of rank) parts ∙ map-append (entry_run rank) front (entry_of run ∷ [])
 
 module _ {T : Type 0} (rank : T → ℕ) (n : ℕ) (value_at : ℕ → T) where
-  -- the ranges of canonical intervals have these as their intervals
+  -- The ranges of canonical intervals have these intervals.
   intervals_of-ranges : ((place : ℕ) → place < n → rank (value_at place) ≡ place) → (low : ℕ)
       (runs : List Interval) → IsCanonicalFrom low runs → AllEndBelow n runs
       → intervals_of rank (ranges_at value_at runs) ≡ runs
@@ -40,21 +40,21 @@ module _ {T : Type 0} (rank : T → ℕ) (n : ℕ) (value_at : ℕ → T) where
   intervals_of-ranges_at ranks runs canonical =
       intervals_of-ranges ranks 0 runs canonical.0 canonical.1
 
-  -- so these are canonical where those are
+  -- So if the intervals are canonical, the ranges are.
   pub ranges-canonical : ((place : ℕ) → place < n → rank (value_at place) ≡ place)
       → (runs : List Interval) → IsCanonicalIn n runs
       → IsCanonicalIn n (intervals_of rank (ranges_at value_at runs))
   ranges-canonical ranks runs canonical =
       rw (intervals_of-ranges_at ranks runs canonical) canonical
 
-  -- and have their members
+  -- The ranges have the members of the intervals.
   pub ranges-members : ((place : ℕ) → place < n → rank (value_at place) ≡ place)
       → (runs : List Interval) (selected : Selection) → IsCanonicalIn n runs
       → IsSetOf runs selected → IsSetOf (intervals_of rank (ranges_at value_at runs)) selected
   ranges-members ranks runs selected canonical is point =
       rw (intervals_of-ranges_at ranks runs canonical) (is point)
 
-  -- the gaps that are left are canonical
+  -- The gaps that are left are canonical.
   pub left-canonical : (rest : Option (Run T)) (entries : List (T × T))
       → AreGapsLeft rank n rest entries → IsCanonicalIn n (gaps_left rank rest entries)
   left-canonical None entries left = (tt, All-nil (λ (each : Interval). each.last < n))
@@ -62,7 +62,7 @@ module _ {T : Type 0} (rank : T → ℕ) (n : ℕ) (value_at : ℕ → T) where
       gaps-canonical n (rank run.start) (rank run.end) (runs_of rank entries) left
 
   module _ (at_rank : (x : T) → rank x < n → value_at (rank x) ≡ x) where
-    -- the range of a gap is the one from its start to its end
+    -- The range of a gap goes from the start of the gap to its end.
     range_at-is : (gap : Run T) (item : RangeInclusive T) → rank gap.start ≤ rank gap.end
         → rank gap.end < n → range_inclusive_start item ≡ gap.start
         → range_inclusive_end item ≡ gap.end → range_inclusive_exhausted item ≡ false
@@ -72,7 +72,7 @@ module _ {T : Type 0} (rank : T → ℕ) (n : ℕ) (value_at : ℕ → T) where
         let last = at_rank gap.end known ∙ sym ends in λ i.
         record { start = first i; end = last i; exhausted = sym more i }
 
-    -- the range of the gap that comes first of those that are left
+    -- If a gap is the first of those that are left, its range is the first of their ranges.
     pub gap-first : {gaps : List Interval} (others : List Interval) (gap : Run T)
         (item : RangeInclusive T) → IsCanonicalIn n gaps → range_inclusive_start item ≡ gap.start
         → range_inclusive_end item ≡ gap.end → range_inclusive_exhausted item ≡ false
@@ -85,7 +85,7 @@ module _ {T : Type 0} (rank : T → ℕ) (n : ℕ) (value_at : ℕ → T) where
         ∙ ap (λ (range : RangeInclusive T). range ∷ ranges_at value_at others)
         (range_at-is gap item left.0.1 known starts ends more)
 
-    -- and of the one that comes last
+    -- If a gap is the last of those that are left, its range is the last of their ranges.
     pub gap-last : {gaps : List Interval} (others : List Interval) (gap : Run T)
         (item : RangeInclusive T) → IsCanonicalIn n gaps → range_inclusive_start item ≡ gap.start
         → range_inclusive_end item ≡ gap.end → range_inclusive_exhausted item ≡ false

@@ -1,4 +1,4 @@
--- The gaps between two free ranks, by the runs between them.
+-- The gaps between two free ranks, from the runs between them.
 use Rattle.std.proofs.Common.{◌≡◌, ℕ, ◌+◌, ◌-◌, ◌<◌, ◌≤◌, List, [], ◌∷◌, ◌++◌, refl, ap, inl, inr, arith}
 use Rattle.std.proofs.lemmas.Bool.{cases_lt}
 use Rattle.std.proofs.lemmas.Bool.Decides.{nat_tests}
@@ -10,9 +10,9 @@ use Rattle.rsb_integer.proofs.MembersLemmas.{members-below, members-cons}
 use Rattle.range_set_blaze.specs.GapsIn.{gaps_between, LieBetween}
 use Rattle.range_set_blaze.specs.Set.{IsSetOf}
 
--- ---- what is left when a gap is taken off
+-- ---- what is left when a gap is removed
 
--- behind the first run the others lie between the ranks
+-- The runs after the first one lie between the rank after it and `last`.
 pub between-tail : (n first last : ℕ) (run : Interval) (runs : List Interval)
     → LieBetween n first last (run ∷ runs) → LieBetween n (run.last + 1) last runs
 between-tail n first last run runs lie =
@@ -24,7 +24,7 @@ between-tail n first last run runs lie =
       earlier = All-tail (λ (each : Interval). each.last < last) run runs lie.earlier;
     }
 
--- the last of canonical runs starts well past the ends of the others
+-- The last of canonical runs starts at least two ranks past the ends of the others.
 pub last-apart : (low last : ℕ) (runs : List Interval) (run : Interval)
     → IsCanonicalFrom low (runs ++ run ∷ []) → AllEndBelow last (runs ++ run ∷ [])
     → (low ≤ run.first) × (run.first ≤ run.last) × (run.last < last)
@@ -47,7 +47,7 @@ last-apart low last (other ∷ runs) run canonical ends =
           rest.3,
     )
 
--- before the last run the others lie between the ranks
+-- The runs before the last one lie between `first` and the rank before it.
 pub between-front : (n first last : ℕ) (runs : List Interval) (run : Interval)
     → LieBetween n first last (runs ++ run ∷ []) → LieBetween n first (run.first - 1) runs
 between-front n first last runs run lie =
@@ -60,7 +60,7 @@ between-front n first last runs run lie =
       earlier = apart.3;
     }
 
--- and the last run lies between them
+-- The last run lies between the two ranks.
 pub between-last : (n first last : ℕ) (runs : List Interval) (run : Interval)
     → LieBetween n first last (runs ++ run ∷ [])
     → (first < run.first) × (run.first ≤ run.last) × (run.last < last)
@@ -68,7 +68,7 @@ between-last n first last runs run lie =
     let apart = last-apart (first + 1) last runs run lie.later lie.earlier in
     (omega (arith, apart.0), apart.1, apart.2)
 
--- the gap behind the last run comes last
+-- The gap after the last run is the last gap.
 pub gaps-last : (first last : ℕ) (runs : List Interval) (run : Interval)
     → gaps_between first last (runs ++ run ∷ [])
     ≡ gaps_between first (run.first - 1) runs ++ from_to (run.last + 1) last ∷ []
@@ -79,7 +79,7 @@ gaps-last first last (other ∷ runs) run =
 
 -- ---- what the gaps are
 
--- they are canonical
+-- The gaps are canonical.
 gaps-apart : (n first last : ℕ) (runs : List Interval) → LieBetween n first last runs
     → IsCanonicalFrom first (gaps_between first last runs)
 gaps-apart n first last [] lie = (omega arith, lie.in_order, tt)
@@ -93,7 +93,7 @@ gaps-apart n first last (run ∷ runs) lie =
           (gaps-apart n (run.last + 1) last runs (between-tail n first last run runs lie)),
     )
 
--- and end in the type
+-- They end within the type.
 gaps-end : (n first last : ℕ) (runs : List Interval) → LieBetween n first last runs
     → AllEndBelow n (gaps_between first last runs)
 gaps-end n first last [] lie =
@@ -115,7 +115,7 @@ gaps-canonical n first last runs lie = (
   gaps-end n first last runs lie,
 )
 
--- their members are the ranks from the one to the other that no run has
+-- Their members are the ranks from `first` to `last` that no run has.
 pub gaps-members : (n first last : ℕ) (runs : List Interval) → LieBetween n first last runs
     → IsSetOf (gaps_between first last runs)
     (difference (covers (from_to first last)) (members runs))

@@ -1,4 +1,4 @@
--- A window by the run that is held and the entries that follow.
+-- A window as the run that is held and the entries that follow.
 use Rattle.std.proofs.Common.{◌≡◌, ℕ, ◌≤◌, List, ◌∷◌, sym, subst, Option, Some, None, MatchOption}
 use Rattle.rsb_integer.specs.Rank.{intervals_of}
 use Rattle.rsb_integer.specs.Runs.{Interval, covers, members, IsCanonicalIn}
@@ -13,7 +13,7 @@ use Rattle.range_set_blaze.proofs.windows.Ranges.{intervals_of-ranges_up_to}
 
 module _ {T : Type 0} (rank : T → ℕ) (n : ℕ) (runs : List Interval) (canonical : IsCanonicalIn n runs)
     (window : Run T) (order : rank window.start ≤ rank window.end) where
-  -- what is held and what starts in the window are it
+  -- The held part, if there is one, and the runs that start in the window form the window.
   held-window : (held : Option (Run T)) (entries : List (T × T))
       → MatchOption held (NoneOver runs (rank window.start))
       (λ part. ReachesIn runs (rank window.start) (run_of rank part))
@@ -35,14 +35,14 @@ module _ {T : Type 0} (rank : T → ℕ) (n : ℕ) (runs : List Interval) (canon
     abbrev ranges : List Interval
     ranges = intervals_of rank (ranges_up_to rank window.end (with_held held entries))
 
-    -- so their ranges are canonical
+    -- So their ranges are canonical.
     pub held-canonical : IsCanonicalIn n ranges
     held-canonical =
         rw (intervals_of-ranges_up_to rank window.end (with_held held entries))
         (window-canonical n runs (rank window.start) (rank window.end) _
         (held-window held entries reaches are))
 
-    -- and have the members in the window
+    -- These ranges have the members in the window.
     pub held-members : IsSetOf ranges (intersection (members runs) (covers (run_of rank window)))
     held-members point =
         rw (intervals_of-ranges_up_to rank window.end (with_held held entries))

@@ -17,7 +17,7 @@ use Rattle.range_set_blaze.proofs.runs.Starts.{starting-canonical, starting-cano
 
 -- ---- up to a rank
 
--- canonical intervals that start up to a rank are canonical without what lies past it
+-- If canonical intervals start at or below a rank, their parts up to that rank are canonical.
 up_to-canonical : (last low : ℕ) (runs : List Interval) → IsCanonicalFrom low runs
     → ((run : Interval) → Contains runs run → run.first ≤ last)
     → IsCanonicalFrom low (map (up_to last) runs)
@@ -32,7 +32,7 @@ up_to-canonical last low (run ∷ runs) canonical starts =
           (λ other found. starts other (Contains-tail run runs other found))),
     )
 
--- and end where they do, or before
+-- If the intervals end below n, so do these parts.
 up_to-ends : (n last : ℕ) (runs : List Interval) → AllEndBelow n runs
     → AllEndBelow n (map (up_to last) runs)
 up_to-ends n last [] ends = All-nil (λ (run : Interval). run.last < n)
@@ -42,7 +42,7 @@ up_to-ends n last (run ∷ runs) ends =
     All-cons P (up_to last run) (map (up_to last) runs) (omega (arith, here))
     (up_to-ends n last runs (All-tail P run runs ends))
 
--- and have their members up to it
+-- The parts have the members up to that rank.
 up_to-members : (last : ℕ) (runs : List Interval) (rank : ℕ)
     → members (map (up_to last) runs) rank ≡ (members runs rank && nat_le rank last)
 up_to-members last [] rank = refl
@@ -56,14 +56,14 @@ up_to-members last (run ∷ runs) rank =
 
 module _ (n : ℕ) (runs : List Interval) (first last : ℕ) (parts : List Interval)
     (is : IsWindow n runs first last parts) where
-  -- so what a window has up to its last rank is canonical
+  -- So the parts of a window up to its last rank are canonical.
   pub window-canonical : IsCanonicalIn n (map (up_to last) parts)
   window-canonical = (
     up_to-canonical last 0 parts is.canonical.0 is.starts,
     up_to-ends n last parts is.canonical.1,
   )
 
-  -- and has the members from its first rank to its last
+  -- They have the members from its first rank to its last.
   pub window-members : IsSetOf (map (up_to last) parts)
       (intersection (members runs) (covers (from_to first last)))
   window-members rank =
@@ -77,7 +77,7 @@ module _ (n : ℕ) (runs : List Interval) (first last : ℕ) (parts : List Inter
 
 -- ---- from a rank on
 
--- canonical intervals that all start at a rank or past it are canonical from there on
+-- If canonical intervals all start at a rank or past it, they are canonical from that rank on.
 pub canonical-raise : (low from : ℕ) (runs : List Interval) → IsCanonicalFrom low runs
     → ((run : Interval) → Contains runs run → from ≤ run.first) → IsCanonicalFrom from runs
 canonical-raise low from [] canonical starts = tt
@@ -86,14 +86,14 @@ canonical-raise low from (run ∷ runs) canonical starts =
 
 module _ (n : ℕ) (runs : List Interval) (canonical : IsCanonicalIn n runs) (first last : ℕ)
     (order : first ≤ last) where
-  -- those that start in the window are runs that do
+  -- The runs that start in the window are runs of the list, and their starts are in it.
   pub within-contains : (run : Interval) → Contains (starting_within first last runs) run
       → Contains runs run × (first ≤ run.first) × (run.first ≤ last)
   within-contains run found =
       let is = starting-contains (λ start. nat_le first start && nat_le start last) runs run found in
       (is.0, grind (arith, nat_tests, is.1), grind (arith, nat_tests, is.1))
 
-  -- where no run goes on over the first rank, the runs that start in the window are it
+  -- If no run extends over the first rank, the runs that start in the window form the window.
   pub window-none : NoneOver runs first
       → IsWindow n runs first last (starting_within first last runs)
   window-none none = record {
@@ -115,7 +115,8 @@ module _ (n : ℕ) (runs : List Interval) (canonical : IsCanonicalIn n runs) (fi
   }
 
   module _ (part : Interval) (reaches : ReachesIn runs first part) where
-    -- a run that starts in the window starts well past one that reaches in
+    -- A run that starts in the window starts at least two ranks past the end of a part that reaches
+    -- in.
     part-apart : (run : Interval) → Contains (starting_within first last runs) run
         → part.last + 2 ≤ run.first
     part-apart run found =
@@ -141,7 +142,7 @@ module _ (n : ℕ) (runs : List Interval) (canonical : IsCanonicalIn n runs) (fi
           ]
         ]
 
-    -- what those that start in the window have
+    -- The runs that start in the window have the members of the window that are past this part.
     rest-members : (rank : ℕ) → rank ≤ last → members (starting_within first last runs) rank
         ≡ (members runs rank && (nat_le first rank && nat_lt part.last rank))
     rest-members rank within =
@@ -175,7 +176,7 @@ module _ (n : ℕ) (runs : List Interval) (canonical : IsCanonicalIn n runs) (fi
           ]
         ])
 
-    -- with what a run that reaches in has there, they are the window
+    -- This part and the runs that start in the window form the window.
     pub window-reached : IsWindow n runs first last (part ∷ starting_within first last runs)
     window-reached =
         let starts = reaches.starts in

@@ -22,14 +22,14 @@ use Rattle.range_set_blaze.specs.declared.set.run.Run.{Run}
 use Rattle.range_set_blaze.proofs.runs.Maps.{order-cases, runs-filter}
 
 module _ {T : Type 0} (rank : T → ℕ) where
-  -- the rank of the lesser of two values is the lesser rank
+  -- The rank of the lesser of two values is the lesser of their ranks.
   lesser-rank : (left right : T) → rank (lesser_of rank left right) ≡ min (rank left) (rank right)
   lesser-rank left right = elim (true_or_false (nat_lt (rank right) (rank left))) [
     | inl less ↦ rw less (grind (arith, nat_tests, less))
     | inr most ↦ rw most (grind (arith, nat_tests, most))
   ]
 
-  -- the ranges of some entries up to a value have their intervals up to its rank
+  -- The ranges of entries up to a value have the parts of their runs up to its rank.
   pub intervals_of-ranges_up_to : (last : T) (entries : List (T × T))
       → intervals_of rank (ranges_up_to rank last entries)
       ≡ map (up_to (rank last)) (runs_of rank entries)
@@ -39,7 +39,7 @@ module _ {T : Type 0} (rank : T → ℕ) where
       ∷ intervals_of-ranges_up_to last entries i
 
 module _ {T : Type 0} (rank : T → ℕ) (last : T) where
-  -- the range of the run that comes first of those that are left
+  -- If a run is the first of those that are left, its range is the first of their ranges.
   pub window-first : {entries others : List (T × T)} (run : Run T) (item : RangeInclusive T)
       → range_inclusive_start item ≡ run.start
       → range_inclusive_end item ≡ lesser_of rank run.end last
@@ -50,7 +50,7 @@ module _ {T : Type 0} (rank : T → ℕ) (last : T) where
       (record { start = sym starts i; end = sym ends i; exhausted = sym more i })
       ∷ ranges_up_to rank last others
 
-  -- and of the one that comes last
+  -- If a run is the last of those that are left, its range is the last of their ranges.
   pub window-last : {entries : List (T × T)} (others : List (T × T)) (run : Run T)
       (item : RangeInclusive T) → range_inclusive_start item ≡ run.start
       → range_inclusive_end item ≡ lesser_of rank run.end last
@@ -62,14 +62,14 @@ module _ {T : Type 0} (rank : T → ℕ) (last : T) where
       ranges_up_to rank last others
       ++ (record { start = sym starts i; end = sym ends i; exhausted = sym more i }) ∷ []
 
--- the ranges of some items
+-- The ranges of some items.
 module _ {T X : Type 0} (rank : T → ℕ) (n : ℕ) (range : X → RangeInclusive T) where
-  -- canonical ranges are left, so a call that takes one makes progress
+  -- Whether a call that takes a range makes progress: canonical ranges are left.
   abbrev Goes : List (RangeInclusive T) → RangeInclusive T → List (RangeInclusive T) → Type 0
   Goes ranges item rest = MakesProgress (λ each. IsCanonicalIn n (intervals_of rank each))
       (item_count (λ (each : List (RangeInclusive T)). each)) ranges (Some item) rest
 
-  -- where it takes the first
+  -- A call that takes the first range makes progress.
   pub mapped-goes_first : {ranges : List (RangeInclusive T)} {items others : List X} {first : X}
       {item : RangeInclusive T} → map range items ≡ ranges
       → IsCanonicalIn n (intervals_of rank ranges) → items ≡ first ∷ others
@@ -77,7 +77,7 @@ module _ {T X : Type 0} (rank : T → ℕ) (n : ℕ) (range : X → RangeInclusi
   mapped-goes_first are canonical is =
       canonical-goes rank n _ _ _ _ (sym are ∙ ap (map range) is) canonical
 
-  -- and where it takes the last
+  -- A call that takes the last range makes progress.
   pub mapped-goes_last : {ranges : List (RangeInclusive T)} {items : List X}
       {item : RangeInclusive T} (others : List X) (last : X) → map range items ≡ ranges
       → IsCanonicalIn n (intervals_of rank ranges) → items ≡ others ++ last ∷ []
@@ -92,7 +92,7 @@ module _ {T X : Type 0} (rank : T → ℕ) (n : ℕ) (range : X → RangeInclusi
 
 -- ---- ranges of a map
 
--- no entry's key passes a test and fails it
+-- No key both passes and fails a test.
 pub filter-neither : {T : Type 0} (test : T → Bool) (entries : List (T × T))
     → filter (λ (entry : T × T). test entry.0 && not (test entry.0)) entries ≡ []
 filter-neither test [] = refl
@@ -103,7 +103,7 @@ filter-neither test (entry ∷ entries) = elim (true_or_false (test entry.0)) [
 
 module _ {T : Type 0} (cmp : T → T → Ordering) (rank : T → ℕ) (n : ℕ)
     (in_order : (x y : T) → rank x < n → rank y < n → cmp x y ≡ nat_cmp (rank x) (rank y)) where
-  -- a value is up to a key where its rank is up to the key's
+  -- A value is at most a key exactly if its rank is at most that of the key.
   from-test : (value key : T) → rank value < n → rank key < n
       → is_le (cmp value key) ≡ nat_le (rank value) (rank key)
   from-test value key known other = elim (order-cases cmp rank n in_order value key known other) [
@@ -112,7 +112,7 @@ module _ {T : Type 0} (cmp : T → T → Ordering) (rank : T → ℕ) (n : ℕ)
     | inr (inr more) ↦ rw more.1 (grind (arith, nat_tests, more.0))
   ]
 
-  -- and not before it where the key's rank is up to its own
+  -- A value is not less than a key exactly if the rank of the key is at most that of the value.
   to-test : (value key : T) → rank value < n → rank key < n
       → not (is_lt (cmp value key)) ≡ nat_le (rank key) (rank value)
   to-test value key known other = elim (order-cases cmp rank n in_order value key known other) [
@@ -121,7 +121,7 @@ module _ {T : Type 0} (cmp : T → T → Ordering) (rank : T → ℕ) (n : ℕ)
     | inr (inr more) ↦ rw more.1 (grind (arith, nat_tests, more.0))
   ]
 
-  -- values in order are not the wrong way round
+  -- If the rank of a value is at most that of another, it does not compare as greater.
   pub order-forward : (first last : T) → rank first < n → rank last < n → rank first ≤ rank last
       → is_gt (cmp first last) ≡ false
   order-forward first last low high order =
@@ -131,7 +131,8 @@ module _ {T : Type 0} (cmp : T → T → Ordering) (rank : T → ℕ) (n : ℕ)
         | inr (inr more) ↦ let wrong = more.0 in absurd (omega (arith, wrong, order))
       ]
 
-  -- the entries from one value to another are those that start from its rank to the other's
+  -- The entries from one value to another have the runs that start from its rank to that of the
+  -- other.
   pub runs-within : (first last : T) → rank first < n → rank last < n → (entries : List (T × T))
       → StartsAscendFrom n 0 (runs_of rank entries)
       → runs_of rank

@@ -60,7 +60,8 @@ impl<'a, T: Integer, R: DrawDisjoint<T>> BitXor<R> for GapsIn<'a, T> {
 
     ghost can_bitxor = { CanDrawBoth ⟦<GapsIn<'a, T> as Draw<T>>⟧ R.Draw };
 
-    ghost bitxor_gives = { MakesSymmetricDifference T.Integer.own ⟦<GapsIn<'a, T> as Draw<T>>⟧ R.Draw
+    ghost bitxor_gives = { MakesSymmetricDifference T.Integer.own
+        ⟦<GapsIn<'a, T> as Draw<T>>⟧ R.Draw
         ⟦<SymmetricDifference<T, GapsIn<'a, T>, R> as Draw<T>>⟧ };
 
     fn bitxor(self, other: R) -> Self::Output {

@@ -60,7 +60,8 @@ impl<'a, T: Integer, R: DrawDisjoint<T>> BitXor<R> for RangesIn<'a, T> {
 
     ghost can_bitxor = { CanDrawBoth ⟦<RangesIn<'a, T> as Draw<T>>⟧ R.Draw };
 
-    ghost bitxor_gives = { MakesSymmetricDifference T.Integer.own ⟦<RangesIn<'a, T> as Draw<T>>⟧ R.Draw
+    ghost bitxor_gives = { MakesSymmetricDifference T.Integer.own
+        ⟦<RangesIn<'a, T> as Draw<T>>⟧ R.Draw
         ⟦<SymmetricDifference<T, RangesIn<'a, T>, R> as Draw<T>>⟧ };
 
     fn bitxor(self, other: R) -> Self::Output {

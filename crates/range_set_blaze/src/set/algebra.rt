@@ -66,7 +66,7 @@ impl<T: Integer, A: Allocator + Copy> RangeSetBlaze<T, A> {
         symmetric_difference_of(self.alloc, self.ranges(), other.ranges())
     }
 
-    /// Returns the complement: the values that the set lacks. It has at most one run more than the
+    /// Returns the complement: the values that the set lacks. It has at most one more run than the
     /// set. If allocation fails, no set is made. (`Not` of `RangeSetBlaze`: `a.not()?` for `!&a`.)
     pub fn not(&self) -> Result<Self, AllocError>
         ensures members { IfOk result (λ set.

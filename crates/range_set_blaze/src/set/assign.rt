@@ -13,7 +13,7 @@ use std::alloc::{AllocError, Allocator};
 
 impl<T: Integer, A: Allocator + Copy> RangeSetBlaze<T, A> {
     /// Keeps only the members that are also in another set, in one pass over both sets. If
-    /// allocation fails, the set is unchanged. Does not allocate if one of the sets is empty. Write
+    /// allocation fails, the set is unchanged. Does not allocate if either set is empty. Write
     /// `a.bitand_assign(&b)?` for `a &= &b`. Not in range-set-blaze.
     pub fn bitand_assign<B: Allocator>(
         &mut self,
@@ -35,7 +35,7 @@ impl<T: Integer, A: Allocator + Copy> RangeSetBlaze<T, A> {
     }
 
     /// Removes the members of another set, in one pass over both sets. If allocation fails, the set
-    /// is unchanged. Does not allocate if one of the sets is empty. Write `a.sub_assign(&b)?` for
+    /// is unchanged. Does not allocate if either set is empty. Write `a.sub_assign(&b)?` for
     /// `a -= &b`. Not in range-set-blaze.
     pub fn sub_assign<B: Allocator>(
         &mut self,

@@ -64,9 +64,9 @@ impl<T: Integer, A: Allocator> IntoIterator for RangeSetBlaze<T, A> {
     }
 }
 
-/// States what the elements of a set stand for: the set of the members still to come. `next`
-/// removes its least member and `next_back` its greatest. Each returns `None` exactly if that set
-/// is empty. Not in range-set-blaze.
+/// States what an iterator over the elements of a set stands for: the set of the members still to
+/// come. `next` removes the least member of that set, and `next_back` the greatest. Each returns
+/// `None` exactly when that set is empty. Not in range-set-blaze.
 pub fn elements_stand_for_sets<'a, T: Integer + 'a>()
     ensures next { (s t : _) (item : _)
         → ⟦<Iter<T, RangesIter<'a, T>> as Iterator>⟧.next_gives s item t
@@ -80,11 +80,11 @@ pub fn elements_stand_for_sets<'a, T: Integer + 'a>()
 
 impl<T: Integer, A: Allocator + Copy> RangeSetBlaze<T, A> {
     /// Returns the members between two bounds in ascending order, as a double-ended iterator that
-    /// owns them. Empty and reversed bounds have no member between them. If allocation fails, no
-    /// iterator is made. (`RangeSetBlaze::range`.)
+    /// owns them. If the bounds are empty or reversed, the iterator is empty. If allocation fails,
+    /// no iterator is made. (`RangeSetBlaze::range`.)
     ///
-    /// The contract is silent about a type that does not report its bounds, and about a
-    /// `RangeInclusive` that was iterated to its end.
+    /// The contract says nothing about a `RangeBounds` type that does not specify its bounds, or
+    /// about a `RangeInclusive` that was iterated to its end.
     pub fn range<R: RangeBounds<T>>(&self, range: R) -> Result<IntoIter<T, A>, AllocError>
         ensures members { R.has_bounds range → IfOk result (λ elements. IsSetOf elements
             (intersection (members self.now)

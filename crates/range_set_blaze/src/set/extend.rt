@@ -17,14 +17,15 @@ use std::alloc::{AllocError, Allocator};
 use std::ops::RangeInclusive;
 
 impl<T: Integer, A: Allocator + Clone> RangeSetBlaze<T, A> {
-    /// Adds the values of ranges, which may come in any order. An empty range adds nothing. If
-    /// allocation fails, a prefix of the ranges has been added. For values, write `extend_values`.
-    /// (`Extend<RangeInclusive>` of `RangeSetBlaze`.)
+    /// Adds the values of the given ranges, which may come in any order. An empty range adds
+    /// nothing. If allocation fails, a prefix of the ranges has been added. For values, write
+    /// `extend_values`. (`Extend<RangeInclusive>` of `RangeSetBlaze`.)
     pub fn extend<J: IntoIterator<Item = RangeInclusive<T>>>(
         &mut self,
         ranges: J,
     ) -> Result<(), AllocError>
-        requires ready { IsEnding J.into_iter_gives J.IntoIter.can_next J.IntoIter.remaining ranges }
+        requires ready { IsEnding J.into_iter_gives J.IntoIter.can_next J.IntoIter.remaining
+            ranges }
         ensures members { ExtendsWithItems J.into_iter_gives J.IntoIter.next_gives
             (AddsItems T.rank) ranges self.old self.new result }
         ensures runs { OnOk result (GaveRun J.into_iter_gives J.IntoIter.next_gives ranges
@@ -36,10 +37,11 @@ impl<T: Integer, A: Allocator + Clone> RangeSetBlaze<T, A> {
         Ok(())
     }
 
-    /// Adds values, which may come in any order. If allocation fails, a prefix of the values has
-    /// been added. (`Extend<T>` of `RangeSetBlaze`.)
+    /// Adds the given values, which may come in any order. If allocation fails, a prefix of the
+    /// values has been added. (`Extend<T>` of `RangeSetBlaze`.)
     pub fn extend_values<J: IntoIterator<Item = T>>(&mut self, values: J) -> Result<(), AllocError>
-        requires ready { IsEnding J.into_iter_gives J.IntoIter.can_next J.IntoIter.remaining values }
+        requires ready { IsEnding J.into_iter_gives J.IntoIter.can_next J.IntoIter.remaining
+            values }
         ensures members { ExtendsWithItems J.into_iter_gives J.IntoIter.next_gives
             (AddsValues T.rank) values self.old self.new result }
         ensures runs { OnOk result (GaveRun J.into_iter_gives J.IntoIter.next_gives values
@@ -67,15 +69,16 @@ impl<T: Integer, A: Allocator + Clone> RangeSetBlaze<T, A> {
 }
 
 impl<T: Integer, A: Allocator + Copy> RangeSetBlaze<T, A> {
-    /// Returns the set of the values of ranges, which may come in any order and may be empty. Takes
-    /// one sort and one pass. If allocation fails, no set is made. For values, write
+    /// Returns the set of the values of the given ranges, which may come in any order and may be
+    /// empty. Takes one sort and one pass. If allocation fails, no set is made. For values, write
     /// `from_iter_values` or `values.collect(alloc)?`. (`FromIterator<RangeInclusive<T>>` of
     /// `RangeSetBlaze`.)
     pub fn from_iter<J: IntoIterator<Item = RangeInclusive<T>>>(
         alloc: A,
         ranges: J,
     ) -> Result<Self, AllocError>
-        requires ready { IsEnding J.into_iter_gives J.IntoIter.can_next J.IntoIter.remaining ranges }
+        requires ready { IsEnding J.into_iter_gives J.IntoIter.can_next J.IntoIter.remaining
+            ranges }
         ensures members { IfOk result (λ set.
             GaveAll J.into_iter_gives J.IntoIter.next_gives ranges
             (λ items. IsSetOf set (members (intervals_of T.rank items)))) }
@@ -93,7 +96,8 @@ impl<T: Integer, A: Allocator + Copy> RangeSetBlaze<T, A> {
         alloc: A,
         values: J,
     ) -> Result<Self, AllocError>
-        requires ready { IsEnding J.into_iter_gives J.IntoIter.can_next J.IntoIter.remaining values }
+        requires ready { IsEnding J.into_iter_gives J.IntoIter.can_next J.IntoIter.remaining
+            values }
         ensures members { IfOk result (λ set.
             GaveAll J.into_iter_gives J.IntoIter.next_gives values
             (λ items. IsSetOf set (ranks_of T.rank items))) }
@@ -114,7 +118,7 @@ impl<T: Integer, A: Allocator + Copy> RangeSetBlaze<T, A> {
         Self::from_iter_values(alloc, Vec::from_array(alloc, values)?)
     }
 
-    /// Adds the members of another set. Inserts its runs one by one if they are few, and otherwise
+    /// Adds the members of another set. Inserts its runs one by one if it has few, and otherwise
     /// takes one pass over both sets. If allocation fails, a prefix of the other set's runs has
     /// been added. (`BitOrAssign` of `RangeSetBlaze`: `a.bitor_assign(&b)?` for `a |= &b`.)
     pub fn bitor_assign<B: Allocator>(

@@ -56,8 +56,8 @@ impl<T: Integer, A: Allocator> RangeSetBlaze<T, A> {
 
     /// Returns the first gap with at least `len` values at or above `value`, or `None` if there is
     /// none. If the gap starts below `value`, only its part at or above `value` counts, and only
-    /// that part is returned. Does not allocate. The cost is one look-up, and then linear in the
-    /// number of runs between `value` and the gap. Not in range-set-blaze.
+    /// that part is returned. Does not allocate. It takes O(log n) time on a set of n runs, plus
+    /// time linear in the number of runs between `value` and the gap. Not in range-set-blaze.
     pub fn first_gap_from(&self, value: T, len: T::SafeLen) -> Option<RangeInclusive<T>>
         ensures gap { IfSome result (λ range. IsMaximalRun T.value_count
             (intersection (complement (members self.now)) (from_on (T.rank value)))

@@ -32,12 +32,12 @@ struct Joining<T> {
 }
 
 impl<T: Integer, A: Allocator + Clone> RangeSetBlaze<T, A> {
-    /// Inserts the values between two bounds and returns whether one of them was new. Empty and
-    /// reversed bounds have no value, so nothing is inserted. The set gains at most one run. If
+    /// Inserts the values between two bounds and returns whether any of them was new. If the
+    /// bounds are empty or reversed, nothing is inserted. The set gains at most one run. If
     /// allocation fails, the set is unchanged. (`RangeSetBlaze::ranges_insert`.)
     ///
-    /// The contract is silent about a type that does not report its bounds, and about a
-    /// `RangeInclusive` that was iterated to its end.
+    /// The contract says nothing about a `RangeBounds` type that does not specify its bounds, or
+    /// about a `RangeInclusive` that was iterated to its end.
     pub fn ranges_insert<R: RangeBounds<T>>(&mut self, range: R) -> Result<bool, AllocError>
         ensures members { R.has_bounds range → OnOk result (Adds self.old self.new
             (ranks_in T.rank T.value_count R.start_bound R.end_bound range)) }
@@ -76,7 +76,7 @@ impl<T: Integer, A: Allocator + Clone> RangeSetBlaze<T, A> {
         self.ranges_insert(value..=value)
     }
 
-    /// Inserts a value, and returns it if it was a member already. Otherwise returns `None`. The
+    /// Inserts a value, and returns it if it was already a member. Otherwise returns `None`. The
     /// set gains at most one run. If allocation fails, the set is unchanged.
     /// (`RangeSetBlaze::replace`.)
     pub fn replace(&mut self, value: T) -> Result<Option<T>, AllocError>
@@ -97,7 +97,7 @@ impl<T: Integer, A: Allocator + Clone> RangeSetBlaze<T, A> {
         }
     }
 
-    /// Inserts the values of a run and returns whether one of them was new. If allocation fails,
+    /// Inserts the values of a run and returns whether any of them was new. If allocation fails,
     /// the set is unchanged.
     pub(crate) fn insert_run(&mut self, run: Run<T>) -> Result<bool, AllocError>
         requires order { T.rank run.start ≤ T.rank run.end }
@@ -124,7 +124,8 @@ fn last_to<T: Integer>(bound: Bound<&T>) -> Option<T>
     ensures none { IsNone result
         → past_rank T.rank T.value_count (bound_map (λ value. value.now) bound.entry) ≡ 0 }
     ensures last { IfSome result (λ last.
-        T.rank last + 1 ≡ past_rank T.rank T.value_count (bound_map (λ value. value.now) bound.entry)) }
+        T.rank last + 1 ≡ past_rank T.rank T.value_count
+        (bound_map (λ value. value.now) bound.entry)) }
     ensures value { IfSome result (λ last. T.rank last < T.value_count) }
 {
     match bound {
@@ -357,8 +358,8 @@ fn put<T: Integer, A: Allocator + Clone>(
     requires joining { IsJoining T.rank T.value_count (runs_of T.rank map.old.entries) joining }
     ensures kept { IfOk result (λ length.
         IsKept T.rank T.value_count map.new.entries (T.SafeLen.number length)) }
-    ensures adds { OnOk result (Adds (runs_of T.rank map.old.entries) (runs_of T.rank map.new.entries)
-        (covers (run_of T.rank joining.joined))) }
+    ensures adds { OnOk result (Adds (runs_of T.rank map.old.entries)
+        (runs_of T.rank map.new.entries) (covers (run_of T.rank joining.joined))) }
     ensures err { OnErr result (map.new.entries ≡ map.old.entries) }
     ensures succeeds { IsSome joining.first → IsOk result }
 {

@@ -15,8 +15,8 @@ use std::alloc::{AllocError, Allocator};
 use std::collections::BTreeMap;
 use std::collections::btree_map::Iter;
 
-/// Returns the set of the values of some runs for which `f` returns true. Calls `f` on each value
-/// once, in ascending order.
+/// Returns the set of those values of the given runs for which `f` returns true. Calls `f` on each
+/// value once, in ascending order.
 pub(crate) fn kept_values<T: Integer, A: Allocator + Copy, F: FnMut(&T) -> bool>(
     map: &BTreeMap<T, T, A>,
     alloc: A,
@@ -56,7 +56,8 @@ pub(crate) fn kept_values<T: Integer, A: Allocator + Copy, F: FnMut(&T) -> bool>
 fn next_left<T: Integer>(entries: &mut Iter<'_, T, T>, run: Run<T>) -> Option<Run<T>>
     requires order { T.rank run.start ≤ T.rank run.end }
     requires value { T.rank run.end < T.value_count }
-    requires later { IsCanonicalBelow T.value_count (T.rank run.end + 2) (runs_of T.rank entries.old) }
+    requires later { IsCanonicalBelow T.value_count (T.rank run.end + 2)
+        (runs_of T.rank entries.old) }
     ensures { IsPastFirst T.value_count (run_of T.rank run ∷ runs_of T.rank entries.old)
         (left_runs T.rank result entries.new) (T.rank run.start) }
 {

@@ -10,7 +10,7 @@ use crate::set::run::known;
 use rsb_integer::Integer;
 use std::ops::RangeInclusive;
 
-/// An iterator over ranges, each with the members of a range that the iterator inside gives by
+/// An iterator over ranges. Each has the members of a range that the inner iterator gives by
 /// reference.
 #[derive(Drop)]
 pub(crate) struct LentRanges<I> {

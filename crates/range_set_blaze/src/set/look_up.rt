@@ -36,7 +36,7 @@ impl<T: Integer, A: Allocator> RangeSetBlaze<T, A> {
         }
     }
 
-    /// Returns the run that has a value, or `None` if the value is not a member.
+    /// Returns the run that contains a value, or `None` if the value is not a member.
     /// (`RangeSetBlaze::range_at`.)
     pub fn range_at(&self, value: T) -> Option<RangeInclusive<T>>
         ensures none { IsNone result ↔ IsFalse (members self.now (T.rank value)) }
@@ -47,9 +47,9 @@ impl<T: Integer, A: Allocator> RangeSetBlaze<T, A> {
         Some(run.start..=run.end)
     }
 
-    /// Returns the run that has a value, and `true`. If the value is not a member, returns the gap
-    /// that has it, and `false`. A gap extends to the runs beside it, or to the ends of the type.
-    /// (`RangeSetBlaze::range_or_gap_at`.)
+    /// Returns the run that contains a value, and `true`. If the value is not a member, returns the
+    /// gap that contains it, and `false`. A gap extends to the runs beside it, or to the ends of
+    /// the type. (`RangeSetBlaze::range_or_gap_at`.)
     pub fn range_or_gap_at(&self, value: T) -> (RangeInclusive<T>, bool)
         ensures found { result.1 ≡ members self.now (T.rank value) }
         ensures run { IsTrue result.1 → IsRunAround T.value_count (members self.now)
@@ -79,7 +79,7 @@ impl<T: Integer, A: Allocator> RangeSetBlaze<T, A> {
     }
 }
 
-// Returns the run that has a value, or `None` if the value is not a member.
+// Returns the run that contains a value, or `None` if the value is not a member.
 pub(crate) fn run_at<T: Integer, A: Allocator>(map: &BTreeMap<T, T, A>, value: T) -> Option<Run<T>>
     requires canonical { IsCanonicalIn T.value_count (runs_of T.rank map.now.entries) }
     requires value { T.rank value < T.value_count }
@@ -95,7 +95,7 @@ pub(crate) fn run_at<T: Integer, A: Allocator>(map: &BTreeMap<T, T, A>, value: T
     Some(run)
 }
 
-// Returns the last value of the gap that has `value`.
+// Returns the last value of the gap that contains `value`.
 fn gap_end<T: Integer, A: Allocator>(map: &BTreeMap<T, T, A>, value: T) -> T
     requires canonical { IsCanonicalIn T.value_count (runs_of T.rank map.now.entries) }
     requires value { T.rank value < T.value_count }

@@ -7,7 +7,8 @@ use rsb_integer::Integer;
 use std::alloc::{AllocError, Allocator};
 use std::default::{Emptied, MadeWith};
 
-/// `mem::try_take(&mut set)?`: leaves an empty set in its place, and does not allocate.
+/// `mem::try_take(&mut set)?`: takes the set and leaves an empty one in its place. Does not
+/// allocate.
 impl<T: Integer, A: Allocator + Copy> Emptied for RangeSetBlaze<T, A> {
     ghost is_emptied = { λ set. set ≡ [] };
 
@@ -29,7 +30,7 @@ impl<T: Integer, A: Allocator + Copy> MadeWith<A> for RangeSetBlaze<T, A> {
 }
 
 impl<T: Integer, A: Allocator> RangeSetBlaze<T, A> {
-    /// Returns the allocator of the set, which calls on the set use to make other sets. Not in
+    /// Returns the allocator of the set. Calls on the set use it to make other sets. Not in
     /// range-set-blaze.
     pub fn allocator(&self) -> &A {
         &self.alloc

@@ -1,4 +1,4 @@
-//! The operators of std on sets, and `Clone`. Each returns what the call of that name returns.
+//! Std's operators on sets, and `Clone`. Each returns what the method of the same name returns.
 
 ghost use Rattle.std.specs.Prelude.{◌≡◌, IfOk};
 ghost use Rattle.rsb_integer.specs.Runs.{members};
@@ -11,7 +11,7 @@ use rsb_integer::Integer;
 use std::alloc::{AllocError, Allocator};
 use std::ops::{BitAnd, BitOr, BitXor, Not, Sub};
 
-/// `(&a | &b)?`: returns the values in either set. It has at most as many runs as both sets
+/// `(&a | &b)?`: returns the values in either set. The result has at most as many runs as both sets
 /// together. If allocation fails, no set is made.
 impl<'a, 'b, T: Integer, A: Allocator + Copy, B: Allocator> BitOr<&'b RangeSetBlaze<T, B>>
     for &'a RangeSetBlaze<T, A> {
@@ -47,8 +47,8 @@ impl<'a, 'b, T: Integer, A: Allocator + Copy, B: Allocator> BitAnd<&'b RangeSetB
     }
 }
 
-/// `(&a - &b)?`: returns the values in the first set that are not in the second. It has at most as
-/// many runs as both sets together. If allocation fails, no set is made.
+/// `(&a - &b)?`: returns the values in the first set that are not in the second. The result has at
+/// most as many runs as both sets together. If allocation fails, no set is made.
 impl<'a, 'b, T: Integer, A: Allocator + Copy, B: Allocator> Sub<&'b RangeSetBlaze<T, B>>
     for &'a RangeSetBlaze<T, A> {
     type Output = Result<RangeSetBlaze<T, A>, AllocError>;
@@ -65,8 +65,8 @@ impl<'a, 'b, T: Integer, A: Allocator + Copy, B: Allocator> Sub<&'b RangeSetBlaz
     }
 }
 
-/// `(&a ^ &b)?`: returns the values in exactly one of the sets. It has at most as many runs as both
-/// sets together. If allocation fails, no set is made.
+/// `(&a ^ &b)?`: returns the values in exactly one of the sets. The result has at most as many runs
+/// as both sets together. If allocation fails, no set is made.
 impl<'a, 'b, T: Integer, A: Allocator + Copy, B: Allocator> BitXor<&'b RangeSetBlaze<T, B>>
     for &'a RangeSetBlaze<T, A> {
     type Output = Result<RangeSetBlaze<T, A>, AllocError>;
@@ -83,8 +83,8 @@ impl<'a, 'b, T: Integer, A: Allocator + Copy, B: Allocator> BitXor<&'b RangeSetB
     }
 }
 
-/// `(!&a)?`: returns the values that the set lacks. It has at most one run more than the set. If
-/// allocation fails, no set is made.
+/// `(!&a)?`: returns the values that the set lacks. The result has at most one more run than the
+/// set. If allocation fails, no set is made.
 impl<'a, T: Integer, A: Allocator + Copy> Not for &'a RangeSetBlaze<T, A> {
     type Output = Result<RangeSetBlaze<T, A>, AllocError>;
 

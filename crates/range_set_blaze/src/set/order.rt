@@ -70,8 +70,8 @@ pub fn cmp_counted<T: Integer, A: Allocator, B: Allocator>(
 }
 
 /// States what `==`, `cmp` and `partial_cmp` of sets return, for every allocator, without listing
-/// members. Two sets are equal exactly if they agree at every rank. Otherwise there is a least rank
-/// at which they differ, and one of them has it. That set is less if the other has a greater
+/// members. Two sets are equal exactly when they agree at every rank. Otherwise there is a least
+/// rank at which they differ, and one of them has it. That set is less if the other has a greater
 /// member, and greater if not. Not in range-set-blaze.
 pub fn order_by_least_difference<T: Integer, A: Allocator>()
     ensures equal { (left right : List Interval)

@@ -1,4 +1,4 @@
-//! Reads a set from a text (docs/DECISIONS.md, no-from-str).
+//! Reads a set from text (docs/DECISIONS.md, no-from-str).
 
 ghost use Rattle.std.specs.Prelude.{◌≡◌, ◌≢◌, ℕ, ◌<◌, List, IfOk, Some, SomeIff, alloc_error, false};
 ghost use Rattle.std.specs.Char.{digit_value};
@@ -21,14 +21,14 @@ use std::error::Error;
 use std::fmt;
 use std::ops::RangeInclusive;
 
-/// Why a text could not be read as a set. Not in range-set-blaze.
+/// The reason why text could not be read as a set. Not in range-set-blaze.
 #[derive(Clone, Copy, Debug, PartialEq, Eq)]
 pub enum ParseError {
     /// An allocation failed.
     NoMemory(AllocError),
     /// The position of the first unexpected byte, counted from 0. If the text ends too early, this
-    /// is the length of the text. If a number is outside the type, it is the position of the first
-    /// digit that takes the number out of the type.
+    /// is the length of the text. If a number is out of range for the type, it is the position of
+    /// the first digit that makes it so.
     Unexpected(usize),
 }
 
@@ -60,13 +60,13 @@ impl<T: Drop> From<AllocFailed<T>> for ParseError {
 }
 
 impl<T: ParseInteger, A: Allocator + Copy> RangeSetBlaze<T, A> {
-    /// Returns the set of the ranges that a text lists, such as `1..=3, 7..=8`. `Display` writes a
-    /// set in this form.
+    /// Returns the set of the values of the ranges that `text` lists, such as `1..=3, 7..=8`.
+    /// `Display` writes a set in this form.
     ///
     /// The ranges may come in any order and may overlap. A single value such as `5` means `5..=5`.
     /// A range whose start is past its end has no members. Blanks are allowed around each number:
-    /// spaces, tabs, line feeds and carriage returns. A number may have a sign. A text that is
-    /// empty, or has only blanks, is the empty set.
+    /// spaces, tabs, line feeds and carriage returns. A number may have a sign. Text that is
+    /// empty, or has only blanks, gives the empty set.
     ///
     /// Returns `Unexpected` with the position of the first unexpected byte if the text does not
     /// list ranges, and `NoMemory` if allocation fails. Not in range-set-blaze.
@@ -97,7 +97,8 @@ impl<T: ParseInteger, A: Allocator + Copy> RangeSetBlaze<T, A> {
     }
 }
 
-// A position in a text of ranges: what comes before the next byte, and what was read of its range.
+// A position in text that lists ranges: what comes before the next byte, and what was read of its
+// range.
 #[derive(Clone, Copy)]
 enum Place<T> {
     // Before the first byte that is not blank.
@@ -126,7 +127,7 @@ enum Place<T> {
     Dots(T),
 }
 
-// Returns the ranges that a text spells.
+// Returns the ranges that the text spells.
 fn spelled_ranges<T: ParseInteger, A: Allocator>(
     alloc: A,
     text: &[u8],
@@ -228,7 +229,7 @@ fn after_blanks<T: ParseInteger>(start: Option<T>, byte: u8) -> Option<Place<T>>
 }
 
 // Returns the place after the first digit of a number, or `None` if the byte is unexpected there.
-// Numbers are read digit by digit, since the contract of `str::parse` does not say where a text
+// Numbers are read digit by digit, since the contract of `str::parse` does not say where the text
 // goes wrong.
 fn after_sign<T: ParseInteger>(start: Option<T>, negative: bool, byte: u8) -> Option<Place<T>>
     ensures { Steps T.number T.fits (Signed start negative) byte result }

@@ -18,7 +18,7 @@ use std::collections::BTreeMap;
 
 impl<T: Integer, A: Allocator> RangeSetBlaze<T, A> {
     /// Returns the member that has exactly `n` members below it, or `None` if there are at most `n`
-    /// members. For `n` of 0 it is the least member. Does not allocate. The cost is linear in the
+    /// members. If `n` is 0, it is the least member. Does not allocate. The cost is linear in the
     /// number of runs up to the member. Not in range-set-blaze.
     pub fn nth(&self, n: T::SafeLen) -> Option<T>
         ensures none { IsNone result

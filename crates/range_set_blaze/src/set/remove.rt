@@ -85,7 +85,8 @@ impl<T: Integer, A: Allocator + Clone> RangeSetBlaze<T, A> {
     pub fn pop_last(&mut self) -> Option<T>
         ensures none { IsNone result ↔ (self.old ≡ []) }
         ensures unchanged { IsNone result → self.new ≡ self.old }
-        ensures takes { TakesGreatest T.rank T.value_count (members self.old) result (members self.new) }
+        ensures takes { TakesGreatest T.rank T.value_count (members self.old) result
+            (members self.new) }
     {
         let last = self.last()?;
         // No run extends past the last value, so this does not allocate.
@@ -134,8 +135,8 @@ fn take_value<T: Integer, A: Allocator + Clone>(
     Ok(Some(length))
 }
 
-/// Removes consecutive values, given as `piece`, from the run that has them. If allocation fails,
-/// the entries are unchanged.
+/// Removes consecutive values, given as `piece`, from the run that contains them. If allocation
+/// fails, the entries are unchanged.
 pub(crate) fn cut<T: Integer, A: Allocator + Clone>(
     map: &mut BTreeMap<T, T, A>,
     run: Run<T>,

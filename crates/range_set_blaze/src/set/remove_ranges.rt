@@ -20,14 +20,14 @@ use std::collections::BTreeMap;
 use std::ops::RangeBounds;
 
 impl<T: Integer, A: Allocator + Clone> RangeSetBlaze<T, A> {
-    /// Removes the values between two bounds and returns whether one of them was a member. Empty
-    /// and reversed bounds remove nothing. The set gains at most one run. If allocation fails, the
-    /// set is unchanged.
+    /// Removes the values between two bounds and returns whether any of them was a member. If the
+    /// bounds are empty or reversed, nothing is removed. The set gains at most one run. If
+    /// allocation fails, the set is unchanged.
     ///
     /// It takes O(log n) time on a set of n runs, and as much again for each run that it removes.
     ///
-    /// The contract is silent about a type that does not report its bounds, and about a
-    /// `RangeInclusive` that was iterated to its end. Not in range-set-blaze.
+    /// The contract says nothing about a `RangeBounds` type that does not specify its bounds, or
+    /// about a `RangeInclusive` that was iterated to its end. Not in range-set-blaze.
     pub fn ranges_remove<R: RangeBounds<T>>(&mut self, range: R) -> Result<bool, AllocError>
         ensures members { R.has_bounds range → OnOk result (Removes self.old self.new
             (ranks_in T.rank T.value_count R.start_bound R.end_bound range)) }
@@ -50,7 +50,7 @@ impl<T: Integer, A: Allocator + Clone> RangeSetBlaze<T, A> {
         self.remove_run(run)
     }
 
-    /// Removes the values of a run, and returns whether one of them was a member. If allocation
+    /// Removes the values of a run, and returns whether any of them was a member. If allocation
     /// fails, the set is unchanged.
     pub(crate) fn remove_run(&mut self, run: Run<T>) -> Result<bool, AllocError>
         requires order { T.rank run.start ≤ T.rank run.end }
@@ -110,7 +110,7 @@ fn take_range<T: Integer, A: Allocator + Clone>(
     Ok(Some(take_others(map, range, length)))
 }
 
-/// Returns the last run that has a value of a range, or `None` if there is none.
+/// Returns the last run that has a value in common with a range, or `None` if there is none.
 pub(crate) fn last_meeting<T: Integer, A: Allocator>(
     map: &BTreeMap<T, T, A>,
     range: Run<T>,

@@ -5,7 +5,7 @@ ghost use Rattle.range_set_blaze.specs.Singles.{singles_steps};
 
 use std::ops::RangeInclusive;
 
-/// The values of an iterator, each as the range of itself.
+/// The values of an iterator, each as a range of one value.
 #[derive(Drop)]
 pub(crate) struct Singles<I> {
     values: I,

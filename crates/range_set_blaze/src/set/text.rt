@@ -11,7 +11,7 @@ use std::alloc::Allocator;
 use std::collections::BTreeMap;
 use std::fmt::{self, Debug, Display, Formatter, Write};
 
-/// Writes each run as `start..=end`, with a comma and a space between two runs. A width and other
+/// Writes each run as `start..=end`, with a comma and a space between runs. A width and other
 /// format flags have no effect, as in range-set-blaze.
 impl<T: Integer, A: Allocator> Display for RangeSetBlaze<T, A> {
     ghost output = { runs_text (λ rank. T.debug_output (T.value_at rank)) };

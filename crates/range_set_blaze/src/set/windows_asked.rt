@@ -18,12 +18,12 @@ use std::collections::BTreeMap;
 use std::ops::RangeBounds;
 
 impl<T: Integer, A: Allocator> RangeSetBlaze<T, A> {
-    /// Returns whether every value between two bounds is a member. Empty and reversed bounds have
-    /// no value, so the result is `true`. Takes O(log n) time on a set of n runs, and does not
+    /// Returns whether every value between two bounds is a member. If the bounds are empty or
+    /// reversed, the result is `true`. Takes O(log n) time on a set of n runs, and does not
     /// allocate.
     ///
-    /// The contract is silent about a type that does not report its bounds, and about a
-    /// `RangeInclusive` that was iterated to its end. Not in range-set-blaze.
+    /// The contract says nothing about a `RangeBounds` type that does not specify its bounds, or
+    /// about a `RangeInclusive` that was iterated to its end. Not in range-set-blaze.
     pub fn contains_range<R: RangeBounds<T>>(&self, range: R) -> bool
         ensures { R.has_bounds range → (IsTrue result ↔ Has self.now
             (ranks_in T.rank T.value_count R.start_bound R.end_bound range)) }
@@ -34,12 +34,12 @@ impl<T: Integer, A: Allocator> RangeSetBlaze<T, A> {
         }
     }
 
-    /// Returns whether no value between two bounds is a member. Empty and reversed bounds have no
-    /// value, so the result is `true`. Takes O(log n) time on a set of n runs, and does not
+    /// Returns whether no value between two bounds is a member. If the bounds are empty or
+    /// reversed, the result is `true`. Takes O(log n) time on a set of n runs, and does not
     /// allocate.
     ///
-    /// The contract is silent about a type that does not report its bounds, and about a
-    /// `RangeInclusive` that was iterated to its end. Not in range-set-blaze.
+    /// The contract says nothing about a `RangeBounds` type that does not specify its bounds, or
+    /// about a `RangeInclusive` that was iterated to its end. Not in range-set-blaze.
     pub fn is_disjoint_range<R: RangeBounds<T>>(&self, range: R) -> bool
         ensures { R.has_bounds range → (IsTrue result ↔ IsEmpty (intersection (members self.now)
             (ranks_in T.rank T.value_count R.start_bound R.end_bound range))) }

@@ -52,14 +52,14 @@ fn toggle<T: Integer, A: Allocator + Copy, B: Allocator>(
     set.bitxor_assign(other)
 }
 
-// The ends of the type.
+// `LEAST` and `MOST` are the ends of the type.
 const LEAST: i32 = i32::MIN;
 
 const MOST: i32 = i32::MAX;
 
 const ALL: Table<'static> = &[(i32::MIN, i32::MAX)];
 
-// Two runs, and two that overlap and touch them.
+// The runs of `OTHER` overlap and touch those of `ONE`.
 const ONE: Table<'static> = &[(1, 3), (7, 10)];
 
 const OTHER: Table<'static> = &[(4, 4), (9, 20)];

@@ -1,10 +1,11 @@
-//! The calls that change a set and those that make one, by their names: what a row of a table says.
+//! The calls that change a set and those that make one, by names that rows of tables use.
 
 use range_set_blaze::{IntoRangeSetBlaze, ParseError, RangeSetBlaze};
 use std::alloc::{AllocError, Allocator};
 use std::mem;
 
-/// A call that changes a set, with what it is given; what it adds is another set beside it.
+/// A call that changes a set, with its arguments. A call that adds a set adds the other set of the
+/// test.
 #[derive(Clone, Copy)]
 pub(crate) enum Change {
     Insert(i32),
@@ -15,26 +16,26 @@ pub(crate) enum Change {
     RangesRemove(i32, i32),
     PopFirst,
     PopLast,
-    /// The other set is then the part from the value on.
+    /// The other set becomes the part that starts at the value.
     SplitOff(i32),
-    /// Keeps the values that leave another rest than the second number, divided by the first.
+    /// Keeps the values whose remainder by the first number is not the second.
     Retain(i32, i32),
-    /// Keeps the runs whose starts leave another rest than the second number, divided by the first.
+    /// Keeps the runs whose starts have a remainder by the first number other than the second.
     RangesRetain(i32, i32),
     Clear,
     Extend,
-    /// Adds each fourth value from the one to the other.
+    /// Adds every fourth value from the first number to the second.
     ExtendValues(i32, i32),
     Append,
     BitorAssign,
     BitorAssignOwned,
-    /// By the trait of std, as the next one.
+    /// This and the next one use the trait of std.
     StdExtend,
-    /// Adds each fourth value from the one to the other.
+    /// Adds every fourth value from the first number to the second.
     StdExtendValues(i32, i32),
-    /// By reference, as the next one: of a list in the same allocator.
+    /// This and the next one add the items of a list in the same allocator, by reference.
     LentExtend,
-    /// Adds each fourth value from the one to the other.
+    /// Adds every fourth value from the first number to the second.
     LentExtendValues(i32, i32),
     BitandAssign,
     SubAssign,
@@ -42,12 +43,12 @@ pub(crate) enum Change {
 }
 
 impl Change {
-    /// Whether it reads the other set, and adds it or not.
+    /// Whether it adds a set or values, or changes the set by the other set.
     pub(crate) fn takes_other(self) -> bool {
         self.adds() || self.meets()
     }
 
-    /// Whether it keeps, removes or exchanges members by the other set, which stays as it is.
+    /// Whether it keeps, removes or toggles the members of the other set, which stays unchanged.
     fn meets(self) -> bool {
         matches!(
             self,
@@ -55,7 +56,7 @@ impl Change {
         )
     }
 
-    /// Whether it adds the other set.
+    /// Whether it adds the other set, or a list of values.
     pub(crate) fn adds(self) -> bool {
         matches!(
             self,
@@ -71,7 +72,7 @@ impl Change {
         )
     }
 
-    /// The same call at a value so much greater, where it is given one.
+    /// Returns the same call with its values increased by the given number, if it takes values.
     pub(crate) fn moved(self, by: i32) -> Change {
         match self {
             Change::Insert(value) => Change::Insert(value.saturating_add(by)),
@@ -91,7 +92,7 @@ impl Change {
     }
 }
 
-/// What a change answers, or how often it asks.
+/// What a change returns, or how often it calls its closure.
 #[derive(Clone, Copy)]
 pub(crate) enum Answer {
     Nothing,
@@ -101,7 +102,7 @@ pub(crate) enum Answer {
 }
 
 impl Answer {
-    /// Whether it is the other one. (A derived equality takes longer to prove.)
+    /// Whether it equals the other one. (A derived equality takes longer to prove.)
     pub(crate) fn is(self, other: Answer) -> bool {
         match (self, other) {
             (Answer::Nothing, Answer::Nothing) => true,
@@ -113,12 +114,12 @@ impl Answer {
     }
 }
 
-/// Whether a value leaves another rest than this one.
+/// Whether a value divided by `divisor` leaves a remainder other than `rest`.
 pub(crate) fn is_kept(value: i32, divisor: i32, rest: i32) -> bool {
     value.checked_rem_euclid(divisor) != Some(rest)
 }
 
-/// Adds each fourth value from one to another, by the trait of std.
+/// Adds every fourth value from one to another, by the trait of std.
 fn add_by_std<A: Allocator + Copy>(
     set: &mut RangeSetBlaze<i32, A>,
     start: i32,
@@ -127,7 +128,7 @@ fn add_by_std<A: Allocator + Copy>(
     Extend::extend(set, (start..=end).step_by(4))
 }
 
-/// Adds each fourth value from one to another, by reference.
+/// Adds every fourth value from one to another, by reference.
 fn add_lent_values<A: Allocator + Copy>(
     alloc: A,
     set: &mut RangeSetBlaze<i32, A>,
@@ -148,7 +149,7 @@ fn add_lent_ranges<A: Allocator + Copy>(
     Extend::extend(set, ranges.iter())
 }
 
-/// Adds each fourth value from one to another.
+/// Adds every fourth value from one to another.
 fn add_fourths<A: Allocator + Copy>(
     set: &mut RangeSetBlaze<i32, A>,
     start: i32,
@@ -157,7 +158,7 @@ fn add_fourths<A: Allocator + Copy>(
     set.extend_values((start..=end).step_by(4))
 }
 
-/// Adds another set by one of the calls; the last takes it for its own.
+/// Adds another set by one of the calls. The last call takes it by value.
 fn add<A: Allocator + Copy>(
     alloc: A,
     change: Change,
@@ -179,7 +180,7 @@ fn add<A: Allocator + Copy>(
     Ok(Answer::Nothing)
 }
 
-/// Changes a set by what another has.
+/// Changes a set by the members of another.
 fn meet<A: Allocator + Copy>(
     change: Change,
     set: &mut RangeSetBlaze<i32, A>,
@@ -194,7 +195,7 @@ fn meet<A: Allocator + Copy>(
     Ok(Answer::Nothing)
 }
 
-/// Keeps some values, and says about how many it was asked.
+/// Keeps some values, and returns how often the closure was called.
 fn retain<A: Allocator + Copy>(
     set: &mut RangeSetBlaze<i32, A>,
     divisor: i32,
@@ -208,7 +209,7 @@ fn retain<A: Allocator + Copy>(
     Ok(Answer::Asked(asked))
 }
 
-/// Keeps some runs, and says about how many it was asked.
+/// Keeps some runs, and returns how often the closure was called.
 fn retain_ranges<A: Allocator + Copy>(
     set: &mut RangeSetBlaze<i32, A>,
     divisor: i32,
@@ -222,7 +223,8 @@ fn retain_ranges<A: Allocator + Copy>(
     Answer::Asked(asked)
 }
 
-/// Takes some members out by one of the calls; where it parts the set, the other is one part.
+/// Removes some members by one of the calls. If the call splits the set, the other set becomes one
+/// part.
 fn reduce<A: Allocator + Copy>(
     change: Change,
     set: &mut RangeSetBlaze<i32, A>,
@@ -242,7 +244,7 @@ fn reduce<A: Allocator + Copy>(
     Ok(Answer::Nothing)
 }
 
-/// Puts values in by one of the calls, and tells whether they were there.
+/// Inserts values by one of the calls, and returns what the call returned.
 fn put<A: Allocator + Copy>(
     change: Change,
     set: &mut RangeSetBlaze<i32, A>,
@@ -272,7 +274,7 @@ pub(crate) fn carry_out<A: Allocator + Copy>(
     }
 }
 
-/// A call that makes a set, of two others where it says nothing else.
+/// A call that makes a set, from one or two other sets unless stated otherwise.
 #[derive(Clone, Copy)]
 pub(crate) enum Making {
     Clone,
@@ -281,41 +283,41 @@ pub(crate) enum Making {
     Sub,
     Bitxor,
     Not,
-    /// Of the runs of the second set, and then those of the first.
+    /// From the runs of the second set, and then those of the first.
     FromIter,
-    /// Of each fourth value from the one to the other.
+    /// From every fourth value from the first number to the second.
     FromIterValues(i32, i32),
-    /// Of 7, 1, 4, 7 and 9.
+    /// From the values 7, 1, 4, 7 and 9.
     FromArray,
     FromSortedDisjoint,
     IntoRangeSetBlaze,
     From(i32, i32),
     Universe,
-    /// These by the traits of std.
+    /// The following use the traits of std.
     StdClone,
     StdBitor,
     StdBitand,
     StdSub,
     StdBitxor,
     StdNot,
-    /// Of the runs of the second set, and then those of the first.
+    /// From the runs of the second set, and then those of the first.
     Collect,
-    /// Of each fourth value from the one to the other.
+    /// From every fourth value from the first number to the second.
     CollectValues(i32, i32),
-    /// These by reference, of lists in the same allocator.
+    /// This and the next one take the items of lists in the same allocator, by reference.
     CollectLent,
     CollectLentValues(i32, i32),
-    /// Of a text of 7, 1, 4 and 9.
+    /// From text that lists 7, 1, 4 and 9.
     Parse,
-    /// Of a clone that is taken out of its place.
+    /// From a clone that is taken out of its place.
     Taken,
 }
 
 impl Making {
-    /// The first of all.
+    /// The making that is tried first.
     pub(crate) const FIRST: Making = Making::Clone;
 
-    /// The one after it, and none after the last.
+    /// Returns the making after it, or `None` after the last.
     pub(crate) fn after(self) -> Option<Making> {
         let next = match self {
             Making::Clone => Making::Bitor,
@@ -348,7 +350,7 @@ impl Making {
     }
 }
 
-/// The set of 1, 4, 7 and 9, read from a text.
+/// Returns the set of 1, 4, 7 and 9, read from text.
 fn parse<A: Allocator + Copy>(alloc: A) -> Result<RangeSetBlaze<i32, A>, AllocError> {
     match RangeSetBlaze::parse(alloc, "7, 1..=1, 4, 9..=9") {
         Ok(set) => Ok(set),
@@ -357,7 +359,7 @@ fn parse<A: Allocator + Copy>(alloc: A) -> Result<RangeSetBlaze<i32, A>, AllocEr
     }
 }
 
-/// The set that is taken out of the place of a clone.
+/// Returns a clone of a set, taken out of its place.
 fn taken<A: Allocator + Copy>(
     set: &RangeSetBlaze<i32, A>,
 ) -> Result<RangeSetBlaze<i32, A>, AllocError> {
@@ -365,7 +367,7 @@ fn taken<A: Allocator + Copy>(
     mem::try_take(&mut place)
 }
 
-/// Makes a set that takes another's values or none.
+/// Makes a set from at most one other set.
 fn make_one<A: Allocator + Copy>(
     alloc: A,
     making: Making,
@@ -386,7 +388,7 @@ fn make_one<A: Allocator + Copy>(
     }
 }
 
-/// Makes a set of the ranges of two, by reference.
+/// Makes a set from the ranges of two sets, by reference.
 fn collect_lent<A: Allocator + Copy, B: Allocator>(
     alloc: A,
     set: &RangeSetBlaze<i32, A>,
@@ -396,7 +398,7 @@ fn collect_lent<A: Allocator + Copy, B: Allocator>(
     ranges.iter().collect(alloc)
 }
 
-/// Makes a set of each fourth value from one to another, by reference.
+/// Makes a set from every fourth value from one to another, by reference.
 fn collect_lent_values<A: Allocator + Copy>(
     alloc: A,
     start: i32,
@@ -406,7 +408,7 @@ fn collect_lent_values<A: Allocator + Copy>(
     values.iter().collect(alloc)
 }
 
-/// Makes a set of two by an operator, or by a loop over both.
+/// Makes a set from two sets by an operator, or by collecting the ranges of both.
 fn make_by_std<A: Allocator + Copy, B: Allocator>(
     alloc: A,
     making: Making,

@@ -1,4 +1,4 @@
-//! What changes and makings come to, reckoned beside the sets on flags.
+//! The results of changes and makings, computed without sets from a flag for each value.
 
 use crate::set::calls::{Answer, Change, Making, is_kept};
 use crate::set::rows::{counted, has};
@@ -6,7 +6,7 @@ use range_set_blaze::RangeSetBlaze;
 use rsb_tables::Table;
 use std::alloc::{AllocError, Allocator, Global};
 
-/// Values that are in a set all or none: whether in one, and whether in another beside it.
+/// Values that are all in a set or all outside it, with a flag for each of two sets.
 #[derive(Clone, Copy)]
 pub(crate) struct Cell {
     pub(crate) start: i32,
@@ -15,15 +15,15 @@ pub(crate) struct Cell {
     pub(crate) is_other: bool,
 }
 
-/// One of the two sets that cells tell of.
+/// One of the two sets that cells describe.
 #[derive(Clone, Copy, PartialEq)]
 pub(crate) enum Side {
     One,
     Other,
 }
 
-/// So many values from one on, each a cell of its own, and what is below and above as a cell each.
-/// No value is a member of either set.
+/// Returns a cell for each of the given number of values starting at `first`, and one cell each for
+/// all values below and above. No value is a member of either set.
 pub(crate) fn cells(alloc: Global, first: i32, count: i32) -> Result<Vec<Cell>, AllocError> {
     let mut cells = Vec::new(alloc);
     let last = first.saturating_add(count).saturating_sub(1);
@@ -39,7 +39,7 @@ pub(crate) fn cells(alloc: Global, first: i32, count: i32) -> Result<Vec<Cell>, 
     Ok(cells)
 }
 
-/// A cell that is in no set.
+/// Returns a cell that is in no set.
 fn empty_cell(start: i32, end: i32) -> Cell {
     Cell {
         start,
@@ -49,8 +49,9 @@ fn empty_cell(start: i32, end: i32) -> Cell {
     }
 }
 
-/// The cells of so many runs of three values, eight apart from 0 on, and of so many of two others,
-/// each in the gap after one.
+/// Returns the cells of two sets. The first has `count` runs of three values, whose starts are 8
+/// apart, starting at 0. The other has `others` runs of two values, whose starts are 8 apart,
+/// starting at 4.
 pub(crate) fn spaced(alloc: Global, count: i32, others: i32) -> Result<Vec<Cell>, AllocError> {
     let mut cells = cells(alloc, -8, 824)?;
     for cell in cells.iter_mut() {
@@ -61,7 +62,7 @@ pub(crate) fn spaced(alloc: Global, count: i32, others: i32) -> Result<Vec<Cell>
     Ok(cells)
 }
 
-/// The runs of the cells of a set.
+/// Returns the runs of one of the two sets.
 pub(crate) fn runs(
     alloc: Global,
     cells: &[Cell],
@@ -84,7 +85,7 @@ pub(crate) fn runs(
     Ok(runs)
 }
 
-/// Whether a cell is one of each fourth value from the one to the other.
+/// Whether the value of a cell is one of every fourth from `start` to `end`.
 fn is_fourth(cell: &Cell, start: i32, end: i32) -> bool {
     start <= cell.start && cell.end <= end && cell.start.abs_diff(start) % 4 == 0
 }
@@ -99,8 +100,8 @@ fn is_added(change: Change, cell: &Cell) -> bool {
     }
 }
 
-/// Whether a change is about the values of a cell in a set, of whose members the first and the last
-/// are these, and whose run at the cell begins at a value.
+/// Whether a change is about the values of a cell. The first and last members of the set are given,
+/// and the start of the run at the cell.
 fn is_meant(change: Change, cell: &Cell, first: i32, last: i32, begin: i32) -> bool {
     match change {
         Change::Insert(value) => cell.start == value,
@@ -129,7 +130,7 @@ fn is_meant(change: Change, cell: &Cell, first: i32, last: i32, begin: i32) -> b
     }
 }
 
-/// Whether a change puts in what it is about, and does not take it out.
+/// Whether a change inserts the values that it is about, rather than removing them.
 fn puts(change: Change) -> bool {
     let is_put = matches!(
         change,
@@ -138,8 +139,8 @@ fn puts(change: Change) -> bool {
     is_put || change.adds()
 }
 
-/// Whether a change leaves the values of a cell in a set, of whose members the first and the last
-/// are these, and whose run at the cell begins at a value.
+/// Whether the values of a cell are in the set after a change. The first and last members of the
+/// set are given, and the start of the run at the cell.
 fn is_member_after(change: Change, cell: Cell, first: i32, last: i32, begin: i32) -> bool {
     let is_meant = is_meant(change, &cell, first, last, begin);
     if matches!(change, Change::BitxorAssign) {
@@ -151,7 +152,7 @@ fn is_member_after(change: Change, cell: Cell, first: i32, last: i32, begin: i32
     }
 }
 
-/// Whether a change leaves the values of a cell in the other set.
+/// Whether the values of a cell are in the other set after a change.
 fn is_other_after(change: Change, cell: Cell) -> bool {
     match change {
         Change::SplitOff(key) => cell.is_member && key <= cell.start,
@@ -160,7 +161,7 @@ fn is_other_after(change: Change, cell: Cell) -> bool {
     }
 }
 
-/// What a change answers on a set of these runs that leaves those.
+/// Returns what a change returns if the set has these runs before and after it.
 fn answer(change: Change, before: Table<'_>, after: Table<'_>) -> Answer {
     let members = counted(before);
     let is_same = counted(after) == members;
@@ -179,7 +180,7 @@ fn answer(change: Change, before: Table<'_>, after: Table<'_>) -> Answer {
     }
 }
 
-/// Changes the cells of a set by one of the calls, and tells its answer.
+/// Changes cells by one of the calls, and returns what the call returns.
 pub(crate) fn reckon(
     alloc: Global,
     change: Change,
@@ -203,7 +204,7 @@ pub(crate) fn reckon(
     Ok(answer(change, &before, &after))
 }
 
-/// Whether a making has the values of a cell in the set that it makes.
+/// Whether the values of a cell are in the set that a making makes.
 fn selects(making: Making, cell: &Cell) -> bool {
     let (one, other) = (cell.is_member, cell.is_other);
     match making {
@@ -230,7 +231,7 @@ fn selects(making: Making, cell: &Cell) -> bool {
     }
 }
 
-/// The runs of the set that a making makes of those that cells tell of.
+/// Returns the runs of the set that a making makes from the sets that cells describe.
 pub(crate) fn runs_made(
     alloc: Global,
     making: Making,
@@ -245,7 +246,7 @@ pub(crate) fn runs_made(
     runs(alloc, &made, Side::One)
 }
 
-/// Whether two sets are those that cells tell of.
+/// Whether two sets are those that cells describe.
 pub(crate) fn agree<A: Allocator>(
     alloc: Global,
     set: &RangeSetBlaze<i32, A>,
@@ -257,7 +258,7 @@ pub(crate) fn agree<A: Allocator>(
     Ok(has(set, &one) && has(other, &others))
 }
 
-/// Adds to the cells of a set those that a change adds and the set has, up to the first that it
+/// Marks as members the cells that a change adds and the set contains, up to the first that it
 /// lacks.
 pub(crate) fn mark_front<A: Allocator>(
     change: Change,

@@ -101,7 +101,7 @@ fn first_lacked(
 }
 
 // One of the pairs steps over the surrogates. The checked build of `rt try --test` takes more than
-// a minute here: `--seconds 900` lets it finish.
+// a minute here, and `--seconds 900` lets it finish.
 #[test]
 fn the_universe_has_every_character_and_each_pair_of_neighbors(
     rt: HostRuntime,

@@ -82,7 +82,7 @@ static FITTING: [(Table<'static>, u64, Ends, Ends); 21] = [
         Some((i32::MIN, i32::MAX)),
     ),
     (&[(i32::MIN, i32::MAX)], 4_294_967_297, None, None),
-    // Gaps between runs that reach both ends of the type.
+    // Here the runs reach both ends of the type.
     (
         &[(i32::MIN, 3), (7, 10), (20, i32::MAX)],
         0,
@@ -113,7 +113,7 @@ static FITTING: [(Table<'static>, u64, Ends, Ends); 21] = [
         None,
         Some((i32::MIN, 3)),
     ),
-    // Gaps of two, five and one values, at both ends too.
+    // Here the gaps have two, five and one values, and some are at the ends of the type.
     (
         &[(-2_147_483_646, 9), (15, 2_147_483_646)],
         2,
@@ -144,7 +144,7 @@ static FITTING: [(Table<'static>, u64, Ends, Ends); 21] = [
         Some((i32::MIN, i32::MIN)),
         Some((-2_147_483_647, i32::MAX)),
     ),
-    // Runs of three, four and nine values.
+    // Here the runs have three, four and nine values.
     (
         &[(1, 3), (7, 10), (12, 20)],
         0,

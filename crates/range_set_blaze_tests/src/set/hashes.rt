@@ -39,7 +39,7 @@ fn the_length_is_fed_and_the_ends_of_each_run(rt: HostRuntime) -> Result<(), Fai
     Ok(())
 }
 
-// All sets of numbers below 6.
+// The loop tries all sets of numbers below 6.
 #[test]
 fn unlike_sets_feed_unlike_bytes(rt: HostRuntime) -> Result<(), Fail> {
     let mut known = Vec::new(rt.alloc());

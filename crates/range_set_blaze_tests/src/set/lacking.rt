@@ -14,7 +14,8 @@ fn lacking<T: Integer>(
     alloc: Global,
     set: &RangeSetBlaze<T>,
 ) -> Result<RangeSetBlaze<T>, AllocError>
-    ensures { IfOk result (λ others. IsSetOf others (complement_in T.value_count (members set.now))) }
+    ensures { IfOk result (λ others. IsSetOf others
+        (complement_in T.value_count (members set.now))) }
 {
     let gaps = set.ranges().complement();
     RangeSetBlaze::from_sorted_disjoint(alloc, gaps)

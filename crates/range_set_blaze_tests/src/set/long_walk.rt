@@ -7,7 +7,7 @@ use std::alloc::{AllocError, Global};
 use std::mem;
 use std::test::*;
 
-/// Returns a change at the values from `first` on.
+/// Returns a change at the values starting at `first`.
 fn drawn_change(first: i32, drawn: u32) -> Change {
     let [_, more, place, kind] = drawn.to_le_bytes();
     let value = first.saturating_add(i32::from(place));

@@ -1,5 +1,5 @@
-//! Every call on sets of seventy thousand runs, which are more than a length of sixteen bits
-//! counts. No call gives up at a size.
+//! Every call on sets of seventy thousand runs, more than 16 bits can count. No call gives up at a
+//! size.
 
 use crate::set::calls::{Change, Making, carry_out, make};
 use crate::set::rows::has;
@@ -10,8 +10,9 @@ use std::alloc::{AllocError, Global};
 use std::cell::Cell;
 use std::test::*;
 
-/// Changes, one after the other, of the set of the first three of each five values from 0 on,
-/// beside the set of the fourth. Each has the number of runs and of members that it leaves.
+/// Changes, one after the other, of the set of the first three of every five values, starting at 0.
+/// The other set has the fourth of each five. Each row has the number of runs and of members that
+/// the change leaves.
 static CHANGED: [(Change, usize, u64); 25] = [
     (Change::Insert(-5), 70_001, 210_001),
     (Change::Insert(170_003), 70_001, 210_002),

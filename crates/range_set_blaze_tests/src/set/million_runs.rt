@@ -1,6 +1,6 @@
 //! The loops over sets, at more than a million runs or values. No loop gives up at a size.
 //!
-//! The checked build of `rt try --test` takes minutes here: `--seconds 900` lets it finish.
+//! The checked build of `rt try --test` takes minutes here, and `--seconds 900` lets it finish.
 
 use crate::set::calls::{Change, Making};
 use crate::set::many_runs::{change, counts, makes};
@@ -12,14 +12,14 @@ use rsb_tables::fed_by;
 use std::alloc::{AllocError, Global};
 use std::test::*;
 
-/// Returns a million and a hundred values, four apart, from `first` on.
+/// Returns a million and a hundred values, four apart, starting at `first`.
 fn fourths(alloc: Global, first: i32) -> Result<RangeSetBlaze<i32>, AllocError> {
     let last = first.saturating_add(4_000_396);
     RangeSetBlaze::from_iter_values(alloc, (first..=last).step_by(4))
 }
 
-/// A making from the fourths from 0 on and those from 2 on, and the numbers of runs and of members
-/// of its result.
+/// A making from the fourths starting at 0 and those starting at 2, and the numbers of runs and of
+/// members of its result.
 static MADE: [(Making, usize, u64); 9] = [
     (Making::Clone, 1_000_100, 1_000_100),
     (Making::Bitor, 2_000_200, 2_000_200),
@@ -46,8 +46,8 @@ fn a_million_runs_make_sets(rt: HostRuntime) -> Result<(), Fail> {
     Ok(())
 }
 
-/// Changes, one after the other, of the fourths from 0 on, beside those from 2 on. Each has the
-/// numbers of runs and of members that it leaves.
+/// Changes, one after the other, of the fourths starting at 0. The other set has those starting at
+/// 2. Each row has the numbers of runs and of members that the change leaves.
 static CHANGED: [(Change, usize, u64); 8] = [
     (Change::Append, 2_000_200, 2_000_200),
     (Change::Extend, 2_000_200, 2_000_200),

@@ -42,12 +42,12 @@ fn owned_make(
     }
 }
 
-// The ends of the type.
+// `LEAST` and `MOST` are the ends of the type.
 const LEAST: i32 = i32::MIN;
 
 const MOST: i32 = i32::MAX;
 
-// Two sets that touch and overlap, two of which one closes a gap of the other, and every value.
+// `ONE` and `OTHER` touch and overlap, `SHORT` closes a gap of `LONG`, and `ALL` has every value.
 const ONE: Table<'static> = &[(1, 3), (7, 10)];
 
 const OTHER: Table<'static> = &[(4, 4), (9, 20)];

@@ -9,8 +9,8 @@ use std::alloc::Allocator;
 use std::cmp::Ordering::{self, Equal, Greater, Less};
 use std::test::*;
 
-// Returns whether `cmp` and `==` agree. Public contracts alone prove it: at every element type,
-// `cmp` returns `Equal` exactly if `==` is true.
+// Returns whether `cmp` and `==` agree. This is proved only from public contracts: at every element
+// type, `cmp` returns `Equal` if and only if `==` is true.
 fn is_equal_both_ways<T: Integer, A: Allocator>(
     one: &RangeSetBlaze<T, A>,
     other: &RangeSetBlaze<T, A>,

@@ -42,7 +42,7 @@ static READ: [(&'static str, Table<'static>); 19] = [
     ("1, 2, 3, 5, 4", &[(1, 5)]),
 ];
 
-/// Texts that are refused, and the place of the first unexpected byte.
+/// Texts that cannot be read, and the place of the first unexpected byte.
 static REFUSED: [(&'static str, usize); 24] = [
     (",", 0),
     (" ,", 1),
@@ -72,7 +72,7 @@ static REFUSED: [(&'static str, usize); 24] = [
     ("99999999999", 9),
 ];
 
-/// Whether a text is read as the set of these ranges.
+/// Whether the text is read as the set of these ranges.
 fn is_read(alloc: Global, text: &str, ranges: Table<'_>) -> Result<bool, AllocError> {
     match RangeSetBlaze::<i32>::parse(alloc, text) {
         Ok(set) => Ok(set == set_of(alloc, ranges)?),
@@ -81,7 +81,7 @@ fn is_read(alloc: Global, text: &str, ranges: Table<'_>) -> Result<bool, AllocEr
     }
 }
 
-/// Whether a text is refused at a place.
+/// Whether reading the text fails at the place.
 fn is_refused<T: ParseInteger>(alloc: Global, text: &str, place: usize) -> bool {
     match RangeSetBlaze::<T>::parse(alloc, text) {
         Err(ParseError::Unexpected(found)) => found == place,
@@ -105,7 +105,8 @@ fn the_first_byte_that_fits_nothing_is_told(rt: HostRuntime) -> Result<(), Fail>
     Ok(())
 }
 
-/// Whether a text is read as the set of the whole type, and two others are refused at a place each.
+/// Whether the text is read as the set of the whole type, and reading each of two others fails at
+/// its place.
 fn is_whole<T: ParseInteger>(
     alloc: Global,
     text: &str,
@@ -176,8 +177,8 @@ fn the_text_of_seventy_thousand_runs_is_read_as_they_are(rt: HostRuntime) -> Res
     Ok(())
 }
 
-/// Whether a text is read as the set of these ranges if the heap grants the given number of
-/// allocations, or the failed allocation is reported.
+/// Whether reading the text gives the set of these ranges or reports a failed allocation, if the
+/// heap grants the given number of allocations.
 fn is_tried(
     heap: &Counting<Global>,
     granted: usize,
@@ -207,7 +208,7 @@ fn each_refused_allocation_is_told_and_nothing_is_kept(rt: HostRuntime) -> Resul
     Ok(())
 }
 
-/// Returns the set that a text lists. This is a caller over any type.
+/// Returns the set that the text lists. This is a caller over any type.
 fn listed<T: ParseInteger, A: Allocator + Copy>(
     alloc: A,
     text: &str,
@@ -220,7 +221,7 @@ fn listed<T: ParseInteger, A: Allocator + Copy>(
     Ok(listed)
 }
 
-/// Returns the set with the members that a text lists added.
+/// Returns the set with the members that the text lists added.
 fn with_listed<T: ParseInteger, A: Allocator + Copy>(
     alloc: A,
     set: &RangeSetBlaze<T, A>,

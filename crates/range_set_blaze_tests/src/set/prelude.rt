@@ -5,7 +5,7 @@ use range_set_blaze::prelude::*;
 use std::alloc::Global;
 use std::test::*;
 
-// Sets, streams, their traits, and the macros over many streams.
+// The test uses sets, streams, their traits, and the macros over many streams.
 #[test]
 fn the_prelude_is_enough_for_sets_and_streams(rt: HostRuntime) -> Result<(), Fail> {
     let alloc = rt.alloc();

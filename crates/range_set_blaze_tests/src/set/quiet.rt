@@ -1,6 +1,5 @@
-//! The calls that never allocate, on sets of no run, of one, of three and of a hundred: those that
-//! read a set make no call of its allocator, and those that change one or take it by value only
-//! free.
+//! The calls that never allocate, on sets of 0, 1, 3 and 100 runs. Calls that read a set do not
+//! call its allocator. Calls that change a set or take it by value only free memory.
 
 use crate::set::calls::{Change, carry_out};
 use crate::set::cells::{Side, runs, spaced};
@@ -16,7 +15,7 @@ use std::default::MadeWith;
 use std::mem;
 use std::test::*;
 
-/// Calls that read two sets.
+/// Groups of calls that read two sets.
 #[derive(Clone, Copy)]
 enum Reading {
     LookUps,
@@ -47,8 +46,8 @@ static READINGS: [Reading; 11] = [
     Reading::Places,
 ];
 
-/// How many values from -8 to 815 are members, by each call that looks for one: 0 where two of
-/// these calls do not agree.
+/// Returns how many values from -8 to 815 are members, or 0 if two calls that look for a value do
+/// not agree.
 fn members_found(set: &HeapSet<'_>) -> u64 {
     let mut found = 0u64;
     for value in -8..816i32 {
@@ -65,7 +64,7 @@ fn members_found(set: &HeapSet<'_>) -> u64 {
     found
 }
 
-/// Whether what is asked of all of a set agrees.
+/// Whether the queries about a whole set agree.
 fn is_whole(set: &HeapSet<'_>) -> bool {
     let is_empty = set.is_empty();
     set.first().is_none() == is_empty
@@ -75,7 +74,7 @@ fn is_whole(set: &HeapSet<'_>) -> bool {
         && !set.is_universal()
 }
 
-/// Whether two sets with no common member are told apart.
+/// Whether two sets with no common member are disjoint, and are subsets only if they are empty.
 fn are_apart<'a>(set: &HeapSet<'a>, other: &HeapSet<'a>) -> bool {
     set.is_disjoint(other)
         && set.is_subset(other) == set.is_empty()
@@ -112,7 +111,8 @@ fn ranges_come(set: &HeapSet<'_>) -> bool {
         && ranges_given(set) == set.ranges_len()
 }
 
-/// How many members the runs of two sets have together, as streams of each operation tell.
+/// Returns how many members two sets without a common member have together, or 0 if the streams of
+/// two operations do not agree.
 fn members_of_both<'a>(set: &HeapSet<'a>, other: &HeapSet<'a>) -> u64 {
     let union = set.ranges().union(other.ranges()).members_len();
     let apart = set
@@ -128,7 +128,7 @@ fn members_of_both<'a>(set: &HeapSet<'a>, other: &HeapSet<'a>) -> u64 {
     union
 }
 
-/// How many runs and gaps a set has.
+/// Returns how many runs and gaps a set has.
 fn pieces(set: &HeapSet<'_>) -> usize {
     let mut pieces = 0usize;
     for _ in set.ranges().fill_gaps() {
@@ -137,19 +137,19 @@ fn pieces(set: &HeapSet<'_>) -> usize {
     pieces
 }
 
-/// How many members the gaps of a set have.
+/// Returns how many values the gaps of a set have.
 fn members_of_gaps(set: &HeapSet<'_>) -> u64 {
     set.ranges().complement().members_len()
 }
 
-/// Whether the runs and gaps of a set are everything, and alternate.
+/// Whether the runs and gaps of a set have every value, and alternate.
 fn are_filled(set: &HeapSet<'_>) -> bool {
     let runs = set.ranges_len();
     members_of_gaps(set).saturating_add(set.len()) == 4_294_967_296
         && pieces(set) == runs.saturating_mul(2).saturating_add(1)
 }
 
-/// Whether two streams of the runs of sets with no common member are told apart.
+/// Whether the queries about streams of the runs of two sets with no common member are right.
 fn are_asked<'a>(one: &HeapSet<'a>, other: &HeapSet<'a>) -> bool {
     let (left, right) = (one.is_empty(), other.is_empty());
     one.ranges().is_disjoint(other.ranges())
@@ -160,7 +160,7 @@ fn are_asked<'a>(one: &HeapSet<'a>, other: &HeapSet<'a>) -> bool {
         && !one.ranges().is_universal()
 }
 
-/// Whether the texts of a set, in other memory, are empty only if it is.
+/// Whether the texts of a set, in other memory, are empty if and only if the set is.
 fn is_written(alloc: Global, set: &HeapSet<'_>) -> bool {
     match format!(in alloc; "{set}{set:?}") {
         Ok(text) => text.is_empty() == set.is_empty(),
@@ -168,8 +168,7 @@ fn is_written(alloc: Global, set: &HeapSet<'_>) -> bool {
     }
 }
 
-/// Whether the runs and the gaps between two bounds, each to its end, have the members there and
-/// the other values.
+/// Whether the runs between two bounds have the members there, and the gaps have the other values.
 fn windows_come(set: &HeapSet<'_>) -> bool {
     let (mut members, mut others) = (0u64, 0u64);
     for run in set.ranges_in(2..=801) {
@@ -201,7 +200,7 @@ fn places_are_found(set: &HeapSet<'_>) -> bool {
         && set.rank(i32::MAX) == set.len()
 }
 
-/// Whether calls that read two sets with no common member answer as they are to.
+/// Whether calls that read two sets with no common member return what they should.
 fn reads<'a>(alloc: Global, reading: Reading, set: &HeapSet<'a>, other: &HeapSet<'a>) -> bool {
     match reading {
         Reading::LookUps => members_found(set) == set.len(),
@@ -220,7 +219,7 @@ fn reads<'a>(alloc: Global, reading: Reading, set: &HeapSet<'a>, other: &HeapSet
     }
 }
 
-/// Whether calls that read two sets make no call of their allocator.
+/// Whether a group of calls returns what it should without calling the allocator of the sets.
 fn is_quiet<'a>(
     alloc: Global,
     reading: Reading,
@@ -232,7 +231,8 @@ fn is_quiet<'a>(
     reads(alloc, reading, set, other) && heap.calls() == calls
 }
 
-/// How many of the readings of two sets make no call of their allocator, up to the first that does.
+/// Returns how many of the readings of two sets pass without a call of their allocator, up to the
+/// first that does not.
 fn quiet_readings<'a>(alloc: Global, heap: &Heap, set: &HeapSet<'a>, other: &HeapSet<'a>) -> u8 {
     let mut quiet = 0u8;
     for reading in &READINGS {
@@ -244,7 +244,7 @@ fn quiet_readings<'a>(alloc: Global, heap: &Heap, set: &HeapSet<'a>, other: &Hea
     quiet
 }
 
-/// The same, of sets of so many runs.
+/// Does the same with sets of the given numbers of runs.
 fn quiet_at(alloc: Global, count: i32, others: i32) -> Result<u8, AllocError> {
     let heap = Counting::new(alloc);
     let cells = spaced(alloc, count, others)?;
@@ -253,7 +253,7 @@ fn quiet_at(alloc: Global, count: i32, others: i32) -> Result<u8, AllocError> {
     Ok(quiet_readings(alloc, &heap, &set, &other))
 }
 
-/// Of how many runs the sets are.
+/// The numbers of runs of the sets.
 static COUNTS: [i32; 4] = [0, 1, 3, 100];
 
 #[test]
@@ -267,7 +267,7 @@ fn what_reads_a_set_never_calls_its_allocator(rt: HostRuntime) -> Result<(), Fai
     Ok(())
 }
 
-/// Calls that change a set or give it up, and never allocate.
+/// Calls that change a set or take it by value, and never allocate.
 #[derive(Clone, Copy)]
 enum Freeing {
     PopLast,
@@ -307,7 +307,7 @@ fn are_popped(set: HeapSet<'_>) -> bool {
     popped == length && set.is_empty()
 }
 
-/// Whether a set keeps no run, by a test of each or by none.
+/// Whether a set is empty after a change.
 fn keeps_none<'a>(heap: &'a Heap, change: Change, set: HeapSet<'a>) -> Result<bool, AllocError> {
     let mut set = set;
     let mut other = RangeSetBlaze::new(heap);
@@ -349,13 +349,13 @@ fn is_taken(set: HeapSet<'_>) -> Result<bool, AllocError> {
     Ok(set.is_empty() && taken.len() == length)
 }
 
-/// Whether what a map makes for a key that it lacks is empty.
+/// Whether the set that a map makes for a key that it lacks is empty.
 fn is_made_empty(heap: &Heap) -> bool {
     let set: HeapSet<'_> = MadeWith::made_with(heap);
     set.is_empty()
 }
 
-/// Whether a call that gives a set up answers as it is to.
+/// Whether a call that changes a set or takes it by value returns what it should.
 fn frees<'a>(freeing: Freeing, heap: &'a Heap, set: HeapSet<'a>) -> Result<bool, AllocError> {
     match freeing {
         Freeing::PopLast => Ok(are_popped(set)),
@@ -373,7 +373,7 @@ fn frees<'a>(freeing: Freeing, heap: &'a Heap, set: HeapSet<'a>) -> Result<bool,
     }
 }
 
-/// Whether a call that gives up a set of so many runs never allocates, and keeps no memory.
+/// Whether such a call on a set of the given number of runs never allocates, and keeps no memory.
 fn only_frees(alloc: Global, freeing: Freeing, count: i32) -> Result<bool, AllocError> {
     let heap = Counting::new(alloc);
     let cells = spaced(alloc, count, 0)?;
@@ -395,13 +395,14 @@ fn what_empties_a_set_or_gives_it_up_only_frees(rt: HostRuntime) {
     }
 }
 
-/// A set of every second value below 200,000, which are a hundred thousand runs.
+/// Returns the set of every second value below 200,000, which has a hundred thousand runs.
 fn hundred_thousand(heap: &Heap) -> Result<HeapSet<'_>, AllocError> {
     RangeSetBlaze::from_iter_values(heap, (0..=199_998).step_by(2))
 }
 
-/// How many calls of the allocator a change of a set of a hundred thousand runs makes that adds
-/// three runs, two of which join others. `None` if the set is not what it is to be.
+/// Returns how many calls of the allocator a change makes that adds three runs to a set of a
+/// hundred thousand runs. Two of the three join others. Returns `None` if the set is not what it
+/// should be.
 fn calls_to_add(heap: &Heap, change: Change) -> Result<Option<usize>, AllocError> {
     let mut set = hundred_thousand(heap)?;
     let mut few = set_in(heap, &[(1, 1), (99_999, 99_999), (300_000, 300_004)])?;

@@ -1,4 +1,4 @@
-//! Members by how many lie below them.
+//! Members by the number of members below them.
 
 ghost use Rattle.std.specs.Prelude.{◌≡◌, IfSome, IsTrue};
 ghost use Rattle.range_set_blaze.specs.Runs.{members};
@@ -11,7 +11,7 @@ use rsb_tables::{Counting, Table, every_fifth, set_of, slot, slots};
 use std::alloc::{AllocError, Allocator, Global};
 use std::test::*;
 
-/// The rank of the member that has `n` members below it.
+/// Returns the rank of the member that has `n` members below it.
 fn rank_of_nth<T: Integer, A: Allocator>(
     set: &RangeSetBlaze<T, A>,
     n: T::SafeLen,
@@ -22,14 +22,14 @@ fn rank_of_nth<T: Integer, A: Allocator>(
     Some(set.rank(member))
 }
 
-/// The greatest member, by the number of members.
+/// Returns the greatest member, by the number of members below it.
 fn last_by_rank<T: Integer, A: Allocator>(set: &RangeSetBlaze<T, A>, last: T::SafeLen) -> Option<T>
     ensures { IfSome result (λ member. IsTrue (members set.now (T.rank member))) }
 {
     set.nth(last)
 }
 
-/// A set, a number, and the member with so many below it.
+/// A set, a number, and the member with that number of members below it.
 static NUMBERED: [(Table<'static>, u64, Option<i32>); 14] = [
     (&[], 0, None),
     (&[], 4_294_967_296, None),
@@ -51,7 +51,7 @@ static NUMBERED: [(Table<'static>, u64, Option<i32>); 14] = [
     ),
 ];
 
-/// Whether the member of a number is this one, whose rank is the number then.
+/// Whether the member of a number is this one, and its rank is the number.
 fn is_nth(
     alloc: Global,
     ranges: Table<'_>,
@@ -102,7 +102,7 @@ fn members_below_a_value_are_counted(rt: HostRuntime) -> Result<(), Fail> {
     Ok(())
 }
 
-/// Whether the greatest value of a type has so many members below it in the set of all.
+/// Whether the greatest value of a type has `last` members below it in the set of all values.
 fn ends_at<T: Integer>(alloc: Global, last: T::SafeLen) -> Result<bool, AllocError> {
     let set = RangeSetBlaze::<T>::from(alloc, T::min_value()..=T::max_value())?;
     Ok(set.rank(T::max_value()) == last && last_by_rank(&set, last) == Some(T::max_value()))
@@ -126,7 +126,7 @@ fn booked_slots_are_numbered(rt: HostRuntime) -> Result<(), Fail> {
     Ok(())
 }
 
-/// Whether each member of seventy thousand runs has its number: every seven-hundredth.
+/// Whether every seven-hundredth member of seventy thousand runs has its number.
 fn are_numbered(set: &RangeSetBlaze<i32>) -> bool {
     for place in 0..300i32 {
         let number = place.saturating_mul(700);
@@ -146,7 +146,7 @@ fn seventy_thousand_runs_are_numbered(rt: HostRuntime) -> Result<(), Fail> {
     Ok(())
 }
 
-/// Numbers members of a set, and says whether its allocator was not asked.
+/// Finds members of a set by number, and returns whether its allocator was never called.
 fn is_quiet(heap: &Heap, set: &HeapSet<'_>) -> bool {
     let calls = heap.calls();
     set.nth(3) == Some(7) && set.rank(8) == 4 && heap.calls() == calls

@@ -95,7 +95,7 @@ fn runs_of_one_value_are_left_out(rt: HostRuntime) -> Result<(), Fail> {
     Ok(())
 }
 
-// Each second member is kept.
+// The closure keeps every second member.
 #[test]
 fn each_member_is_asked_about_once_in_order(rt: HostRuntime) -> Result<(), Fail> {
     let mut set = set_of(rt.alloc(), &[(1, 3), (7, 7), (9, 10)])?;

@@ -1,5 +1,6 @@
-//! Sets as a user of std's collections writes them: collected and extended from references, taken
-//! out of their place, made as the default of a map, and with their allocator.
+//! Sets as a user of std's collections writes them. They are collected and extended from
+//! references, taken out of their place, made as the default of a map, and used with their
+//! allocator.
 
 ghost use Rattle.std.specs.Prelude.{◌≡◌, [], IfOk, OnOk};
 ghost use Rattle.range_set_blaze.specs.Algebra.{ranks_of, AddsItems, AddsValues, IsSetOfItems};
@@ -213,7 +214,8 @@ fn seventy_thousand_references_are_added(rt: HostRuntime) -> Result<(), Fail> {
     Ok(())
 }
 
-/// Twenty values in no order, of which no two touch: more than a leaf of the map has room for.
+/// Twenty values in no order, of which no two touch. A leaf of the map does not have room for so
+/// many.
 static APART: [i32; 20] = [
     0, 14, 28, 2, 16, 30, 4, 18, 32, 6, 20, 34, 8, 22, 36, 10, 24, 38, 12, 26,
 ];
@@ -227,7 +229,7 @@ enum Call {
     AddRanges,
 }
 
-/// Carries out a call on values, or on the range of each of them.
+/// Makes a call on values, or on the range of each of them.
 fn carry_out<'a>(
     heap: &'a Heap,
     call: Call,
@@ -244,8 +246,8 @@ fn carry_out<'a>(
     Ok(())
 }
 
-/// Whether so many runs may stand after a call: all if it passed. If it failed, a collection makes
-/// none, and an extension keeps those before.
+/// Whether a set may have this number of runs after a call. If the call passed, it has all. If it
+/// failed, a collected set has none, and an extended one has a prefix.
 fn may_stand(call: Call, is_passed: bool, runs: usize) -> bool {
     if is_passed {
         return runs == 20;
@@ -256,14 +258,14 @@ fn may_stand(call: Call, is_passed: bool, runs: usize) -> bool {
     }
 }
 
-/// Whether a set has the first of the values that stand apart, as many as it has runs.
+/// Whether a set has as many of the first values of `APART` as it has runs.
 fn has_first(alloc: Global, set: &HeapSet<'_>) -> Result<bool, AllocError> {
     let first = of_values(alloc, &APART[..set.ranges_len().min(20)])?;
     Ok(set.ranges().equal(first.ranges()))
 }
 
-/// Whether a call passes if the heap grants the given number of allocations. `None` if it leaves
-/// what it must not.
+/// Returns whether a call passes if the heap grants the given number of allocations, or `None` if
+/// it leaves anything wrong.
 fn passes(
     alloc: Global,
     heap: &Heap,
@@ -280,8 +282,8 @@ fn passes(
     Ok(is_right.then_some(is_passed))
 }
 
-/// How many of thirty tries of a call fail, each granted one allocation more than the one before
-/// it. `None` if one leaves what it must not, or keeps memory.
+/// Returns how many of thirty tries of a call fail, each granted one allocation more than the one
+/// before it. Returns `None` if a try leaves anything wrong or keeps memory.
 fn refusals(alloc: Global, call: Call) -> Result<Option<u32>, AllocError> {
     let heap = Counting::new(alloc);
     let mut refusals = 0u32;

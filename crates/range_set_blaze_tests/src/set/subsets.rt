@@ -8,7 +8,7 @@ use std::test::*;
 /// are disjoint.
 type Relation = (bool, bool, bool);
 
-/// Whether two sets are related so, by the calls on either.
+/// Whether two sets are related as `wanted` states, by the calls on either.
 fn stand(one: &RangeSetBlaze<i32>, other: &RangeSetBlaze<i32>, wanted: Relation) -> bool {
     let is_in = one.is_subset(other) == wanted.0 && other.is_superset(one) == wanted.0;
     let has_it = other.is_subset(one) == wanted.1 && one.is_superset(other) == wanted.1;

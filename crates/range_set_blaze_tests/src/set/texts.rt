@@ -7,7 +7,7 @@ use rsb_tables::{Counting, Table, is_shown, set_of};
 use std::alloc::{AllocError, Allocator, Global};
 use std::test::*;
 
-/// Whether a text is this one.
+/// Whether the text is as wanted.
 fn is(text: String, wanted: &str) -> bool {
     text.as_str() == wanted
 }
@@ -29,7 +29,7 @@ fn reread<T: ParseInteger, A: Allocator + Copy>(
 ) -> Result<RangeSetBlaze<T, A>, ParseError>
     ensures { IfOk result (λ read. read ≡ set.now) }
 {
-    // Called for its clause alone.
+    // This call is only here for its clauses.
     set.ranges();
     let text = set.to_string(alloc)?;
     let read = RangeSetBlaze::parse(alloc, text.as_str())?;
@@ -78,7 +78,7 @@ fn characters_are_written_in_quotes(rt: HostRuntime) -> Result<(), Fail> {
     Ok(())
 }
 
-// At two types, and for sets with no run, one and several.
+// The test uses two types, and sets with no run, one run and several.
 #[test]
 fn the_text_of_a_set_is_read_as_the_set(rt: HostRuntime) -> Result<(), Fail> {
     let tables: [Table<'static>; 4] = [
@@ -96,7 +96,7 @@ fn the_text_of_a_set_is_read_as_the_set(rt: HostRuntime) -> Result<(), Fail> {
     Ok(())
 }
 
-// The contents of these texts are left open.
+// The test does not state what is in these texts.
 #[test]
 fn iterators_have_a_text(rt: HostRuntime) -> Result<(), Fail> {
     let set = set_of(rt.alloc(), &[(1, 2)])?;

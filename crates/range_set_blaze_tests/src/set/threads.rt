@@ -4,7 +4,7 @@ use range_set_blaze::RangeSetBlaze;
 use rsb_tables::set_of;
 use std::test::*;
 
-// Asks that a value may be sent to other threads, and shared with them.
+// Requires that a value can be sent to other threads, and shared with them.
 fn may_cross<X: Send + Sync>(_value: &X) {}
 
 #[test]

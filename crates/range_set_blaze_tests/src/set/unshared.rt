@@ -1,4 +1,4 @@
-//! What a caller proves about sets built from sets, from public contracts alone.
+//! What a caller proves about sets built from sets, only from public contracts.
 
 ghost use Rattle.std.specs.Prelude.{◌≡◌, ℕ, IfOk};
 ghost use Rattle.rsb_integer.specs.Runs.{members};

@@ -333,7 +333,7 @@ fn windows_are_streams(rt: HostRuntime) -> Result<(), Fail> {
     Ok(())
 }
 
-/// Whether the slots between two are told, at a type of one's own.
+/// Whether the runs and the gaps between two slots are right, at a user-defined type.
 fn slots_lie_between(alloc: Global) -> Result<bool, AllocError> {
     let mut booked = RangeSetBlaze::<Slot>::from(alloc, slots(8, 11))?;
     let is_new = booked.ranges_insert(slots(20, 23))?;
@@ -385,7 +385,8 @@ fn copied_runs_go_on(set: &RangeSetBlaze<i32>) -> Result<bool, AllocError> {
     let mut runs = set.ranges_in(0..=25);
     let first = runs.next();
     let copy = runs.clone()?;
-    Ok(first == Some(1..=4) && gives(copy, &[(8, 13), (20, 20)]) && gives(runs, &[(8, 13), (20, 20)]))
+    let rest: Table = &[(8, 13), (20, 20)];
+    Ok(first == Some(1..=4) && gives(copy, rest) && gives(runs, rest))
 }
 
 /// Whether a copy of the gaps between two values goes on where they were copied.

@@ -47,7 +47,7 @@ pub extern "C" fn rsb_u32_order(alloc: Global, left: &mut Handle, right: &mut Ha
     }
 }
 
-/// Returns whether each member of the left set is one of the right set.
+/// Returns whether each member of the left set is a member of the right set.
 #[unsafe(no_mangle)]
 pub extern "C" fn rsb_u32_is_subset(alloc: Global, left: &mut Handle, right: &mut Handle) -> bool
     ensures found { IsTrue result ↔
@@ -60,7 +60,7 @@ pub extern "C" fn rsb_u32_is_subset(alloc: Global, left: &mut Handle, right: &mu
     left.set_or(&none).is_subset(right.set_or(&nothing))
 }
 
-/// Returns whether no member of the left set is one of the right set.
+/// Returns whether no member of the left set is a member of the right set.
 #[unsafe(no_mangle)]
 pub extern "C" fn rsb_u32_is_disjoint(alloc: Global, left: &mut Handle, right: &mut Handle) -> bool
     ensures found { IsTrue result ↔

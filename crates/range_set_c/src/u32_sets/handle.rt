@@ -57,7 +57,7 @@ impl Handle {
         Ok(Box::new(alloc, Kept { set })?)
     }
 
-    /// Replaces the set by the one in `made` and returns `CHANGED`. If `made` is an error or an
+    /// Replaces the set with the one in `made` and returns `CHANGED`. If `made` is an error or an
     /// allocation fails, it returns `NO_MEMORY`, and the handle is unchanged.
     pub(crate) fn set_to(
         &mut self,

@@ -1,5 +1,5 @@
 // Written by tools/c/narrow from src/u64_sets/look_up.rt.
-//! Questions about one set. They leave it unchanged and do not allocate.
+//! Queries on one set. They leave it unchanged and do not allocate.
 
 ghost use Rattle.std.specs.Prelude.{◌≡◌, ◌↔◌, ◌≤◌, ◌^◌, [], length, IsFalse, IsTrue};
 ghost use Rattle.rsb_integer.specs.Runs.{covers, from_to, members};

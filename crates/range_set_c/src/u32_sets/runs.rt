@@ -19,8 +19,8 @@ use super::run::Run;
 use range_set_blaze::RangeSetBlaze;
 use std::alloc::Global;
 
-/// Stores the run that has a value in `block` and returns true. If the value is not a member, it
-/// stores the gap that the value lies in and returns false.
+/// Stores in `block` the run that contains a value, and returns true. If the value is not a member,
+/// it stores the gap that contains the value and returns false.
 #[unsafe(no_mangle)]
 pub extern "C" fn rsb_u32_run_or_gap(
     alloc: Global,

@@ -1,7 +1,8 @@
-//! Changes of one set.
+//! Changes to one set.
 //!
-//! A call returns `UNCHANGED` if the set was already as asked, and `CHANGED` if it is now. It
-//! returns `NO_MEMORY` if an allocation fails, and the set is then unchanged.
+//! A call returns `UNCHANGED` if the set was already as requested, and `CHANGED` if it is only now.
+//! It returns `NO_MEMORY` if an allocation fails, and the set is then unchanged. `rsb_u64_clear`
+//! and `rsb_u64_free` always succeed, and return nothing.
 
 ghost use Rattle.std.specs.Prelude.{◌≡◌, ◌+◌, ◌<◌, ◌^◌, [], IsFalse, IsTrue};
 ghost use Rattle.rsb_integer.specs.Runs.{members, covers, from_to};
@@ -15,7 +16,7 @@ use crate::status::{CHANGED, NO_MEMORY, UNCHANGED};
 use std::alloc::Global;
 
 /// Adds the values from `first` to `last`: none if `last` is below `first`. It cannot return
-/// `NO_MEMORY` if there is none to add, or if `first` or the value before it is a member.
+/// `NO_MEMORY` if there is nothing to add, or if `first` or the value before it is a member.
 #[unsafe(no_mangle)]
 pub extern "C" fn rsb_u64_insert_range(
     alloc: Global,

@@ -81,7 +81,7 @@ pub extern "C" fn rsb_u64_intersection(
     out.set_to(alloc, made)
 }
 
-/// Sets `out` to what the left set has and the right one lacks.
+/// Sets `out` to the values in the left set that are not in the right one.
 #[unsafe(no_mangle)]
 pub extern "C" fn rsb_u64_difference(
     alloc: Global,
@@ -102,7 +102,7 @@ pub extern "C" fn rsb_u64_difference(
     out.set_to(alloc, made)
 }
 
-/// Sets `out` to what exactly one of two sets has.
+/// Sets `out` to the values in exactly one of two sets.
 #[unsafe(no_mangle)]
 pub extern "C" fn rsb_u64_symmetric_difference(
     alloc: Global,

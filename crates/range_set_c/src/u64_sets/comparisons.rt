@@ -46,7 +46,7 @@ pub extern "C" fn rsb_u64_order(alloc: Global, left: &mut Handle, right: &mut Ha
     }
 }
 
-/// Returns whether each member of the left set is one of the right set.
+/// Returns whether each member of the left set is a member of the right set.
 #[unsafe(no_mangle)]
 pub extern "C" fn rsb_u64_is_subset(alloc: Global, left: &mut Handle, right: &mut Handle) -> bool
     ensures found { IsTrue result ↔
@@ -59,7 +59,7 @@ pub extern "C" fn rsb_u64_is_subset(alloc: Global, left: &mut Handle, right: &mu
     left.set_or(&none).is_subset(right.set_or(&nothing))
 }
 
-/// Returns whether no member of the left set is one of the right set.
+/// Returns whether no member of the left set is a member of the right set.
 #[unsafe(no_mangle)]
 pub extern "C" fn rsb_u64_is_disjoint(alloc: Global, left: &mut Handle, right: &mut Handle) -> bool
     ensures found { IsTrue result ↔

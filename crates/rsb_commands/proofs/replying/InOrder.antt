@@ -1,22 +1,22 @@
--- Commands run one after the other.
+-- Commands that run one after the other.
 use Rattle.std.proofs.Common.{◌≡◌, ◌∙◌, ℕ, suc, ◌+◌, ◌<◌, List, [], ◌∷◌, ◌++◌, get_or, length, take, refl, sym, ap, subst, arith}
 use Rattle.std.proofs.Math.Seq.{take-suc}
 use Rattle.rsb_integer.specs.Runs.{Interval}
 use Rattle.rsb_parser.specs.declared.command.Command.{Command}
 use Rattle.rsb_commands.specs.Interpreter.{Content, Sets, AreReplies, AreRepliesFrom, IsReply, no_members, sets_after, sets_of}
 
--- the place after a place is one more
+-- The place after a place is one more.
 next_place : (at : ℕ) → at + 1 ≡ suc at
 next_place at = omega arith
 
 module _ {T : Type 0} (rank : T → ℕ) (value_count : ℕ) where
-  -- the sets after commands
+  -- The sets after the commands.
   abbrev pub sets_after_all : Sets → List (Command T) → Sets
   sets_after_all sets [] = sets
   sets_after_all sets (command ∷ commands) =
       sets_after_all (sets_after rank value_count sets command) commands
 
-  -- the sets after commands and one more are what that one makes of the sets after the others
+  -- The sets after one more command are what that command makes of the sets after the others.
   sets_after_all-push : (sets : Sets) (commands : List (Command T)) (command : Command T)
       → sets_after_all sets (commands ++ command ∷ [])
       ≡ sets_after rank value_count (sets_after_all sets commands) command
@@ -24,7 +24,7 @@ module _ {T : Type 0} (rank : T → ℕ) (value_count : ℕ) where
   sets_after_all-push sets (c ∷ cs) command =
       sets_after_all-push (sets_after rank value_count sets c) cs command
 
-  -- with one command more, which is given the sets after the others, there is one reply more
+  -- With one more command, which runs on the sets after the others, there is one more reply.
   replies-push : (sets : Sets) (commands : List (Command T)) (replies : List (Content T))
       (command : Command T) (reply : Content T)
       → AreRepliesFrom rank value_count sets commands replies
@@ -36,13 +36,13 @@ module _ {T : Type 0} (rank : T → ℕ) (value_count : ℕ) where
   replies-push sets (c ∷ cs) (r ∷ rs) command reply all one =
       (all.0, replies-push (sets_after rank value_count sets c) cs rs command reply all.1 one)
 
-  -- the commands before the place `at` have these replies, and leave these sets
+  -- Whether the commands before the place `at` have these replies, and leave these sets.
   pub record HasRun (commands : List (Command T)) (at : ℕ) (replies : List (Content T))
       (kept : List (List Interval)) : Type 0 where
     pub replied : AreReplies rank value_count (take at commands) replies
     pub left : sets_of kept ≡ sets_after_all no_members (take at commands)
 
-  -- one more command
+  -- One more command adds its reply and changes the sets.
   pub has_run_more : (commands : List (Command T)) (at : ℕ) (command : Command T)
       (replies more : List (Content T)) (reply : Content T)
       (kept new : List (List Interval)) → HasRun commands at replies kept

@@ -1,4 +1,4 @@
--- Sets that are kept as their runs.
+-- Sets that are stored as their runs.
 use Rattle.std.proofs.Common.{◌≡◌, ◌∙◌, ℕ, ◌+◌, ◌<◌, ◌==◌, zero, suc, Bool, true, false, ◌&&◌, ◌||◌, ◌↔◌, IsTrue, cond, leb, ltb, List, [], get_or, length, refl, sym, ap, arith}
 use Rattle.std.specs.declared.ops.Bound.TheVariants.{Included}
 use Rattle.std.proofs.Math.ListN.{replicate, set}
@@ -11,31 +11,31 @@ use Rattle.range_set_blaze.specs.Set.{Adds, between}
 use Rattle.rsb_parser.specs.declared.command.Command.TheVariants.{Add}
 use Rattle.rsb_commands.specs.Interpreter.{IsReply, flag, no_members, put, sets_after, sets_of}
 
--- ---- sets that have no run
+-- ---- sets without runs
 
--- the list of no runs
+-- The empty list of runs.
 abbrev no_runs : List Interval
 no_runs = []
 
--- each slot of sets without runs has none
+-- If no set of a list has runs, each slot has none.
 empty_at : (n slot : ℕ) → get_or (replicate n no_runs) slot no_runs ≡ no_runs
 empty_at zero slot = refl
 empty_at (suc n) zero = refl
 empty_at (suc n) (suc slot) = empty_at n slot
 
--- sets without runs have no members
+-- Sets without runs have no members.
 pub sets_of-empty : (n : ℕ) → sets_of (replicate n []) ≡ no_members
 sets_of-empty n = λ i slot rank. members (empty_at n slot i) rank
 
 -- ---- one set put in the place of another
 
--- in the slot the sets have the put members, and in each other slot what they had
+-- The slot has the new members, and each other slot has those that it had.
 set_at : (kept : List (List Interval)) (slot at rank : ℕ) (runs : List Interval)
     (selected : Selection) → slot < length kept → ((at : ℕ) → members runs at ≡ selected at)
     → sets_of (set kept slot runs) at rank ≡ cond (at == slot) selected (sets_of kept at) rank
 set_at kept slot at rank runs selected within same = go (at == slot) refl
   where
-    -- the same, by whether it is that slot
+    -- The same, by whether `at` is that slot.
     go : (here : Bool) → (at == slot) ≡ here
         → members (get_or (set kept slot runs) at []) rank
         ≡ cond here selected (sets_of kept at) rank
@@ -47,7 +47,7 @@ set_at kept slot at rank runs selected within same = go (at == slot) refl
         ap (λ found. members found rank)
         (get_or-set_other kept slot at runs [] (λ this. absurd (eqb-false at slot is this)))
 
--- runs that are put in a slot are a set that is put there
+-- Putting the runs of a set in a slot puts the set there.
 pub sets_of-put : (kept : List (List Interval)) (slot : ℕ) (runs : List Interval)
     (selected : Selection) → slot < length kept → ((at : ℕ) → members runs at ≡ selected at)
     → sets_of (set kept slot runs) ≡ put (sets_of kept) slot selected
@@ -58,19 +58,19 @@ sets_of-put kept slot runs selected within same =
 -- ---- one set with the ranks from one value to another added
 
 module _ {T : Type 0} (rank : T → ℕ) (value_count : ℕ) (first last : T) where
-  -- the ranks between the bounds that an inclusive range has
+  -- The ranks between the bounds of an inclusive range.
   abbrev pub within_bounds : Selection
   within_bounds = between rank value_count (Included first) (Included last)
 
-  -- they are the ranks from the one value to the other
+  -- These are the ranks from `first` to `last`.
   same_between : (at : ℕ) → within_bounds at ≡ covers (from_to (rank first) (rank last)) at
   same_between at = ap (λ below. leb (rank first) at && below) (below_next at (rank last))
     where
-      -- less than one more is at most
+      -- A number is less than `b + 1` if and only if it is at most `b`.
       below_next : (a b : ℕ) → ltb a (b + 1) ≡ leb a b
       below_next a b = grind (arith, nat_tests)
 
-  -- where those ranks were added to one of the sets, the sets are those after the command
+  -- If those ranks were added to one of the sets, the sets are those after the command.
   pub sets_after-added : (kept : List (List Interval)) (slot : ℕ) (old new : List Interval)
       → slot < length kept → old ≡ get_or kept slot [] → Adds old new within_bounds
       → sets_of (set kept slot new)
@@ -81,7 +81,7 @@ module _ {T : Type 0} (rank : T → ℕ) (value_count : ℕ) (first last : T) wh
       (λ at. added at ∙ ap (λ runs. members runs at || within_bounds at) is
       ∙ ap (λ more. members (get_or kept slot []) at || more) (same_between at))
 
-  -- where the answer tells whether a rank was lacking, it is the reply to the command
+  -- A flag that says whether the set lacked one of those ranks is the reply to the command.
   pub reply-added : (kept : List (List Interval)) (slot : ℕ) (old : List Interval) (added : Bool)
       → old ≡ get_or kept slot [] → IsTrue added ↔ LacksSome (members old) within_bounds
       → IsReply rank value_count (sets_of kept) (Add slot first last) (flag added)

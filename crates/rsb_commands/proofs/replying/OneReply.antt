@@ -1,4 +1,4 @@
--- Commands have one list of replies, and the first commands have the first replies.
+-- Commands have at most one list of replies, and the first commands have the first replies.
 use Rattle.std.proofs.Common.{◌≡◌, ◌∙◌, ◌↔◌, ℕ, zero, suc, Bool, true, false, ◌<◌, IsTrue, List, [], ◌∷◌, take, refl, sym, ap}
 use Rattle.std.specs.declared.ops.RangeInclusive.{RangeInclusive}
 use Rattle.rsb_integer.specs.Rank.{intervals_of}
@@ -12,7 +12,7 @@ use Rattle.rsb_parser.specs.declared.command.Command.TheVariants.{Add, Del, Has,
 use Rattle.rsb_commands.specs.Interpreter.{Content, flag, number, order, piece, ranges, runs, Sets, most_of, sets_after, IsReply, AreRepliesFrom}
 use Rattle.rsb_commands.proofs.replying.OneRun.{one_many, one_piece}
 
--- two answers to one question are equal
+-- Two flags that say whether the same fact holds are equal.
 same_answer : (left right : Bool) (Fact : Type 0) → IsTrue left ↔ Fact → IsTrue right ↔ Fact
     → left ≡ right
 same_answer true true Fact l r = refl
@@ -22,7 +22,7 @@ same_answer false false Fact l r = refl
 
 module _ {T : Type 0} (rank : T → ℕ) (value_count : ℕ)
     (one_place : (x y : T) → rank x < value_count → rank x ≡ rank y → x ≡ y) where
-  -- a set has one list of ranges
+  -- A set has at most one list of ranges.
   one_ranges : (set : Selection) (left right : List (RangeInclusive T))
       → AreRuns value_count set (intervals_of rank left)
       → AreRuns value_count set (intervals_of rank right) → left ≡ right
@@ -32,7 +32,7 @@ module _ {T : Type 0} (rank : T → ℕ) (value_count : ℕ)
       are also (λ at below. refl) in
       same_ranges rank value_count one_place 0 left right canonical.0 canonical.1 same
 
-  -- a command has one reply
+  -- A command has at most one reply.
   one_reply : (sets : Sets) (command : Command T) (left right : Content T)
       → IsReply rank value_count sets command left → IsReply rank value_count sets command right
       → left ≡ right
@@ -80,7 +80,7 @@ module _ {T : Type 0} (rank : T → ℕ) (value_count : ℕ)
   one_reply sets (Compare left right) (order l) _ is also = absurd also
   one_reply sets _ _ _ is also = absurd is
 
-  -- commands have one list of replies
+  -- Commands have at most one list of replies.
   pub replies_unique : (sets : Sets) (commands : List (Command T)) (left right : List (Content T))
       → AreRepliesFrom rank value_count sets commands left
       → AreRepliesFrom rank value_count sets commands right → left ≡ right
@@ -94,7 +94,7 @@ module _ {T : Type 0} (rank : T → ℕ) (value_count : ℕ)
       let others = replies_unique (sets_after rank value_count sets c) cs ls rs are.1 also.1 in
       λ i. first i ∷ others i
 
--- the first commands have the first replies
+-- The first commands have the first replies.
 pub replies-take : {T : Type 0} (rank : T → ℕ) (value_count : ℕ) (sets : Sets) (n : ℕ)
     (commands : List (Command T)) (replies : List (Content T))
     → AreRepliesFrom rank value_count sets commands replies

@@ -1,5 +1,5 @@
--- A rank lies in one run or gap, which one first and one last value tell, and a set has one number
--- of runs.
+-- A rank lies in only one run or gap, with one first and one last value. A set has one number of
+-- runs.
 use Rattle.std.proofs.Common.{◌≡◌, ◌∙◌, ℕ, Bool, ◌+◌, ◌-◌, ◌<◌, IsTrue, IsFalse, length, refl, sym, ap, subst, arith}
 use Rattle.rsb_integer.specs.Runs.{Interval, from_to}
 use Rattle.rsb_integer.specs.Selection.{Selection, complement}
@@ -8,13 +8,13 @@ use Rattle.rsb_integer.proofs.RunsLemmas.{runs-same}
 use Rattle.range_set_blaze.specs.Set.{IsRunAround}
 use Rattle.rsb_commands.specs.Interpreter.{piece, whichever, HasRuns, IsPieceAround}
 
--- nothing is both
+-- No flag is both true and false.
 not_both : (is : Bool) → IsTrue is → IsFalse is → ⊥
 not_both is has lacks = absurd cc
 
 module _ (n : ℕ) (selected : Selection) (rank : ℕ) (run other : Interval)
     (around : IsRunAround n selected rank run) (also : IsRunAround n selected rank other) where
-  -- the other run around the rank starts no later
+  -- The other run around the rank starts no later.
   starts_no_later : ¬ (run.first < other.first)
   starts_no_later later =
       let bounds = covers-bounds run rank around.around in
@@ -25,7 +25,7 @@ module _ (n : ℕ) (selected : Selection) (rank : ℕ) (run other : Interval)
       (omega (arith, later, bounds.1, other_bounds.0))))
       (also.maximal.begins_here (omega (arith, later)))
 
-  -- nor does it go on further
+  -- The other run around the rank ends no later.
   ends_no_later : ¬ (run.last < other.last)
   ends_no_later later =
       let bounds = covers-bounds run rank around.around in
@@ -38,7 +38,7 @@ module _ (n : ℕ) (selected : Selection) (rank : ℕ) (run other : Interval)
 
 module _ {T : Type 0} (rank : T → ℕ) (value_count : ℕ)
     (one_place : (x y : T) → rank x < value_count → rank x ≡ rank y → x ≡ y) where
-  -- there is one run or gap around a rank, with one first and one last value
+  -- There is only one run or gap around a rank, with one first and one last value.
   pub one_piece : (set : Selection) (at : ℕ) (first last start end : T) (present other : Bool)
       → IsPieceAround rank value_count set at first last present
       → IsPieceAround rank value_count set at start end other
@@ -62,7 +62,7 @@ module _ {T : Type 0} (rank : T → ℕ) (value_count : ℕ)
       (omega (arith, no_further, no_less)) in
       λ i. piece (first_same i) (last_same i) (sym same i)
 
-  -- a set has one number of runs
+  -- A set has only one number of runs.
   pub one_many : (set : Selection) (many more : ℕ) → HasRuns rank value_count set many
       → HasRuns rank value_count set more → many ≡ more
   one_many set many more is also =

@@ -20,22 +20,22 @@ use Rattle.rsb_commands.specs.Interpreter.{Content, flag, number, order, piece, 
 
 -- ---- whether a set lacks some ranks
 
--- an answer to whether the fact holds
+-- The answer to the question whether the fact holds.
 record Answered (Fact : Type 0) : Type 0 where
   answer : Bool
   is : IsTrue answer ↔ Fact
 
--- the set lacks some of the ranks below m
+-- Whether the set lacks some of the wanted ranks below m.
 abbrev LacksBelow : Selection → Selection → ℕ → Type 0
 LacksBelow set wanted m = (rank : ℕ) × (rank < m) × IsTrue (wanted rank) × IsFalse (set rank)
 
--- of two tests that pass both do
+-- If `a && not b` is true, `a` is true and `b` is false.
 both-pass : (a b : Bool) → (a && not b) ≡ true → (a ≡ true) × (b ≡ false)
 both-pass true true both = absurd cc
 both-pass true false both = (refl, refl)
 both-pass false b both = absurd cc
 
--- whether it does
+-- The answer to the question whether the set lacks some of the wanted ranks below m.
 lacks_below : (set wanted : Selection) (m : ℕ) → Answered (LacksBelow set wanted m)
 lacks_below set wanted zero =
     record { answer = false; is = ((λ yes. absurd cc), (λ lacks. absurd (omega (arith, lacks.1)))) }
@@ -59,7 +59,7 @@ lacks_below set wanted (suc m) = elim (true_or_false (wanted m && not (set m))) 
       }
 ]
   where
-    -- what is lacking below the next rank, and not there, is lacking below
+    -- If a wanted rank below `m + 1` is lacking, but not `m`, one below `m` is lacking.
     within : (m : ℕ) → (wanted m && not (set m)) ≡ false → LacksBelow set wanted (suc m)
         → LacksBelow set wanted m
     within m has lacks = elim (cases_lt lacks.0 m) [
@@ -73,7 +73,7 @@ module _ {T : Type 0} (rank : T → ℕ) (n : ℕ) (value_at : ℕ → T)
     (ranks : (place : ℕ) → place < n → rank (value_at place) ≡ place) where
   -- ---- values at the ends of runs
 
-  -- the values at the ends of a maximal run are its ends
+  -- The values at the ends of a maximal run have the ranks of its ends.
   ends_at : (set : Selection) (run : Interval) → IsMaximalRun n set run
       → from_to (rank (value_at run.first)) (rank (value_at run.last)) ≡ run
   ends_at set run maximal =
@@ -83,7 +83,7 @@ module _ {T : Type 0} (rank : T → ℕ) (n : ℕ) (value_at : ℕ → T)
       let last = ranks run.last below in
       λ i. record { first = first i; last = last i }
 
-  -- the range of values of an interval
+  -- The range of values of an interval.
   abbrev range_of : Interval → RangeInclusive T
   range_of run = record {
     start = value_at run.first;
@@ -91,7 +91,7 @@ module _ {T : Type 0} (rank : T → ℕ) (n : ℕ) (value_at : ℕ → T)
     exhausted = false;
   }
 
-  -- the ranges of maximal runs have these intervals
+  -- The intervals of the ranges of maximal runs are those runs.
   intervals_at : (set : Selection) (all : List Interval) → All (IsMaximalRun n set) all
       → intervals_of rank (map range_of all) ≡ all
   intervals_at set [] maximal = refl
@@ -102,7 +102,7 @@ module _ {T : Type 0} (rank : T → ℕ) (n : ℕ) (value_at : ℕ → T)
 
   -- ---- a reply of each kind
 
-  -- one that tells the ranges of a set
+  -- Every set has a list of ranges to reply with.
   ranges_exist : (set : Selection)
       → (all : List (RangeInclusive T)) × AreRuns n set (intervals_of rank all)
   ranges_exist set =
@@ -111,13 +111,13 @@ module _ {T : Type 0} (rank : T → ℕ) (n : ℕ) (value_at : ℕ → T)
         subst (AreRuns n set) (sym (intervals_at set found.0 found.1.maximal)) found.1,
       )
 
-  -- one that tells how many runs a set has
+  -- Every set has a reply that gives the number of its runs.
   many_exist : (set : Selection) → (reply : Content T) × IsRunsReply rank n set reply
   many_exist set =
       let found = runs-exist n set in
       (runs (length found.0), record { all = found.0; are = found.1; counted = refl })
 
-  -- one that tells the run or the gap that a rank lies in
+  -- Every rank of the type has a reply that gives the run or the gap that it lies in.
   piece_exists : (set : Selection) (at : ℕ) → at < n
       → (reply : Content T) × IsPieceReply rank n set at reply
   piece_exists set at below =
@@ -133,13 +133,13 @@ module _ {T : Type 0} (rank : T → ℕ) (n : ℕ) (value_at : ℕ → T)
         },
       )
     where
-      -- whether the set has the rank or not, what is asked about has it
+      -- The set has the rank, or else its complement does.
       is_here : (present : Bool) → set at ≡ present → whichever present set (complement set) at
           ≡ true
       is_here true has = has
       is_here false lacks = ap not lacks
 
-  -- one that tells whether a set lacks some of the ranks from one value to another
+  -- There is a flag that says whether a set lacks some of the ranks from one value to another.
   flag_exists : (set : Selection) (first last : T)
       → Answered (LacksSome set (covers (from_to (rank first) (rank last))))
   flag_exists set first last =
@@ -157,7 +157,7 @@ module _ {T : Type 0} (rank : T → ℕ) (n : ℕ) (value_at : ℕ → T)
 
   -- ---- a command, and commands
 
-  -- a command that names values has a reply
+  -- A command that names values has a reply.
   reply_exists : (sets : Sets) (command : Command T) → NamesValues rank n command
       → (reply : Content T) × IsReply rank n sets command reply
   reply_exists sets (Add slot first last) values =
@@ -181,7 +181,7 @@ module _ {T : Type 0} (rank : T → ℕ) (n : ℕ) (value_at : ℕ → T)
   reply_exists sets (Compare left right) values =
       (order (order_of n (sets left) (sets right)), order-holds n (sets left) (sets right))
 
-  -- commands that name values have replies
+  -- Commands that name values have replies.
   pub replies_exist : (sets : Sets) (commands : List (Command T))
       → All (NamesValues rank n) commands
       → (replies : List (Content T)) × AreRepliesFrom rank n sets commands replies

@@ -13,18 +13,18 @@ use Rattle.rsb_parser.specs.declared.command.Command.TheVariants.{Add, Del, Has,
 use Rattle.rsb_parser.specs.Spelling.{Argument, slot, number, IsArgument, Spells, line_of}
 use Rattle.rsb_commands.specs.Interpreter.{NamesValues}
 
--- a number of 32 bits has a rank below their number
+-- The rank of a number that fits 32 bits is below 2 ^ 32.
 rank-fits : (z : ℤ) → FitsSigned w32 z → signed_rank w32 z < 2 ^ 32
 rank-fits (pos m) fits = grind (arith, ints, nat_tests)
 rank-fits (negsuc m) fits = grind (arith, ints, nat_tests)
 
--- the numbers among the arguments have such ranks
+-- Whether the numbers among the arguments have such ranks.
 abbrev AreValues : List Argument → Type 0
 AreValues [] = ⊤
 AreValues (slot n ∷ others) = AreValues others
 AreValues (number z ∷ others) = (signed_rank w32 z < 2 ^ 32) × AreValues others
 
--- so have those that words stand for
+-- The arguments that words stand for have such ranks.
 values_of : (words : List (List ℕ)) (arguments : List Argument)
     → AllZip IsArgument words arguments → AreValues arguments
 values_of words [] stand = tt
@@ -34,13 +34,13 @@ values_of (word ∷ words) (slot n ∷ others) stand = values_of words others st
 values_of (word ∷ words) (number z ∷ others) stand =
     (rank-fits z stand.0.fits, values_of words others stand.1)
 
--- the command of a line names values
+-- The command of a line names values.
 line_values : (words : List (List ℕ)) (command : Command ℤ) → Spells words command
     → NamesValues (signed_rank w32) (2 ^ 32) command
 line_values words command spells =
     go command (values_of spells.arguments (line_of command).arguments spells.stand_for)
   where
-    -- the same, of its arguments
+    -- The same, by the arguments of the command.
     go : (command : Command ℤ) → AreValues (line_of command).arguments
         → NamesValues (signed_rank w32) (2 ^ 32) command
     go (Add n first last) values = (values.0, values.1.0)
@@ -57,7 +57,7 @@ line_values words command spells =
     go (Most target a b c) values = tt
     go (Compare left right) values = tt
 
--- the commands of lines name values
+-- The commands of lines name values.
 pub spelled_values : (lines : List (List (List ℕ))) (commands : List (Command ℤ))
     → AllZip Spells lines commands → All (NamesValues (signed_rank w32) (2 ^ 32)) commands
 spelled_values [] [] spelled = All-nil (NamesValues (signed_rank w32) (2 ^ 32))

@@ -1,11 +1,11 @@
--- What several calls of a text's `write_str` append.
+-- What several calls of `write_str` append to a text.
 use Rattle.std.proofs.Common.{◌≡◌, ◌∙◌, ℕ, List, [], ◌∷◌, ◌++◌, sym, ap, subst, append_assoc}
 use Rattle.std.proofs.lemmas.List.{append-nil}
 use Rattle.std.specs.Fmt.{WritesInCalls}
 use Rattle.std.specs.List.{FoldsTo, concat}
 use Rattle.arrayvec.specs.ArrayString.{ArrayString}
 
--- one call appends what it is given
+-- Whether one call appends what it is given.
 abbrev pub Takes : ArrayString → List ℕ → ArrayString → Type 0
 Takes old part new = new.bytes ≡ old.bytes ++ part
 
@@ -17,7 +17,7 @@ appended_by_calls old (part ∷ parts) new calls = appended_by_calls calls.0 par
     ∙ ap (λ bytes. bytes ++ concat parts) calls.1
     ∙ append_assoc old.bytes part (concat parts)
 
--- calls that wrote a text appended it
+-- Calls that write a text append it.
 pub appended : (old : ArrayString) (text : List ℕ) (new : ArrayString)
     → WritesInCalls Takes old text new → Takes old text new
 appended old text new wrote = subst (λ whole. Takes old whole new) wrote.whole

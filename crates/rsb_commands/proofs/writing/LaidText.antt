@@ -15,7 +15,7 @@ use Rattle.rsb_commands.proofs.writing.Appended.{Appends-nothing, Appends-then}
 
 -- ---- texts cut short
 
--- a text cut short, with known bytes before it and more text after it
+-- If `front` was written and then `cut` was cut short, a text that begins with both was cut short.
 short_of_text : (old mid new : Option (List ℕ)) (front cut more text : List ℕ)
     → text ≡ front ++ (cut ++ more) → Appends old mid front → AppendsShortOf mid new cut
     → AppendsShortOf old new text
@@ -38,7 +38,7 @@ short_of_text old mid new front cut more text parts whole short =
       written = Appends-then old mid new front short.front whole short.written;
     }
 
--- a text cut short, before more text
+-- If a text was cut short, so was the text with more text after it.
 pub short_and_more : (old new : Option (List ℕ)) (text more : List ℕ)
     → AppendsShortOf old new text → AppendsShortOf old new (text ++ more)
 short_and_more old new text more short =
@@ -47,7 +47,7 @@ short_and_more old new text more short =
 -- ---- texts laid on a page
 
 module _ {W : Type 0} (contents : W → Option (List ℕ)) where
-  -- nothing was laid
+  -- If nothing changes, an empty text was laid.
   pub lays-nothing : (page : Page W) → Lays contents page page (Ok tt) []
   lays-nothing page = record {
     same_output = refl;
@@ -58,7 +58,7 @@ module _ {W : Type 0} (contents : W → Option (List ℕ)) where
     };
   }
 
-  -- a text was laid, and then the next one was cut short, with more text after it
+  -- If `first` was laid and then `next` was cut short, a text that begins with both was cut short.
   laid-short : (old mid new : Page W) (first next more text : List ℕ)
       → text ≡ first ++ (next ++ more) → Laid contents old mid first
       → AppendsShortOf (sent contents mid) (sent contents new) (waiting mid ++ next)
@@ -74,7 +74,7 @@ module _ {W : Type 0} (contents : W → Option (List ℕ)) where
       ∙ ap (λ v. laid.front ++ v) (sym (append_assoc between next more)))
       laid.written short
 
-  -- a text was laid, and then the last one, or that one was cut short
+  -- If `first` was laid, and `last` was then laid or cut short, so was the text of both.
   pub lays-then : (old mid new : Page W) (result : Result (Unit {0}) Fault)
       (first last text : List ℕ) → text ≡ first ++ last → Lays contents old mid (Ok tt) first
       → Lays contents mid new result last → Lays contents old new result text
@@ -101,7 +101,7 @@ module _ {W : Type 0} (contents : W → Option (List ℕ)) where
         laid = (other.laid.0, laid-short old mid new first last [] text all one.laid other.laid.1);
       }
 
-  -- the exit after a text that was cut short, with more text after it
+  -- If a call fails because a part of the text was cut short, the whole text was cut short.
   pub lays-cut : (old mid new : Page W) (result : Result (Unit {0}) Fault) (fault : Fault)
       (first next more text : List ℕ) → IsErrAnd result (λ other. other ≡ fault)
       → text ≡ first ++ (next ++ more) → Lays contents old mid (Ok tt) first
@@ -116,7 +116,7 @@ module _ {W : Type 0} (contents : W → Option (List ℕ)) where
     );
   }
 
-  -- nothing waited and nothing waits, so all of the text was written
+  -- If nothing waited before and nothing waits now, all of the text was written.
   pub lays-all : (old new : Page W) (text : List ℕ) → waiting old ≡ [] → waiting new ≡ []
       → Lays contents old new (Ok tt) text
       → Appends (sent contents old) (sent contents new) text
@@ -126,7 +126,7 @@ module _ {W : Type 0} (contents : W → Option (List ℕ)) where
       ∙ ap (λ v. lays.laid.front ++ v) ended ∙ append-nil lays.laid.front))
       lays.laid.written
 
-  -- nothing waited, so less than the text was written
+  -- If nothing waited before and a write failed, less than the text was written.
   pub lays-short : (old new : Page W) (fault : Fault) (text : List ℕ) → waiting old ≡ []
       → Lays contents old new (Err fault) text
       → AppendsShortOf (sent contents old) (sent contents new) text
@@ -134,9 +134,10 @@ module _ {W : Type 0} (contents : W → Option (List ℕ)) where
       subst (λ before. AppendsShortOf (sent contents old) (sent contents new) (before ++ text))
       begun lays.laid.1
 
--- ---- the texts of things
+-- ---- the texts of items
 
--- the texts of things, one after the other, around that of the thing with index i
+-- The texts of all items are those before the item at `i`, then the text of that item, then the
+-- others.
 pub items_cut : {A : Type 0} (text_of : A → List ℕ) (xs : List A) (i : ℕ) (default : A)
     → i < length xs → flat_map text_of xs ≡ flat_map text_of (take i xs)
     ++ (text_of (get_or xs i default) ++ flat_map text_of (drop (suc i) xs))
@@ -149,7 +150,7 @@ items_cut text_of xs i default within =
     ∙ flat_map-append text_of before (x ∷ after)
     ∙ ap (λ t. flat_map text_of before ++ t) (flat_map-cons text_of x after)
 
--- the texts of the first things, and of one more
+-- The texts of the first `i + 1` items are those of the first `i`, then that of the item at `i`.
 pub items_push : {A : Type 0} (text_of : A → List ℕ) (xs : List A) (i : ℕ) (default : A)
     → i < length xs → flat_map text_of (take (i + 1) xs)
     ≡ flat_map text_of (take i xs) ++ text_of (get_or xs i default)

@@ -1,4 +1,4 @@
--- Replies whose text goes out by way of a page, while commands run.
+-- Replies whose text is laid on a page while commands run, and then written.
 use Rattle.std.proofs.Common.{◌≡◌, ◌∙◌, ℕ, ℤ, ◌+◌, ◌^◌, ◌<◌, ◌≤◌, List, [], ◌∷◌, ◌++◌, get_or, length, take, drop, Option, None, Some, Result, Ok, Err, refl, sym, ap, subst, inl, inr, arith}
 use Rattle.std.proofs.lemmas.Grind.{flat_map-append}
 use Rattle.std.proofs.lemmas.List.{append-nil, take_all, take-append-drop}
@@ -28,11 +28,11 @@ use Rattle.rsb_commands.proofs.writing.LaidText.{lays-all, lays-short, lays-then
 
 -- ---- the replies to commands over numbers
 
--- numbers of 32 bits with one rank are one
+-- Numbers of 32 bits with the same rank are the same.
 one_number : (x y : ℤ) → signed_rank w32 x < 2 ^ 32 → signed_rank w32 x ≡ signed_rank w32 y → x ≡ y
 one_number = one_place (signed_rank w32) (2 ^ 32) int_cmp exact_signed (signed-in_order w32)
 
--- replies to the first commands are the first of the replies to all
+-- The replies to the first commands are the first of the replies to all commands.
 first_replies : (commands : List (Command ℤ)) (at : ℕ) (found replies : List (Content ℤ))
     → AreNumberReplies (take at commands) found → AreNumberReplies commands replies
     → found ≡ take at replies
@@ -41,30 +41,31 @@ first_replies commands at found replies are all =
     (take at replies) are
     (replies-take (signed_rank w32) (2 ^ 32) no_members at commands replies all)
 
--- a text is that of its first replies, and of the others
+-- The text of replies is that of the first replies, then that of the others.
 text_parts : (at : ℕ) (replies : List (Content ℤ))
     → text replies ≡ text (take at replies) ++ text (drop at replies)
 text_parts at replies =
     ap text (sym (take-append-drop at replies))
     ∙ flat_map-append line_text (take at replies) (drop at replies)
 
--- where less than the text of the first replies was written, less than the whole text was
+-- If less than the text of the first replies was written, less than the whole text was.
 short_of_all : (old new : Option (List ℕ)) (at : ℕ) (replies : List (Content ℤ))
     → AppendsShortOf old new (text (take at replies)) → AppendsShortOf old new (text replies)
 short_of_all old new at replies cut =
     subst (AppendsShortOf old new) (sym (text_parts at replies))
     (short_and_more old new (text (take at replies)) (text (drop at replies)) cut)
 
--- ---- replies that are laid down as commands run
+-- ---- replies that are laid on a page while commands run
 
--- the commands before the place `at` have replies, of which the text was laid, and leave these sets
+-- Whether the commands before the place `at` have replies, whose text was laid, and leave these
+-- sets.
 pub record HasReplied {W : Type 0} (contents : W → Option (List ℕ)) (commands : List (Command ℤ))
     (at : ℕ) (kept : List (List Interval)) (old new : Page W) : Type 0 where
   pub replies : List (Content ℤ)
   pub run : HasRun (signed_rank w32) (2 ^ 32) commands at replies kept
   pub laid : Lays contents old new (Ok tt) (text replies)
 
--- the text of replies and one more
+-- One more reply adds its line to the text.
 text-push : (replies : List (Content ℤ)) (reply : Content ℤ)
     → text (replies ++ reply ∷ []) ≡ text replies ++ line_text reply
 text-push replies reply =
@@ -74,7 +75,7 @@ text-push replies reply =
 module _ {W : Type 0} (contents : W → Option (List ℕ)) (commands : List (Command ℤ)) (at : ℕ)
     (kept : List (List Interval)) (old page : Page W)
     (before : HasReplied contents commands at kept old page) where
-  -- one command more, of which the reply was laid
+  -- If one more command runs and its reply is laid, the replies so far include it.
   pub replied_more : (command : Command ℤ) (reply : Content ℤ) (next : List (List Interval))
       (new : Page W) → at < length commands → command ≡ get_or commands at command
       → IsReply (signed_rank w32) (2 ^ 32) (sets_of kept) command reply
@@ -89,14 +90,14 @@ module _ {W : Type 0} (contents : W → Option (List ℕ)) (commands : List (Com
         (text (before.replies ++ reply ∷ [])) (text-push before.replies reply) before.laid laid;
   }
 
-  -- what waits was written, or less was
+  -- After what waits is sent, the text of the replies so far was laid, or it was cut short.
   after_sending : (new : Page W) (result : Result (Unit {0}) Fault)
       → Lays contents page new result [] → Lays contents old new result (text before.replies)
   after_sending new result laid =
       lays-then contents old page new result (text before.replies) [] (text before.replies)
       (sym (append-nil (text before.replies))) before.laid laid
 
-  -- what waits was written, and there is no command more
+  -- If what waits was written and no command is left, the text of all replies was written.
   pub replied_all : (new : Page W) (result : Result (Unit {0}) Fault) → waiting old ≡ []
       → length commands ≤ at → Lays contents page new result []
       → OnOk result (waiting new ≡ [])
@@ -112,11 +113,11 @@ module _ {W : Type 0} (contents : W → Option (List ℕ)) (commands : List (Com
 
   module _ (begun : waiting old ≡ []) (replies : List (Content ℤ))
       (all : AreNumberReplies commands replies) where
-    -- the replies so far are the first of all
+    -- The replies so far are the first of all replies.
     are_first : before.replies ≡ take at replies
     are_first = first_replies commands at before.replies replies before.run.replied all
 
-    -- one command more, of which the reply was cut short
+    -- If one more command runs and its reply is cut short, so is the text of all replies.
     pub replied_short : (command : Command ℤ) (reply : Content ℤ) (next : List (List Interval))
         (new : Page W) (fault : Fault) → at < length commands
         → command ≡ get_or commands at command
@@ -135,7 +136,8 @@ module _ {W : Type 0} (contents : W → Option (List ℕ)) (commands : List (Com
         (subst (λ found. AppendsShortOf (sent contents old) (sent contents new) (text found)) first
         (lays-short contents old new fault (text more) begun cut))
 
-    -- what waits was written, and the next command found no memory
+    -- If allocation fails in the next command and what waits is written, the replies before it are
+    -- written.
     pub replied_front : (command : Command ℤ) (new : Page W) → at < length commands
         → command ≡ get_or commands at command → MayTakeMemory command
         → Lays contents page new (Ok tt) [] → waiting new ≡ []
@@ -151,7 +153,7 @@ module _ {W : Type 0} (contents : W → Option (List ℕ)) (commands : List (Com
               (after_sending new (Ok tt) laid));
         }
 
-    -- not all that waits was written
+    -- If not all that waits was written, less than the text of all replies was.
     pub replied_part : (new : Page W) (fault : Fault) → Lays contents page new (Err fault) []
         → AppendsShortOf (sent contents old) (sent contents new) (text replies)
     replied_part new fault laid =
@@ -160,15 +162,15 @@ module _ {W : Type 0} (contents : W → Option (List ℕ)) (commands : List (Com
         are_first (lays-short contents old new fault (text before.replies) begun
         (after_sending new (Err fault) laid)))
 
--- no command was run
+-- If allocation fails before the first command, nothing is written.
 pub replied_none : (commands : List (Command ℤ)) (replies : List (Content ℤ))
     (known : Option (List ℕ)) → StopsForMemory commands replies known known
 replied_none commands replies known =
     record { at = 0; took_memory = inl refl; written = Appends-nothing known }
 
--- ---- texts that were not begun
+-- ---- texts of which nothing was written
 
--- nothing of a text is a part cut short, or all of an empty one
+-- If nothing of a text was written, the text was cut short, or it is empty.
 cut_at_once : (known : Option (List ℕ)) (all : List ℕ) → CutsShort known known all
 cut_at_once known [] = inr (refl, Keeps-itself known)
 cut_at_once known (byte ∷ bytes) = inl (record {
@@ -178,7 +180,7 @@ cut_at_once known (byte ∷ bytes) = inl (record {
   written = Appends-nothing known;
 })
 
--- so before the first reply
+-- If nothing was written, less than the text of the replies was written, or that text is empty.
 pub cut_before_all : (known written : Option (List ℕ)) → WrotePartOfReplies known written written
 cut_before_all None written = tt
 cut_before_all (Some input) written =

@@ -1,4 +1,4 @@
-//! `char` as an element type of 1112064 values, with lengths in `u32`.
+//! `char` as an element type of 1,112,064 values, with lengths in `u32`.
 
 ghost use Rattle.std.proofs.Common.{lit<, lit≤};
 ghost use Rattle.std.proofs.lemmas.Map.Lookups.{exact_unsigned};

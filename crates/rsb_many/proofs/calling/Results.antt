@@ -1,5 +1,5 @@
--- What a caller of operations on any number of streams needs: their results on lists that are
--- known, and on none, and how few ranges the first answer of a union draws.
+-- What callers of operations on many streams need: results for known lists and for no streams, and
+-- how few ranges a union draws first.
 use Rattle.std.proofs.Common.{◌≡◌, ℕ, ◌+◌, ◌-◌, ◌<◌, List, [], ◌∷◌, ◌++◌, length, map, refl, subst, append_assoc, arith}
 use Rattle.std.proofs.lemmas.List.{length-append}
 use Rattle.std.proofs.lemmas.List.Elements.{All-cons, All-nil}
@@ -21,9 +21,9 @@ use Rattle.rsb_many.specs.Many.{may_give_at, runs_by_all, IsBegun, OneOfEach}
 use Rattle.rsb_many.specs.MultiwayUnion.{multiway_union, multiway_union_inputs}
 use Rattle.rsb_many.specs.declared.operation_results.multiway_union.MultiwayUnion.{MultiwayUnion}
 
--- ---- lists that are known
+-- ---- known lists
 
--- a list is the runs of a set where that does not fail
+-- A list is the runs of a set if the contrary is excluded.
 pub settled_runs : (n : ℕ) (selected : Selection) (runs : List Interval)
     → ¬ (¬ (AreRuns n selected runs)) → AreRuns n selected runs
 settled_runs n selected runs holds =
@@ -33,7 +33,7 @@ settled_runs n selected runs holds =
     settled-same (members runs rank) (selected rank)
     (λ fails. holds (λ all. fails (runs-members n selected runs all rank below))))
 
--- each stream gives nothing but the list at its place
+-- Whether each stream gives only the list at its place.
 abbrev pub GiveThese : {S : Type 0} → (S → Outcomes) → List S → List (List Interval) → Type 0
 GiveThese may_give [] [] = Unit {0}
 GiveThese may_give [] (runs ∷ lists) = ⊥
@@ -41,7 +41,7 @@ GiveThese may_give (stream ∷ streams) [] = ⊥
 GiveThese may_give (stream ∷ streams) (runs ∷ lists) =
     (may_give stream ⊆ just runs) × GiveThese may_give streams lists
 
--- so these lists are what they give
+-- So these lists are what the streams give.
 pub these-given : {S : Type 0} (may_give : S → Outcomes) (streams : List S)
     (lists others : List (List Interval)) → GiveThese may_give streams lists
     → OneOfEach (length streams) (may_give_at may_give streams) others → others ≡ lists
@@ -55,7 +55,7 @@ these-given may_give (stream ∷ streams) (runs ∷ lists) (given ∷ others) th
     let rest = these-given may_give streams lists others these.1 each.1 in
     λ i. first i ∷ rest i
 
--- the runs of a set made of known lists
+-- The result for known lists is the runs of the set that the operation makes of them.
 pub runs_by_all-these : {S : Type 0} (n : ℕ) (operation : List Selection → Selection)
     (may_give : S → Outcomes) (streams : List S) (lists : List (List Interval))
     → GiveThese may_give streams lists
@@ -68,19 +68,19 @@ runs_by_all-these n operation may_give streams lists these runs may =
 
 -- ---- no streams
 
--- the runs of a set made of no streams
+-- The result for no streams is the runs of the set that the operation makes of no sets.
 runs_by_all-none : (n : ℕ) (operation : List Selection → Selection) (may_give : ℕ → Outcomes)
     → runs_by_all n operation 0 may_give ⊆ AreRuns n (operation [])
 runs_by_all-none n operation may_give runs may = settled_runs n (operation []) runs (λ fails.
     may (λ lists each all. fails (of-none lists each all)))
   where
-    -- no streams give no lists
+    -- If there are no streams, there are no lists.
     of-none : (lists : List (List Interval)) → OneOfEach 0 may_give lists
         → AreRuns n (operation (map members lists)) runs → AreRuns n (operation []) runs
     of-none [] each all = all
     of-none (given ∷ lists) each all = absurd each
 
--- where nothing lies in a set made of none, it has no runs
+-- If the operation makes an empty set of no sets, the result for no streams has no runs.
 pub runs_by_all-nothing : (n : ℕ) (operation : List Selection → Selection)
     (may_give : ℕ → Outcomes) → ((rank : ℕ) → operation [] rank ≡ members [] rank)
     → runs_by_all n operation 0 may_give ⊆ just []
@@ -89,12 +89,12 @@ runs_by_all-nothing n operation may_give nothing runs may =
     (runs-from_canonical n (members []) [] tt (All-nil (λ (run : Interval). run.last < n))
     (λ rank below. refl)) (λ rank below. nothing rank)
 
--- what lies in some of no streams is nothing
+-- Nothing lies in some of no streams.
 pub any_of-no_streams : (n : ℕ) (may_give : ℕ → Outcomes)
     → runs_by_all n any_of 0 may_give ⊆ just []
 any_of-no_streams n may_give = runs_by_all-nothing n any_of may_give (λ rank. refl)
 
--- what lies in all of no streams is everything
+-- Everything lies in all of no streams.
 pub all_of-no_streams : (n : ℕ) (may_give : ℕ → Outcomes) → 0 < n
     → runs_by_all n all_of 0 may_give ⊆ just (record { first = 0; last = n - 1 } ∷ [])
 all_of-no_streams n may_give some runs may =
@@ -109,7 +109,7 @@ all_of-no_streams n may_give some runs may =
 
 -- ---- an operation after another
 
--- an operation on the result of one on many
+-- An operation on the result of another on many streams is one operation on these streams.
 pub runs_by-after_all : (n count : ℕ) (outer : Selection → Selection)
     (inner : List Selection → Selection) (may_give : ℕ → Outcomes) → Respects n outer
     → runs_by n outer (runs_by_all n inner count may_give)
@@ -123,7 +123,8 @@ runs_by-after_all n count outer inner may_give respects runs may = λ nothing.
 
 -- ---- how far a union looks ahead
 
--- what looks ahead of a stream of which one range was drawn draws few of its ranges, that one too
+-- If at most one range of an input was drawn before a call that looks ahead, few ranges are drawn
+-- in all.
 begun-few : (answer : Interval) (may_give : Outcomes) (before now : Input)
     → IsBegun may_give before → LooksAhead answer before now
     → DrawsFew answer may_give now.undrawn
@@ -142,7 +143,8 @@ begun-few answer may_give before now begun looks =
       few = rw order (rw (length-append looks.used now.held) (omega (arith, one)));
     }
 
--- the first answer of a union of many draws few ranges of each, with those drawn when it was built
+-- The first draw of a union draws few ranges of each stream, including those drawn when it was
+-- built.
 pub first-few_of_all : {T N I A : Type 0} (integer : Elements T N) (stream : Stream I T N)
     (streams : List I) (s t : MultiwayUnion T I A N) (item : Option (RangeInclusive T))
     → ((from place : ℕ) → IsBegun (may_give_at stream.may_give streams place)

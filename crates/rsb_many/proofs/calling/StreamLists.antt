@@ -1,4 +1,4 @@
--- What a caller of operations on a list of streams needs: the operation was on the streams of the
+-- What callers of operations on a list of streams need: the operation was on the streams of the
 -- list.
 use Rattle.std.proofs.Common.{List}
 use Rattle.std.specs.Vec.Iter.{into_iter_steps}
@@ -6,7 +6,7 @@ use Rattle.rsb_streams.specs.Items.{GaveRun}
 use Rattle.rsb_many.proofs.inputs.GivenList.{given-list}
 use Rattle.rsb_many.specs.StreamList.{GivesStreams}
 
--- what holds of the streams that a list gave holds of the list
+-- If a fact holds of the streams that a list gave, it holds of the streams of the list.
 pub given-streams : {I A : Type 0} (can_draw : I → Type 0) (streams : List I) (Fact : List I → Type 0)
     → GaveRun (GivesStreams {I = I} {A = A} can_draw) (into_iter_steps {X = I} {Z = A}) streams Fact
     → Fact streams

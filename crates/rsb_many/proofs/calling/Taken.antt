@@ -1,5 +1,5 @@
--- What a caller of the macros needs: if the streams taken give known lists, the result gives the
--- runs of what the operation selects on these lists.
+-- What callers of the macros need: if the streams taken give known lists, the result gives the runs
+-- of what the operation selects.
 use Rattle.std.proofs.Common.{◌≡◌, ℕ, List, [], ◌∷◌, ◌++◌, map, subst, sym, Vec}
 use Rattle.std.specs.Prelude.{Result, Ok, Err, IfOk, IsOkAnd}
 use Rattle.rsb_integer.specs.Runs.{Interval, members, AreRuns}
@@ -10,7 +10,7 @@ use Rattle.rsb_many.specs.MultiwayResults.{GivesByAll}
 use Rattle.rsb_many.proofs.calling.Results.{runs_by_all-these, GiveThese}
 
 module _ {S : Type 0} (may_give : S → Outcomes) where
-  -- one stream more gives one list more
+  -- If one more stream gives a known list, the streams together give one more list.
   these-append : (streams : List S) (lists : List (List Interval)) (one : S) (runs : List Interval)
       → GiveThese may_give streams lists → may_give one ⊆ just runs
       → GiveThese may_give (streams ++ one ∷ []) (lists ++ runs ∷ [])
@@ -20,12 +20,12 @@ module _ {S : Type 0} (may_give : S → Outcomes) where
   these-append (stream ∷ streams) (first ∷ lists) one runs these gives =
       (these.0, these-append streams lists one runs these.1 gives)
 
-  -- no streams give no lists
+  -- No streams give no lists.
   pub none-known : (streams : List S) → streams ≡ [] → GiveThese may_give streams []
   none-known streams none = subst (λ each. GiveThese may_give each []) (sym none) tt
 
   module _ {Z E : Type 0} where
-    -- the streams taken so far give known lists, and so does one more: all of them do
+    -- If the streams taken so far give known lists, and so does one more, all of them do.
     pub more-known : (taken now : Result (Vec S Z) E) (of : Outcomes) (lists : List (List Interval))
         (runs : List Interval)
         → IfOk now (λ streams. IsOkAnd taken (λ before.
@@ -40,7 +40,8 @@ module _ {S : Type 0} (may_give : S → Outcomes) where
     more-known (Ok before) (Err refused) of lists runs more known these = tt
     more-known (Err before) (Err refused) of lists runs more known these = tt
 
-    -- the result of an operation on the streams taken
+    -- The result of an operation on the streams taken gives the runs of what it selects on the
+    -- known lists.
     pub made-known : (n : ℕ) (operation : List Selection → Selection) (taken : Result (Vec S Z) E)
         (given : Outcomes) (lists : List (List Interval)) (Made : Vec S Z → Type 0)
         → IsOkAnd taken Made → IfOk taken (λ streams. GiveThese may_give streams.items lists)

@@ -1,24 +1,25 @@
--- Lists that ascend: there is one with given elements, and one of any elements that stand apart.
+-- Lists that ascend: given elements have at most one such list, and exactly one if any two of them
+-- are related.
 use Rattle.std.proofs.Common.{◌≡◌, ◌⊎◌, suc, List, [], ◌∷◌, ◌++◌, All, AllPairs, Contains, IsPermutation, refl, sym, subst, inl, inr, arith}
 use Rattle.std.proofs.lemmas.List.Elements.{All-append, All-cons, All-contains, All-head, All-nil, All-tail, All-weaker}
 use Rattle.std.proofs.lemmas.List.Sorted.{All-permutation, IsPermutation-cons, IsPermutation-middle, IsPermutation-refl, IsPermutation-trans}
 use Rattle.rsb_integer.proofs.ListLemmas.{All-both, AllPairs-cons, AllPairs-tail, Contains-cases}
 
 module _ {X : Type 0} (R : X → X → Type 0) where
-  -- the head of a list of which all pairs are related is related to each later item
+  -- If all pairs of a list are related, its head is related to each later item.
   pub AllPairs-head : (x : X) (xs : List X) → AllPairs R (x ∷ xs) → All (R x) xs
   AllPairs-head x xs pairs n d within = pairs 0 (suc n) d (omega arith) (omega arith)
 
-  -- all pairs of the empty list are related
+  -- All pairs of the empty list are related.
   pub AllPairs-nil : AllPairs R []
   AllPairs-nil m n d less within = absurd (omega arith)
 
-  -- all pairs of a list of one item are related
+  -- All pairs of a list of one item are related.
   pub AllPairs-single : (x : X) → AllPairs R (x ∷ [])
   AllPairs-single x m n d less within = absurd (omega arith)
 
-  -- all pairs of two lists put together are related where those of each are, and each item of the
-  -- first is to each of the second
+  -- All pairs of `xs ++ ys` are related if those of each list are, and the items of `xs` are
+  -- related to those of `ys`.
   pub AllPairs-append : (xs ys : List X) → AllPairs R xs → AllPairs R ys
       → All (λ x. All (R x) ys) xs → AllPairs R (xs ++ ys)
   AllPairs-append [] ys left right across = right
@@ -29,10 +30,10 @@ module _ {X : Type 0} (R : X → X → Type 0) where
       (AllPairs-append xs ys (AllPairs-tail R x xs left) right
       (All-tail (λ each. All (R each) ys) x xs across))
 
-  -- ---- there is one list that ascends with given elements
+  -- ---- given elements have at most one list that ascends
 
   module _ (one_way : (x y : X) → R x y → R y x → ⊥) where
-    -- what a list that ascends has, and its head is not, stands in its tail
+    -- If items that come after `y` are among `y ∷ ys`, they are among `ys`.
     later-contains : (y : X) (ys xs : List X) → All (R y) xs → All (Contains (y ∷ ys)) xs
         → All (Contains ys) xs
     later-contains y ys xs above =
@@ -44,7 +45,7 @@ module _ {X : Type 0} (R : X → X → Type 0) where
           | inr later ↦ later
         ]) xs above
 
-    -- lists that ascend with the same elements have the same head
+    -- Lists that ascend and contain each other's heads have the same head.
     same-head : (x y : X) (xs ys : List X) → AllPairs R (x ∷ xs) → AllPairs R (y ∷ ys)
         → Contains (y ∷ ys) x → Contains (x ∷ xs) y → x ≡ y
     same-head x y xs ys left right there back = elim (Contains-cases y ys x there) [
@@ -57,7 +58,7 @@ module _ {X : Type 0} (R : X → X → Type 0) where
       ]
     ]
 
-    -- lists that ascend with the same elements are one list
+    -- Lists that ascend and have the same elements are equal.
     pub ascending-same : (xs ys : List X) → AllPairs R xs → AllPairs R ys → All (Contains ys) xs
         → All (Contains xs) ys → xs ≡ ys
     ascending-same [] [] left right there back = refl
@@ -77,37 +78,37 @@ module _ {X : Type 0} (R : X → X → Type 0) where
         (later-contains x xs ys below (All-tail (Contains (x ∷ xs)) y ys back)) in
         λ i. head i ∷ rest i
 
-  -- ---- elements of which each two stand apart can be put in order
+  -- ---- elements can be put in order if any two of them are apart
 
-  -- one of the two is related to the other
+  -- Whether one of the two elements is related to the other.
   abbrev pub Apart : X → X → Type 0
   Apart x y = R x y ⊎ R y x
 
-  -- each element is related to the next one, and the first one to the list's head
+  -- Whether `x` is related to the head of the list, and each element to the next one.
   abbrev pub IsChainFrom : X → List X → Type 0
   IsChainFrom x [] = Unit {0}
   IsChainFrom x (y ∷ ys) = R x y × IsChainFrom y ys
 
   module _ (through : (x y z : X) → R x y → R y z → R x z) where
-    -- what comes before the head of a list that ascends comes before all of it
+    -- If an element comes before the head of a list that ascends, it comes before all of the list.
     pub before-all : (x y : X) (ys : List X) → R x y → AllPairs R (y ∷ ys) → All (R x) (y ∷ ys)
     before-all x y ys first pairs =
         All-cons (R x) y ys first
         (All-weaker (R y) (R x) (λ z. through x y z first) ys (AllPairs-head y ys pairs))
 
-    -- a list that ascends still does with what comes before its head in front
+    -- A list that ascends still does if an element that comes before its head is put in front.
     pub ascending-cons : (x y : X) (ys : List X) → R x y → AllPairs R (y ∷ ys)
         → AllPairs R (x ∷ y ∷ ys)
     ascending-cons x y ys first pairs =
         AllPairs-cons R x (y ∷ ys) (before-all x y ys first pairs) pairs
 
-    -- a list of which each element is related to the next one ascends
+    -- A list ascends if each element is related to the next one.
     pub ascending-chain : (x : X) (xs : List X) → IsChainFrom x xs → AllPairs R (x ∷ xs)
     ascending-chain x [] chain = AllPairs-single x
     ascending-chain x (y ∷ ys) chain =
         ascending-cons x y ys chain.0 (ascending-chain y ys chain.1)
 
-    -- an element finds its place in a list that ascends
+    -- A list that ascends has a place for an element that is apart from each of its elements.
     ascending-place : (x : X) (ys : List X) → AllPairs R ys → All (Apart x) ys
         → (zs : List X) × IsPermutation (x ∷ ys) zs × AllPairs R zs
     ascending-place x [] pairs apart =
@@ -132,7 +133,7 @@ module _ {X : Type 0} (R : X → X → Type 0) where
           )
     ]
 
-    -- there is a list that ascends with given elements, of which each two stand apart
+    -- There is a list that ascends with the given elements if any two of them are apart.
     pub ascending-some : (xs : List X) → AllPairs Apart xs
         → (zs : List X) × IsPermutation xs zs × AllPairs R zs
     ascending-some [] apart = ([], IsPermutation-refl [], AllPairs-nil)

@@ -1,5 +1,5 @@
--- What lies in at least a given number of lists has an odd number of the crossing edges of their
--- events at or before it.
+-- A rank lies in at least a given number of lists exactly if the number of crossing edges at or
+-- before it is odd.
 use Rattle.std.proofs.Common.{◌≡◌, ℕ, zero, suc, ◌+◌, ◌-◌, ◌<◌, ◌≤◌, Bool, true, false, not, cond, ◌&&◌, ◌||◌, nat_eq, nat_le, List, [], ◌∷◌, ◌++◌, map, refl, sym, ap, ◌∙◌, inl, inr, arith, All, sum_by}
 use Rattle.std.proofs.lemmas.Bool.{cases_lt}
 use Rattle.std.proofs.lemmas.Bool.Decides.{nat_tests}
@@ -19,11 +19,12 @@ use Rattle.rsb_many.proofs.events.Odd.{edges-events, odd-members}
 
 -- ---- the events that cross
 
--- one more on both sides is no test more
+-- Adding one to both sides does not change whether they are equal.
 both-more : (one other : ℕ) → nat_eq (one + 1) (other + 1) ≡ nat_eq one other
 both-more one other = grind (arith, nat_tests)
 
--- one range more, where one more is needed, crosses at the same events
+-- If one more range has started and the bound is one higher, the depth crosses it at the same
+-- events.
 crossing-shift : (least depth : ℕ) (events : List Event)
     → crossing (least + 1) (depth + 1) events ≡ crossing least depth events
 crossing-shift least depth [] = refl
@@ -36,7 +37,7 @@ crossing-shift least depth (End last input ∷ events) =
     let test = both-more least depth in
     λ i. cond (test i) (End last input ∷ rest i) (rest i)
 
--- so once a range has ended that had started
+-- So lowering the depth by one has the same effect as raising the bound by one.
 crossing-end : (least depth : ℕ) (events : List Event) → 1 ≤ depth
     → crossing (least + 1) depth events ≡ crossing least (depth - 1) events
 crossing-end least zero events some = absurd (omega (arith, some))
@@ -47,7 +48,7 @@ crossing-end least (suc depth) events some =
     ∙ crossing-shift least depth events
     ∙ ap (λ each. crossing least each events) less
 
--- the first event crosses, or not, and then the others do as from the depth after it
+-- The first event crosses the bound or does not, and the others continue from the depth after it.
 pub crossing-next : (least depth : ℕ) (event : Event) (events : List Event) → CanPass depth event
     → crossing least depth (event ∷ events)
     ≡ cond (crosses least depth event) (event ∷ crossing least (depth_after depth event) events)
@@ -57,7 +58,7 @@ crossing-next least depth (End last input) events can =
     let rest = crossing-end least depth events can in
     λ i. cond (nat_eq least depth) (End last input ∷ rest i) (rest i)
 
--- their edges come in order
+-- The edges of the crossing events never fall.
 pub crossing-edges : (n low least depth : ℕ) (events : List Event) → HasEdgesFrom n low events
     → HasEdgesFrom n low (crossing least depth events)
 crossing-edges n low least depth [] edges = tt
@@ -78,25 +79,25 @@ crossing-edges n low least depth (End last input ∷ events) edges =
 
 -- ---- starts and ends up to a rank
 
--- one for the start of a range at or before the rank
+-- 1 for the start of a range at or before the rank, and otherwise 0.
 abbrev start_by : ℕ → Event → ℕ
 start_by rank (Start range input) = cond (nat_le range.first rank) 1 0
 start_by rank (End last input) = 0
 
--- one for the end of a range before the rank
+-- 1 for the end of a range before the rank, and otherwise 0.
 abbrev end_by : ℕ → Event → ℕ
 end_by rank (Start range input) = 0
 end_by rank (End last input) = cond (nat_le (last + 1) rank) 1 0
 
--- how many ranges start at or before the rank
+-- How many ranges start at or before the rank.
 abbrev starts_by : ℕ → List Event → ℕ
 starts_by rank events = sum_by (start_by rank) events
 
--- and how many end before it
+-- How many ranges end before the rank.
 abbrev ends_by : ℕ → List Event → ℕ
 ends_by rank events = sum_by (end_by rank) events
 
--- an event with its edge past the rank counts for neither
+-- An event with its edge past the rank counts neither as a start nor as an end.
 none-by : (event : Event) (rank : ℕ) → rank < edge_of event
     → (start_by rank event ≡ 0) × (end_by rank event ≡ 0)
 none-by (Start range input) rank under =
@@ -106,7 +107,7 @@ none-by (End last input) rank under =
     let test : nat_le (last + 1) rank ≡ false = grind (arith, nat_tests) in
     (refl, rw test refl)
 
--- nor do events with their edges past it
+-- If no edge lies below `low`, no event counts at a rank below it.
 none-before : (n low : ℕ) (events : List Event) (rank : ℕ) → HasEdgesFrom n low events
     → rank < low → (starts_by rank events ≡ 0) × (ends_by rank events ≡ 0)
 none-before n low [] rank edges under = (refl, refl)
@@ -122,9 +123,9 @@ none-before n low (event ∷ events) rank edges under =
     let more_ends = sum_by-cons (end_by rank) event events in
     (omega arith, omega arith)
 
--- ---- so many have started and not ended where an odd number of crossing edges lies
+-- ---- the test `least ≤ depth`, and the number of crossing edges
 
--- the test is turned where one more reaches the least number
+-- A start at or before the rank that reaches the bound reverses the test `least ≤ depth`.
 turned-start : (least depth : ℕ) (here others later : Bool) → here ≡ true
     → nat_eq least (depth + 1) ≡ true
     → exclusive_or (nat_le least (depth + 1)) others ≡ later
@@ -134,7 +135,7 @@ turned-start least depth here others later passed is rest =
     let now : nat_le least (depth + 1) ≡ true = grind (arith, nat_tests) in
     rw (before, passed) (rw now at rest)
 
--- or where one less falls below it
+-- So does an end before the rank that falls below the bound.
 turned-end : (least depth : ℕ) (here others later : Bool) → here ≡ true
     → nat_eq least depth ≡ true
     → exclusive_or (nat_le (least + 1) depth) others ≡ later
@@ -144,28 +145,28 @@ turned-end least depth here others later passed is rest =
     let now : nat_le (least + 1) depth ≡ false = grind (arith, nat_tests) in
     rw (before, passed) (not-twice others ∙ (rw now at rest))
   where
-    -- turned twice is as before
+    -- A test that is negated twice is unchanged.
     not-twice : (test : Bool) → not (not test) ≡ test
     not-twice true = refl
     not-twice false = refl
 
--- a test that is not turned, at nothing
+-- “Exclusive or” with false changes nothing.
 xor-false : (test : Bool) → exclusive_or test false ≡ test
 xor-false true = refl
 xor-false false = refl
 
--- nothing more
+-- Adding 0 changes nothing.
 more-none : (count more : ℕ) → more ≡ 0 → count ≡ count + more
 more-none count more none = omega (arith, none)
 
--- Whether an odd number of crossing edges lies at or before the rank exactly if the test `least ≤
--- depth` has changed from the start of the events to the rank.
+-- Whether the number of crossing edges up to the rank is odd exactly if the test `least ≤ depth`
+-- changes up to there.
 abbrev IsCrossed : ℕ → ℕ → ℕ → List Event → Type 0
 IsCrossed rank least depth events =
     exclusive_or (nat_le least depth) (odd_past (map edge_of (crossing least depth events)) rank)
     ≡ nat_le (least + ends_by rank events) (depth + starts_by rank events)
 
--- so it is before all edges
+-- This holds at a rank before all edges.
 crossed-before : (n least depth : ℕ) (event : Event) (events : List Event) (rank : ℕ)
     → HasEdgesFrom n (edge_of event) (event ∷ events) → rank < edge_of event
     → IsCrossed rank least depth (event ∷ events)
@@ -178,7 +179,7 @@ crossed-before n least depth event events rank edges under =
     ∙ (λ i. nat_le (more-none least (ends_by rank (event ∷ events)) none.1 i)
     (more-none depth (starts_by rank (event ∷ events)) none.0 i)))
 
--- past a start, where it is so past it
+-- It holds past a start if it holds for the later events.
 crossed-start : (least depth : ℕ) (range : Interval) (input : ℕ) (events : List Event) (rank : ℕ)
     → range.first ≤ rank → IsCrossed rank least (depth + 1) events
     → IsCrossed rank least depth (Start range input ∷ events)
@@ -202,7 +203,7 @@ crossed-start least depth range input events rank past after =
           rw passes (ap (λ each. exclusive_or each others) same ∙ rest)
     ]
 
--- past an end, where it is so past it
+-- It holds past an end if it holds for the later events.
 crossed-end : (least depth last input : ℕ) (events : List Event) (rank : ℕ) → last + 1 ≤ rank
     → IsCrossed rank (least + 1) depth events
     → IsCrossed rank least depth (End last input ∷ events)
@@ -226,7 +227,7 @@ crossed-end least depth last input events rank past after =
           rw passes (ap (λ each. exclusive_or each others) same ∙ rest)
     ]
 
--- so it is of events whose edges come in order
+-- It holds at every rank if the edges never fall.
 crossing-deep : (n low least depth : ℕ) (events : List Event) (rank : ℕ)
     → HasEdgesFrom n low events → IsCrossed rank least depth events
 crossing-deep n low least depth [] rank edges =
@@ -247,16 +248,17 @@ crossing-deep n low least depth (End last input ∷ events) rank edges =
           (crossing-deep n (last + 1) (least + 1) depth events rank edges.2)
     ]
 
--- ---- of lists
+-- ---- the events of lists
 
--- no range of a list covers a rank before all of them
+-- No range of a list covers a rank before all of them.
 members-under : (n low : ℕ) (runs : List Interval) (rank : ℕ) → IsTouchingFrom low runs
     → AllEndBelow n runs → rank < low → members runs rank ≡ false
 members-under n low runs rank touching below under =
     sym (odd-members n low 0 runs rank touching below)
     ∙ odd-before n low (events_of 0 runs) rank (edges-events n low 0 runs touching below) under
 
--- one more range starts than ends where the list has the rank
+-- At a rank, one more range has started than ended if the list covers the rank. Otherwise the
+-- numbers are equal.
 deep-members : (n low input : ℕ) (runs : List Interval) (rank : ℕ) → IsTouchingFrom low runs
     → AllEndBelow n runs
     → starts_by rank (events_of input runs)
@@ -301,12 +303,13 @@ deep-members n low input (run ∷ runs) rank touching below =
           omega arith
     ]
   where
-    -- with what is true, and without what is false
+    -- “And true” and “or false” change nothing.
     by_both : (test : Bool) → ((test && true) || false) ≡ test
     by_both true = refl
     by_both false = refl
 
--- of several lists as many more start as lists have the rank
+-- At a rank, as many more ranges of several lists have started than ended as there are lists that
+-- cover it.
 deep-lists : (n input : ℕ) (lists : List (List Interval)) (rank : ℕ) → All (IsTouchingIn n) lists
     → starts_by rank (events_from input lists)
     ≡ ends_by rank (events_from input lists) + how_many (map members lists) rank
@@ -321,8 +324,8 @@ deep-lists n input (runs ∷ lists) rank all =
     let ends = sum_by-append (end_by rank) mine others in
     omega arith
 
--- so an odd number of crossing edges lies where at least so many lists have the rank: one more, at
--- the first rank, where none is needed
+-- So the number of crossing edges at or before a rank is odd exactly if at least `least` lists
+-- cover the rank. If `least` is 0, it is even instead.
 pub deep-events : (n least : ℕ) (lists : List (List Interval)) (events : List Event) (rank : ℕ)
     → All (IsTouchingIn n) lists → AreEvents lists events → HasEdgesFrom n 0 events
     → exclusive_or (nat_le least 0) (odd_past (map edge_of (crossing least 0 events)) rank)
@@ -335,12 +338,12 @@ deep-events n least lists events rank all are edges =
     ∙ less-same least (ends_by rank events) (starts_by rank events)
     (how_many (map members lists) rank) (omega arith)
   where
-    -- as many less on both sides
+    -- The same number on both sides cancels.
     less-same : (few ends starts many : ℕ) → starts ≡ ends + many
         → nat_le (few + ends) (0 + starts) ≡ nat_le few many
     less-same few ends starts many is = grind (arith, nat_tests)
 
--- where the least number is 0 a piece begins at the first rank
+-- If `least` is 0, a piece begins at the first rank.
 pub first-odd : (least : ℕ) (edges : List ℕ) (rank : ℕ)
     → odd_past (first_edge least ++ edges) rank
     ≡ exclusive_or (nat_le least 0) (odd_past edges rank)

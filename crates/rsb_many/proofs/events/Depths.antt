@@ -1,4 +1,4 @@
--- How many ranges of inputs have started and not ended, by the events to come.
+-- How many ranges of the inputs have started and not ended, as the events to come show.
 use Rattle.std.proofs.Common.{◌≡◌, ℕ, ◌+◌, ◌≤◌, Bool, List, [], ◌∷◌, length, arith, refl, sum_by, Option, Some, None}
 use Rattle.std.proofs.lemmas.List.Sorted.{sum_by-IsPermutation}
 use Rattle.std.proofs.lemmas.List.Sums.{sum_by-append, sum_by-cons}
@@ -10,15 +10,15 @@ use Rattle.rsb_many.specs.Many.{OneOfEach, SomeOfEach}
 use Rattle.rsb_many.specs.Sweep.{all_events, end_then, events_from, events_of, events_of_rest, rest_events_from, rests_by, AreEvents, AreEventsOf, End, Event, Rest, Start}
 use Rattle.rsb_many.proofs.inputs.Rests.{length-rests_by, one_of_each-long}
 
--- how many ranges start
+-- How many ranges start.
 abbrev pub starts_in : List Event → ℕ
 starts_in events = sum_by start_count events
 
--- and how many end
+-- How many ranges end.
 abbrev pub ends_in : List Event → ℕ
 ends_in events = sum_by end_count events
 
--- each range of an input starts and ends
+-- Each range of an input starts and ends.
 input-depth : (input : ℕ) (runs : List Interval)
     → starts_in (events_of input runs) ≡ ends_in (events_of input runs)
 input-depth input [] = refl
@@ -31,7 +31,7 @@ input-depth input (run ∷ runs) =
     let four = sum_by-cons end_count (End run.last input) others in
     omega arith
 
--- so does each of several
+-- The same holds for several inputs.
 lists-depth : (input : ℕ) (lists : List (List Interval))
     → starts_in (events_from input lists) ≡ ends_in (events_from input lists)
 lists-depth input [] = refl
@@ -42,7 +42,7 @@ lists-depth input (runs ∷ lists) =
     let ends = sum_by-append end_count (events_of input runs) (events_from (input + 1) lists) in
     omega arith
 
--- nothing has started before the first event
+-- Before the first event, no range has started.
 pub none-deep : (lists : List (List Interval)) (events : List Event) → AreEvents lists events
     → IsDepth 0 events
 none-deep lists events are =
@@ -51,12 +51,12 @@ none-deep lists events are =
     let same = lists-depth 0 lists in
     omega arith
 
--- as many end as start, and one more at most
+-- Whether at least as many ranges end as start, and at most `more` more.
 pub record EndsOneMore (events : List Event) (more : ℕ) : Type 0 where
   pub fewer : starts_in events ≤ ends_in events
   pub most : ends_in events ≤ starts_in events + more
 
--- of what is left of an input one more ends at most
+-- Of what is left of an input, at most one more range ends than starts.
 rest-depth : (input : ℕ) (begun : Option ℕ) (runs : List Interval)
     → EndsOneMore (end_then input begun (events_of input runs)) 1
 rest-depth input None runs =
@@ -69,7 +69,7 @@ rest-depth input (Some last) runs =
     let ends = sum_by-cons end_count (End last input) others in
     record { fewer = omega arith; most = omega arith }
 
--- so of what is left of inputs one of each at most
+-- Of what is left of several inputs, at most one more range for each input ends than starts.
 rests-depth : (input : ℕ) (rests : List Rest)
     → EndsOneMore (rest_events_from input rests) (length rests)
 rests-depth input [] = record { fewer = omega arith; most = omega arith }
@@ -86,7 +86,7 @@ rests-depth input (rest ∷ rests) =
     let also_most = others.most in
     record { fewer = omega arith; most = omega arith }
 
--- in whatever order
+-- This holds in any order of the events.
 events-depth : (rests : List Rest) (events : List Event) → AreEventsOf rests events
     → EndsOneMore events (length rests)
 events-depth rests events are =
@@ -98,7 +98,7 @@ events-depth rests events are =
     let most = all.most in
     record { fewer = omega arith; most = omega arith }
 
--- so it is of lists that inputs may give
+-- It holds for the events of lists that the inputs may give.
 pub some-depth : (count : ℕ) (may_give : ℕ → Outcomes) (begun : ℕ → Bool) (events : List Event)
     → SomeOfEach count may_give (λ lists. AreEventsOf (rests_by begun lists) events)
     → EndsOneMore events count
@@ -109,7 +109,7 @@ some-depth count may_give begun events some = record {
       (λ fails. some (λ lists each are. fails (of_lists lists each are).most));
 }
   where
-    -- of some lists
+    -- It holds for one list from each input.
     of_lists : (lists : List (List Interval)) → OneOfEach count may_give lists
         → AreEventsOf (rests_by begun lists) events → EndsOneMore events count
     of_lists lists each are =

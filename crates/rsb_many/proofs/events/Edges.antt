@@ -1,4 +1,5 @@
--- The edges of events, and pieces of what has an odd number of them at or before it.
+-- The edges of events, and the pieces of the ranks that have an odd number of edges at or before
+-- them.
 use Rattle.std.proofs.Common.{◌≡◌, inl, inr, ℕ, ◌-◌, ◌<◌, ◌≤◌, Bool, true, false, ◌||◌, nat_le, nat_lt, List, [], ◌∷◌, ◌++◌, map, refl, sym, ap, subst, ◌∙◌, arith, Option, Some, None}
 use Rattle.std.proofs.lemmas.Bool.{cases_lt}
 use Rattle.std.proofs.lemmas.Bool.Decides.{nat_tests}
@@ -17,19 +18,19 @@ use Rattle.rsb_many.specs.SweepPieces.{edge_in, edge_of, edges_of, odd_past, pie
 
 -- ---- edges
 
--- the edge of an event in a type lies in it, or at its end
+-- If an event lies in a type of n values, its edge is at most n.
 pub edge-within : (n : ℕ) (event : Event) → IsEventIn n event → edge_of event ≤ n
 edge-within n (Start range input) within = let low = within.0 in let high = within.1 in omega arith
 edge-within n (End last input) within = omega (arith, within)
 
--- edges may be asked to start earlier
+-- Edges from a rank are also edges from any lower rank.
 pub edges-lower : (n low lower : ℕ) (events : List Event) → lower ≤ low
     → HasEdgesFrom n low events → HasEdgesFrom n lower events
 edges-lower n low lower [] less edges = tt
 edges-lower n low lower (event ∷ events) less edges =
     let starts = edges.0 in (omega (arith, starts), edges.1, edges.2)
 
--- that an event lies in a type is settled
+-- An event lies in a type if the contrary is excluded.
 pub settled-event : (n : ℕ) (event : Event) → ¬ (¬ (IsEventIn n event)) → IsEventIn n event
 settled-event n (Start range input) holds = (
   settled_le range.first range.last (λ fails. holds (λ within. fails within.0)),
@@ -37,7 +38,7 @@ settled-event n (Start range input) holds = (
 )
 settled-event n (End last input) holds = settled_lt last n holds
 
--- and that edges come in order
+-- The edges never fall if the contrary is excluded.
 pub settled-edges : (n low : ℕ) (events : List Event) → ¬ (¬ (HasEdgesFrom n low events))
     → HasEdgesFrom n low events
 settled-edges n low [] holds = tt
@@ -47,11 +48,11 @@ settled-edges n low (event ∷ events) holds = (
   settled-edges n (edge_of event) events (λ fails. holds (λ edges. fails edges.2)),
 )
 
--- no rank before an edge lies past it
+-- An edge past a rank is not at or before it.
 edge-after : (edge rank : ℕ) → rank < edge → nat_le edge rank ≡ false
 edge-after edge rank less = grind (arith, nat_tests)
 
--- no edge lies at or before a rank before the first
+-- At a rank before the first edge, the number of edges is 0, which is even.
 pub odd-before : (n low : ℕ) (events : List Event) (rank : ℕ) → HasEdgesFrom n low events
     → rank < low → odd_past (map edge_of events) rank ≡ false
 odd-before n low [] rank edges below = refl
@@ -63,7 +64,7 @@ odd-before n low (event ∷ events) rank edges below =
 
 -- ---- pieces
 
--- they start no earlier than the first edge
+-- The pieces start no earlier than the first edge.
 pub pieces-from : (n low : ℕ) (events : List Event) (pieces : List Interval)
     → HasEdgesFrom n low events → ArePieces n (odd_past (map edge_of events)) pieces
     → HasSortedStartsFrom n low pieces
@@ -83,7 +84,7 @@ pieces-from n low events (piece ∷ pieces) edges all =
       all.sorted.3,
     )
 
--- where none has begun, one begins at the edge, unless that lies past the end of the type
+-- If no piece has begun, one begins at the edge, unless the edge lies past the end of the type.
 edge-begins : (n edge : ℕ) (edges : List ℕ) (rank : ℕ) → rank < n
     → odd_past (edge_in n edge ++ edges) rank ≡ odd_past (edge ∷ edges) rank
 edge-begins n edge edges rank below = elim (true_or_false (nat_lt edge n)) [
@@ -93,7 +94,7 @@ edge-begins n edge edges rank below = elim (true_or_false (nat_lt edge n)) [
       rw (past, after) refl
 ]
 
--- so pieces that come then come before
+-- So the pieces afterwards are also those before the edge.
 pub pieces-begin : {T : Type 0} (rank : T → ℕ) (n edge : ℕ) (edges : List ℕ) (new : Option T)
     (pieces : List Interval) → edges_of rank new ≡ edge_in n edge
     → ArePieces n (odd_past (edges_of rank new ++ edges)) pieces
@@ -103,13 +104,13 @@ pieces-begin rank n edge edges new pieces is = pieces-along n
     (λ place below. ap (λ each. odd_past (each ++ edges) place) is
     ∙ edge-begins n edge edges place below)
 
--- two edges at one rank say nothing
+-- An edge that is counted twice changes nothing.
 twice : (one other : Bool) → exclusive_or one (exclusive_or one other) ≡ other
 twice true true = refl
 twice true false = refl
 twice false other = refl
 
--- between two edges lies an odd number, and past both as many as past neither
+-- The number of edges is odd between the first two. Past both it is odd if that of the others is.
 pub between-edges : (start edge rank : ℕ) (others : Bool) → start < edge
     → (rank < edge → others ≡ false)
     → (covers (record { first = start; last = edge - 1 }) rank || others)
@@ -126,7 +127,7 @@ between-edges start edge rank others less before = elim (cases_lt rank edge) [
       rw (outside, one, other) (sym (twice true others))
 ]
 
--- a piece that has begun ends before the edge, and then the others come
+-- A piece that has begun ends before the edge, and the other pieces follow.
 pub pieces-end : (n start : ℕ) (event : Event) (events : List Event) (pieces : List Interval)
     → HasEdgesFrom n start (event ∷ events) → ArePieces n (odd_past (map edge_of events)) pieces
     → ArePieces n (odd_past (start ∷ map edge_of (event ∷ events)))
@@ -162,16 +163,16 @@ pieces-end n start event events pieces edges all =
           ∙ twice (nat_le edge rank) (odd_past (map edge_of events) rank))) all)
     ]
 
--- ---- one event less
+-- ---- once an event is passed
 
--- of an edge in the type or at its end, the others are an odd number where all are an even one
+-- If the number of edges up to `n` is even, that of all but the first is odd.
 closed-begin : (n edge : ℕ) (others : Bool) → edge ≤ n
     → exclusive_or (nat_le edge n) others ≡ false → others ≡ true
 closed-begin n edge true most is = refl
 closed-begin n edge false most is =
     let inside : nat_le edge n ≡ true = grind (arith, nat_tests) in absurd (let no = rw inside at is in cc)
 
--- and an even one where all are an odd one
+-- If the number of edges up to `n` is odd, that of all but the first is even.
 closed-end : (n edge : ℕ) (others : Bool) → edge ≤ n
     → exclusive_or (nat_le edge n) others ≡ true → others ≡ false
 closed-end n edge false most is = refl
@@ -179,7 +180,7 @@ closed-end n edge true most is =
     let inside : nat_le edge n ≡ true = grind (arith, nat_tests) in absurd (let no = rw inside at is in cc)
 
 module _ {T : Type 0} (rank : T → ℕ) (n : ℕ) (event : Event) (events : List Event) where
-  -- none had begun
+  -- After the first event each piece will end, if none had begun.
   whole-begin : (new : Option T) → edges_of rank new ≡ edge_in n (edge_of event)
       → IsWhole rank n None (event ∷ events) → IsWhole rank n new events
   whole-begin None is whole =
@@ -208,7 +209,7 @@ module _ {T : Type 0} (rank : T → ℕ) (n : ℕ) (event : Event) (events : Lis
         ];
       }
 
-  -- one had begun
+  -- After the first event each piece will end, if one had begun.
   whole-end : (start : T) → IsWhole rank n (Some start) (event ∷ events)
       → IsWhole rank n None events
   whole-end start whole = record {
@@ -217,7 +218,7 @@ module _ {T : Type 0} (rank : T → ℕ) (n : ℕ) (event : Event) (events : Lis
         (edge-within n event whole.edges.1) whole.closed);
   }
 
-  -- after an event each piece has an end
+  -- After the first event each piece will end.
   pub whole-next : (old : Option T) (piece : Option (RangeInclusive T)) (new : Option T)
       → PassesEdge rank n (edge_of event) old piece new → IsWhole rank n old (event ∷ events)
       → IsWhole rank n new events
@@ -225,7 +226,7 @@ module _ {T : Type 0} (rank : T → ℕ) (n : ℕ) (event : Event) (events : Lis
   whole-next (Some start) piece new passes whole =
       subst (λ each. IsWhole rank n each events) (sym passes.1) (whole-end start whole)
 
-  -- the piece that ends, and then those that come after, are those that come before
+  -- The piece that ends at the first event, followed by the pieces after it, are pieces before it.
   pub pieces-next : (old : Option T) (piece : Option (RangeInclusive T)) (new : Option T)
       (pieces : List Interval) → PassesEdge rank n (edge_of event) old piece new
       → IsWhole rank n old (event ∷ events)
@@ -239,7 +240,7 @@ module _ {T : Type 0} (rank : T → ℕ) (n : ℕ) (event : Event) (events : Lis
       (subst (λ each. ArePieces n (odd_past (edges_of rank each ++ map edge_of events)) pieces)
       passes.1 all))
 
-  -- a piece that begins starts at a value
+  -- A piece that begins starts at a value.
   pub start-next : (old : Option T) (piece : Option (RangeInclusive T)) (start : T)
       → PassesEdge rank n (edge_of event) old piece (Some start) → rank start < n
   start-next None piece start passes = elim (true_or_false (nat_lt (edge_of event) n)) [
@@ -251,7 +252,7 @@ module _ {T : Type 0} (rank : T → ℕ) (n : ℕ) (event : Event) (events : Lis
   ]
   start-next (Some old) piece start passes = absurd (let none = passes.1 in cc)
 
--- no piece has begun at the end
+-- If no events are left, no piece has begun.
 pub whole-over : {T : Type 0} (rank : T → ℕ) (n : ℕ) (start : Option T)
     → IsWhole rank n start [] → start ≡ None
 whole-over rank n None whole = refl

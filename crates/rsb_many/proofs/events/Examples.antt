@@ -5,7 +5,8 @@ use Rattle.rsb_many.specs.Sweep.{AreEvents, End, Event, Precedes, Start}
 use Rattle.rsb_many.proofs.events.Ascending.{ascending-chain}
 use Rattle.rsb_many.proofs.events.Lists.{precedes-through}
 
--- 1..=5 and 5..=6: the second starts before the first ends, at the value that both have
+-- The ranges are 1..=5 and 5..=6. The second starts before the first ends, at the value that both
+-- have.
 pub start_before_end : AreEvents ((from_to 1 5 ∷ []) ∷ (from_to 5 6 ∷ []) ∷ [])
     (Start (from_to 1 5) 0 ∷ Start (from_to 5 6) 1 ∷ End 5 0 ∷ End 6 1 ∷ [])
 start_before_end = record {
@@ -14,12 +15,12 @@ start_before_end = record {
       (Start (from_to 5 6) 1 ∷ End 5 0 ∷ End 6 1 ∷ []) (refl, (refl, (refl, tt)));
 }
 
--- what follows the first start where 1..=2 and 3..=4 are one input, and 2..=3 another
+-- What follows the first start if one input has 1..=2 and 3..=4, and the other has 2..=3.
 abbrev later_events : List Event
 later_events =
     Start (from_to 2 3) 1 ∷ End 2 0 ∷ Start (from_to 3 4) 0 ∷ End 3 1 ∷ End 4 0 ∷ []
 
--- ranges of one input that touch are told apart, also where another input joins them
+-- Ranges of one input that touch stay apart, even if a range of another input joins them.
 pub touching_ranges_stay_apart :
     AreEvents ((from_to 1 2 ∷ from_to 3 4 ∷ []) ∷ (from_to 2 3 ∷ []) ∷ [])
     (Start (from_to 1 2) 0 ∷ later_events)

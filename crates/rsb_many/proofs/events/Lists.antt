@@ -1,4 +1,4 @@
--- The events of a sweep: there is one list of them, and it goes on event by event.
+-- The events of a sweep: there is exactly one list of them.
 use Rattle.std.proofs.Common.{◌≡◌, ◌≢◌, ℕ, ◌+◌, ◌<◌, ◌≤◌, List, [], ◌∷◌, ◌++◌, map, All, AllPairs, Contains, Option, None, Some, refl, ap, subst, inl, inr, arith}
 use Rattle.std.proofs.lemmas.Bool.Decides.{nat_tests}
 use Rattle.std.proofs.lemmas.List.Elements.{All-append, All-cons, All-contains_itself, All-head, All-map, All-nil, All-tail, All-weaker}
@@ -13,29 +13,29 @@ use Rattle.rsb_many.proofs.heap.Keys.{comes_before-one_way, comes_before-other, 
 
 -- ---- events
 
--- of two events at most one comes before the other
+-- Of two events, at most one comes before the other.
 precedes-one_way : (one other : Event) → Precedes one other → Precedes other one → ⊥
 precedes-one_way one other before after =
     not_both (comes_before (key_of_event other) (key_of_event one)) after
     (comes_before-one_way (key_of_event one) (key_of_event other) before)
 
--- what comes before an event comes before what that event comes before
+-- If one event comes before another, it comes before whatever that one comes before.
 pub precedes-through : (one other third : Event) → Precedes one other → Precedes other third
     → Precedes one third
 precedes-through one other third =
     comes_before-through (key_of_event one) (key_of_event other) (key_of_event third)
 
--- an event at a lower rank comes first
+-- An event at a lower rank comes first.
 precedes-lower : (one other : Event) → (key_of_event one).at < (key_of_event other).at
     → Precedes one other
 precedes-lower one other less = grind (arith, nat_tests)
 
--- a range starts before it ends
+-- A range starts before it ends.
 start-precedes_end : (run : Interval) (input : ℕ) → run.first ≤ run.last
     → Precedes (Start run input) (End run.last input)
 start-precedes_end run input ordered = grind (arith, nat_tests)
 
--- events of two inputs stand apart
+-- Of two events of different inputs, one comes before the other.
 inputs-apart : (one other : Event) → (key_of_event one).input ≢ (key_of_event other).input
     → Apart Precedes one other
 inputs-apart one other differ =
@@ -46,7 +46,7 @@ inputs-apart one other differ =
 
 -- ---- the events of one input
 
--- no event of an input stands below where its ranges may start
+-- If no range of an input starts below `low`, no event of it is at a rank below `low`.
 events-from_low : (input low : ℕ) (runs : List Interval) → IsTouchingFrom low runs
     → All (λ event. low ≤ (key_of_event event).at) (events_of input runs)
 events-from_low input low [] touching = All-nil (λ event. low ≤ (key_of_event event).at)
@@ -59,7 +59,7 @@ events-from_low input low (run ∷ runs) touching =
     (All-weaker (λ event. run.last + 1 ≤ (key_of_event event).at) past (λ event later. omega arith)
     (events_of input runs) (events-from_low input (run.last + 1) runs touching.2)))
 
--- each event of an input bears its number
+-- Each event of an input has the number of the input.
 events-input : (input : ℕ) (runs : List Interval)
     → All (λ event. (key_of_event event).input ≡ input) (events_of input runs)
 events-input input [] = All-nil (λ event. (key_of_event event).input ≡ input)
@@ -68,7 +68,7 @@ events-input input (run ∷ runs) =
     All-cons own (Start run input) (End run.last input ∷ events_of input runs) refl
     (All-cons own (End run.last input) (events_of input runs) refl (events-input input runs))
 
--- an end comes before the events of the ranges past it
+-- The end of a range comes before the events of the ranges past it.
 end-first : (input last : ℕ) (runs : List Interval) → IsTouchingFrom (last + 1) runs
     → All (Precedes (End last input)) (events_of input runs)
 end-first input last runs touching =
@@ -76,7 +76,7 @@ end-first input last runs touching =
     (λ event later. precedes-lower (End last input) event (omega arith)) (events_of input runs)
     (events-from_low input (last + 1) runs touching)
 
--- the events of an input ascend as they stand
+-- The events of an input ascend.
 events-ascending : (input low : ℕ) (runs : List Interval) → IsTouchingFrom low runs
     → AllPairs Precedes (events_of input runs)
 events-ascending input low [] touching = AllPairs-nil Precedes
@@ -89,7 +89,7 @@ events-ascending input low (run ∷ runs) touching =
 
 -- ---- what is left of inputs
 
--- each event that is left of an input bears its number
+-- Each event that is left of an input has the number of the input.
 pub end_then-input : (input : ℕ) (begun : Option ℕ) (runs : List Interval)
     → All (λ event. (key_of_event event).input ≡ input)
     (end_then input begun (events_of input runs))
@@ -98,7 +98,7 @@ end_then-input input (Some last) runs =
     All-cons (λ event. (key_of_event event).input ≡ input) (End last input) (events_of input runs)
     refl (events-input input runs)
 
--- the events that are left of an input ascend as they stand
+-- The events that are left of an input ascend.
 pub end_then-ascending : (input : ℕ) (begun : Option ℕ) (runs : List Interval)
     → IsTouchingFrom (next_low begun) runs
     → AllPairs Precedes (end_then input begun (events_of input runs))
@@ -107,7 +107,7 @@ end_then-ascending input (Some last) runs touching =
     AllPairs-cons Precedes (End last input) (events_of input runs)
     (end-first input last runs touching) (events-ascending input (last + 1) runs touching)
 
--- the events that are left of inputs bear their numbers, or later ones
+-- No event that is left of inputs numbered from `input` has a lower number.
 rests-inputs : (input : ℕ) (rests : List Rest)
     → All (λ event. input ≤ (key_of_event event).input) (rest_events_from input rests)
 rests-inputs input [] = All-nil (λ event. input ≤ (key_of_event event).input)
@@ -119,7 +119,7 @@ rests-inputs input (rest ∷ rests) =
     (All-weaker (λ event. input + 1 ≤ (key_of_event event).input) past (λ event later. omega arith)
     (rest_events_from (input + 1) rests) (rests-inputs (input + 1) rests))
 
--- each two events that are left of inputs stand apart
+-- Of any two events that are left of inputs, one comes before the other.
 rests-apart : (input : ℕ) (rests : List Rest) → All IsTouchingRest rests
     → AllPairs (Apart Precedes) (rest_events_from input rests)
 rests-apart input [] touching = AllPairs-nil (Apart Precedes)
@@ -136,9 +136,9 @@ rests-apart input (rest ∷ rests) touching =
     (rest_events_from (input + 1) rests) (rests-inputs (input + 1) rests))
     (events_of_rest input rest) (end_then-input input rest.begun rest.runs))
 
--- ---- there is one list of the events, and there is some
+-- ---- there is exactly one list of the events
 
--- events are put in order in one way
+-- Two lists that have the same events in order are equal.
 pub in_order-unique : (unordered events others : List Event) → AreInOrder unordered events
     → AreInOrder unordered others → events ≡ others
 in_order-unique unordered events others left right =
@@ -149,7 +149,7 @@ in_order-unique unordered events others left right =
     (All-permutation (Contains others) others events back (All-contains_itself others))
     (All-permutation (Contains events) events others there (All-contains_itself events))
 
--- there is a list of the events of what is left of inputs
+-- There is a list of the events of what is left of inputs.
 pub rests-some : (rests : List Rest) → All IsTouchingRest rests
     → (events : List Event) × AreEventsOf rests events
 rests-some rests touching =
@@ -157,20 +157,20 @@ rests-some rests touching =
     (rests-apart 0 rests touching) in
     (sorted.0, record { all = sorted.1; ascending = sorted.2 })
 
--- where nothing has begun, all events of the inputs are left
+-- If no range has started, all events of the inputs are left.
 events-not_begun : (input : ℕ) (inputs : List (List Interval))
     → rest_events_from input (map not_begun inputs) ≡ events_from input inputs
 events-not_begun input [] = refl
 events-not_begun input (runs ∷ inputs) =
     ap (λ others. events_of input runs ++ others) (events-not_begun (input + 1) inputs)
 
--- the events of inputs are those of what is left where nothing has begun
+-- If no range has started, the events of what is left are those of the inputs.
 pub events-from_rests : (inputs : List (List Interval)) (events : List Event)
     → AreEventsOf (map not_begun inputs) events → AreEvents inputs events
 events-from_rests inputs events =
     subst (λ unordered. AreInOrder unordered events) (events-not_begun 0 inputs)
 
--- there is a list of the events of inputs
+-- There is a list of the events of inputs.
 pub events-some : (n : ℕ) (inputs : List (List Interval)) → All (IsTouchingIn n) inputs
     → (events : List Event) × AreEvents inputs events
 events-some n inputs touching =

@@ -1,5 +1,4 @@
--- What lies in an odd number of lists has an odd number of the edges of their events at or before
--- it.
+-- A rank lies in an odd number of lists exactly if the number of edges at or before it is odd.
 use Rattle.std.proofs.Common.{◌≡◌, inl, ℕ, zero, suc, ◌+◌, ◌-◌, ◌<◌, ◌≤◌, Bool, true, false, not, cond, ◌||◌, nat_le, List, [], ◌∷◌, ◌++◌, map, refl, sym, ap, ◌∙◌, arith, All, AllPairs, sum_by, IsPermutation, None}
 use Rattle.std.proofs.lemmas.Bool.Decides.{nat_tests}
 use Rattle.std.proofs.lemmas.List.{map-append}
@@ -23,23 +22,23 @@ use Rattle.rsb_many.proofs.events.Ascending.{AllPairs-head}
 use Rattle.rsb_many.proofs.events.Edges.{between-edges, odd-before, settled-edges}
 use Rattle.rsb_many.proofs.inputs.Rests.{one_of_each-all}
 
--- ---- an odd number of edges, whatever their order
+-- ---- an odd number of edges, in any order
 
--- whether a number is odd
+-- Whether a number is odd.
 abbrev is_odd : ℕ → Bool
 is_odd zero = false
 is_odd (suc n) = not (is_odd n)
 
--- one for an edge at or before a rank, and else none
+-- 1 for an event whose edge is at or before a rank, and otherwise 0.
 abbrev edge_by : ℕ → Event → ℕ
 edge_by rank event = cond (nat_le (edge_of event) rank) 1 0
 
--- one more edge, or none
+-- Adding 1 changes whether a number is odd, and adding 0 does not.
 odd-more : (test : Bool) (count : ℕ) → exclusive_or test (is_odd count) ≡ is_odd (cond test 1 0 + count)
 odd-more true count = ap is_odd (let more : suc count ≡ 1 + count = omega arith in more)
 odd-more false count = ap is_odd (let same : count ≡ 0 + count = omega arith in same)
 
--- the edges at or before a rank, by how many they are
+-- `odd_past` is whether the number of edges at or before a rank is odd.
 odd-counted : (events : List Event) (rank : ℕ)
     → odd_past (map edge_of events) rank ≡ is_odd (sum_by (edge_by rank) events)
 odd-counted [] rank = refl
@@ -48,16 +47,16 @@ odd-counted (event ∷ events) rank =
     ∙ odd-more (nat_le (edge_of event) rank) (sum_by (edge_by rank) events)
     ∙ ap is_odd (sym (sum_by-cons (edge_by rank) event events))
 
--- so they do not hang on the order
+-- So it does not depend on the order of the events.
 odd-permutation : (events others : List Event) (rank : ℕ) → IsPermutation events others
     → odd_past (map edge_of others) rank ≡ odd_past (map edge_of events) rank
 odd-permutation events others rank same = odd-counted others rank
     ∙ ap is_odd (sum_by-IsPermutation (edge_by rank) events others same)
     ∙ sym (odd-counted events rank)
 
--- ---- of lists
+-- ---- the edges of lists
 
--- three tests may be put together either way
+-- “Exclusive or” is associative.
 three : (one other third : Bool)
     → exclusive_or (exclusive_or one other) third ≡ exclusive_or one (exclusive_or other third)
 three true true true = refl
@@ -65,7 +64,7 @@ three true true false = refl
 three true false third = refl
 three false other third = refl
 
--- of two lists of edges
+-- For two lists of edges together, it is the “exclusive or” of those of each.
 odd-append : (edges others : List ℕ) (rank : ℕ)
     → odd_past (edges ++ others) rank ≡ exclusive_or (odd_past edges rank) (odd_past others rank)
 odd-append [] others rank = refl
@@ -73,7 +72,7 @@ odd-append (edge ∷ edges) others rank =
     ap (λ test. exclusive_or (nat_le edge rank) test) (odd-append edges others rank)
     ∙ sym (three (nat_le edge rank) (odd_past edges rank) (odd_past others rank))
 
--- the events of ranges that may touch have their edges in order
+-- The edges of the events of a touching list never fall.
 pub edges-events : (n low input : ℕ) (runs : List Interval) → IsTouchingFrom low runs
     → AllEndBelow n runs → HasEdgesFrom n low (events_of input runs)
 edges-events n low input [] touching below = tt
@@ -91,7 +90,8 @@ edges-events n low input (run ∷ runs) touching below =
       ),
     )
 
--- an odd number of the edges of such ranges lies at or before their members
+-- An odd number of the edges of a touching list is at or before a rank exactly if the list covers
+-- it.
 pub odd-members : (n low input : ℕ) (runs : List Interval) (rank : ℕ) → IsTouchingFrom low runs
     → AllEndBelow n runs → odd_past (map edge_of (events_of input runs)) rank ≡ members runs rank
 odd-members n low input [] rank touching below = refl
@@ -110,11 +110,11 @@ odd-members n low input (run ∷ runs) rank touching below =
     (odd-members n edge input runs rank touching.2 later)
     ∙ sym (members-cons run runs rank)
   where
-    -- one more and one less
+    -- Adding and subtracting 1 changes nothing.
     minus-one : (last : ℕ) → last + 1 - 1 ≡ last
     minus-one last = omega arith
 
--- and of several lists, at or before what lies in an odd number of them
+-- For several lists, that number is odd exactly if an odd number of them covers the rank.
 odd-lists : (n input : ℕ) (lists : List (List Interval)) (rank : ℕ) → All (IsTouchingIn n) lists
     → odd_past (map edge_of (events_from input lists)) rank ≡ odd_of (map members lists) rank
 odd-lists n input [] rank all = refl
@@ -129,14 +129,14 @@ odd-lists n input (runs ∷ lists) rank all =
     ∙ ap (λ test. exclusive_or (members runs rank) test)
     (odd-lists n (input + 1) lists rank (All-tail (IsTouchingIn n) runs lists all))
 
--- so do their events in order
+-- The same holds for their events in order.
 pub odd-events : (n : ℕ) (lists : List (List Interval)) (events : List Event) (rank : ℕ)
     → All (IsTouchingIn n) lists → AreEvents lists events
     → odd_past (map edge_of events) rank ≡ odd_of (map members lists) rank
 odd-events n lists events rank all are =
     odd-permutation (all_events lists) events rank are.all ∙ odd-lists n 0 lists rank all
 
--- no list has a member past the type
+-- No list has a member past the end of the type.
 odd-past_end : (n : ℕ) (lists : List (List Interval)) → All (IsTouchingIn n) lists
     → odd_of (map members lists) n ≡ false
 odd-past_end n [] all = refl
@@ -148,7 +148,7 @@ odd-past_end n (runs ∷ lists) all =
 
 -- ---- the events of lists in a type
 
--- those of ranges lie in the type
+-- The events of a touching list lie in the type.
 events-in : (n low input : ℕ) (runs : List Interval) → IsTouchingFrom low runs
     → AllEndBelow n runs → All (IsEventIn n) (events_of input runs)
 events-in n low input [] touching below = All-nil (IsEventIn n)
@@ -160,7 +160,7 @@ events-in n low input (run ∷ runs) touching below =
     (events-in n (run.last + 1) input runs touching.2
     (All-tail (λ (each : Interval). each.last < n) run runs below)))
 
--- and those of lists
+-- So do the events of several lists.
 pub lists-in : (n input : ℕ) (lists : List (List Interval)) → All (IsTouchingIn n) lists
     → All (IsEventIn n) (events_from input lists)
 lists-in n input [] all = All-nil (IsEventIn n)
@@ -170,14 +170,14 @@ lists-in n input (runs ∷ lists) all =
     (events-in n 0 input runs own.0 own.1)
     (lists-in n (input + 1) lists (All-tail (IsTouchingIn n) runs lists all))
 
--- an event that comes before another has no greater edge
+-- If an event comes before another, its edge is not greater.
 pub precedes-edge : (one other : Event) → Precedes one other → edge_of one ≤ edge_of other
 precedes-edge (Start run input) (Start next place) before = grind (arith, nat_tests)
 precedes-edge (Start run input) (End last place) before = grind (arith, nat_tests)
 precedes-edge (End last input) (Start next place) before = grind (arith, nat_tests)
 precedes-edge (End last input) (End next place) before = grind (arith, nat_tests)
 
--- events that ascend have their edges in order
+-- If events ascend, their edges never fall.
 pub ascending-edges : (n low : ℕ) (events : List Event) → All (λ event. low ≤ edge_of event) events
     → All (IsEventIn n) events → AllPairs Precedes events → HasEdgesFrom n low events
 ascending-edges n low [] past all pairs = tt
@@ -190,7 +190,7 @@ ascending-edges n low (event ∷ events) past all pairs = (
       (All-tail (IsEventIn n) event events all) (AllPairs-tail Precedes event events pairs),
 )
 
--- from the first rank on
+-- No edge lies before rank 0.
 pub edges-any : (events : List Event) → All (λ event. 0 ≤ edge_of event) events
 edges-any [] = All-nil (λ event. 0 ≤ edge_of event)
 edges-any (event ∷ events) =
@@ -200,13 +200,13 @@ edges-any (event ∷ events) =
 
 module _ (n count : ℕ) (may_give : ℕ → Outcomes)
     (touching : (place : ℕ) → may_give place ⊆ IsTouchingIn n) where
-  -- each list may touch, and lies in the type
+  -- Each of the lists is touching and lies in the type.
   pub all-touching : (lists : List (List Interval)) → OneOfEach count may_give lists
       → All (IsTouchingIn n) lists
   all-touching lists each = one_of_each-all count may_give (IsTouchingIn n) lists
       (λ place less. touching place) each
 
-  -- where their events are told from the first on, each piece has an end
+  -- If the events are those of lists that the streams may give, each piece will end.
   pub whole-events : {T : Type 0} (rank : T → ℕ) (events : List Event)
       → SomeOfEach count may_give (λ lists. AreEvents lists events) → IsWhole rank n None events
   whole-events rank events some = record {
@@ -221,7 +221,7 @@ module _ (n count : ℕ) (may_give : ℕ → Outcomes)
         fails (odd-events n lists events n all are ∙ odd-past_end n lists all))));
   }
 
-  -- the joined pieces are the runs of what lies in an odd number of the lists
+  -- The pieces, joined, are the runs of what lies in an odd number of the lists.
   pub joined-odd : (told : EventOutcomes)
       → ((events : List Event) → told events
       → SomeOfEach count may_give (λ lists. AreEvents lists events))

@@ -37,16 +37,16 @@ use Rattle.rsb_many.proofs.inputs.Rests.{events-end_only, events-may_end, events
 use Rattle.rsb_many.proofs.events.Steps.{IsNotBefore}
 use Rattle.rsb_many.proofs.events.Lists.{events-from_rests}
 
--- ---- ranges that may touch
+-- ---- touching lists
 
--- after some of them the others may touch
+-- What follows the used ranges of a touching list is a touching list.
 touching-after : (low : ℕ) (used runs : List Interval) → IsTouchingFrom low (used ++ runs)
     → IsTouching runs
 touching-after low [] runs touching = touching-lower low 0 runs (omega arith) touching
 touching-after low (run ∷ used) runs touching =
     touching-after (run.last + 1) used runs touching.2
 
--- what each of some streams may give may touch, by its place among them
+-- If each stream may give only touching lists, so may the stream at each place.
 at-touching : {S : Type 0} (n : ℕ) (may_give : S → Outcomes) (streams : List S)
     → All (λ stream. may_give stream ⊆ IsTouchingIn n) streams → (place : ℕ)
     → may_give_at may_give streams place ⊆ IsTouchingIn n
@@ -58,7 +58,7 @@ at-touching n may_give (stream ∷ streams) all (suc place) runs may =
     at-touching n may_give streams
     (All-tail (λ each. may_give each ⊆ IsTouchingIn n) stream streams all) place runs may
 
--- streams that give lists that may touch do so by their places
+-- If ready streams give only touching lists, so does the stream at each place.
 pub places-touching : {S : Type 0} (n : ℕ) (can : S → Type 0) (may_give : S → Outcomes)
     (streams : List S)
     → ((stream : S) → can stream → may_give stream ⊆ IsTouchingIn n) → All can streams
@@ -66,7 +66,7 @@ pub places-touching : {S : Type 0} (n : ℕ) (can : S → Type 0) (may_give : S 
 places-touching n can may_give streams touching all = at-touching n may_give streams
     (All-weaker can (λ stream. may_give stream ⊆ IsTouchingIn n) touching streams all)
 
--- so do streams that give canonical lists
+-- The same holds if ready streams give only canonical lists.
 pub canonical-touching : {S : Type 0} (n : ℕ) (can : S → Type 0) (may_give : S → Outcomes)
     (streams : List S)
     → ((stream : S) → can stream → may_give stream ⊆ IsCanonicalIn n) → All can streams
@@ -79,14 +79,14 @@ module _ {T N I A : Type 0} (integer : Elements T N) (stream : Stream I T N)
     (laws : IsLawful integer stream) where
   open integer use {rank, value_count as n}
 
-  -- something may come of each input
+  -- Each input may give some list.
   inputs-some : (s : Drawn T I A N) → DrawnReady integer stream s → (place : ℕ)
       → HasOutcome (gives_of (input_at integer stream (inputs_of s) place))
   inputs-some s ready place = some-by integer stream laws.sorted
       (has_ended integer stream (inputs_of s) place) (slice_get s.streams.items place)
       (held_at rank s.heads.heads place) (ready.inputs.can place)
 
-  -- a sweep over inputs that are ready and whose ranges may touch may be called
+  -- A sweep is ready if its inputs are ready and what they give is touching.
   pub sweep-ready : (s : MultiwaySweep T I A N) → DrawnReady integer stream s.inputs
       → ((place : ℕ) → gives_of (sweep_inputs integer stream s place) ⊆ IsTouching)
       → SweepReady integer stream s
@@ -99,7 +99,7 @@ module _ {T N I A : Type 0} (integer : Elements T N) (stream : Stream I T N)
     ends = inputs-finite integer stream laws.sorted (inputs_of s.inputs) drawn.inputs;
   }
 
-  -- a sweep just made tells the events of lists that the streams may give
+  -- A sweep that was just built gives the events of lists that the streams may give.
   pub sweeps-over : (streams : List I) (s : MultiwaySweep T I A N)
       → IsBegunOf integer stream streams s.inputs
       → ((place : ℕ) → may_give_at stream.may_give streams place ⊆ IsTouchingIn n)
@@ -123,10 +123,10 @@ module _ {T N I A : Type 0} (integer : Elements T N) (stream : Stream I T N)
     begun = begun.begun;
   }
 
-  -- ---- a call: what was due was drawn
+  -- ---- a call, once the range that was due is drawn
   module _ (s t : MultiwaySweep T I A N) (m : Drawn T I A N) (ready : SweepReady integer stream s)
       (filled : Refills integer stream s.inputs m) where
-    -- after some ranges that an input used, what it gives may touch
+    -- What an input gives after it used some ranges is touching.
     touching-uses : (place : ℕ) (used : List Interval)
         → Uses (sweep_inputs integer stream s place) used (sweep_inputs integer stream t place)
         → gives_of (sweep_inputs integer stream t place) ⊆ IsTouching
@@ -134,7 +134,7 @@ module _ {T N I A : Type 0} (integer : Elements T N) (stream : Stream I T N)
         (ready.touching place (used ++ runs) (gives_of-uses (sweep_inputs integer stream s place)
         (sweep_inputs integer stream t place) used uses runs gives))
 
-    -- what an input used when its range was due, and then
+    -- What an input used since its due range was drawn is what it used in the whole call.
     uses-filled : (place : ℕ) (used : List Interval)
         → Uses (input_at integer stream (inputs_of m) place) used
         (sweep_inputs integer stream t place)
@@ -143,11 +143,11 @@ module _ {T N I A : Type 0} (integer : Elements T N) (stream : Stream I T N)
         (input_at integer stream (inputs_of m) place) (sweep_inputs integer stream t place) [] used
         (filled.uses place) uses
 
-    -- no range is due then
+    -- No range is due any more.
     none-due : (place : ℕ) → is_at m.used place ≡ false
     none-due place = rw filled.none refl
 
-    -- few comparisons were made
+    -- The call made few comparisons.
     few-made : (made : ℕ)
         → made ≤ m.heads.comparisons + closing m.heads + 2 * binary_digits (length m.heads.heads)
         → made ≤ s.inputs.heads.comparisons + comparison_bound (stream_count s)
@@ -155,19 +155,19 @@ module _ {T N I A : Type 0} (integer : Elements T N) (stream : Stream I T N)
         s.inputs.heads.comparisons (m.heads.comparisons + closing m.heads) made
         (omega (arith, filled.ready.room.few, filled.count)) filled.compared most
 
-    -- ---- the least head left
+    -- ---- the least head leaves
     module _ (head : Head T) (u : Drawn T I A N) (takes : TakesHead integer stream m head u) where
-      -- its range
+      -- The range of the head.
       abbrev run : Interval
       run = run_of_head rank head
 
-      -- its input is one of them
+      -- The head belongs to one of the inputs.
       here-less : head.input < stream_count s
       here-less =
           let less = taken-less integer stream m filled.ready filled.none u head takes in
           omega (arith, less, filled.count)
 
-      -- whether its input had begun
+      -- Its input had begun exactly if the start of its range was reported.
       begun-here : has_begun s.inputs.heads.heads head.input ≡ head.started
       begun-here = sym (has_begun-came s.inputs.heads.heads m.heads.heads head.input filled.came)
           ∙ sym (has_begun-permutation m.heads.heads (head ∷ u.heads.heads) head.input
@@ -175,21 +175,21 @@ module _ {T N I A : Type 0} (integer : Elements T N) (stream : Stream I T N)
           ∙ has_begun-only rank head u.heads.heads
           (taken-none integer stream m filled.ready filled.none u head takes)
 
-      -- whether another had
+      -- The same other inputs have begun as before.
       begun-there : (place : ℕ) → ¬ (place ≡ head.input)
           → has_begun u.heads.heads place ≡ has_begun s.inputs.heads.heads place
       begun-there place differs = sym (has_begun-other head u.heads.heads place differs)
           ∙ has_begun-permutation m.heads.heads (head ∷ u.heads.heads) place takes.taken.kept
           ∙ has_begun-came s.inputs.heads.heads m.heads.heads place filled.came
 
-      -- one head less, and its events
+      -- The events of the heads are those of this one and of the heads that are left.
       events-taken : sum_by events_of_head m.heads.heads
           ≡ events_of_head head + sum_by events_of_head u.heads.heads
       events-taken = sym (sum_by-IsPermutation events_of_head m.heads.heads (head ∷ u.heads.heads)
           takes.taken.kept) ∙ sum_by-cons events_of_head head u.heads.heads
 
-      -- the first event of another input does not come before an event at the head's key, by what
-      -- is held of it
+      -- If the event has the head's key, no first event of another input comes before it. The cases
+      -- are what is held of that input.
       least-by : (event : Event) → key_of rank head ≡ key_of_event event → (place : ℕ)
           → (sweep_inputs integer stream t place).held ≡ held_at rank u.heads.heads place
           → is_at t.inputs.used place ≡ false
@@ -210,26 +210,26 @@ module _ {T N I A : Type 0} (integer : Elements T N) (stream : Stream I T N)
           rw (gives.2, same) (held-not_before rank event u.heads.heads place gives.0 all short
           (omega (arith, long)))
 
-    -- ---- the least head left, and its range had started
+    -- ---- the least head leaves, and the start of its range was reported
     module _ (head : Head T) (takes : TakesHead integer stream m head t.inputs)
         (ends : head.started ≡ true) where
-      -- its end
+      -- The end of its range.
       abbrev ending : Event
       ending = End (rank head.end) head.input
 
-      -- its input uses its range
+      -- Its input uses its range.
       end-uses : Uses (sweep_inputs integer stream s head.input) (run_of_head rank head ∷ [])
           (sweep_inputs integer stream t head.input)
       end-uses = uses-filled head.input (run_of_head rank head ∷ [])
           (taken-gives integer stream m filled.ready filled.none t.inputs head takes).uses
 
-      -- the others use nothing
+      -- The other inputs use nothing.
       end-spares : (place : ℕ) → ¬ (place ≡ head.input)
           → Uses (sweep_inputs integer stream s place) [] (sweep_inputs integer stream t place)
       end-spares place differs = uses-filled place []
           (taken-spares integer stream m filled.ready filled.none t.inputs head takes place differs)
 
-      -- the ranges that are left may touch
+      -- What each input gives is touching.
       end-touching : (place : ℕ) → gives_of (sweep_inputs integer stream t place) ⊆ IsTouching
       end-touching place = elim (cases_eq place head.input) [
         | inl same ↦ subst (λ each. gives_of (sweep_inputs integer stream t each) ⊆ IsTouching)
@@ -237,17 +237,17 @@ module _ {T N I A : Type 0} (integer : Elements T N) (stream : Stream I T N)
         | inr differs ↦ touching-uses place [] (end-spares place differs)
       ]
 
-      -- the sweep may be called again
+      -- The sweep is ready again.
       end-ready : SweepReady integer stream t
       end-ready = sweep-ready t
           (taken-ready integer stream m filled.ready filled.none t.inputs head takes) end-touching
 
-      -- as many streams are there
+      -- The number of streams is unchanged.
       end-count : stream_count t ≡ stream_count s
       end-count = taken-long integer stream m filled.ready filled.none t.inputs head takes
           ∙ filled.count
 
-      -- its input had begun, and has not now
+      -- The input had begun before the call, and has not after it.
       end-begun : (has_begun s.inputs.heads.heads head.input ≡ true)
           × (has_begun t.inputs.heads.heads head.input ≡ false)
       end-begun = (
@@ -256,7 +256,7 @@ module _ {T N I A : Type 0} (integer : Elements T N) (stream : Stream I T N)
             (taken-none integer stream m filled.ready filled.none t.inputs head takes),
       )
 
-      -- no other input has an event that comes before it
+      -- No other input has an event that comes before the end.
       end-least : (place : ℕ) → ¬ (place ≡ head.input) → (runs : List Interval)
           → gives_of (sweep_inputs integer stream t place) runs
           → IsNotBefore (events_of_rest place
@@ -270,7 +270,7 @@ module _ {T N I A : Type 0} (integer : Elements T N) (stream : Stream I T N)
           refl due (omega (arith, end-ready.drawn.inputs.one place))
           (held_at rank t.inputs.heads.heads place) refl runs gives)
 
-      -- the end, and then what comes, might come before
+      -- The end, followed by what the sweep gives after the call, is what it might give before.
       end-told : (told : List Event) → sweep_may_give integer stream t told
           → sweep_may_give integer stream s (ending ∷ told)
       end-told told may = events-told (stream_count s)
@@ -288,7 +288,7 @@ module _ {T N I A : Type 0} (integer : Elements T N) (stream : Stream I T N)
           (λ place less differs runs gives. end-least place differs runs gives)
           told (rw end-count at may)
 
-      -- one event less is left
+      -- At least one event fewer is left.
       end-less : IsFinite (events_left integer stream s)
           → size (events_left integer stream t) < size (events_left integer stream s)
       end-less finite =
@@ -300,7 +300,7 @@ module _ {T N I A : Type 0} (integer : Elements T N) (stream : Stream I T N)
           (taken-left integer stream m filled.ready filled.none t.inputs head takes) in
           omega (arith, refilled.1, came.0, came.1, taken, one, same)
 
-      -- all that is known of such an answer
+      -- This is a call of the sweep that returns the end, as `Sweeps` states.
       pub end-known : t.inputs.heads.comparisons ≤ m.heads.comparisons + closing m.heads
           → m.heads.comparisons ≤ t.inputs.heads.comparisons
           → Sweeps integer stream s (Some (events.End head.end head.input)) t
@@ -322,7 +322,7 @@ module _ {T N I A : Type 0} (integer : Elements T N) (stream : Stream I T N)
         counted = omega (arith, filled.counted, counted);
       }
 
-      -- and it goes on
+      -- The call makes progress.
       pub end-goes : MakesProgress (SweepReady {A = A} integer stream) (events_left integer stream)
           s (Some (events.End head.end head.input)) t
       end-goes = record {
@@ -331,38 +331,38 @@ module _ {T N I A : Type 0} (integer : Elements T N) (stream : Stream I T N)
         rests = λ finite. tt;
       }
 
-    -- ---- the least head left, and was put back: its range starts
+    -- ---- the least head leaves and is put back: its range starts
     module _ (head : Head T) (u : Drawn T I A N) (takes : TakesHead integer stream m head u)
         (back : PutsBack u head t.inputs) (starts : head.started ≡ false) where
-      -- its start
+      -- The start of its range.
       abbrev starting : Event
       starting = Start (run_of_head rank head) head.input
 
-      -- no input uses anything
+      -- No input uses anything.
       start-uses : (place : ℕ)
           → Uses (sweep_inputs integer stream s place) [] (sweep_inputs integer stream t place)
       start-uses place = uses-filled place []
           (back-uses integer stream m filled.ready filled.none u head takes t.inputs back place)
 
-      -- the sweep may be called again
+      -- The sweep is ready again.
       start-ready : SweepReady integer stream t
       start-ready = sweep-ready t
           (back-ready integer stream m filled.ready filled.none u head takes t.inputs back)
           (λ place. touching-uses place [] (start-uses place))
 
-      -- as many streams are there
+      -- The number of streams is unchanged.
       start-count : stream_count t ≡ stream_count s
       start-count = back-long integer stream m filled.ready filled.none u head takes t.inputs back
           ∙ filled.count
 
-      -- its input has begun now
+      -- The input has begun now.
       start-begun : has_begun t.inputs.heads.heads head.input ≡ true
       start-begun = has_begun-permutation (started head ∷ u.heads.heads) t.inputs.heads.heads
           head.input back.kept
           ∙ has_begun-only rank (started head) u.heads.heads
           (taken-none integer stream m filled.ready filled.none u head takes)
 
-      -- the others are as before
+      -- The same other inputs have begun as before.
       start-others : (place : ℕ) → ¬ (place ≡ head.input)
           → has_begun t.inputs.heads.heads place ≡ has_begun s.inputs.heads.heads place
       start-others place differs =
@@ -370,20 +370,20 @@ module _ {T N I A : Type 0} (integer : Elements T N) (stream : Stream I T N)
           ∙ has_begun-other (started head) u.heads.heads place differs
           ∙ begun-there head u takes place differs
 
-      -- its range alone is held
+      -- Only the range of the head is held of its input.
       start-held : (sweep_inputs integer stream t head.input).held ≡ run_of_head rank head ∷ []
       start-held =
           back-held integer stream m filled.ready filled.none u head takes t.inputs back head.input
           ∙ taken-held integer stream m filled.ready filled.none u head takes
 
-      -- what is held of the others stays
+      -- What is held of the other inputs is unchanged.
       start-stays : (place : ℕ) → ¬ (place ≡ head.input)
           → (sweep_inputs integer stream t place).held ≡ held_at rank u.heads.heads place
       start-stays place differs =
           back-held integer stream m filled.ready filled.none u head takes t.inputs back place
           ∙ sym (taken-others integer stream m filled.ready filled.none u head takes place differs)
 
-      -- no other input has an event that comes before it
+      -- No other input has an event that comes before the start.
       start-least : (place : ℕ) → ¬ (place ≡ head.input) → (runs : List Interval)
           → gives_of (sweep_inputs integer stream t place) runs
           → IsNotBefore (events_of_rest place
@@ -398,7 +398,7 @@ module _ {T N I A : Type 0} (integer : Elements T N) (stream : Stream I T N)
           (back-due integer stream m filled.ready filled.none u head takes t.inputs back place)
           (omega (arith, short, same)) (held_at rank u.heads.heads place) refl runs gives)
 
-      -- the first event of its input is its start, by what the input gives
+      -- The first event of the input is the start, whatever the input gives.
       start-first : (runs : List Interval)
           → gives_of (sweep_inputs integer stream t head.input) runs
           → events_of_rest head.input (rest_by (has_begun s.inputs.heads.heads head.input) runs)
@@ -407,7 +407,7 @@ module _ {T N I A : Type 0} (integer : Elements T N) (stream : Stream I T N)
       start-first runs gives =
           rw (gives.2, start-held, begun-here head u takes ∙ starts, start-begun) refl
 
-      -- the start, and then what comes, might come before
+      -- The start, followed by what the sweep gives after the call, is what it might give before.
       start-told : (told : List Event) → sweep_may_give integer stream t told
           → sweep_may_give integer stream s (starting ∷ told)
       start-told told may = events-told (stream_count s)
@@ -423,7 +423,7 @@ module _ {T N I A : Type 0} (integer : Elements T N) (stream : Stream I T N)
           (λ place less differs runs gives. start-least place differs runs gives)
           told (rw start-count at may)
 
-      -- one event less is left
+      -- At least one event fewer is left.
       start-less : IsFinite (events_left integer stream s)
           → size (events_left integer stream t) < size (events_left integer stream s)
       start-less finite =
@@ -437,7 +437,7 @@ module _ {T N I A : Type 0} (integer : Elements T N) (stream : Stream I T N)
           (back-left integer stream m filled.ready filled.none u head takes t.inputs back) in
           omega (arith, refilled.1, came.0, came.1, taken, two, again, same)
 
-      -- all that is known of such an answer
+      -- This is a call of the sweep that returns the start, as `Sweeps` states.
       pub start-known : (range : RangeInclusive T) → interval_of rank range ≡ run_of_head rank head
           → u.heads.comparisons ≤ m.heads.comparisons + closing m.heads
           → t.inputs.heads.comparisons
@@ -459,7 +459,7 @@ module _ {T N I A : Type 0} (integer : Elements T N) (stream : Stream I T N)
         counted = omega (arith, filled.counted, taken, put_back);
       }
 
-      -- and it goes on
+      -- The call makes progress.
       pub start-goes : (range : RangeInclusive T)
           → MakesProgress (SweepReady {A = A} integer stream) (events_left integer stream)
           s (Some (events.Start range head.input)) t
@@ -469,16 +469,16 @@ module _ {T N I A : Type 0} (integer : Elements T N) (stream : Stream I T N)
         rests = λ finite. tt;
       }
 
-    -- ---- no head was there
+    -- ---- there is no head
     module _ (empty : HasNoHead m t.inputs) where
-      -- the sweep may be called again
+      -- The sweep is ready again.
       none-again : SweepReady integer stream t
       none-again = sweep-ready t
           (none-ready integer stream m filled.ready filled.none t.inputs empty)
           (λ place runs gives. rw (none-nothing integer stream m filled.ready filled.none t.inputs
           empty place runs gives) tt)
 
-      -- all that is known of such an answer
+      -- This is a call of the sweep that returns `None`, as `Sweeps` states.
       pub none-known : t.inputs.heads.comparisons ≤ m.heads.comparisons + closing m.heads
           → m.heads.comparisons ≤ t.inputs.heads.comparisons
           → Sweeps integer stream s None t

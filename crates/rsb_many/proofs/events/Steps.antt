@@ -1,4 +1,4 @@
--- A sweep goes on event by event: from what is left of its inputs to what is left after one.
+-- How a sweep passes one event, from what is left of its inputs before it to what is left after it.
 use Rattle.std.proofs.Common.{◌≡◌, ◌≢◌, ℕ, zero, suc, ◌+◌, ◌<◌, List, [], ◌∷◌, ◌++◌, length, get_or, get_or-set_other, get_or-set_same, length-set, set, All, AllPairs, IsPermutation, IsFalse, refl, sym, ◌∙◌, subst, inl, inr, arith}
 use Rattle.std.proofs.lemmas.List.Elements.{All-append, All-get_or, All-head, All-nil, All-tail}
 use Rattle.std.proofs.lemmas.List.Sorted.{All-permutation, IsPermutation-append_right, IsPermutation-cons, IsPermutation-middle, IsPermutation-refl, IsPermutation-trans}
@@ -12,17 +12,17 @@ use Rattle.rsb_many.proofs.events.Lists.{end_then-ascending, end_then-input, pre
 
 -- ---- what comes first
 
--- the first of these events, where there is one, does not come before this one
+-- Whether the first of the events, if there is one, does not come before `one`.
 abbrev pub IsNotBefore : List Event → Event → Type 0
 IsNotBefore [] one = Unit {0}
 IsNotBefore (first ∷ others) one = IsFalse (comes_before (key_of_event first) (key_of_event one))
 
--- of no other input does the first event that is left come before this one
+-- Whether in every other input the first event that is left does not come before this one.
 abbrev pub IsLeastEvent : List Rest → ℕ → Event → Type 0
 IsLeastEvent rests input one = (other : ℕ) (default : Rest) → other < length rests → other ≢ input
     → IsNotBefore (events_of_rest other (get_or rests other default)) one
 
--- where the first event of another input does not come before this one, all of them come after it
+-- If the first event of another input does not come before `one`, all of its events come after it.
 first-all : (one : Event) (input : ℕ) (events : List Event) → AllPairs Precedes events
     → All (λ event. (key_of_event event).input ≡ input) events → (key_of_event one).input ≢ input
     → IsNotBefore events one → All (Precedes one) events
@@ -33,9 +33,9 @@ first-all one input (other ∷ events) ascending own differ first =
     (comes_before-other (key_of_event one) (key_of_event other) (λ same. differ (same ∙ bears))
     first) ascending
 
--- ---- an event is taken of one input
+-- ---- an event is taken from one input
 
--- where the first event of an input is taken, it and the others are left
+-- The events that are left are the first event of one input and those that are left after it.
 rests-taken : (input : ℕ) (rests : List Rest) (k at : ℕ) (default : Rest) (event : Event)
     (after : Rest) → at ≡ input + k → k < length rests
     → events_of_rest at (get_or rests k default) ≡ event ∷ events_of_rest at after
@@ -56,7 +56,7 @@ rests-taken input (rest ∷ rests) (suc k) at default event after place within i
     (rests-taken (input + 1) rests k at default event after (omega arith) (omega arith) is))
     (IsPermutation-middle own event others)
 
--- what holds of the events that are left of each input holds of all
+-- If a fact holds of all events that are left of each input, it holds of all events that are left.
 rests-all : (P : Event → Type 0) (input : ℕ) (rests : List Rest)
     → ((k at : ℕ) (default : Rest) → at ≡ input + k → k < length rests
     → All P (events_of_rest at (get_or rests k default)))
@@ -68,7 +68,7 @@ rests-all P input (rest ∷ rests) each =
     (rests-all P (input + 1) rests (λ k at default place within.
     each (suc k) at default (omega arith) (omega arith)))
 
--- the events that are left of an input of a list ascend as they stand
+-- The events that are left of an input of a list ascend.
 rest-ascending : (rests : List Rest) (k : ℕ) (default : Rest) → All IsTouchingRest rests
     → k < length rests → AllPairs Precedes (events_of_rest k (get_or rests k default))
 rest-ascending rests k default touching within =
@@ -82,7 +82,7 @@ module _ (rests : List Rest) (input : ℕ) (default : Rest) (event : Event) (aft
     (touching : All IsTouchingRest rests) (within : input < length rests)
     (is : events_of_rest input (get_or rests input default) ≡ event ∷ events_of_rest input after)
     (least : IsLeastEvent rests input event) where
-  -- the event is one of its input
+  -- The event has the number of its input.
   bears-input : (key_of_event event).input ≡ input
   bears-input =
       let rest = get_or rests input default in
@@ -90,12 +90,12 @@ module _ (rests : List Rest) (input : ℕ) (default : Rest) (event : Event) (aft
       All-head bears event (events_of_rest input after)
       (subst (All bears) is (end_then-input input rest.begun rest.runs))
 
-  -- it comes before all that is left of its input after it
+  -- It comes before all that is left of its input afterwards.
   before-own : All (Precedes event) (events_of_rest input after)
   before-own = AllPairs-head Precedes event (events_of_rest input after)
       (subst (AllPairs Precedes) is (rest-ascending rests input default touching within))
 
-  -- and before all that is left of each input
+  -- It comes before all that is left of each input.
   before-each : (k : ℕ) (other : Rest) → k < length rests
       → All (Precedes event) (events_of_rest k (get_or (set rests input after) k other))
   before-each k other inside = elim (cases_eq k input) [
@@ -108,14 +108,14 @@ module _ (rests : List Rest) (input : ℕ) (default : Rest) (event : Event) (aft
         (least k other inside there))
   ]
 
-  -- and before all that is left of the inputs
+  -- It comes before all that is left of the inputs.
   before-left : All (Precedes event) (rest_events_from 0 (set rests input after))
   before-left = rests-all (Precedes event) 0 (set rests input after) (λ k at other place inside.
       let long = length-set rests input after in
       let same : at ≡ k = omega arith in
       rw same (before-each k other (omega arith)))
 
-  -- the least of the first events comes first, and then what is left after it
+  -- The events are the least of the first events, followed by the events of what is left after it.
   pub events-next : (events : List Event) → AreEventsOf (set rests input after) events
       → AreEventsOf rests (event ∷ events)
   events-next events given =
@@ -130,7 +130,7 @@ module _ (rests : List Rest) (input : ℕ) (default : Rest) (event : Event) (aft
 
 -- ---- the end of the sweep
 
--- inputs of which nothing is left have no events left
+-- If nothing is left of any input, no events are left.
 pub nothing-left : (input : ℕ) (rests : List Rest) → All (λ rest. rest ≡ nothing_left) rests
     → rest_events_from input rests ≡ []
 nothing-left input [] nothing = refl
@@ -140,7 +140,7 @@ nothing-left input (rest ∷ rests) nothing =
     (All-tail (λ each. each ≡ nothing_left) rest rests nothing) in
     λ i. events_of_rest input (first i) ++ others i
 
--- then no events are what a sweep gives
+-- So the list of events is then empty.
 pub events-none : (rests : List Rest) → All (λ rest. rest ≡ nothing_left) rests
     → AreEventsOf rests []
 events-none rests nothing = record {

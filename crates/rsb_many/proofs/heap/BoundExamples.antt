@@ -3,27 +3,27 @@ use Rattle.std.proofs.Common.{◌≡◌, refl}
 use Rattle.rsb_many.specs.Heads.{binary_digits}
 use Rattle.rsb_many.specs.KMerge.{comparison_bound}
 
--- with no stream as with one
+-- No stream has the same bound as one stream.
 bound-of_none : comparison_bound 0 ≡ 8
 unfolding binary_digits
 bound-of_none = refl
 
--- one stream: 1 has one digit
+-- One stream: 1 has one digit.
 bound-of_one : comparison_bound 1 ≡ 8
 unfolding binary_digits
 bound-of_one = refl
 
--- three streams: 3 has two digits
+-- Three streams: 3 has two digits.
 bound-of_three : comparison_bound 3 ≡ 12
 unfolding binary_digits
 bound-of_three = refl
 
--- four streams: 4 has three digits
+-- Four streams: 4 has three digits.
 bound-of_four : comparison_bound 4 ≡ 16
 unfolding binary_digits
 bound-of_four = refl
 
--- a thousand streams: 1000 has ten digits
+-- A thousand streams: 1000 has ten digits.
 bound-of_thousand : comparison_bound 1000 ≡ 44
 unfolding binary_digits
 bound-of_thousand = refl

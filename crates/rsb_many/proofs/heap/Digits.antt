@@ -4,7 +4,7 @@ use Rattle.std.proofs.lemmas.Bool.Decides.{nat_tests}
 use Rattle.rsb_many.specs.HeapOrder.{parent}
 use Rattle.rsb_many.specs.Heads.{binary_digits, digits_within}
 
--- what is counted in more steps than the number needs is counted alike
+-- Counting with more steps than a number needs gives the same number of digits.
 digits_within-enough : (least most n : ℕ) → n ≤ least → least ≤ most
     → digits_within least n ≡ digits_within most n
 digits_within-enough zero zero n small within = refl
@@ -16,7 +16,7 @@ digits_within-enough (suc least) (suc most) n small within =
     ap (λ digits. cond (nat_lt 0 n) (suc digits) 0)
     (digits_within-enough least most (n / 2) (omega arith) (omega arith))
 
--- a number has one digit more than its half
+-- A number other than 0 has one digit more than its half.
 pub binary_digits-half : (n : ℕ) → 0 < n → binary_digits n ≡ binary_digits (n / 2) + 1
 unfolding binary_digits
 binary_digits-half zero some = absurd (omega arith)
@@ -27,7 +27,7 @@ binary_digits-half (suc n) some =
     let half = digits_within-enough (suc n / 2) n (suc n / 2) (omega arith) (omega arith) in
     omega (arith, more, half)
 
--- a greater number has no fewer digits
+-- A greater number has no fewer digits, if both are counted with the same number of steps.
 digits_within-more : (most least n : ℕ) → least ≤ n
     → digits_within most least ≤ digits_within most n
 digits_within-more zero least n less = omega arith
@@ -35,7 +35,7 @@ digits_within-more (suc most) least n less =
     let halves = digits_within-more most (least / 2) (n / 2) (omega arith) in
     grind (arith, nat_tests, halves)
 
--- and so counted in its own steps
+-- A greater number has no fewer digits.
 pub binary_digits-more : (least n : ℕ) → least ≤ n → binary_digits least ≤ binary_digits n
 unfolding binary_digits
 binary_digits-more least n less =
@@ -43,18 +43,18 @@ binary_digits-more least n less =
     let more = digits_within-more n least n less in
     omega (arith, same, more)
 
--- a number other than 0 has one at least
+-- A number other than 0 has at least one digit.
 pub binary_digits-some : (n : ℕ) → 1 ≤ binary_digits (n + 1)
 binary_digits-some n = let half = binary_digits-half (n + 1) (omega arith) in omega (arith, half)
 
--- the number of a place below the first has one more than that of the place above it
+-- The number of a place other than the first has one digit more than that of its parent.
 pub binary_digits-parent : (place : ℕ) → 0 < place
     → binary_digits (place + 1) ≡ binary_digits (parent place + 1) + 1
 binary_digits-parent place some =
     let half : (place + 1) / 2 ≡ parent place + 1 = omega arith in
     binary_digits-half (place + 1) (omega arith) ∙ ap (λ n. binary_digits n + 1) half
 
--- a place of a list has a number with one digit more at most than the list is long
+-- The number of a place in a list has at most one digit more than the length of the list.
 pub binary_digits-within : (place count : ℕ) → place ≤ count - 1
     → binary_digits (place + 1) ≤ binary_digits count + 1
 unfolding binary_digits

@@ -1,4 +1,4 @@
--- Heaps of heads: what the calls on their lists keep.
+-- Heaps of heads: what stays true when their lists change.
 use Rattle.std.proofs.Common.{◌≡◌, ℕ, suc, Bool, ◌+◌, ◌-◌, ◌*◌, ◌<◌, ◌≤◌, List, [], ◌∷◌, ◌++◌, length, drop, set, take, All, refl, sym, ap, subst, ◌∙◌, arith, slice_index_or, slice_set, IsPermutation}
 use Rattle.std.proofs.lemmas.List.{get_or_append_left, get_or_default, get_or-set_other, get_or-set_same, length-append, length-set, set-set}
 use Rattle.std.proofs.lemmas.List.Elements.{All-from_get_or, All-get_or, All-tail}
@@ -12,7 +12,7 @@ use Rattle.rsb_many.specs.declared.heads.Head.{Head}
 use Rattle.rsb_many.proofs.heap.Places.{cases_place, first-least, AreSwapped}
 use Rattle.rsb_many.proofs.heap.Keys.{comes_before-as, comes_before-itself, comes_before-one_way}
 
--- two elements change places, whatever stands for none
+-- Swapping two elements sets each of the two places to the element of the other.
 swap-set : {X : Type 0} (xs : List X) (one other : ℕ) (none : X) → one < length xs
     → other < length xs → swap xs one other
     ≡ set (set xs one (slice_index_or xs other none)) other (slice_index_or xs one none)
@@ -22,7 +22,7 @@ swap-set (x ∷ xs) one other none within other_within = λ k.
     (get_or_default (x ∷ xs) one x none within k)
 
 module _ {T : Type 0} (rank : T → ℕ) where
-  -- heads that change places change their keys' places
+  -- If two heads are swapped, so are their keys.
   pub swapped-keys : (old new : List (Head T)) (one place : ℕ) → SwappedAt old new one place
       → (other : Head T) → AreSwapped (key_at rank old other) (key_at rank new other) one place
   swapped-keys old new one place swapped other = record {
@@ -31,13 +31,13 @@ module _ {T : Type 0} (rank : T → ℕ) where
     elsewhere = λ next not_one not_other. ap (key_of rank) (swapped.2 next other not_one not_other);
   }
 
-  -- the key at a place is that of the head there
+  -- The key at a place is that of the head there.
   pub key_at-is : (heads : List (Head T)) (place : ℕ) (head other : Head T) → place < length heads
       → head ≡ slice_index_or heads place head → key_at rank heads other place ≡ key_of rank head
   key_at-is heads place head other within is =
       ap (key_of rank) (get_or_default heads place other head within ∙ sym is)
 
-  -- what holds of each head holds of the one at a place, however they are moved
+  -- If a fact holds of all heads, it holds of the head at a place, in any order of the heads.
   pub fact-at : (Fact : Head T → Type 0) (old heads : List (Head T)) → All Fact old
       → IsPermutation old heads → (place : ℕ) (head : Head T) → place < length heads
       → head ≡ slice_index_or heads place head → Fact head
@@ -45,7 +45,7 @@ module _ {T : Type 0} (rank : T → ℕ) where
       subst Fact (sym is)
       (All-get_or Fact heads place head within (All-permutation Fact old heads kept all))
 
-  -- what was answered of a place and a head holds of the keys there and where that head lies
+  -- If `two` is the head at `next`, a comparison with its key is one with the key at `next`.
   pub answer-at : (heads : List (Head T)) (place next : ℕ) (two : Head T) (answer test : Bool)
       → next < length heads → two ≡ slice_index_or heads next two
       → ((none : Head T) → answer ≡ comes_before (key_at rank heads none place) (key_of rank two))
@@ -56,26 +56,26 @@ module _ {T : Type 0} (rank : T → ℕ) where
       (key_at-is heads next two other within two_is)
       ∙ (sym (answered other) ∙ is)
 
-  -- a head that sinks is held beside the list, in which another lies where it stands: it and the
-  -- next one under it change places
+  -- A head that sinks is kept beside the list, which has another head at `place`. The head moves
+  -- down to `child`, and the head `next` there moves up.
   module _ (heads : List (Head T)) (head next : Head T) (place child : ℕ)
       (within : place < length heads) (lesser : IsLesserChild rank heads place child)
       (is : next ≡ slice_index_or heads child next) where
-    -- the next one stands elsewhere
+    -- The child is at another place.
     apart : child ≢ place
     apart same = absurd (let under = lesser.under in omega (arith, under, same))
 
-    -- it lies where it did
+    -- The child is where it was.
     child-held : (other : Head T) → slice_index_or (set heads place head) child other ≡ next
     child-held other =
         get_or-set_other heads place child head other apart
         ∙ get_or_default heads child other next lesser.under.1 ∙ sym is
 
-    -- and the one that sinks where it stands
+    -- The head that sinks is at `place`.
     place-held : (other : Head T) → slice_index_or (set heads place head) place other ≡ head
     place-held other = get_or-set_same heads place head other within
 
-    -- their keys change places
+    -- Their keys are swapped.
     pub sunk-keys : (other : Head T) → AreSwapped (key_at rank (set heads place head) other)
         (key_at rank (set (set heads place next) child head) other) place child
     sunk-keys other = record {
@@ -91,7 +91,7 @@ module _ {T : Type 0} (rank : T → ℕ) where
           ∙ sym (get_or-set_other heads place each head other not_place));
     }
 
-    -- and they stay the same heads
+    -- The heads are the same, in another order.
     pub sunk-kept : IsPermutation (set heads place head) (set (set heads place next) child head)
     sunk-kept =
         let held = set heads place head in
@@ -103,7 +103,7 @@ module _ {T : Type 0} (rank : T → ℕ) where
         ∙ (λ k. set (set held place (child-held head k)) child (place-held head k))
         ∙ ap (λ each. set each child head) (set-set heads place head next)))
 
-    -- what was answered of the two holds of their keys
+    -- The result of comparing the two heads holds of the keys at their places.
     pub sunk-answer : (answer test : Bool)
         → answer ≡ comes_before (key_of rank next) (key_of rank head) → answer ≡ test
         → (other : Head T) → comes_before (key_at rank (set heads place head) other child)
@@ -112,7 +112,7 @@ module _ {T : Type 0} (rank : T → ℕ) where
         comes_before-as (ap (key_of rank) (child-held other)) (ap (key_of rank) (place-held other))
         ∙ (sym answered ∙ tested)
 
-    -- none of those under it comes before the next one
+    -- No child of the place comes before the lesser one.
     pub sunk-lesser : (other : Head T) (each : ℕ) → 0 < each → each < length heads
         → parent each ≡ place → IsFalse (comes_before (key_at rank (set heads place head) other each)
         (key_at rank (set heads place head) other child))
@@ -123,7 +123,7 @@ module _ {T : Type 0} (rank : T → ℕ) where
         (ap (key_of rank) (get_or-set_other heads place child head other apart))
         ∙ lesser.lesser other each some short same
 
-  -- a heap with one head more at its end is one but for that head
+  -- If a head is added at the end of a heap, the list is a heap except for that head.
   pub pushed-heap : (heads : List (Head T)) (head : Head T) → IsHeap rank heads
       → IsHeapButLast rank (heads ++ head ∷ [])
   pushed-heap heads head heap other place some within not =
@@ -134,7 +134,8 @@ module _ {T : Type 0} (rank : T → ℕ) where
       let above = get_or_append_left heads (head ∷ []) other (parent place) low in
       rw (here, above) (heap other place some short)
 
-  -- a list that agrees with a heap past the first place is one but for the head there
+  -- A list that agrees with a heap past the first place is a heap except for the children of the
+  -- first.
   pub agreed-heap : (old new : List (Head T)) → IsHeap rank old → length new ≤ length old
       → ((place : ℕ) (other : Head T) → place ≢ 0 → place < length new
       → slice_index_or new place other ≡ slice_index_or old place other)
@@ -147,7 +148,7 @@ module _ {T : Type 0} (rank : T → ℕ) where
       )
       (heap other place some (omega (arith, within, short)))
 
-  -- the first head of a heap is least of all
+  -- No head of a heap comes before the first.
   pub first-least_of : (heads rest : List (Head T)) (head : Head T) → IsHeap rank heads
       → 0 < length heads → head ≡ slice_index_or heads 0 head → IsPermutation heads (head ∷ rest)
       → IsLeastOf rank head rest
@@ -161,15 +162,15 @@ module _ {T : Type 0} (rank : T → ℕ) where
       (first-least keys (length heads) (heap head) place place (omega arith) within)) in
       All-tail Fact head rest (All-permutation Fact heads (head ∷ rest) kept all)
 
-  -- the two heads under a place, of which the left one is this
+  -- The two children of a place, of which `left` is the left one.
   module _ (heads : List (Head T)) (place : ℕ) (left : Head T)
       (within : 2 * place + 1 + 1 < length heads)
       (left_is : left ≡ slice_index_or heads (2 * place + 1) left) where
-    -- its key
+    -- The key of the left child.
     left_key : (other : Head T) → key_at rank heads other (2 * place + 1) ≡ key_of rank left
     left_key other = key_at-is heads (2 * place + 1) left other (omega (arith, within)) left_is
 
-    -- where the right one comes first, it is the lesser
+    -- If the right child comes before the left one, it is the lesser child.
     pub right-lesser : ((other : Head T)
         → IsTrue (comes_before (key_at rank heads other (2 * place + 1 + 1)) (key_of rank left)))
         → IsLesserChild rank heads place (2 * place + 1 + 1)
@@ -184,7 +185,7 @@ module _ {T : Type 0} (rank : T → ℕ) where
           ∙ comes_before-one_way right (key_of rank left) (first other));
     }
 
-    -- else the left one is
+    -- Otherwise the left child is.
     pub left-lesser : ((other : Head T)
         → IsFalse (comes_before (key_at rank heads other (2 * place + 1 + 1)) (key_of rank left)))
         → IsLesserChild rank heads place (2 * place + 1)
@@ -197,21 +198,24 @@ module _ {T : Type 0} (rank : T → ℕ) where
           comes_before-as (ap (key_at rank heads other) is) (left_key other) ∙ most other);
     }
 
-  -- a list with one head more at its end, moved about, has that head and those before
+  -- If a head is added at the end and the list is reordered, its heads are that one and the old
+  -- ones.
   pub pushed-kept : (old more new : List (Head T)) (head : Head T) → more ≡ old ++ head ∷ []
       → IsPermutation more new → IsPermutation (head ∷ old) new
   pushed-kept old more new head is kept =
       IsPermutation-trans _ _ _ (IsPermutation-sym _ _ (IsPermutation-to_front old head))
       (subst (λ heads. IsPermutation heads new) is kept)
 
-  -- a list whose first head gave way to another, moved about, has that head and those behind it
+  -- If the first head is replaced and the list is reordered, its heads are the new one and those
+  -- behind the first.
   pub filled-kept : (old more new : List (Head T)) (head : Head T) → 0 < length old
       → more ≡ set old 0 head → IsPermutation more new → IsPermutation (head ∷ drop 1 old) new
   filled-kept [] more new head some is kept = absurd (omega (arith, some))
   filled-kept (first ∷ old) more new head some is kept =
       subst (λ heads. IsPermutation heads new) is kept
 
-  -- the head that gave way is told by no other place
+  -- If the first head of a heap is replaced, the list is a heap except for the children of the
+  -- first.
   pub filled-heap : (old more : List (Head T)) (head : Head T) → more ≡ set old 0 head
       → IsHeap rank old → IsHeapButFirst rank more
   filled-heap old more head is heap =
@@ -219,13 +223,13 @@ module _ {T : Type 0} (rank : T → ℕ) where
       agreed-heap old more heap (omega (arith, long)) (λ place other not within.
       ap (λ heads. slice_index_or heads place other) is ∙ get_or-set_other old 0 place head other not)
 
-  -- a list behind whose first head the others stand
+  -- A list is its first head followed by the others.
   pub first-drop : (heads : List (Head T)) (head : Head T) → 0 < length heads
       → head ≡ slice_index_or heads 0 head → heads ≡ head ∷ drop 1 heads
   first-drop [] head some is = absurd (omega (arith, some))
   first-drop (first ∷ heads) head some is = ap (λ each. each ∷ heads) (sym is)
 
-  -- the last head of a list, and those before it
+  -- A list is all heads but the last, followed by the last.
   last-behind : (first : Head T) (heads : List (Head T)) (other : Head T)
       → take (length heads) (first ∷ heads)
       ++ slice_index_or (first ∷ heads) (length heads) other ∷ [] ≡ first ∷ heads
@@ -233,7 +237,7 @@ module _ {T : Type 0} (rank : T → ℕ) where
   last-behind first (next ∷ heads) other =
       ap (λ each. first ∷ each) (last-behind next heads other)
 
-  -- a list in which the last head took the place of the first has those behind that one
+  -- If the last head replaces the first, the heads are those behind the first.
   closed-same : (old : List (Head T)) (other : Head T)
       → IsPermutation (drop 1 old) (swap_remove old 0 other)
   closed-same [] other = IsPermutation-refl []
@@ -248,7 +252,7 @@ module _ {T : Type 0} (rank : T → ℕ) where
       (subst (λ each. IsPermutation each (last ∷ front)) (last-behind next heads other)
       (IsPermutation-to_front front last))
 
-  -- and so when it is moved about
+  -- The same holds if the list is then reordered.
   pub closed-kept : (old less new : List (Head T)) (other : Head T) → less ≡ swap_remove old 0 other
       → IsPermutation less new → IsPermutation (drop 1 old) new
   closed-kept old less new other is kept =

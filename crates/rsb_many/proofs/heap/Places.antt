@@ -1,4 +1,4 @@
--- What a heap keeps while one key moves up it or down it: keys at places, so many of them.
+-- What stays true of a heap, as keys at places, while one key moves up or down.
 use Rattle.std.proofs.Common.{◌≡◌, ℕ, zero, suc, ◌+◌, ◌*◌, ◌<◌, ◌≤◌, not, inl, inr, arith}
 use Rattle.std.proofs.lemmas.Bool.{cases_eq}
 use Rattle.std.specs.Prelude.{◌≢◌, IsFalse, IsTrue}
@@ -6,13 +6,13 @@ use Rattle.rsb_many.specs.HeapOrder.{parent, IsBridged, IsHeapBut, IsHeapButUnde
 use Rattle.rsb_many.specs.Keys.{comes_before, Key}
 use Rattle.rsb_many.proofs.heap.Keys.{comes_before-chain, comes_before-itself, comes_before-one_way}
 
--- two keys change places
+-- Whether the keys at two places are swapped, and all others are unchanged.
 pub record AreSwapped (old new : ℕ → Key) (one other : ℕ) : Type 0 where
   pub one_is : new one ≡ old other
   pub other_is : new other ≡ old one
   pub elsewhere : (place : ℕ) → place ≢ one → place ≢ other → new place ≡ old place
 
--- a place is one of two, or neither
+-- A fact holds if it follows both from `place` being `one` and from its being another place.
 pub cases_place : {Fact : Type 0} (place one : ℕ) → (place ≡ one → Fact) → (place ≢ one → Fact)
     → Fact
 cases_place place one same other = elim (cases_eq place one) [
@@ -20,11 +20,11 @@ cases_place place one same other = elim (cases_eq place one) [
   | inr not ↦ other not
 ]
 
--- a place below the first has a place above it
+-- The parent of a place other than the first is before it.
 pub parent-above : (place : ℕ) → 0 < place → parent place < place
 parent-above place some = omega arith
 
--- which is not the place itself
+-- A place before or past another is not the same.
 not_below : (place one : ℕ) → place < one → place ≢ one
 not_below place one below same = absurd (omega (arith, below, same))
 
@@ -32,7 +32,7 @@ not_above : (place one : ℕ) → one < place → place ≢ one
 not_above place one above same = absurd (omega (arith, above, same))
 
 module _ (keys : ℕ → Key) (count : ℕ) where
-  -- no key of a heap comes before the first
+  -- No key of a heap comes before the first.
   pub first-least : IsHeapOf keys count → (most place : ℕ) → place ≤ most → place < count
       → IsFalse (comes_before (keys place) (keys 0))
   first-least heap zero place small within =
@@ -45,18 +45,19 @@ module _ (keys : ℕ → Key) (count : ℕ) where
       comes_before-chain (keys 0) (keys (parent place)) (keys place)
       (first-least heap most (parent place) (omega arith) (omega arith)) (heap place some within))
 
-  -- a heap but for a key that does not come before the one above it is a heap
+  -- If only the key at `here` might come before its parent, and it does not, the keys are a heap.
   pub risen-here : (here : ℕ) → IsHeapBut keys count here → IsUnder keys here → IsHeapOf keys count
   risen-here here heap under place some within =
       cases_place place here (λ same. rw same under) (heap place some within)
 
-  -- a heap but for the keys under one that has none is a heap
+  -- If only children of `here` might come before it, and it has none, the keys are a heap.
   pub sunk-last : (here : ℕ) → count ≤ 2 * here + 1 → IsHeapButUnder keys count here
       → IsHeapOf keys count
   sunk-last here last heap place some within =
       heap place some within (λ same. absurd (omega (arith, last, some, within, same)))
 
-  -- a heap but for the keys under one that none of them comes before is a heap
+  -- If only children of `here` might come before it, and the lesser one does not, the keys are a
+  -- heap.
   pub sunk-here : (here child : ℕ) → IsHeapButUnder keys count here
       → ((next : ℕ) → 0 < next → next < count → parent next ≡ here
       → IsFalse (comes_before (keys next) (keys child)))
@@ -68,11 +69,11 @@ module _ (keys : ℕ → Key) (count : ℕ) where
       (heap place some within)
 
 module _ (old new : ℕ → Key) (count here : ℕ) where
-  -- a key moves up, before the one above it
+  -- A key that comes before its parent moves up, and the two are swapped.
   module _ (some_here : 0 < here) (swapped : AreSwapped old new here (parent here))
       (first : IsTrue (comes_before (old here) (old (parent here))))
       (heap : IsHeapBut old count here) (bridged : IsBridged old count here) where
-    -- the key at a place does not come before the one above it
+    -- A key does not come before its parent, unless it is at the place that the moved key has now.
     risen-under : (place : ℕ) → 0 < place → place < count → place ≢ parent here → IsUnder new place
     risen-under place some within elsewhere =
         let back = comes_before-one_way (old here) (old (parent here)) first in
@@ -88,11 +89,11 @@ module _ (old new : ℕ → Key) (count here : ℕ) where
         (comes_before-chain (old here) (old (parent here)) (old place) back (rw same at under)))
         (λ away. rw (stays, swapped.elsewhere (parent place) apart away) under)))
 
-    -- the heap is one but for the place where the key is now
+    -- So the keys are a heap except for the key that moved.
     pub risen : IsHeapBut new count (parent here)
     risen place some within elsewhere = risen-under place some within elsewhere
 
-    -- and so are the keys under it bridged
+    -- No child of that place comes before the parent of that place.
     pub risen-bridged : IsBridged new count (parent here)
     risen-bridged some_up place some within same =
         let below = parent-above here some_here in
@@ -111,7 +112,7 @@ module _ (old new : ℕ → Key) (count here : ℕ) where
         (comes_before-chain (old (parent (parent here))) (old (parent here)) (old place) under
         (rw same at (heap place some within not))))
 
-  -- a key moves down, where the least of those under it comes before it
+  -- A key moves down and is swapped with its lesser child, which comes before it.
   module _ (child : ℕ) (under_here : parent child ≡ here) (some_child : 0 < child)
       (child_within : child < count)
       (swapped : AreSwapped old new here child)
@@ -119,11 +120,11 @@ module _ (old new : ℕ → Key) (count here : ℕ) where
       (lesser : (next : ℕ) → 0 < next → next < count → parent next ≡ here
       → IsFalse (comes_before (old next) (old child)))
       (heap : IsHeapButUnder old count here) (bridged : IsBridged old count here) where
-    -- the key is further down
+    -- The key moves to a later place.
     below_here : here < child
     below_here = let above = parent-above child some_child in omega (arith, above, under_here)
 
-    -- the key at a place that is neither, under one that is not the child
+    -- A key at neither place, whose parent is not at `child`, does not come before its parent.
     sunk-under : (place : ℕ) → 0 < place → place < count → parent place ≢ child → place ≢ here
         → place ≢ child → IsUnder new place
     sunk-under place some within elsewhere not_here not_child =
@@ -133,7 +134,7 @@ module _ (old new : ℕ → Key) (count here : ℕ) where
         (λ apart. rw (stays, swapped.elsewhere (parent place) apart elsewhere)
         (heap place some within apart))
 
-    -- the heap is one but for the keys under the place where the key is now
+    -- So the keys are a heap except for the children of the key that moved.
     pub sunk : IsHeapButUnder new count child
     sunk place some within elsewhere =
         cases_place place child
@@ -149,7 +150,7 @@ module _ (old new : ℕ → Key) (count here : ℕ) where
         (bridged some_here child some_child child_within under_here))
         (λ not_here. sunk-under place some within elsewhere not_here not_child))
 
-    -- and those are bridged
+    -- No child of that place comes before the parent of that place.
     pub sunk-bridged : IsBridged new count child
     sunk-bridged some_place place some within same =
         let above = parent-above place some in

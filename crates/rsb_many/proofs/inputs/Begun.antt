@@ -1,4 +1,4 @@
--- Many streams of which the first ranges are drawn, one after the other.
+-- How the first range of each of many streams is drawn, one stream after the other.
 use Rattle.std.proofs.Common.{◌≡◌, ℕ, zero, suc, ◌+◌, ◌<◌, ◌≤◌, Bool, true, false, cond, nat_le, nat_lt, ◌&&◌, not, List, [], ◌∷◌, length, slice_get, refl, sym, ap, subst, ◌∙◌, arith, All, Option, Some, None}
 use Rattle.std.proofs.lemmas.Bool.Decides.{nat_tests}
 use Rattle.std.proofs.lemmas.List.{length-set}
@@ -17,7 +17,7 @@ use Rattle.rsb_many.specs.declared.drawn.Drawn.{Drawn}
 use Rattle.rsb_many.specs.declared.heads.Head.{Head}
 use Rattle.rsb_many.proofs.inputs.Steps.{can-same, draws-more, draws-ready, draws-unstarted, draws-uses, drawn_count, gives_of-uses, uses-same}
 
--- a fact of all streams, by their places
+-- If a fact holds of all streams, it holds of the stream at each place.
 pub All-slice_get : {S : Type 0} (P : S → Type 0) (streams : List S) (place : ℕ) → All P streams
     → IfSome (slice_get streams place) P
 All-slice_get P [] place all = tt
@@ -25,29 +25,29 @@ All-slice_get P (stream ∷ streams) zero all = All-head P stream streams all
 All-slice_get P (stream ∷ streams) (suc place) all =
     All-slice_get P streams place (All-tail P stream streams all)
 
--- a place is due from itself on
+-- If the places from `place` on are due, so is `place` itself.
 due-here : (place count : ℕ) → place < count → (nat_le place place && nat_lt place count) ≡ true
 due-here place count less = grind (arith, nat_tests)
 
--- and not from the next one on
+-- If only the places past `place` are due, it is not.
 due-no_more : (place count : ℕ) → (nat_le (place + 1) place && nat_lt place count) ≡ false
 due-no_more place count = grind (arith, nat_tests)
 
--- others are due from the next one on where they are due from it on
+-- Any other place is due from the next place on exactly if it is due from `place` on.
 due-others : (place count other : ℕ) → ¬ (other ≡ place)
     → (nat_le (place + 1) other && nat_lt other count) ≡ (nat_le place other && nat_lt other count)
 due-others place count other differs = grind (arith, nat_tests)
 
--- none is due past the last
+-- If `first` is past the last place, no range is due.
 due-none : (first count place : ℕ) → count ≤ first
     → (nat_le first place && nat_lt place count) ≡ false
 due-none first count place past = grind (arith, nat_tests)
 
--- a place that is not due from the first on is past the last
+-- If ranges are due from place 0 on, a place that is not due is past the last.
 due-past : (place count : ℕ) → (nat_le 0 place && nat_lt place count) ≡ false → count ≤ place
 due-past place count none = grind (arith, nat_tests, none)
 
--- no stream stands past the last
+-- There is no stream past the last place.
 slice_get-past : {S : Type 0} (streams : List S) (place : ℕ) → length streams ≤ place
     → slice_get streams place ≡ None
 slice_get-past [] place past = refl
@@ -59,7 +59,7 @@ module _ {T N I : Type 0} (integer : Elements T N) (stream : Stream I T N)
     (laws : IsLawful integer stream) where
   open integer use {rank, value_count as n}
 
-  -- inputs of which the same are due are ready where those are
+  -- If two states have the same streams, heads and due ranges, and one is ready, so is the other.
   ready-same : (s t : Inputs T I) → t.streams ≡ s.streams → t.heads ≡ s.heads
       → ((place : ℕ) → t.due place ≡ s.due place) → AreReady integer stream s
       → AreReady integer stream t
@@ -74,14 +74,15 @@ module _ {T N I : Type 0} (integer : Elements T N) (stream : Stream I T N)
     within = rw (streams, heads) ready.within;
   }
 
-  -- what a stream at a place may give comes by its starts
+  -- What the stream at a place may give is sorted by start.
   at-sorted : (found : Option I) → IfSome found stream.can_draw
       → (runs : List Interval) → MatchOption found (runs ≡ []) (λ s. stream.may_give s runs)
       → HasSortedStarts n runs
   at-sorted None can runs is = rw is tt
   at-sorted (Some s) can runs may = (laws.sorted s can).all runs may
 
-  -- an input of which nothing is held gives what its stream does, where a range is due of it
+-- If nothing is held of an input, it gives only what its stream may give. A range must be due
+-- unless there is no stream.
   gives-due : (due : Bool) (found : Option I) → (due ≡ false → found ≡ None)
       → (runs : List Interval)
       → gives_of (record {
@@ -95,14 +96,14 @@ module _ {T N I : Type 0} (integer : Elements T N) (stream : Stream I T N)
       gives.1
   gives-due false found none runs gives = rw (none refl) (gives.2 ∙ gives.1)
 
-  -- ---- before the first is drawn
+  -- ---- before the first range is drawn
   module _ {A : Type 0} (s : Drawn T I A N) (can : All stream.can_draw s.streams.items)
       (none : s.heads.heads ≡ []) where
-    -- nothing is held of an input
+    -- Nothing is held of an input.
     holds-none : (place : ℕ) → held_at rank s.heads.heads place ≡ []
     holds-none place = ap (λ heads. held_at rank heads place) none
 
-    -- it gives what its stream does
+    -- An input gives only what its stream may give.
     undrawn-gives : (place : ℕ) → gives_of (input_at integer stream (due_from 0 s) place)
         ⊆ may_give_at stream.may_give s.streams.items place
     undrawn-gives place = subst (λ runs. gives_of (record {
@@ -114,14 +115,14 @@ module _ {T N I : Type 0} (integer : Elements T N) (stream : Stream I T N)
         (λ none. slice_get-past s.streams.items place
         (due-past place (length s.streams.items) none)))
 
-    -- one range is due of it at most
+    -- At most one range of an input is held or due.
     due-one : (held : List Interval) (due : Bool) → held ≡ []
         → length held + cond {A = ℕ} due 1 0 ≤ 1
     due-one [] true is = omega arith
     due-one [] false is = omega arith
     due-one (run ∷ runs) due is = absurd (cc)
 
-    -- so they are ready
+    -- So the inputs are ready, before any first range is drawn.
     pub begun-first : s.used ≡ None → length s.streams.items ≤ s.heads.room
         → IsBegunTo integer stream s.streams.items 0 s
     begun-first used room = record {
@@ -143,44 +144,44 @@ module _ {T N I : Type 0} (integer : Elements T N) (stream : Stream I T N)
       within = omega arith;
     }
 
-  -- ---- the next one may be drawn from
+  -- ---- the next stream is ready
   module _ {A : Type 0} (streams : List I) (first : ℕ) (s : Drawn T I A N)
       (begun : IsBegunTo integer stream streams first s) (less : first < length s.streams.items)
     where
-      -- an input of which a range is due has not ended
+      -- An input of which a range is due has not ended.
       goes_on : (held : List Interval) (due : Bool) → due ≡ true → is_over held due ≡ false
       goes_on [] due is = rw is refl
       goes_on (run ∷ runs) due is = refl
 
-      -- its stream may be drawn from
+      -- The stream at `first` is ready.
       pub begun-can : IfSome (slice_get s.streams.items first) stream.can_draw
       begun-can = begun.ready.can first (goes_on (held_at rank s.heads.heads first)
           ((due_from first s).due first) (due-here first (length s.streams.items) less))
 
-  -- ---- one more is drawn
+  -- ---- one more range is drawn
   module _ {A : Type 0} (streams : List I) (first : ℕ) (s t : Drawn T I A N)
       (begun : IsBegunTo integer stream streams first s) (less : first < length s.streams.items)
       (draws : DrawsAt integer stream first s.streams.items s.heads.heads t.streams.items
       t.heads.heads) where
-    -- as many streams are there
+    -- The number of streams is unchanged.
     long : length t.streams.items ≡ length s.streams.items
     long = ap (λ (each : List I). length each) draws.stands
         ∙ length-set s.streams.items first draws.after
 
-    -- a range was due of the input
+    -- A range of the input at `first` was due.
     due : (due_from first s).due first ≡ true
     due = due-here first (length s.streams.items) less
 
-    -- and is not now
+    -- It is due no longer.
     now_due : (due_from (first + 1) t).due first ≡ false
     now_due = due-no_more first (length t.streams.items)
 
-    -- those that are due of the others stay so
+    -- At every other place, a range is due exactly if it was before.
     dues : (other : ℕ) → ¬ (other ≡ first)
         → (due_from (first + 1) t).due other ≡ (due_from first s).due other
     dues other differs = rw long (due-others first (length s.streams.items) other differs)
 
-    -- one head more is held at most, by what was drawn
+    -- At most one more head is held, whatever was drawn.
     few-by : (item : Option (RangeInclusive T))
         → length t.heads.heads ≡ length s.heads.heads + drawn_count integer stream laws
         (due_from first s) (due_from (first + 1) t) first begun.ready due now_due dues less draws
@@ -189,7 +190,7 @@ module _ {T N I : Type 0} (integer : Elements T N) (stream : Stream I T N)
     few-by None more = omega (arith, more, begun.few)
     few-by (Some range) more = omega (arith, more, begun.few)
 
-    -- of one more the first range is drawn
+    -- The first range is drawn from one more stream.
     pub begun-next : t.used ≡ s.used → s.heads.room ≤ t.heads.room
         → IsBegunTo integer stream streams (first + 1) t
     begun-next used room = record {
@@ -210,15 +211,15 @@ module _ {T N I : Type 0} (integer : Elements T N) (stream : Stream I T N)
       within = omega (arith, less, begun.count);
     }
 
-  -- ---- all are drawn
+  -- ---- the first range of each stream is drawn
   module _ {A : Type 0} (streams : List I) (first : ℕ) (s : Drawn T I A N)
       (begun : IsBegunTo integer stream streams first s)
       (past : length s.streams.items ≤ first) where
-    -- no range is due
+    -- No range is due.
     none-due : (place : ℕ) → (inputs_of s).due place ≡ (due_from first s).due place
     none-due place = rw begun.used (sym (due-none first (length s.streams.items) place past))
 
-    -- the first range of each is drawn
+    -- The first range of each stream is drawn.
     pub begun-all : IsBegunOf integer stream streams s
     begun-all = record {
       ready = record {

@@ -1,5 +1,4 @@
--- Which inputs have begun, as the heads show in whatever order, and which event of an input comes
--- first.
+-- Which inputs have begun, as the heads show in any order, and which event of an input comes first.
 use Rattle.std.proofs.Common.{◌≡◌, inl, inr, ℕ, ◌+◌, ◌<◌, ◌≤◌, Bool, true, false, cond, nat_eq, nat_lt, ◌&&◌, ◌||◌, List, [], ◌∷◌, ◌++◌, length, refl, sym, ap, ◌∙◌, arith, All, sum_by, IsPermutation, IsFalse}
 use Rattle.std.proofs.lemmas.Bool.{eqb-true}
 use Rattle.std.proofs.lemmas.Bool.Decides.{nat_tests}
@@ -20,29 +19,29 @@ use Rattle.rsb_many.proofs.inputs.Steps.{nat_eq-differs, nat_eq-itself}
 use Rattle.rsb_many.proofs.heap.Keys.{comes_before-as}
 use Rattle.rsb_many.proofs.events.Steps.{IsNotBefore}
 
--- one of two tests holds where one at least is counted
+-- A test holds or a count is positive exactly if their sum is positive, with the test counted as 1.
 either-counted : (one : Bool) (count : ℕ) → (one || nat_lt 0 count) ≡ nat_lt 0 (cond one 1 0 + count)
 either-counted true count = grind (arith, nat_tests)
 either-counted false count = grind (arith, nat_tests)
 
--- of two tests not both hold
+-- Two tests do not both hold if the second does not.
 second-false : (one other : Bool) → other ≡ false → (one && other) ≡ false
 second-false true other is = is
 second-false false other is = refl
 
--- nothing is added by what does not hold
+-- “Or false” changes nothing.
 or-false : (test : Bool) → (test || false) ≡ test
 or-false true = refl
 or-false false = refl
 
 module _ {T : Type 0} where
-  -- ---- whatever the order
+  -- ---- in any order of the heads
 
-  -- one for a head whose range has started of the input, and else none
+  -- 1 for a head of the input whose range has started, and 0 for any other.
   abbrev begun_here : ℕ → Head T → ℕ
   begun_here place head = cond (nat_eq head.input place && head.started) 1 0
 
-  -- an input has begun where a head of it has
+  -- An input has begun exactly if it has at least one head whose range has started.
   has_begun-counted : (heads : List (Head T)) (place : ℕ)
       → has_begun heads place ≡ nat_lt 0 (sum_by (begun_here place) heads)
   has_begun-counted [] place = refl
@@ -52,16 +51,16 @@ module _ {T : Type 0} where
       ∙ either-counted (nat_eq head.input place && head.started) (sum_by (begun_here place) heads)
       ∙ ap (nat_lt 0) (sym (sum_by-cons (begun_here place) head heads))
 
-  -- so it does not hang on the order of the heads
+  -- So whether an input has begun does not depend on the order of the heads.
   pub has_begun-permutation : (old new : List (Head T)) (place : ℕ) → IsPermutation old new
       → has_begun new place ≡ has_begun old place
   has_begun-permutation old new place same = has_begun-counted new place
       ∙ ap (nat_lt 0) (sum_by-IsPermutation (begun_here place) old new same)
       ∙ sym (has_begun-counted old place)
 
-  -- ---- heads that come
+  -- ---- heads that are added
 
-  -- heads whose start was not given do not count
+  -- Heads whose start was not reported do not count.
   unstarted-before : (came heads : List (Head T)) (place : ℕ) → All IsUnstarted came
       → has_begun (came ++ heads) place ≡ has_begun heads place
   unstarted-before [] heads place all = refl
@@ -70,14 +69,14 @@ module _ {T : Type 0} where
       (All-head IsUnstarted head came all))
       (unstarted-before came heads place (All-tail IsUnstarted head came all))
 
-  -- as many inputs have begun where heads came whose start was not given
+  -- If only heads whose start was not reported are added, the same inputs have begun.
   pub has_begun-came : (old new : List (Head T)) (place : ℕ) → AddsUnstarted old new
       → has_begun new place ≡ has_begun old place
   has_begun-came old new place adds =
       has_begun-permutation (adds.came ++ old) new place adds.all
       ∙ unstarted-before adds.came old place adds.unstarted
 
-  -- none has, where no start was given
+  -- If no start was reported, no input has begun.
   pub has_begun-unstarted : (heads : List (Head T)) (place : ℕ) → All IsUnstarted heads
       → has_begun heads place ≡ false
   has_begun-unstarted [] place all = refl
@@ -86,14 +85,14 @@ module _ {T : Type 0} where
       (All-head IsUnstarted head heads all))
       (has_begun-unstarted heads place (All-tail IsUnstarted head heads all))
 
-  -- the head of another input tells nothing
+  -- The head of another input does not matter.
   pub has_begun-other : (head : Head T) (heads : List (Head T)) (place : ℕ)
       → ¬ (place ≡ head.input) → has_begun (head ∷ heads) place ≡ has_begun heads place
   has_begun-other head heads place differs = rw (nat_eq-differs head.input place differs) refl
 
   -- ---- how many events are to come
 
-  -- two for each head that came
+  -- Each head that was added has two events to come.
   unstarted-events : (came heads : List (Head T)) → All IsUnstarted came
       → sum_by events_of_head (came ++ heads) ≡ length came + length came + sum_by events_of_head heads
   unstarted-events [] heads all = omega arith
@@ -102,7 +101,7 @@ module _ {T : Type 0} where
       let rest = unstarted-events came heads (All-tail IsUnstarted head came all) in
       omega (arith, sum_by-cons events_of_head head (came ++ heads), own, rest)
 
-  -- two more events for each head that came, and so many heads more
+  -- If heads are added whose start was not reported, there are two more events for each of them.
   pub events-came : (old new : List (Head T)) (adds : AddsUnstarted old new)
       → (sum_by events_of_head new
       ≡ length adds.came + length adds.came + sum_by events_of_head old)
@@ -116,7 +115,7 @@ module _ {T : Type 0} where
 module _ {T : Type 0} (rank : T → ℕ) where
   -- ---- one input
 
-  -- an input of which nothing is held has not begun
+  -- An input of which nothing is held has not begun.
   pub has_begun-nothing : (heads : List (Head T)) (place : ℕ) → held_at rank heads place ≡ []
       → has_begun heads place ≡ false
   has_begun-nothing [] place none = refl
@@ -125,16 +124,16 @@ module _ {T : Type 0} (rank : T → ℕ) where
     | inr other ↦ rw other (has_begun-nothing heads place (rw other at none))
   ]
 
-  -- the only head of an input tells whether it has begun
+  -- The only head of an input determines whether the input has begun.
   pub has_begun-only : (head : Head T) (heads : List (Head T))
       → held_at rank heads head.input ≡ [] → has_begun (head ∷ heads) head.input ≡ head.started
   has_begun-only head heads none =
       rw (nat_eq-itself head.input, has_begun-nothing heads head.input none)
       (or-false head.started)
 
-  -- ---- what comes first of an input
+  -- ---- the first event of an input
 
-  -- the key of a head whose start was given is that of its end
+  -- If the start of a head's range was reported, its key is that of the end.
   pub key-started : (head : Head T) (place : ℕ) → head.started ≡ true → head.input ≡ place
       → key_of rank head ≡ key_of_event (End (rank head.end) place)
   key-started head place is same = λ i. record {
@@ -143,7 +142,7 @@ module _ {T : Type 0} (rank : T → ℕ) where
     input = same i;
   }
 
-  -- else it is that of its start
+  -- Otherwise its key is that of the start.
   pub key-unstarted : (head : Head T) (place : ℕ) → head.started ≡ false → head.input ≡ place
       → key_of rank head ≡ key_of_event (Start (run_of_head rank head) place)
   key-unstarted head place is same = λ i. record {
@@ -152,7 +151,7 @@ module _ {T : Type 0} (rank : T → ℕ) where
     input = same i;
   }
 
-  -- where a head does not come before an event, nor does the first event of its range
+  -- If a head does not come before an event, neither does the first event of its range.
   head-not_before : (event : Event) (head : Head T) (place : ℕ) (begun : Bool)
       (runs : List Interval) → head.input ≡ place → begun ≡ head.started
       → IsFalse (comes_before (key_of rank head) (key_of_event event))
@@ -162,8 +161,8 @@ module _ {T : Type 0} (rank : T → ℕ) where
   head-not_before event head place false runs same is later =
       comes_before-as (sym (key-unstarted head place (sym is) same)) refl ∙ later
 
-  -- where no head comes before an event, the first event of an input of which a range is held does
-  -- not
+  -- If no head comes before an event, neither does the first event of an input of which one range
+  -- is held.
   pub held-not_before : (event : Event) (heads : List (Head T)) (place : ℕ) (runs : List Interval)
       → All (λ (head : Head T). IsFalse (comes_before (key_of rank head) (key_of_event event))) heads
       → length (held_at rank heads place) ≤ 1 → 0 < length (held_at rank heads place)
@@ -185,7 +184,7 @@ module _ {T : Type 0} (rank : T → ℕ) where
             (All-tail P head heads all) (rw other at short) (rw other at some))
       ]
     where
-      -- a list of no range
+      -- A list of at most 0 ranges is empty.
       none-of : (each : List Interval) → length each ≤ 0 → each ≡ []
       none-of [] few = refl
       none-of (run ∷ each) few = absurd (omega (arith, few))

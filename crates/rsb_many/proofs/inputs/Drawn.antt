@@ -1,4 +1,4 @@
--- What a merge and a sweep of many streams hold, when a range is drawn and when one leaves.
+-- What a merge or a sweep of many streams holds when a range is drawn, and when none was due.
 use Rattle.std.proofs.Common.{◌≡◌, inl, inr, ℕ, ◌+◌, ◌*◌, ◌<◌, ◌≤◌, true, false, List, [], ◌∷◌, length, refl, sym, ap, subst, ◌∙◌, arith, Option, Some, None, IsPermutation}
 use Rattle.std.proofs.lemmas.List.{length-set}
 use Rattle.std.proofs.lemmas.List.Elements.{All-cons, All-nil}
@@ -23,7 +23,8 @@ use Rattle.rsb_many.proofs.heap.Digits.{binary_digits-more}
 use Rattle.rsb_many.proofs.inputs.Steps.{draws-ended, draws-less, draws-more, draws-ready, draws-unstarted, draws-uses, drawn_count, nat_eq-differs, nat_eq-itself}
 use Rattle.rsb_many.proofs.inputs.Left.{left_of-set}
 
--- two comparisons for each digit of a number that is as great close a place
+-- Closing the place at the top takes at most two comparisons for each binary digit of the number of
+-- heads, or of any greater number.
 pub few-closing : {T : Type 0} (kept : Kept T) (count : ℕ) → length kept.heads ≤ count
     → kept.comparisons + closing kept ≤ kept.comparisons + 2 * binary_digits count
 few-closing kept count few =
@@ -33,7 +34,7 @@ few-closing kept count few =
       | inr not_so ↦ rw not_so (omega arith)
     ]
 
--- heads that stay
+-- If the heads are unchanged, none was added.
 nothing-came : {T : Type 0} (old new : List (Head T)) → new ≡ old → AddsUnstarted old new
 nothing-came old new same = record {
   came = [];
@@ -45,7 +46,7 @@ module _ {T N I : Type 0} (integer : Elements T N) (stream : Stream I T N)
     (laws : IsLawful integer stream) where
   open integer use {rank, value_count as n}
 
-  -- the head of a range that was drawn has values
+  -- The head of a range that was drawn has values.
   pub values-drawn : (before after : I) (range : RangeInclusive T) (place : ℕ)
       → stream.can_draw before → stream.draw_gives before (Some range) after
       → MakesProgress stream.can_draw stream.draws_left before (Some range) after
@@ -62,7 +63,7 @@ module _ {T N I : Type 0} (integer : Elements T N) (stream : Stream I T N)
       omega (arith, sorted.1, sorted.2, first) in
       record { at = start; stands = refl; start = start; end = omega (arith, sorted.2, last) }
 
-  -- no range was due
+  -- If no range was due and nothing changed, that is what `Refills` states.
   pub refills-none : {A : Type 0} (s t : Drawn T I A N) → DrawnReady integer stream s
       → s.used ≡ None → t.streams ≡ s.streams → t.heads ≡ s.heads → t.used ≡ None
       → Refills integer stream s t
@@ -85,7 +86,7 @@ module _ {T N I : Type 0} (integer : Elements T N) (stream : Stream I T N)
         counted = omega arith;
       })
 
-  -- the range that was due was drawn
+  -- The range that was due was drawn.
   module _ {A : Type 0} (s t : Drawn T I A N) (place : ℕ)
       (ready : DrawnReady integer stream s) (used : s.used ≡ Some place) (none : t.used ≡ None)
       (room : s.heads.room ≤ t.heads.room)
@@ -95,33 +96,33 @@ module _ {T N I : Type 0} (integer : Elements T N) (stream : Stream I T N)
       ≤ s.heads.comparisons + 2 * binary_digits (length t.heads.heads))
       (counted : s.heads.comparisons ≤ t.heads.comparisons)
     where
-      -- it was due
+      -- The range was due.
       due : is_at s.used place ≡ true
       due = rw used (nat_eq-itself place)
 
-      -- it is not now
+      -- It is due no longer.
       now_due : is_at t.used place ≡ false
       now_due = rw none refl
 
-      -- nor was any other
+      -- At every other place, a range is due exactly if it was before.
       dues : (other : ℕ) → ¬ (other ≡ place) → is_at t.used other ≡ is_at s.used other
       dues other differs = rw (none, used) (sym (nat_eq-differs place other differs))
 
-      -- there is such a stream
+      -- There is a stream at the place.
       less : place < length s.streams.items
       less = rw used at ready.room.used
 
-      -- as many streams are there
+      -- The number of streams is unchanged.
       long : length t.streams.items ≡ length s.streams.items
       long = ap (λ (streams : List I). length streams) draws.stands
           ∙ length-set s.streams.items place draws.after
 
-      -- there is room for all heads
+      -- There are at most as many heads as streams.
       few : length t.heads.heads ≤ length s.streams.items
       few = few-by draws.item (draws-more integer stream laws (inputs_of s) (inputs_of t) place
           ready.inputs due now_due dues less draws) (rw used at ready.room.few)
         where
-          -- by what was drawn
+          -- The same for each option of what was drawn.
           few-by : (item : Option (RangeInclusive T))
               → length t.heads.heads ≡ length s.heads.heads + drawn_count integer stream laws
               (inputs_of s) (inputs_of t) place ready.inputs due now_due dues less draws item
@@ -130,7 +131,7 @@ module _ {T N I : Type 0} (integer : Elements T N) (stream : Stream I T N)
           few-by None more room = omega (arith, more, room)
           few-by (Some range) more room = omega (arith, more, room)
 
-      -- so nothing is due
+      -- So the range that was due is drawn, as `Refills` states.
       pub refills : Refills integer stream s t
       refills = record {
         ready = record {
@@ -156,7 +157,7 @@ module _ {T N I : Type 0} (integer : Elements T N) (stream : Stream I T N)
         counted = counted;
       }
         where
-          -- the head that came is new, by what was drawn
+          -- The start of the head that was added was not reported, whatever was drawn.
           came-by : (item : Option (RangeInclusive T))
               → MatchOption item (t.heads.heads ≡ s.heads.heads)
               (λ range. IsPermutation (head_of place range ∷ s.heads.heads)
@@ -171,7 +172,7 @@ module _ {T N I : Type 0} (integer : Elements T N) (stream : Stream I T N)
                 all = kept;
               }
 
-          -- no more ranges are left than before
+          -- No more ranges are left than before.
           fewer : IsFinite (inputs_left integer stream (inputs_of s))
               → IsFinite (inputs_left integer stream (inputs_of t))
               × (size (inputs_left integer stream (inputs_of t))

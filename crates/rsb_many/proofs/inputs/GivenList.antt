@@ -1,4 +1,4 @@
--- A list that was passed as an iterator gave all of its items.
+-- A list that is passed as an iterator gives all of its items.
 use Rattle.std.proofs.Common.{◌≡◌, List, ◌∙◌, ap, subst}
 use Rattle.std.specs.Iterator.{YieldsFirst, item_count}
 use Rattle.std.specs.Iterator.Runs.{EveryRun, ItemsAre, Run, WholeRun}
@@ -12,7 +12,7 @@ use Rattle.rsb_integer.specs.declared.integer.Integer.{Ghosts as Elements}
 use Rattle.rsb_streams.specs.Listed.{listed_may_give}
 use Rattle.rsb_streams.specs.declared.draw.Draw.{Ghosts as Stream}
 
--- ranges that were taken, as a stream
+-- Ranges that were taken, as a stream.
 abbrev pub taken_stream : {T N : Type 0} → Elements T N → Stream (List (RangeInclusive T)) T N
 taken_stream integer = record {
   can_draw = λ s. IsCanonicalIn integer.value_count (intervals_of integer.rank s);
@@ -22,7 +22,7 @@ taken_stream integer = record {
 }
 
 module _ {S X : Type 0} (steps : S → Option X → S → Type 0) (items_of : S → List X) where
-  -- a whole run of an iterator that shows its remaining items gave all of them
+  -- If an iterator shows its remaining items, a whole run of it gives all of them.
   pub whole-items : (items : List X) (iter : S) (Fact : Run steps → Type 0) → items_of iter ≡ items
       → EveryRun steps (λ run. ItemsAre run (items_of run.from))
       → (whole : WholeRun steps iter Fact) → whole.0.items ≡ items
@@ -30,7 +30,7 @@ module _ {S X : Type 0} (steps : S → Option X → S → Type 0) (items_of : S 
       (runs whole.0 whole.0.seen).4 whole.2 ∙ ap items_of whole.1 ∙ is
 
 module _ {X Z : Type 0} where
-  -- what a list became gives the list
+  -- A fact about all that an iterator gave holds of the list that it was built from.
   pub given-list : (items : List X) (iter : IntoIter X Z) (Fact : List X → Type 0)
       → into_iter_items iter ≡ items
       → EveryRun (into_iter_steps {X = X} {Z = Z}) (λ run. ItemsAre run (into_iter_items run.from))

@@ -1,5 +1,4 @@
--- A value that is passed as an iterator: all of its items are those of one run of calls up to
--- `None`.
+-- A value that is passed as an iterator: its items are those of one run of calls up to `None`.
 use Rattle.std.proofs.Common.{true, List, refl}
 use Rattle.std.proofs.iter.runs.Made.{run, seen, to_end}
 use Rattle.std.specs.Iterator.{DrainsIf, Yields}
@@ -9,7 +8,7 @@ use Rattle.rsb_many.specs.HandedIn.{EachGaveRun}
 
 module _ {J I X : Type 0} (becomes : J → I → Type 0) (steps : I → Option X → I → Type 0)
     (value : J) where
-  -- where a fact is given of a run, each that follows from it is
+  -- If a fact holds of the items of a run, so does each fact that follows from it.
   pub gave-each : (Fact Other : List X → Type 0) → ((items : List X) → Fact items → Other items)
       → GaveRun becomes steps value Fact → GaveRun becomes steps value Other
   gave-each Fact Other follows gave = (
@@ -18,7 +17,7 @@ module _ {J I X : Type 0} (becomes : J → I → Type 0) (steps : I → Option X
     (gave.2.0, gave.2.1, gave.2.2, follows gave.2.0.items gave.2.3),
   )
 
-  -- items that came up to `None` are a whole run
+  -- Items that came before `None` are the items of a whole run.
   pub ended-run : (Fact : List X → Type 0) (iter last next : I) (items : List X)
       → becomes value iter → Yields steps iter items last → steps last None next → Fact items
       → GaveRun becomes steps value Fact
@@ -28,7 +27,7 @@ module _ {J I X : Type 0} (becomes : J → I → Type 0) (steps : I → Option X
     (run steps iter items true (to_end steps iter items (next, (last, came, ended))), refl, refl, fact),
   )
 
-  -- so are all items that a value gave
+  -- So are all items that a value gave.
   pub gave-run : (Fact : List X → Type 0) → GaveAll becomes steps value Fact
       → GaveRun becomes steps value Fact
   gave-run Fact gave = ended-run Fact gave.0 gave.3.1.0 gave.3.0 gave.1 gave.2 gave.3.1.1 gave.3.1.2
@@ -36,14 +35,14 @@ module _ {J I X : Type 0} (becomes : J → I → Type 0) (steps : I → Option X
 
   module _ (iter : I) (items : List X) (is : becomes value iter) (drains : DrainsIf steps ⊤ iter items)
     where
-      -- what holds of each run holds of all that was collected
+      -- A fact that holds of each run's items holds of all that was collected.
       pub collected-each : (Fact : List X → Type 0) → EachGaveRun becomes steps value Fact → Fact items
       collected-each Fact each = each iter is
           (run steps iter items true
           (to_end steps iter items ((drains.2 tt).0, (drains.0, drains.1, (drains.2 tt).1))))
           (seen (length items)) refl
 
-      -- all that was collected is a whole run
+      -- What was collected is the items of one whole run.
       pub collected-run : (Fact : List X → Type 0) → Fact items → GaveRun becomes steps value Fact
       collected-run Fact fact =
           ended-run Fact iter drains.0 (drains.2 tt).0 items is drains.1 (drains.2 tt).1 fact

@@ -1,5 +1,5 @@
--- What a merge and a sweep of many streams hold when the least head leaves, when it is put back,
--- and when there is none.
+-- What a merge or a sweep of many streams holds if the least head leaves, if it is put back, and if
+-- there is none.
 use Rattle.std.proofs.Common.{◌≡◌, inl, inr, ℕ, ◌+◌, ◌*◌, ◌<◌, ◌≤◌, true, false, cond, nat_lt, List, [], ◌∷◌, ◌++◌, length, slice_get, refl, sym, ap, subst, ◌∙◌, arith, All, None}
 use Rattle.std.proofs.lemmas.Bool.{ltb-false}
 use Rattle.std.proofs.lemmas.List.{append-nil}
@@ -23,7 +23,8 @@ use Rattle.rsb_many.proofs.inputs.Held.{held_at-permutation}
 use Rattle.rsb_many.proofs.inputs.Steps.{can-same, gives_of-uses, held-head, leaves-gives, leaves-goes, leaves-none, leaves-others, leaves-ready, leaves-spares, nat_eq-differs, nat_eq-itself, uses-same}
 use Rattle.rsb_many.proofs.inputs.Left.{left_of-same}
 
--- two comparisons for each digit of a number of heads, and two again, are few
+-- Two comparisons for each binary digit of `count`, and two for each digit of the number of heads,
+-- stay within `comparison_bound`.
 pub few-compared : (count heads before middle made : ℕ) → heads ≤ count
     → middle ≤ before + 2 * binary_digits count → made ≤ middle + 2 * binary_digits heads
     → made ≤ before + comparison_bound count
@@ -32,7 +33,7 @@ few-compared count heads before middle made short first second =
     let some = binary_digits-more count (cond (nat_lt 0 count) count 1) (at-least count) in
     omega (arith, first, second, few, some)
   where
-    -- a number, or one where it is none
+    -- A number is at most itself, or 1 if it is 0.
     at-least : (count : ℕ) → count ≤ cond (nat_lt 0 count) count 1
     at-least count = elim (true_or_false (nat_lt 0 count)) [
       | inl some ↦ rw some (omega arith)
@@ -43,78 +44,78 @@ module _ {T N I A : Type 0} (integer : Elements T N) (stream : Stream I T N) (m 
     (ready : DrawnReady integer stream m) (none : m.used ≡ None) where
   open integer use {rank}
 
-  -- the inputs before
+  -- The inputs before.
   abbrev before : Inputs T I
   before = inputs_of m
 
-  -- no range is due
+  -- No range is due.
   none-due : (place : ℕ) → is_at m.used place ≡ false
   none-due place = rw none refl
 
   -- ---- the least head leaves
   module _ (t : Drawn T I A N) (head : Head T) (takes : TakesHead integer stream m head t) where
-    -- the inputs now
+    -- The inputs afterwards.
     abbrev now : Inputs T I
     now = inputs_of t
 
-    -- the same streams
+    -- The streams are the same.
     pub taken-streams : now.streams ≡ before.streams
     taken-streams = ap (λ each. each.items) takes.streams
 
-    -- its input is due
+    -- A range of the head's input is due.
     pub taken-due : now.due head.input ≡ true
     taken-due = rw takes.used (nat_eq-itself head.input)
 
-    -- no other is
+    -- A range of another input is due exactly if it was before.
     pub taken-dues : (place : ℕ) → ¬ (place ≡ head.input) → now.due place ≡ before.due place
     taken-dues place differs = rw (takes.used, none) (nat_eq-differs head.input place differs)
 
-    -- as many streams are there
+    -- The number of streams is unchanged.
     pub taken-long : length t.streams.items ≡ length m.streams.items
     taken-long = ap (λ (each : List I). length each) taken-streams
 
-    -- one head less is there
+    -- There is one head fewer.
     pub taken-fewer : length m.heads.heads ≡ length t.heads.heads + 1
     taken-fewer =
         let same = length_permutation m.heads.heads (head ∷ t.heads.heads) takes.taken.kept in
         omega (arith, same)
 
-    -- the head's input is one of them
+    -- The head belongs to one of the inputs.
     pub taken-less : head.input < length m.streams.items
     taken-less = All-head (λ (each : Head T). each.input < length m.streams.items) head t.heads.heads
         (All-permutation (λ (each : Head T). each.input < length m.streams.items) m.heads.heads
         (head ∷ t.heads.heads) takes.taken.kept ready.inputs.within)
 
-    -- nothing is held of its input now
+    -- Nothing is held of its input any more.
     pub taken-none : held_at rank t.heads.heads head.input ≡ []
     taken-none = leaves-none integer stream before now head ready.inputs taken-streams
         takes.taken.kept taken-due taken-dues
 
-    -- its range alone was held
+    -- Before, only the range of the head was held of its input.
     pub taken-held : held_at rank m.heads.heads head.input ≡ run_of_head rank head ∷ []
     taken-held = sym (held-head integer stream before now head ready.inputs taken-streams
         takes.taken.kept taken-due taken-dues)
         ∙ ap (λ runs. run_of_head rank head ∷ runs) taken-none
 
-    -- its input gives the range
+    -- Its input gives the range.
     pub taken-gives : GivesFrom (input_at integer stream before head.input) (run_of_head rank head)
         (input_at integer stream now head.input)
     taken-gives = leaves-gives integer stream before now head ready.inputs taken-streams
         takes.taken.kept taken-due taken-dues
 
-    -- what is held of the others stays
+    -- What is held of the other inputs is unchanged.
     pub taken-others : (place : ℕ) → ¬ (place ≡ head.input)
         → held_at rank t.heads.heads place ≡ held_at rank m.heads.heads place
     taken-others = leaves-others integer stream before now head ready.inputs taken-streams
         takes.taken.kept taken-due taken-dues
 
-    -- the others use nothing
+    -- The other inputs use nothing.
     pub taken-spares : (place : ℕ) → ¬ (place ≡ head.input)
         → Uses (input_at integer stream before place) [] (input_at integer stream now place)
     taken-spares = leaves-spares integer stream before now head ready.inputs taken-streams
         takes.taken.kept taken-due taken-dues
 
-    -- the inputs are ready again, and there is room for their heads
+    -- The inputs are ready again, and there is room for their heads.
     pub taken-ready : DrawnReady integer stream t
     taken-ready = record {
       inputs = leaves-ready integer stream before now head ready.inputs taken-streams
@@ -126,11 +127,11 @@ module _ {T N I A : Type 0} (integer : Elements T N) (stream : Stream I T N) (m 
       };
     }
       where
-        -- there is room for its input's next
+        -- There is room for the next head of its input.
         few-now : length t.heads.heads + 1 ≤ length t.streams.items
         few-now = omega (arith, taken-fewer, ready.room.few, taken-long)
 
-    -- the streams have as many ranges left
+    -- The streams have as many ranges left as before.
     pub taken-left : left_of stream.draws_left (has_ended integer stream now) now.streams
         ≡ left_of stream.draws_left (has_ended integer stream before) before.streams
     taken-left = left_of-same stream.draws_left (has_ended integer stream before)
@@ -142,23 +143,23 @@ module _ {T N I A : Type 0} (integer : Elements T N) (stream : Stream I T N) (m 
 
     -- ---- it is put back
     module _ (u : Drawn T I A N) (back : PutsBack t head u) where
-      -- the inputs with it
+      -- The inputs once the head is back.
       abbrev again : Inputs T I
       again = inputs_of u
 
-      -- the same streams
+      -- The streams are the same.
       back-streams : again.streams ≡ before.streams
       back-streams = ap (λ each. each.items) back.streams ∙ taken-streams
 
-      -- as many streams are there
+      -- The number of streams is unchanged.
       pub back-long : length u.streams.items ≡ length m.streams.items
       back-long = ap (λ (each : List I). length each) back-streams
 
-      -- no range is due
+      -- No range is due.
       pub back-due : (place : ℕ) → again.due place ≡ false
       back-due place = rw back.used refl
 
-      -- what is held of each input stays
+      -- What is held of each input is unchanged.
       pub back-held : (place : ℕ)
           → held_at rank u.heads.heads place ≡ held_at rank m.heads.heads place
       back-held place =
@@ -171,24 +172,24 @@ module _ {T N I A : Type 0} (integer : Elements T N) (stream : Stream I T N) (m 
           held_at-permutation rank place (started head ∷ t.heads.heads) u.heads.heads back.kept
           short ∙ whole
 
-      -- each input uses nothing
+      -- No input uses anything.
       pub back-uses : (place : ℕ)
           → Uses (input_at integer stream before place) [] (input_at integer stream again place)
       back-uses place = uses-same integer stream before again place (back-held place)
           (back-due place ∙ sym (none-due place)) (ap (λ each. slice_get each place) back-streams)
 
-      -- each goes on as before
+      -- The same inputs have ended as before.
       back-goes : (place : ℕ)
           → has_ended integer stream again place ≡ has_ended integer stream before place
       back-goes place = rw (back-held place, back-due place, none-due place) refl
 
-      -- as many heads are there
+      -- There are as many heads as before.
       pub back-many : length u.heads.heads ≡ length m.heads.heads
       back-many =
           let same = length_permutation (started head ∷ t.heads.heads) u.heads.heads back.kept in
           omega (arith, same, taken-fewer)
 
-      -- the inputs are ready again, and there is room for their heads
+      -- The inputs are ready again, and there is room for their heads.
       pub back-ready : DrawnReady integer stream u
       back-ready = record {
         inputs = record {
@@ -211,12 +212,12 @@ module _ {T N I A : Type 0} (integer : Elements T N) (stream : Stream I T N) (m 
         };
       }
         where
-          -- one range is held at most of each
+          -- At most one range of each input is held.
           one-held : (place : ℕ)
               → length (held_at rank m.heads.heads place) + cond {A = ℕ} false 1 0 ≤ 1
           one-held place = omega (arith, ready.inputs.one place)
 
-          -- each head is of an input
+          -- Each head belongs to an input.
           all-within : All (λ (each : Head T). each.input < length m.streams.items)
               (started head ∷ t.heads.heads)
           all-within = All-cons (λ (each : Head T). each.input < length m.streams.items)
@@ -225,7 +226,7 @@ module _ {T N I A : Type 0} (integer : Elements T N) (stream : Stream I T N) (m 
               (All-permutation (λ (each : Head T). each.input < length m.streams.items)
               m.heads.heads (head ∷ t.heads.heads) takes.taken.kept ready.inputs.within))
 
-      -- the streams have as many ranges left
+      -- The streams have as many ranges left as before.
       pub back-left : left_of stream.draws_left (has_ended integer stream again) again.streams
           ≡ left_of stream.draws_left (has_ended integer stream before) before.streams
       back-left = left_of-same stream.draws_left (has_ended integer stream before)
@@ -233,50 +234,50 @@ module _ {T N I A : Type 0} (integer : Elements T N) (stream : Stream I T N) (m 
           ∙ ap (λ each. left_of stream.draws_left (has_ended integer stream before) each)
           back-streams
 
-  -- ---- no head was there
+  -- ---- there is no head
   module _ (t : Drawn T I A N) (empty : HasNoHead m t) where
-    -- the inputs are as they were
+    -- The inputs are unchanged.
     pub none-unchanged : inputs_of t ≡ before
     none-unchanged = same-by (ap (λ each. each.items) empty.streams) (empty.new ∙ sym empty.old)
         (empty.used ∙ sym none)
       where
-        -- by their parts
+        -- The same, from the equality of the parts.
         same-by : t.streams.items ≡ m.streams.items → t.heads.heads ≡ m.heads.heads
             → t.used ≡ m.used → inputs_of t ≡ before
         same-by first second third = rw (first, second, third) refl
 
-    -- as many streams are there
+    -- The number of streams is unchanged.
     pub none-long : length t.streams.items ≡ length m.streams.items
     none-long = ap (λ each. length each.items) empty.streams
 
-    -- each input has ended
+    -- Each input has ended.
     pub none-over : (place : ℕ) → has_ended integer stream (inputs_of t) place ≡ true
     none-over place = rw (empty.new, empty.used) refl
 
-    -- and gives nothing
+    -- So nothing of it is held, and it gives nothing.
     pub none-ended : (place : ℕ) → HasEnded (input_at integer stream (inputs_of t) place)
     none-ended place = record {
       held = rw empty.new refl;
       gives = λ runs at. rw (none-over place) at at;
     }
 
-    -- none gives anything
+    -- What each input gives is the empty list.
     pub none-nothing : (place : ℕ)
         → gives_of (input_at integer stream (inputs_of t) place) ⊆ just []
     none-nothing place runs gives =
         let ended = none-ended place in
         gives.2 ∙ ap (λ each. each ++ gives.0) ended.held ∙ ended.gives gives.0 gives.1
 
-    -- what was due was drawn before
+    -- Here `earlier` are the inputs before the range that was due was drawn.
     module _ (earlier : ℕ → Input)
         (filled : (place : ℕ) → Uses (earlier place) [] (input_at integer stream before place)) where
-      -- so an input used nothing
+      -- So an input used nothing since then.
       none-uses : (place : ℕ)
           → Uses (earlier place) [] (input_at integer stream (inputs_of t) place)
       none-uses place = subst (λ each. Uses (earlier place) [] (input_at integer stream each place))
           (sym none-unchanged) (filled place)
 
-      -- and ended
+      -- And it ended.
       pub none-ends : (place : ℕ)
           → Ends (earlier place) (input_at integer stream (inputs_of t) place)
       none-ends place =
@@ -291,7 +292,7 @@ module _ {T N I A : Type 0} (integer : Elements T N) (stream : Stream I T N) (m 
             over = ended;
           }
 
-      -- it might have given nothing
+      -- Before, it might have given nothing.
       pub none-might : (place : ℕ) → gives_of (earlier place) []
       none-might place = gives_of-uses (earlier place)
           (input_at integer stream (inputs_of t) place) [] (none-uses place) [] (
@@ -300,7 +301,7 @@ module _ {T N I A : Type 0} (integer : Elements T N) (stream : Stream I T N) (m 
             sym (append-nil (held_at rank t.heads.heads place) ∙ (none-ended place).held),
           )
 
-    -- the inputs are ready again, and there is room for their heads
+    -- The inputs are ready again, and there is room for their heads.
     pub none-ready : DrawnReady integer stream t
     none-ready = record {
       inputs = subst (AreReady integer stream) (sym none-unchanged) ready.inputs;

@@ -1,4 +1,4 @@
--- What is held of each input, whatever the order of the heads; and the streams by their places.
+-- What is held of each input in any order of the heads, and the streams by their places.
 use Rattle.std.proofs.Common.{◌≡◌, inl, inr, ℕ, zero, suc, ◌+◌, ◌<◌, ◌≤◌, Bool, true, false, cond, nat_eq, List, [], ◌∷◌, length, set, get_or, slice_get, refl, sym, ap, ◌∙◌, arith, All, sum_by, Some, IsPermutation, Contains}
 use Rattle.std.proofs.lemmas.List.Elements.{All-cons, All-head, All-nil, All-tail, All-weaker}
 use Rattle.std.proofs.lemmas.List.Sorted.{All-permutation, sum_by-IsPermutation}
@@ -11,17 +11,17 @@ use Rattle.rsb_many.specs.declared.heads.Head.{Head}
 
 -- ---- heads
 module _ {T : Type 0} (rank : T → ℕ) (place : ℕ) where
-  -- one for a head of the input, and else none
+  -- 1 for a head of the input, and 0 for any other.
   abbrev is_here : Head T → ℕ
   is_here head = cond (nat_eq head.input place) 1 0
 
-  -- one more is held, or none
+  -- The list is one range longer if `here` is true.
   length-cond : (here : Bool) (run : Interval) (runs : List Interval)
       → length (cond here (run ∷ runs) runs) ≡ cond here 1 0 + length runs
   length-cond true run runs = omega arith
   length-cond false run runs = omega arith
 
-  -- how many heads of an input there are
+  -- The number of ranges held of an input is the number of its heads.
   length-held_at : (heads : List (Head T)) → length (held_at rank heads place) ≡ sum_by is_here heads
   length-held_at [] = refl
   length-held_at (head ∷ heads) =
@@ -29,18 +29,18 @@ module _ {T : Type 0} (rank : T → ℕ) (place : ℕ) where
       ∙ ap (λ count. is_here head + count) (length-held_at heads)
       ∙ sym (sum_by-cons is_here head heads)
 
-  -- a head of the input is among those that are held
+  -- Whether the range of a head is among the runs, if the head belongs to the input.
   abbrev IsHeld : List Interval → Head T → Type 0
   IsHeld runs head = nat_eq head.input place ≡ true → Contains runs (run_of_head rank head)
 
-  -- with one more they are held too
+  -- This stays true if one more run is held.
   held-more : (run : Interval) (runs : List Interval) (heads : List (Head T))
       → All (IsHeld runs) heads → All (IsHeld (run ∷ runs)) heads
   held-more run runs heads all =
       All-weaker (IsHeld runs) (IsHeld (run ∷ runs))
       (λ head held here. Contains-tail run runs (run_of_head rank head) (held here)) heads all
 
-  -- each head of the input is held
+  -- The range of each head of the input is held.
   held-all : (heads : List (Head T)) → All (IsHeld (held_at rank heads place)) heads
   held-all [] = All-nil (IsHeld [])
   held-all (head ∷ heads) =
@@ -54,7 +54,8 @@ module _ {T : Type 0} (rank : T → ℕ) (place : ℕ) where
             (λ at. absurd (let no = other in cc)) (held-all heads))
       ]
 
-  -- a range that is held is one of those that heads of the input have
+  -- If the runs contain the range of each head of the input, they contain each range that is held
+  -- of it.
   held-contains : (runs : List Interval) (heads : List (Head T)) → All (IsHeld runs) heads
       → All (λ run. Contains runs run) (held_at rank heads place)
   held-contains runs [] all = All-nil (λ run. Contains runs run)
@@ -66,7 +67,7 @@ module _ {T : Type 0} (rank : T → ℕ) (place : ℕ) where
         | inr other ↦ rw other rest
       ]
 
-  -- two lists of one range at most are one, where one has what the other has and is as long
+  -- Two lists of the same length, at most 1, are equal if one contains each range of the other.
   one-list : (xs ys : List Interval) → length xs ≤ 1 → length ys ≡ length xs
       → All (λ run. Contains xs run) ys → ys ≡ xs
   one-list [] [] short long all = refl
@@ -81,7 +82,7 @@ module _ {T : Type 0} (rank : T → ℕ) (place : ℕ) where
   one-list (run ∷ []) (other ∷ more ∷ ys) short long all = absurd (omega (arith, long))
   one-list (run ∷ next ∷ xs) ys short long all = absurd (omega (arith, short))
 
-  -- what is held of an input does not hang on the order of the heads
+  -- What is held of an input does not depend on the order of the heads, if it is at most one range.
   pub held_at-permutation : (xs ys : List (Head T)) → IsPermutation xs ys
       → length (held_at rank xs place) ≤ 1 → held_at rank ys place ≡ held_at rank xs place
   held_at-permutation xs ys same short =
@@ -93,7 +94,7 @@ module _ {T : Type 0} (rank : T → ℕ) (place : ℕ) where
 -- ---- places
 
 module _ {S : Type 0} where
-  -- the stream at a place that was changed
+  -- The place that was changed has the new stream.
   pub slice_get-set_same : (streams : List S) (place : ℕ) (stream : S) → place < length streams
       → slice_get (set streams place stream) place ≡ Some stream
   slice_get-set_same [] place stream less = absurd (omega (arith, less))
@@ -101,7 +102,7 @@ module _ {S : Type 0} where
   slice_get-set_same (first ∷ streams) (suc place) stream less =
       slice_get-set_same streams place stream (omega (arith, less))
 
-  -- the stream at another place
+  -- Another place has the same stream as before.
   pub slice_get-set_other : (streams : List S) (place other : ℕ) (stream : S) → ¬ (other ≡ place)
       → slice_get (set streams place stream) other ≡ slice_get streams other
   slice_get-set_other [] place other stream differs = refl
@@ -111,7 +112,7 @@ module _ {S : Type 0} where
   slice_get-set_other (first ∷ streams) (suc place) (suc other) stream differs =
       slice_get-set_other streams place other stream (λ same. differs (ap suc same))
 
-  -- a stream by its place, with another to fall back on
+  -- If a place is one of the list, `get_or` returns the stream there, and not the default.
   pub slice_get-get_or : (streams : List S) (place : ℕ) (stream : S) → place < length streams
       → slice_get streams place ≡ Some (get_or streams place stream)
   slice_get-get_or [] place stream less = absurd (omega (arith, less))

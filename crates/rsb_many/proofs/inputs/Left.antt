@@ -1,14 +1,14 @@
--- How many ranges are left of many streams, when one is drawn from.
+-- How many ranges many streams have left once a range is drawn from one of them.
 use Rattle.std.proofs.Common.{◌≡◌, inl, inr, ℕ, zero, suc, ◌+◌, ◌≤◌, Bool, List, [], ◌∷◌, set, slice_get, refl, sym, ap, subst, ◌∙◌, arith, Some}
 use Rattle.std.specs.Iterator.{Count, count_add, count_unless, size, IsFinite}
 use Rattle.rsb_integer.proofs.ListLemmas.{true_or_false}
 use Rattle.rsb_many.specs.Inputs.{left_of}
 
--- a count that ends becomes less by so many at least
+-- Whether a count that is finite stays finite and decreases by at least `amount`.
 abbrev pub LessBy : ℕ → Count → Count → Type 0
 LessBy amount old new = IsFinite old → IsFinite new × (size new + amount ≤ size old)
 
--- the first of two counts becomes less
+-- If the first of two counts decreases, so does their sum.
 less-first : (amount : ℕ) (old new rest : Count) → LessBy amount old new
     → LessBy amount (count_add old rest) (count_add new rest)
 less-first amount old new rest less finite = elim (true_or_false old.bounded) [
@@ -21,7 +21,7 @@ less-first amount old new rest less finite = elim (true_or_false old.bounded) [
   | inr endless ↦ absurd (rw endless at finite)
 ]
 
--- or the second does
+-- If the second decreases, so does their sum.
 less-second : (amount : ℕ) (first old new : Count) → LessBy amount old new
     → LessBy amount (count_add first old) (count_add first new)
 less-second amount first old new less finite = elim (true_or_false first.bounded) [
@@ -32,7 +32,7 @@ less-second amount first old new less finite = elim (true_or_false first.bounded
 ]
 
 module _ {S : Type 0} (left : S → Count) where
-  -- as many are left where as many inputs have ended
+  -- If the same inputs have ended, the streams have as many ranges left.
   pub left_of-same : (over now : ℕ → Bool) (streams : List S)
       → ((place : ℕ) → now place ≡ over place) → left_of left now streams ≡ left_of left over streams
   left_of-same over now [] same = refl
@@ -42,7 +42,7 @@ module _ {S : Type 0} (left : S → Count) where
       (left_of-same (λ place. over (suc place)) (λ place. now (suc place)) streams
       (λ place. same (suc place)))
 
-  -- where one stream changes, all have less left by as much as it has
+  -- If the count of one stream decreases by an amount, so does the count of all streams together.
   pub left_of-set : (amount : ℕ) (over now : ℕ → Bool) (streams : List S) (place : ℕ) (old new : S)
       → slice_get streams place ≡ Some old
       → ((other : ℕ) → ¬ (other ≡ place) → now other ≡ over other)
@@ -72,6 +72,6 @@ module _ {S : Type 0} (left : S → Count) where
       (left_of-set amount later now_later streams place old new stood
       (λ other differs. same (suc other) (λ is. differs (suc-is other place is))) less))
     where
-      -- places one past others are the same where those are
+      -- Two numbers are equal if their successors are.
       suc-is : (one other : ℕ) → suc one ≡ suc other → one ≡ other
       suc-is one other is = omega (arith, is)

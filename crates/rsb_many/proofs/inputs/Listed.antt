@@ -1,4 +1,4 @@
--- Streams whose state shows the list of the ranges to come, when they are called.
+-- Streams whose state shows the list of the ranges to come, and calls of them.
 use Rattle.std.proofs.Common.{◌≡◌, ℕ, List, ◌∷◌, ◌++◌, None, Option, Some, arith, subst}
 use Rattle.std.specs.Iterator.{MakesProgress, item_count}
 use Rattle.std.specs.Option.{option_to_list}
@@ -8,7 +8,7 @@ use Rattle.rsb_integer.specs.Runs.{IsCanonicalIn}
 use Rattle.rsb_integer.proofs.CanonicalLemmas.{canonical-tail}
 
 module _ {T : Type 0} (rank : T → ℕ) where
-  -- a call that takes the first of canonical ranges makes progress
+  -- A call that takes the first of some canonical ranges makes progress.
   pub canonical-goes : (n : ℕ) (before after : List (RangeInclusive T))
       (first item : RangeInclusive T)
       → before ≡ first ∷ after → IsCanonicalIn n (intervals_of rank before)
@@ -23,7 +23,7 @@ module _ {T : Type 0} (rank : T → ℕ) where
         rests = λ finite. tt;
       }
 
-  -- so does one that takes what comes first of them, if anything
+  -- So does a call that takes the first range, or returns `None` if there is none.
   pub canonical-goes_by : (n : ℕ) (before after : List (RangeInclusive T))
       (item : Option (RangeInclusive T)) → before ≡ option_to_list item ++ after
       → IsCanonicalIn n (intervals_of rank before)

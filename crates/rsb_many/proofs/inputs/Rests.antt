@@ -1,4 +1,4 @@
--- What is left of inputs that give lists, by which of them have begun, and the events of that.
+-- What is left of inputs that give lists, depending on which have begun, and the events of that.
 use Rattle.std.proofs.Common.{◌≡◌, ◌≢◌, inl, inr, ℕ, zero, suc, ◌<◌, Bool, true, false, List, [], ◌∷◌, ◌++◌, length, get_or, get_or-set_other, get_or-set_same, length-set, map, set, All, refl, sym, ap, subst, ◌∙◌, arith}
 use Rattle.std.proofs.lemmas.Bool.{cases_eq}
 use Rattle.std.proofs.lemmas.List.{set-get_or, set-set}
@@ -16,7 +16,7 @@ use Rattle.rsb_many.proofs.events.Lists.{rests-some}
 
 -- ---- lists by their places
 
--- as many lists are there
+-- There are `count` lists.
 pub one_of_each-long : (count : ℕ) (may_give : ℕ → Outcomes) (lists : List (List Interval))
     → OneOfEach count may_give lists → length lists ≡ count
 one_of_each-long zero may_give [] each = refl
@@ -25,7 +25,7 @@ one_of_each-long (suc count) may_give [] each = absurd each
 one_of_each-long (suc count) may_give (runs ∷ lists) each =
     ap suc (one_of_each-long count (λ place. may_give (suc place)) lists each.1)
 
--- the one at a place
+-- The list at a place is one that the stream at that place may give.
 pub one_of_each-at : (count : ℕ) (may_give : ℕ → Outcomes) (lists : List (List Interval))
     (place : ℕ) → OneOfEach count may_give lists → place < count
     → may_give place (get_or lists place [])
@@ -35,7 +35,7 @@ one_of_each-at (suc count) may_give (runs ∷ lists) zero each less = each.0
 one_of_each-at (suc count) may_give (runs ∷ lists) (suc place) each less =
     one_of_each-at count (λ other. may_give (suc other)) lists place each.1 (omega (arith, less))
 
--- lists of which each is at its place
+-- If there are `count` lists, each of which the stream at its place may give, they are one of each.
 pub one_of_each-from : (count : ℕ) (may_give : ℕ → Outcomes) (lists : List (List Interval))
     → length lists ≡ count
     → ((place : ℕ) → place < count → may_give place (get_or lists place []))
@@ -49,7 +49,8 @@ one_of_each-from (suc count) may_give (runs ∷ lists) long each = (
       (λ place less. each (suc place) (omega (arith, less))),
 )
 
--- one list changes
+-- If one list is replaced by one that might come before, and the others might too, the lists might
+-- come before.
 pub one_of_each-set : (count : ℕ) (before now : ℕ → Outcomes) (lists : List (List Interval))
     (place : ℕ) (runs : List Interval) → OneOfEach count now lists → place < count
     → before place runs
@@ -65,7 +66,7 @@ one_of_each-set count before now lists place runs each less here elsewhere =
           (one_of_each-at count now lists other each within))
     ])
 
--- what holds of what may be given at each place holds of each list
+-- If a fact holds of whatever each stream may give, it holds of each list.
 pub one_of_each-all : (count : ℕ) (may_give : ℕ → Outcomes) (Fact : List Interval → Type 0)
     (lists : List (List Interval))
     → ((place : ℕ) → place < count → may_give place ⊆ Fact) → OneOfEach count may_give lists
@@ -76,7 +77,7 @@ one_of_each-all count may_give Fact lists holds each =
     holds place (omega (arith, within, long)) (get_or lists place [])
     (one_of_each-at count may_give lists place each (omega (arith, within, long))))
 
--- where each may give something, there are such lists
+-- If each stream may give something, there are lists that are one of each.
 pub one_of_each-some : (count : ℕ) (may_give : ℕ → Outcomes)
     → ((place : ℕ) → place < count → HasOutcome (may_give place))
     → ¬ ((lists : List (List Interval)) → ¬ (OneOfEach count may_give lists))
@@ -88,7 +89,7 @@ one_of_each-some (suc count) may_give some = λ never. some zero (omega arith) (
 
 -- ---- what is left
 
--- it hangs on whether each input has begun
+-- What is left depends only on whether each input has begun.
 pub rests_by-same : (begun now : ℕ → Bool) (lists : List (List Interval))
     → ((place : ℕ) → now place ≡ begun place) → rests_by now lists ≡ rests_by begun lists
 rests_by-same begun now [] same = refl
@@ -98,7 +99,7 @@ rests_by-same begun now (runs ∷ lists) same =
     (λ place. same (suc place)) in
     λ i. first i ∷ others i
 
--- where none has begun, all is to start
+-- If no input has begun, all ranges are still to start.
 pub rests_by-none : (begun : ℕ → Bool) (lists : List (List Interval))
     → ((place : ℕ) → begun place ≡ false) → rests_by begun lists ≡ map not_begun lists
 rests_by-none begun [] none = refl
@@ -107,14 +108,14 @@ rests_by-none begun (runs ∷ lists) none =
     let others = rests_by-none (λ place. begun (suc place)) lists (λ place. none (suc place)) in
     λ i. first i ∷ others i
 
--- as many rests are there
+-- Each list leaves one rest.
 pub length-rests_by : (begun : ℕ → Bool) (lists : List (List Interval))
     → length (rests_by begun lists) ≡ length lists
 length-rests_by begun [] = refl
 length-rests_by begun (runs ∷ lists) =
     ap suc (length-rests_by (λ place. begun (suc place)) lists)
 
--- the one at a place
+-- The rest at a place depends on the list there, and on whether its input has begun.
 get_or-rests_by : (begun : ℕ → Bool) (lists : List (List Interval)) (place : ℕ) (default : Rest)
     → place < length lists
     → get_or (rests_by begun lists) place default ≡ rest_by (begun place) (get_or lists place [])
@@ -123,7 +124,7 @@ get_or-rests_by begun (runs ∷ lists) zero default less = refl
 get_or-rests_by begun (runs ∷ lists) (suc place) default less =
     get_or-rests_by (λ other. begun (suc other)) lists place default (omega (arith, less))
 
--- one list changes, and perhaps whether its input has begun
+-- Replacing one list, and perhaps whether its input has begun, replaces one rest.
 set-rests_by : (begun now : ℕ → Bool) (lists : List (List Interval)) (place : ℕ)
     (runs : List Interval) → ((other : ℕ) → other ≢ place → now other ≡ begun other)
     → set (rests_by begun lists) place (rest_by (now place) runs)
@@ -139,24 +140,24 @@ set-rests_by begun now (own ∷ lists) (suc place) runs same =
     runs (λ other differs. same (suc other) (λ is. differs (omega (arith, is)))) in
     λ i. sym first i ∷ others i
 
--- ranges that may touch leave what may touch
+-- If the list of an input is touching, so is what is left of it.
 pub touching-rest : (begun : Bool) (runs : List Interval) → IsTouching runs
     → IsTouchingRest (rest_by begun runs)
 touching-rest false runs touching = touching
 touching-rest true [] touching = tt
 touching-rest true (run ∷ runs) touching = touching.2
 
--- no range leaves nothing
+-- An input without ranges leaves nothing.
 rest_by-nothing : (begun : Bool) → rest_by begun [] ≡ nothing_left
 rest_by-nothing false = refl
 rest_by-nothing true = refl
 
--- so no event comes before another
+-- So none of its events comes before another event.
 pub not_before-nothing : (begun : Bool) (place : ℕ) (event : Event)
     → IsNotBefore (events_of_rest place (rest_by begun [])) event
 not_before-nothing begun place event = rw (rest_by-nothing begun) tt
 
--- what is left of lists that may touch may touch
+-- If each list is touching, so is what is left of each.
 rests-touching : (count : ℕ) (may_give : ℕ → Outcomes) (begun : ℕ → Bool)
     (lists : List (List Interval))
     → ((place : ℕ) → place < count → may_give place ⊆ IsTouching)
@@ -173,7 +174,7 @@ rests-touching count may_give begun lists touching each =
 
 -- ---- the events of lists that inputs may give
 
--- some come, where something may come of each input
+-- If each input may give some list, some list of events may come.
 pub has_events : (count : ℕ) (may_give : ℕ → Outcomes) (begun : ℕ → Bool)
     → ((place : ℕ) → place < count → HasOutcome (may_give place))
     → ((place : ℕ) → place < count → may_give place ⊆ IsTouching)
@@ -185,7 +186,7 @@ has_events count may_give begun some touching = λ never.
     (rests-touching count may_give begun lists touching each) in
     never events.0 (λ nothing. nothing lists each events.1))
 
--- where no input gives anything, all rests are nothing
+-- If no input gives anything, nothing is left of any.
 rests-nothing : (count : ℕ) (may_give : ℕ → Outcomes) (begun : ℕ → Bool)
     (lists : List (List Interval))
     → ((place : ℕ) → place < count → (runs : List Interval) → may_give place runs → runs ≡ [])
@@ -201,7 +202,7 @@ rests-nothing count may_give begun lists nothing each =
     get_or-rests_by begun lists place nothing_left less
     ∙ (ap (rest_by (begun place)) runs ∙ rest_by-nothing (begun place)))
 
--- then no events may come
+-- If each input may give no ranges, there may be no events.
 pub events-may_end : (count : ℕ) (may_give : ℕ → Outcomes) (begun : ℕ → Bool)
     → ((place : ℕ) → place < count → may_give place [])
     → SomeOfEach count may_give (λ lists. AreEventsOf (rests_by begun lists) [])
@@ -213,7 +214,7 @@ events-may_end count may_give begun ends = λ nothing.
     (events-none (rests_by begun lists)
     (rests-nothing count (λ place. just []) begun lists (λ place less runs is. is) each)))
 
--- and none else
+-- If no input gives anything, there are no events.
 pub events-end_only : (count : ℕ) (may_give : ℕ → Outcomes) (begun : ℕ → Bool)
     → ((place : ℕ) → place < count → (runs : List Interval) → may_give place runs → runs ≡ [])
     → (events : List Event)
@@ -240,11 +241,12 @@ module _ (count : ℕ) (before now : ℕ → Outcomes) (begun now_begun : ℕ �
     ≡ event ∷ events_of_rest place (rest_by (now_begun place) runs))
     (least : (other : ℕ) → other < count → other ≢ place → (runs : List Interval)
     → now other runs → IsNotBefore (events_of_rest other (rest_by (begun other) runs)) event) where
-  -- the lists before
+  -- The lists before the event: that at `place` also has the ranges that were used.
   abbrev earlier : List (List Interval) → List (List Interval)
   earlier lists = set lists place (used ++ get_or lists place [])
 
-  -- an event that is the least of its input, and then what comes after, might come before
+  -- If an event is the first of its input and no other input has an earlier one, it may come before
+  -- the later events.
   pub events-told : (events : List Event)
       → SomeOfEach count now (λ lists. AreEventsOf (rests_by now_begun lists) events)
       → SomeOfEach count before (λ lists. AreEventsOf (rests_by begun lists) (event ∷ events))

@@ -1,4 +1,4 @@
--- One step of the inputs of a stream: a draw of one of them, and a head that leaves.
+-- One step of the inputs of a stream: a draw from one of them, or the removal of a head.
 use Rattle.std.proofs.Common.{◌≡◌, ◌⊎◌, inl, inr, ℕ, ◌+◌, ◌<◌, ◌≤◌, Bool, true, false, cond, nat_eq, List, [], ◌∷◌, ◌++◌, length, slice_get, refl, sym, ap, subst, ◌∙◌, append_assoc, arith, All, Option, Some, None, IsPermutation}
 use Rattle.std.proofs.lemmas.Bool.{cases_eq, eqb-false, eqb-true}
 use Rattle.std.proofs.lemmas.List.{append-nil, length-set}
@@ -28,7 +28,7 @@ use Rattle.rsb_many.proofs.inputs.Held.{held_at-permutation, slice_get-set_other
 
 -- ---- an input
 
--- what was used comes before what an input may give then
+-- If an input used ranges, it might before have given them, followed by whatever it may give now.
 pub gives_of-uses : (before now : Input) (used : List Interval) → Uses before used now
     → (rest : List Interval) → gives_of now rest → gives_of before (used ++ rest)
 gives_of-uses before now used uses rest gives = (
@@ -40,14 +40,14 @@ gives_of-uses before now used uses rest gives = (
       ∙ append_assoc before.held uses.drawn gives.0,
 )
 
--- a place that is another by number
+-- Two places that differ are different numbers.
 pub nat_eq-differs : (place other : ℕ) → ¬ (other ≡ place) → nat_eq place other ≡ false
 nat_eq-differs place other differs = elim (true_or_false (nat_eq place other)) [
   | inl same ↦ absurd (differs (sym (eqb-true place other same)))
   | inr apart ↦ apart
 ]
 
--- a place is itself by number
+-- A place is the same number as itself.
 pub nat_eq-itself : (place : ℕ) → nat_eq place place ≡ true
 nat_eq-itself place = elim (true_or_false (nat_eq place place)) [
   | inl same ↦ same
@@ -57,12 +57,12 @@ nat_eq-itself place = elim (true_or_false (nat_eq place place)) [
 module _ {T N S : Type 0} (integer : Elements T N) (stream : Stream S T N) where
   open integer use {rank, value_count as n}
 
-  -- what an input gives, by what is held of it, whether a range is due, and its stream
+  -- What an input still gives, from what is held of it, whether a range is due, and its stream.
   abbrev undrawn_by : List Interval → Bool → Option S → Outcomes
   undrawn_by held due found =
       unless (is_over held due) (λ runs. MatchOption found (runs ≡ []) (λ s. stream.may_give s runs))
 
-  -- it hangs on these alone
+  -- It depends only on these.
   undrawn-same : (held now_held : List Interval) (due now_due : Bool) (found now_found : Option S)
       → now_held ≡ held → now_due ≡ due → now_found ≡ found
       → undrawn_by now_held now_due now_found ⊆ undrawn_by held due found
@@ -71,7 +71,7 @@ module _ {T N S : Type 0} (integer : Elements T N) (stream : Stream S T N) where
       (subst (λ each. undrawn_by held each now_found rest) second
       (subst (λ each. undrawn_by each now_due now_found rest) first at))
 
-  -- an input of which nothing changed uses nothing
+  -- An input of which nothing changed uses nothing.
   pub uses-same : (s t : Inputs T S) (place : ℕ)
       → held_at rank t.heads place ≡ held_at rank s.heads place → t.due place ≡ s.due place
       → slice_get t.streams place ≡ slice_get s.streams place
@@ -83,7 +83,7 @@ module _ {T N S : Type 0} (integer : Elements T N) (stream : Stream S T N) where
     in_order = append-nil (held_at rank s.heads place) ∙ sym held;
   }
 
-  -- it may be drawn from as before
+  -- Its stream is ready if it was before.
   pub can-same : (s t : Inputs T S) (place : ℕ)
       → held_at rank t.heads place ≡ held_at rank s.heads place → t.due place ≡ s.due place
       → slice_get t.streams place ≡ slice_get s.streams place
@@ -96,7 +96,8 @@ module _ {T N S : Type 0} (integer : Elements T N) (stream : Stream S T N) where
       (can (subst (λ each. is_over (held_at rank s.heads place) each ≡ false) due
       (subst (λ each. is_over each (t.due place) ≡ false) held going)))
 
-  -- no input has more than one range, of heads in another order with one more of another input
+  -- Adding a head of another input, in any order, does not change what is held of an input, if that
+  -- is at most one range.
   held_at-others : (heads now : List (Head T)) (head : Head T) (place : ℕ)
       → IsPermutation (head ∷ heads) now → ¬ (place ≡ head.input)
       → length (held_at rank heads place) ≤ 1
@@ -107,36 +108,36 @@ module _ {T N S : Type 0} (integer : Elements T N) (stream : Stream S T N) where
       held_at-permutation rank place (head ∷ heads) now same
       (subst (λ (runs : List Interval). length runs ≤ 1) (sym stays) short) ∙ stays
 
-  -- ---- the stream at one place is drawn from
+  -- ---- a draw from the stream at one place
   module _ (laws : IsLawful integer stream) (s t : Inputs T S) (place : ℕ)
       (ready : AreReady integer stream s) (due : s.due place ≡ true)
       (now_due : t.due place ≡ false)
       (dues : (other : ℕ) → ¬ (other ≡ place) → t.due other ≡ s.due other)
       (less : place < length s.streams)
       (draws : DrawsAt integer stream place s.streams s.heads t.streams t.heads) where
-    -- nothing is held of the input
+    -- Nothing is held of the input.
     none-held : held_at rank s.heads place ≡ []
     none-held =
         let one : cond {A = ℕ} (s.due place) 1 0 ≡ 1 = rw due refl in
         none-of (held_at rank s.heads place) (omega (arith, ready.one place, one))
       where
-        -- a list of no range
+        -- A list of at most 0 ranges is empty.
         none-of : (runs : List Interval) → length runs ≤ 0 → runs ≡ []
         none-of [] short = refl
         none-of (run ∷ runs) short = absurd (omega (arith, short))
 
-    -- the stream stands at its place
+    -- The place has the stream as the draw left it.
     stands-here : slice_get t.streams place ≡ Some draws.after
     stands-here = ap (λ streams. slice_get streams place) draws.stands
         ∙ slice_get-set_same s.streams place draws.after less
 
-    -- and the others at theirs
+    -- Every other place has the same stream as before.
     stands-elsewhere : (other : ℕ) → ¬ (other ≡ place)
         → slice_get t.streams other ≡ slice_get s.streams other
     stands-elsewhere other differs = ap (λ streams. slice_get streams other) draws.stands
         ∙ slice_get-set_other s.streams place other draws.after differs
 
-    -- what is held of the others stays, by what was drawn
+    -- What is held of the other inputs is unchanged, whatever was drawn.
     held-by : (item : Option (RangeInclusive T)) (other : ℕ) → ¬ (other ≡ place)
         → MatchOption item (t.heads ≡ s.heads)
         (λ range. IsPermutation (head_of place range ∷ s.heads) t.heads)
@@ -146,24 +147,24 @@ module _ {T N S : Type 0} (integer : Elements T N) (stream : Stream S T N) where
         held_at-others s.heads t.heads (head_of place range) other kept differs
         (omega (arith, ready.one other))
 
-    -- what is held of the others stays
+    -- What is held of the other inputs is unchanged.
     held-elsewhere : (other : ℕ) → ¬ (other ≡ place)
         → held_at rank t.heads other ≡ held_at rank s.heads other
     held-elsewhere other differs = held-by draws.item other differs draws.kept
 
-    -- the stream may give what the input may
+    -- The input may give whatever the stream before the draw may give.
     gives-here : stream.may_give draws.before
         ⊆ undrawn_by (held_at rank s.heads place) (s.due place) (slice_get s.streams place)
     gives-here = undrawn-same (held_at rank s.heads place) [] (s.due place) true
         (slice_get s.streams place) (Some draws.before) (sym none-held) (sym due) (sym draws.stood)
 
-    -- it may be drawn from
+    -- The stream before the draw is ready.
     can-here : stream.can_draw draws.before
     can-here = subst (λ each. IfSome each stream.can_draw) draws.stood
         (ready.can place (subst (λ each. is_over (held_at rank s.heads place) each ≡ false) (sym due)
         (subst (λ each. is_over each true ≡ false) (sym none-held) refl)))
 
-    -- the range that was drawn, which has members and lies in the type
+    -- The range that was drawn is not empty and lies in the type.
     drawn-sorted : (range : RangeInclusive T) → draws.item ≡ Some range
         → (0 ≤ (interval_of rank range).first)
         × ((interval_of rank range).first ≤ (interval_of rank range).last)
@@ -177,17 +178,17 @@ module _ {T N S : Type 0} (integer : Elements T N) (stream : Stream S T N) where
         (λ rest at. (laws.sorted draws.before can-here).all (interval_of rank range ∷ rest)
         (laws.answers draws.before draws.after (Some range) call rest at))
 
-    -- its head has its ranks
+    -- Its interval is that of its head.
     run_of-drawn : (range : RangeInclusive T) → draws.item ≡ Some range
         → interval_of rank range ≡ run_of_head rank (head_of place range)
     run_of-drawn range is = interval_of-some rank range (drawn-sorted range is).1
 
-    -- what is held of the input then, by what was drawn
+    -- What is held of the input after the draw, for each option of what was drawn.
     abbrev now-held : (item : Option (RangeInclusive T)) → List Interval
     now-held None = []
     now-held (Some range) = run_of_head rank (head_of place range) ∷ []
 
-    -- so it is
+    -- This is what is held of it.
     held-here : (item : Option (RangeInclusive T))
         → MatchOption item (t.heads ≡ s.heads)
         (λ range. IsPermutation (head_of place range ∷ s.heads) t.heads)
@@ -201,7 +202,7 @@ module _ {T N S : Type 0} (integer : Elements T N) (stream : Stream S T N) where
         subst (λ (runs : List Interval). length runs ≤ 1) (sym whole) (omega arith) in
         held_at-permutation rank place (head ∷ s.heads) t.heads kept short ∙ whole
 
-    -- the input uses nothing, by what was drawn
+    -- The input uses nothing, whatever was drawn.
     uses-by : (item : Option (RangeInclusive T)) → draws.item ≡ item
         → held_at rank t.heads place ≡ now-held item
         → Uses (input_at integer stream s place) [] (input_at integer stream t place)
@@ -234,7 +235,7 @@ module _ {T N S : Type 0} (integer : Elements T N) (stream : Stream S T N) where
           in_order = ap (λ runs. runs ++ run ∷ []) none-held ∙ sym held;
         }
 
-    -- no input uses anything
+    -- No input uses anything.
     pub draws-uses : (other : ℕ)
         → Uses (input_at integer stream s other) [] (input_at integer stream t other)
     draws-uses other = elim (cases_eq other place) [
@@ -245,19 +246,19 @@ module _ {T N S : Type 0} (integer : Elements T N) (stream : Stream S T N) where
           (stands-elsewhere other differs)
     ]
 
-    -- what the inputs may give comes by its starts
+    -- What each input may give is sorted by start.
     now-sorted : (other : ℕ) → gives_of (input_at integer stream t other) ⊆ HasSortedStarts n
     now-sorted other runs at = ready.sorted other runs (gives_of-uses
         (input_at integer stream s other) (input_at integer stream t other) [] (draws-uses other)
         runs at)
 
-    -- one range is held at most, by what was drawn
+    -- At most one range of the input is held or due, whatever was drawn.
     one-here : (item : Option (RangeInclusive T)) → held_at rank t.heads place ≡ now-held item
         → length (held_at rank t.heads place) + cond {A = ℕ} (t.due place) 1 0 ≤ 1
     one-here None held = rw (held, now_due) (omega arith)
     one-here (Some range) held = rw (held, now_due) (omega arith)
 
-    -- one range of each input is held at most
+    -- At most one range of each input is held or due.
     now-one : (other : ℕ)
         → length (held_at rank t.heads other) + cond {A = ℕ} (t.due other) 1 0 ≤ 1
     now-one other = elim (cases_eq other place) [
@@ -267,12 +268,12 @@ module _ {T N S : Type 0} (integer : Elements T N) (stream : Stream S T N) where
       | inr differs ↦ rw (held-elsewhere other differs, dues other differs) (ready.one other)
     ]
 
-    -- as many streams stand there
+    -- The number of streams is unchanged.
     now-long : length t.streams ≡ length s.streams
     now-long = ap (λ (streams : List S). length streams) draws.stands
         ∙ length-set s.streams place draws.after
 
-    -- each head is of an input, by what was drawn
+    -- Each head belongs to an input, whatever was drawn.
     within-by : (item : Option (RangeInclusive T))
         → MatchOption item (t.heads ≡ s.heads)
         (λ range. IsPermutation (head_of place range ∷ s.heads) t.heads)
@@ -285,7 +286,7 @@ module _ {T N S : Type 0} (integer : Elements T N) (stream : Stream S T N) where
         kept (All-cons (λ (each : Head T). each.input < length s.streams) head s.heads less
         ready.within)
 
-    -- the input may be drawn from where it goes on, by what was drawn
+    -- The stream is ready if the input has not ended, whatever was drawn.
     can-by : (item : Option (RangeInclusive T)) → draws.item ≡ item
         → held_at rank t.heads place ≡ now-held item
         → has_ended integer stream t place ≡ false
@@ -298,7 +299,7 @@ module _ {T N S : Type 0} (integer : Elements T N) (stream : Stream S T N) where
         draws.after) is draws.goes in
         rw stands-here goes.keeps
 
-    -- the inputs are ready again
+    -- The inputs are ready again.
     pub draws-ready : AreReady integer stream t
     draws-ready = record {
       can = λ other. elim (cases_eq other place) [
@@ -314,17 +315,17 @@ module _ {T N S : Type 0} (integer : Elements T N) (stream : Stream S T N) where
           (within-by draws.item draws.kept);
     }
 
-    -- the others go on as before
+    -- The other inputs have ended exactly if they had before.
     pub draws-ended : (other : ℕ) → ¬ (other ≡ place)
         → has_ended integer stream t other ≡ has_ended integer stream s other
     draws-ended other differs = rw (held-elsewhere other differs, dues other differs) refl
 
-    -- how many heads came
+    -- The number of heads that were added.
     abbrev pub drawn_count : Option (RangeInclusive T) → ℕ
     drawn_count None = 0
     drawn_count (Some range) = 1
 
-    -- so many more heads are held, by what was drawn
+    -- That is how many more heads are held, whatever was drawn.
     more-by : (item : Option (RangeInclusive T))
         → MatchOption item (t.heads ≡ s.heads)
         (λ range. IsPermutation (head_of place range ∷ s.heads) t.heads)
@@ -334,11 +335,11 @@ module _ {T N S : Type 0} (integer : Elements T N) (stream : Stream S T N) where
         let long = length_permutation (head_of place range ∷ s.heads) t.heads kept in
         omega (arith, long)
 
-    -- so many more heads are held
+    -- That is how many more heads are held.
     pub draws-more : length t.heads ≡ length s.heads + drawn_count draws.item
     draws-more = more-by draws.item draws.kept
 
-    -- as many less are left of the stream, by what was drawn
+    -- The stream has at least that many fewer ranges left, whatever was drawn.
     less-by : (item : Option (RangeInclusive T)) → draws.item ≡ item
         → held_at rank t.heads place ≡ now-held item
         → LessBy (drawn_count item)
@@ -362,13 +363,13 @@ module _ {T N S : Type 0} (integer : Elements T N) (stream : Stream S T N) where
         (count_unless each (stream.draws_left draws.after))) (sym now)
         (λ finite. let on = goes.on finite in (on.1, omega (arith, on.2))))
 
-    -- as many less are left of the stream
+    -- The stream has at least that many fewer ranges left.
     pub draws-less : LessBy (drawn_count draws.item)
         (count_unless (has_ended integer stream s place) (stream.draws_left draws.before))
         (count_unless (has_ended integer stream t place) (stream.draws_left draws.after))
     draws-less = less-by draws.item refl (held-here draws.item draws.kept)
 
-    -- heads of which no start was given stay so, by what was drawn
+    -- If no start of a head's range was reported, this stays so, whatever was drawn.
     unstarted-by : (item : Option (RangeInclusive T))
         → MatchOption item (t.heads ≡ s.heads)
         (λ range. IsPermutation (head_of place range ∷ s.heads) t.heads)
@@ -379,7 +380,7 @@ module _ {T N S : Type 0} (integer : Elements T N) (stream : Stream S T N) where
         All-permutation IsUnstarted (head ∷ s.heads) t.heads kept
         (All-cons IsUnstarted head s.heads refl all)
 
-    -- heads of which no start was given stay so
+    -- If no start of a head's range was reported, this stays so.
     pub draws-unstarted : All IsUnstarted s.heads → All IsUnstarted t.heads
     draws-unstarted = unstarted-by draws.item draws.kept
 
@@ -388,33 +389,33 @@ module _ {T N S : Type 0} (integer : Elements T N) (stream : Stream S T N) where
       (streams : t.streams ≡ s.streams) (kept : IsPermutation s.heads (head ∷ t.heads))
       (due : t.due head.input ≡ true)
       (dues : (other : ℕ) → ¬ (other ≡ head.input) → t.due other ≡ s.due other) where
-    -- the range of the head
+    -- The range of the head.
     abbrev run : Interval
     run = run_of_head rank head
 
-    -- what was held of an input, with the head
+    -- What was held of an input, including the head.
     was-held : (place : ℕ) → held_at rank (head ∷ t.heads) place ≡ held_at rank s.heads place
     was-held place = held_at-permutation rank place s.heads (head ∷ t.heads) kept
         (omega (arith, ready.one place))
 
-    -- the range was the first that was held of the input
+    -- The range was the first that was held of the input.
     pub held-head : run ∷ held_at rank t.heads head.input ≡ held_at rank s.heads head.input
     held-head =
         let first : held_at rank (head ∷ t.heads) head.input
         ≡ run ∷ held_at rank t.heads head.input = rw (nat_eq-itself head.input) refl in
         sym first ∙ was-held head.input
 
-    -- and the only one
+    -- And it was the only one.
     pub leaves-none : held_at rank t.heads head.input ≡ []
     leaves-none = none-of (held_at rank t.heads head.input)
         (omega (arith, ready.one head.input, ap (λ (runs : List Interval). length runs) held-head))
       where
-        -- a list of no range
+        -- A list of at most 0 ranges is empty.
         none-of : (runs : List Interval) → length runs ≤ 0 → runs ≡ []
         none-of [] short = refl
         none-of (first ∷ runs) short = absurd (omega (arith, short))
 
-    -- what is held of the others stays
+    -- What is held of the other inputs is unchanged.
     pub leaves-others : (place : ℕ) → ¬ (place ≡ head.input)
         → held_at rank t.heads place ≡ held_at rank s.heads place
     leaves-others place differs =
@@ -422,11 +423,11 @@ module _ {T N S : Type 0} (integer : Elements T N) (stream : Stream S T N) where
         rw (nat_eq-differs head.input place differs) refl in
         sym stays ∙ was-held place
 
-    -- the stream at a place stays
+    -- The stream at each place is unchanged.
     found : (place : ℕ) → slice_get t.streams place ≡ slice_get s.streams place
     found place = ap (λ each. slice_get each place) streams
 
-    -- the input gives the range
+    -- The input gives the range.
     pub leaves-gives : GivesFrom (input_at integer stream s head.input) run
         (input_at integer stream t head.input)
     leaves-gives = record {
@@ -444,18 +445,18 @@ module _ {T N S : Type 0} (integer : Elements T N) (stream : Stream S T N) where
       room = leaves-none;
     }
 
-    -- the others use nothing
+    -- The other inputs use nothing.
     pub leaves-spares : (place : ℕ) → ¬ (place ≡ head.input)
         → Uses (input_at integer stream s place) [] (input_at integer stream t place)
     leaves-spares place differs =
         uses-same s t place (leaves-others place differs) (dues place differs) (found place)
 
-    -- what an input used, if anything
+    -- What the input at a place used: the range if it is the head's input, and otherwise nothing.
     abbrev used-at : (place : ℕ) → (place ≡ head.input) ⊎ (¬ (place ≡ head.input)) → List Interval
     used-at place (inl same) = run ∷ []
     used-at place (inr differs) = []
 
-    -- it used that
+    -- The input used that.
     uses-at : (place : ℕ) (at : (place ≡ head.input) ⊎ (¬ (place ≡ head.input)))
         → Uses (input_at integer stream s place) (used-at place at)
         (input_at integer stream t place)
@@ -463,7 +464,7 @@ module _ {T N S : Type 0} (integer : Elements T N) (stream : Stream S T N) where
         (input_at integer stream t each)) (sym same) leaves-gives.uses
     uses-at place (inr differs) = leaves-spares place differs
 
-    -- what an input gives then comes by its starts, by whether it is the one
+    -- What each input may still give is sorted by start, whether or not it is the head's input.
     sorted-at : (place : ℕ) (at : (place ≡ head.input) ⊎ (¬ (place ≡ head.input)))
         → gives_of (input_at integer stream t place) ⊆ HasSortedStarts n
     sorted-at place (inl same) rest gives =
@@ -474,20 +475,20 @@ module _ {T N S : Type 0} (integer : Elements T N) (stream : Stream S T N) where
         ready.sorted place rest (gives_of-uses (input_at integer stream s place)
         (input_at integer stream t place) [] (uses-at place (inr differs)) rest gives)
 
-    -- one range of an input is held at most, by whether it is the one
+    -- At most one range of an input is held or due, whether or not it is the head's input.
     one-at : (place : ℕ) (at : (place ≡ head.input) ⊎ (¬ (place ≡ head.input)))
         → length (held_at rank t.heads place) + cond {A = ℕ} (t.due place) 1 0 ≤ 1
     one-at place (inl same) = rw same (rw (leaves-none, due) (omega arith))
     one-at place (inr differs) =
         rw (leaves-others place differs, dues place differs) (ready.one place)
 
-    -- an input of which a range is held goes on
+    -- An input of which a range was held had not ended.
     goes-on : (runs : List Interval) (each : Bool) → run ∷ held_at rank t.heads head.input ≡ runs
         → is_over runs each ≡ false
     goes-on [] each same = absurd (cc)
     goes-on (first ∷ runs) each same = refl
 
-    -- an input may be drawn from where it goes on, by whether it is the one
+    -- If an input has not ended, its stream is ready, whether or not it is the head's input.
     can-at : (place : ℕ) (at : (place ≡ head.input) ⊎ (¬ (place ≡ head.input)))
         → has_ended integer stream t place ≡ false
         → IfSome (slice_get t.streams place) stream.can_draw
@@ -497,7 +498,7 @@ module _ {T N S : Type 0} (integer : Elements T N) (stream : Stream S T N) where
     can-at place (inr differs) going = can-same s t place (leaves-others place differs)
         (dues place differs) (found place) (ready.can place) going
 
-    -- the inputs are ready again
+    -- The inputs are ready again.
     pub leaves-ready : AreReady integer stream t
     leaves-ready = record {
       can = λ place. can-at place (cases_eq place head.input);
@@ -510,7 +511,7 @@ module _ {T N S : Type 0} (integer : Elements T N) (stream : Stream S T N) where
           (head ∷ t.heads) kept ready.within));
     }
 
-    -- an input goes on as before, by whether it is the one
+    -- An input has ended exactly if it had before, whether or not it is the head's input.
     goes-at : (place : ℕ) (at : (place ≡ head.input) ⊎ (¬ (place ≡ head.input)))
         → has_ended integer stream t place ≡ has_ended integer stream s place
     goes-at place (inl same) = subst (λ each. has_ended integer stream t each
@@ -520,7 +521,7 @@ module _ {T N S : Type 0} (integer : Elements T N) (stream : Stream S T N) where
         (sym due) (sym (goes-on (held_at rank s.heads head.input) (s.due head.input) held-head))))
     goes-at place (inr differs) = rw (leaves-others place differs, dues place differs) refl
 
-    -- each input goes on as before
+    -- Each input has ended exactly if it had before.
     pub leaves-goes : (place : ℕ)
         → has_ended integer stream t place ≡ has_ended integer stream s place
     leaves-goes place = goes-at place (cases_eq place head.input)
@@ -528,7 +529,7 @@ module _ {T N S : Type 0} (integer : Elements T N) (stream : Stream S T N) where
     -- ---- no head starts before it, and no other range was due
     module _ (least : All (λ (each : Head T). run.first ≤ rank each.start) t.heads)
         (none : (place : ℕ) → ¬ (place ≡ head.input) → s.due place ≡ false) where
-      -- what is held of an input starts no earlier
+      -- No range that is held of an input starts earlier.
       held-from : (heads : List (Head T)) (place : ℕ)
           → All (λ (each : Head T). run.first ≤ rank each.start) heads
           → All (λ (each : Interval). run.first ≤ each.first) (held_at rank heads place)
@@ -542,7 +543,7 @@ module _ {T N S : Type 0} (integer : Elements T N) (stream : Stream S T N) where
             | inr other ↦ rw other rest
           ]
 
-      -- so one range at most is held of it, which does so
+      -- At most one range, which starts no earlier, satisfies `IsOneFrom`.
       one-from : (runs : List Interval) → length runs ≤ 1
           → All (λ (each : Interval). run.first ≤ each.first) runs → IsOneFrom run.first runs
       one-from [] short all = tt
@@ -550,13 +551,13 @@ module _ {T N S : Type 0} (integer : Elements T N) (stream : Stream S T N) where
           All-head (λ (other : Interval). run.first ≤ other.first) each [] all
       one-from (each ∷ next ∷ runs) short all = absurd (omega (arith, short))
 
-      -- one range is held of an input at most, which starts no earlier
+      -- At most one range of each input is held, and it starts no earlier.
       held-one : (place : ℕ) → IsOneFrom run.first (held_at rank t.heads place)
       held-one place = one-from (held_at rank t.heads place)
           (omega (arith, one-at place (cases_eq place head.input)))
           (held-from t.heads place least)
 
-      -- the others are spared
+      -- The other inputs are as `Spares` states.
       pub leaves-others_spared : (place : ℕ) → ¬ (place ≡ head.input)
           → Spares (input_at integer stream s place) run (input_at integer stream t place)
       leaves-others_spared place differs = record {
@@ -564,7 +565,8 @@ module _ {T N S : Type 0} (integer : Elements T N) (stream : Stream S T N) where
         later = held-one place;
       }
 
-      -- what an input still gives starts no earlier where it is ended, or one range is held
+      -- If no range is due and at most one is held, which starts no earlier, the input gives none
+      -- that starts earlier.
       starts-by : (runs : List Interval) (each : Bool) (at : Option S) → each ≡ false
           → IsOneFrom run.first runs
           → gives_of (record { held = runs; undrawn = undrawn_by runs each at })
@@ -578,7 +580,7 @@ module _ {T N S : Type 0} (integer : Elements T N) (stream : Stream S T N) where
           rw gives.2 (later, whole.1, whole.2, whole.3)
       starts-by (first ∷ next ∷ runs) each at isnt later sorted rest gives = absurd later
 
-      -- what an input still gives starts no earlier, by whether it is the one
+      -- No range that an input still gives starts earlier, whether or not it is the head's input.
       starts-at : (place : ℕ) (at : (place ≡ head.input) ⊎ (¬ (place ≡ head.input)))
           → gives_of (input_at integer stream t place) ⊆ HasSortedStartsFrom n run.first
       starts-at place (inl same) rest gives =
@@ -590,7 +592,7 @@ module _ {T N S : Type 0} (integer : Elements T N) (stream : Stream S T N) where
           (slice_get t.streams place) (dues place differs ∙ none place differs) (held-one place)
           (sorted-at place (inr differs)) rest gives
 
-      -- what the inputs still give starts no earlier
+      -- No range that an input still gives starts earlier.
       pub leaves-starts : (place : ℕ)
           → gives_of (input_at integer stream t place) ⊆ HasSortedStartsFrom n run.first
       leaves-starts place = starts-at place (cases_eq place head.input)

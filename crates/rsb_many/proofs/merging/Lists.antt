@@ -6,13 +6,13 @@ use Rattle.rsb_many.specs.ManyLaws.{merges_all-starts}
 use Rattle.rsb_streams.proofs.merging.Answers.{head-left, head-right, no-merges}
 use Rattle.rsb_many.specs.Many.{merges_all}
 
--- a merge of two gives what a merge of two does that may give more
+-- If two streams may give more, their merge may give all that it might before.
 pub merges-wider : (n : ℕ) (P Q More Other : Outcomes) → P ⊆ More → Q ⊆ Other
     → merges n P Q ⊆ merges n More Other
 merges-wider n P Q More Other first second runs may = λ nothing. may (λ left right at also all.
     nothing left right (first left at) (second right also) all)
 
--- so does a merge of many
+-- So does the merge of many streams.
 pub merges_all-wider : (n count : ℕ) (before now : ℕ → Outcomes)
     → ((place : ℕ) → place < count → now place ⊆ before place)
     → merges_all n count now ⊆ merges_all n count before
@@ -23,7 +23,7 @@ merges_all-wider n (suc count) before now each runs may = merges-wider n (now ze
     (merges_all-wider n count (λ place. before (suc place)) (λ place. now (suc place))
     (λ place less. each (suc place) (omega (arith, less)))) runs may
 
--- where nothing comes of any, nothing comes of the merge
+-- If no stream gives anything, neither does the merge.
 pub merges_all-nothing : (n count : ℕ) (may_give : ℕ → Outcomes)
     → ((place : ℕ) → place < count → may_give place ⊆ just [])
     → merges_all n count may_give ⊆ just []
@@ -33,7 +33,7 @@ merges_all-nothing n (suc count) may_give each runs may = no-merges n (may_give 
     (merges_all-nothing n count (λ place. may_give (suc place))
     (λ place less. each (suc place) (omega (arith, less)))) runs may
 
--- where nothing may come of each, nothing may come of the merge
+-- If each stream may give the empty list, so may the merge.
 pub merges_all-empty : (n count : ℕ) (may_give : ℕ → Outcomes)
     → ((place : ℕ) → place < count → may_give place []) → merges_all n count may_give []
 merges_all-empty n zero may_give each = refl
@@ -41,7 +41,8 @@ merges_all-empty n (suc count) may_give each = λ nothing. nothing [] [] (each z
     (merges_all-empty n count (λ place. may_give (suc place))
     (λ place less. each (suc place) (omega (arith, less)))) (tt, (refl, refl))
 
--- a range of the stream at one place comes first, which starts no later than what comes of all then
+-- A range of the stream at one place may come first in the merge if all that comes after it starts
+-- no earlier.
 pub merges_all-head : (n count place : ℕ) (before now : ℕ → Outcomes) (run : Interval)
     → place < count
     → ((rest : List Interval) → now place rest → before place (run ∷ rest))

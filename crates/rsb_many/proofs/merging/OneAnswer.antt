@@ -1,4 +1,4 @@
--- One answer of a merge of any number of streams.
+-- One draw of a merge of any number of streams.
 use Rattle.std.proofs.Common.{◌≡◌, inl, inr, ℕ, ◌+◌, ◌<◌, ◌≤◌, true, false, nat_lt, List, [], ◌∷◌, length, refl, sym, ap, subst, ◌∙◌, arith, All, Some, None, IsFalse}
 use Rattle.std.proofs.lemmas.Bool.{ltb-false}
 use Rattle.std.proofs.lemmas.List.Elements.{All-head, All-nil, All-tail}
@@ -31,53 +31,53 @@ module _ {T N I A : Type 0} (integer : Elements T N) (stream : Stream I T N)
     (ready : KMergeReady integer stream s) (filled : Refills integer stream s.inputs m) where
   open integer use {rank, value_count as n}
 
-  -- the inputs before, after what was due was drawn, and now
+  -- The inputs before the draw.
   abbrev before : Inputs T I
   before = inputs_of s.inputs
 
-  -- the inputs when what was due was drawn
+  -- The inputs once the range that was due is drawn.
   abbrev middle : Inputs T I
   middle = inputs_of m
 
-  -- the inputs now
+  -- The inputs after the draw.
   abbrev now : Inputs T I
   now = inputs_of t.inputs
 
-  -- no range is due
+  -- No range is due any more.
   none-due : (place : ℕ) → is_at m.used place ≡ false
   none-due place = rw filled.none refl
 
-  -- few comparisons were made
+  -- The draw made few comparisons.
   few-made : (made : ℕ) → made ≤ m.heads.comparisons + closing m.heads
       → made ≤ s.inputs.heads.comparisons + comparison_bound (length s.inputs.streams.items)
   few-made made most = few-compared (length s.inputs.streams.items) (length m.heads.heads)
       s.inputs.heads.comparisons (m.heads.comparisons + closing m.heads) made
       (omega (arith, filled.ready.room.few, filled.count)) filled.compared (omega (arith, most))
 
-  -- ---- a head left
+  -- ---- a head leaves
   module _ (head : Head T) (takes : TakesHead integer stream m head t.inputs) where
-    -- its range
+    -- The range of the head.
     abbrev run : Interval
     run = run_of_head rank head
 
-    -- the same streams
+    -- The streams are the same.
     streams : now.streams ≡ middle.streams
     streams = taken-streams integer stream m filled.ready filled.none t.inputs head takes
 
-    -- its input is due
+    -- A range of the head's input is due.
     due : now.due head.input ≡ true
     due = taken-due integer stream m filled.ready filled.none t.inputs head takes
 
-    -- no other is
+    -- A range of another input is due exactly if it was before.
     dues : (place : ℕ) → ¬ (place ≡ head.input) → now.due place ≡ middle.due place
     dues = taken-dues integer stream m filled.ready filled.none t.inputs head takes
 
-    -- the heads that stay start at their starts
+    -- No start of a head's range was reported.
     unstarted : All IsUnstarted (head ∷ t.inputs.heads.heads)
     unstarted = All-permutation IsUnstarted m.heads.heads (head ∷ t.inputs.heads.heads)
         takes.taken.kept (filled.unstarted ready.unstarted)
 
-    -- a head that does not come before another starts no earlier
+    -- A head that does not come before another starts no earlier.
     starts-later : (each : Head T) → IsUnstarted each → IsUnstarted head
         → IsFalse (comes_before (key_of rank each) (key_of rank head))
         → run.first ≤ rank each.start
@@ -93,7 +93,7 @@ module _ {T N I A : Type 0} (integer : Elements T N) (stream : Stream I T N)
       | inr most ↦ let bound = ltb-false (rank each.start) run.first most in omega (arith, bound)
     ]
 
-    -- none starts earlier
+    -- No head that is left starts earlier.
     least : All (λ (each : Head T). run.first ≤ rank each.start) t.inputs.heads.heads
     least = All-both IsUnstarted
         (λ (each : Head T). IsFalse (comes_before (key_of rank each) (key_of rank head)))
@@ -102,7 +102,7 @@ module _ {T N I A : Type 0} (integer : Elements T N) (stream : Stream I T N)
         (All-head IsUnstarted head t.inputs.heads.heads unstarted) later) t.inputs.heads.heads
         (All-tail IsUnstarted head t.inputs.heads.heads unstarted) takes.taken.least
 
-    -- its input gives it
+    -- The head's input gives the range.
     gives-here : GivesFrom (input_at integer stream before head.input) run
         (input_at integer stream now head.input)
     gives-here =
@@ -114,7 +114,7 @@ module _ {T N I A : Type 0} (integer : Elements T N) (stream : Stream I T N)
           room = gives.room;
         }
 
-    -- the others are spared
+    -- The other inputs are as `Spares` states.
     spares-others : (other : ℕ) → ¬ (other ≡ head.input)
         → Spares (input_at integer stream before other) run (input_at integer stream now other)
     spares-others other differs =
@@ -127,21 +127,21 @@ module _ {T N I A : Type 0} (integer : Elements T N) (stream : Stream I T N)
           later = spares.later;
         }
 
-    -- so one range is taken
+    -- So the draw takes one range.
     pub takes-one : TakesOne (kmerge_inputs integer stream s) run (kmerge_inputs integer stream t)
     takes-one = record { place = head.input; here = gives-here; elsewhere = spares-others }
 
-    -- as many streams are there
+    -- The number of streams is unchanged.
     long : length t.inputs.streams.items ≡ length s.inputs.streams.items
     long = taken-long integer stream m filled.ready filled.none t.inputs head takes ∙ filled.count
 
-    -- the head's input is one of them
+    -- The head belongs to one of the inputs.
     here-less : head.input < length s.inputs.streams.items
     here-less =
         let less = taken-less integer stream m filled.ready filled.none t.inputs head takes in
         omega (arith, less, filled.count)
 
-    -- the range comes before what comes then
+    -- The range, followed by what the merge may give after the draw, is what it might give before.
     pub head-answers : (rest : List Interval) → inputs_merge integer stream now rest
         → inputs_merge integer stream before (run ∷ rest)
     head-answers rest may = merges_all-head n (length before.streams) head.input
@@ -156,14 +156,14 @@ module _ {T N I A : Type 0} (integer : Elements T N) (stream : Stream I T N)
         takes.taken.kept due dues least (λ other differs. none-due other) place)
         rest (rw long at may)
 
-    -- the merge may be called again
+    -- The merge is ready again.
     pub head-ready : KMergeReady integer stream t
     head-ready = record {
       drawn = taken-ready integer stream m filled.ready filled.none t.inputs head takes;
       unstarted = All-tail IsUnstarted head t.inputs.heads.heads unstarted;
     }
 
-    -- one range less is left
+    -- At least one range fewer is left.
     pub head-less : IsFinite (inputs_left integer stream before)
         → IsFinite (inputs_left integer stream now)
         × (size (inputs_left integer stream now) < size (inputs_left integer stream before))
@@ -175,7 +175,7 @@ module _ {T N I A : Type 0} (integer : Elements T N) (stream : Stream I T N)
           omega (arith, refilled.1, fewer, ap (λ each. size each) same),
         )
 
-    -- all that is known of such an answer
+    -- This is a draw of the merge that returns the range.
     pub head-known : (range : RangeInclusive T) → interval_of rank range ≡ run
         → t.inputs.heads.comparisons ≤ m.heads.comparisons + closing m.heads
         → m.heads.comparisons ≤ t.inputs.heads.comparisons
@@ -193,7 +193,7 @@ module _ {T N I A : Type 0} (integer : Elements T N) (stream : Stream I T N)
       };
     }
 
-    -- and it goes on
+    -- The draw makes progress.
     pub head-goes : (range : RangeInclusive T)
         → MakesProgress (KMergeReady {A = A} integer stream)
         (λ each. inputs_left integer stream (inputs_of each.inputs)) s (Some range) t
@@ -203,16 +203,16 @@ module _ {T N I A : Type 0} (integer : Elements T N) (stream : Stream I T N)
       rests = λ finite. tt;
     }
 
-  -- ---- no head was there
+  -- ---- there is no head
   module _ (none : HasNoHead m t.inputs) where
-    -- the merge may be called again
+    -- The merge is ready again.
     none-again : KMergeReady integer stream t
     none-again = record {
       drawn = none-ready integer stream m filled.ready filled.none t.inputs none;
       unstarted = rw none.new (All-nil IsUnstarted);
     }
 
-    -- all that is known of such an answer
+    -- This is a draw of the merge that returns `None`.
     pub none-known : t.inputs.heads.comparisons ≤ m.heads.comparisons + closing m.heads
         → m.heads.comparisons ≤ t.inputs.heads.comparisons
         → (kmerge {A = A} integer stream).draw_gives s None t
@@ -237,10 +237,10 @@ module _ {T N I A : Type 0} (integer : Elements T N) (stream : Stream I T N)
       };
     }
 
--- ---- a merge that was built
+-- ---- a merge that was just built
 module _ {T N I A : Type 0} (integer : Elements T N) (stream : Stream I T N) (streams : List I)
     (s : KMerge T I A N) (begun : IsBegunOf integer stream streams s.inputs) where
-  -- it merges the streams
+  -- It merges the streams.
   pub begun-made : MakesKMerge integer stream streams s
   begun-made = record {
     gives = λ runs may. merges_all-wider integer.value_count (length streams)

@@ -29,9 +29,9 @@ use Rattle.rsb_many.specs.declared.kmerge.KMerge.{KMerge}
 use Rattle.rsb_many.specs.declared.operation_results.multiway_union.MultiwayUnion.{MultiwayUnion}
 use Rattle.rsb_many.proofs.merging.Sets.{complement-of_complements, joined-merges_all, runs_by_all-wider}
 
--- ---- a union just built
+-- ---- a union that was just built
 
--- nothing is held before an input of which one range is drawn at most
+-- If at most one range of an input is drawn, this is still so with an empty list held before it.
 begun-by : {Same Other : Type 0} (at : Same ⊎ Other) (may_give : Outcomes)
     (front : List Interval) (done : Bool) (input : Input) → front ≡ [] → done ≡ false
     → IsBegun may_give input
@@ -42,7 +42,7 @@ begun-by (inl same) may_give front false input none undone begun =
 begun-by (inr other) may_give front false input none undone begun =
     record { gives = begun.gives; one = begun.one }
 
--- a fresh union of a stream draws nothing more of the inputs of that
+-- A union that was just built draws nothing more from the inputs of its stream.
 pub joins-begun : {Place S T N : Type 0} (same : Sameness Place) (integer : Elements T N)
     (inputs : S → Place → Input) (may_give : Place → Outcomes) (below : S) (s : UnionIter T S)
     → IsFresh below s.iter → ((place : Place) → IsBegun (may_give place) (inputs below place))
@@ -57,7 +57,7 @@ module _ {T N I A : Type 0} (integer : Elements T N) (stream : Stream I T N) (st
     (merge : KMerge T I A N) (begins : MakesKMerge integer stream streams merge) where
   open integer use {value_count as n}
 
-  -- its runs are those of what lies in some of the streams
+  -- The joined merge gives only runs of what lies in some of the streams.
   pub begins-gives : joined n ((kmerge integer stream).may_give merge)
       ⊆ runs_by_all n any_of (length streams) (may_give_at stream.may_give streams)
   begins-gives runs may =
@@ -75,7 +75,7 @@ module _ {T N I A : Type 0} (integer : Elements T N) (stream : Stream I T N) (st
 module _ {T N I : Type 0} (integer : Elements T N) (stream : Stream I T N) where
   open integer use {value_count as n}
 
-  -- with one complement more they are those of one stream more
+  -- The lists still match if one more stream and its complement are added at their ends.
   pub AreComplements-more : (streams : List I) (gaps : List (NotIter T I)) (of : I)
       (gap : NotIter T I) → AreComplements integer stream streams gaps
       → MakesComplement integer stream (not_iter integer stream) of gap
@@ -86,11 +86,11 @@ module _ {T N I : Type 0} (integer : Elements T N) (stream : Stream I T N) where
   AreComplements-more (first ∷ streams) (other ∷ gaps) of gap are made =
       (are.0, AreComplements-more streams gaps of gap are.1 made)
 
-  -- a complement
+  -- The complement of a stream, as a stream.
   abbrev gaps_of : Stream (NotIter T I) T N
   gaps_of = not_iter integer stream
 
-  -- as many streams have as many complements
+  -- There are as many complements as streams.
   complements-long : (streams : List I) (gaps : List (NotIter T I))
       → AreComplements integer stream streams gaps → length gaps ≡ length streams
   complements-long [] [] all = refl
@@ -99,7 +99,7 @@ module _ {T N I : Type 0} (integer : Elements T N) (stream : Stream I T N) where
   complements-long (of ∷ streams) (gap ∷ gaps) all =
       let rest = complements-long streams gaps all.1 in omega (arith, rest)
 
-  -- each gives nothing but runs of what its stream leaves out
+  -- Each complement gives only runs of what its stream leaves out.
   complements-at : (streams : List I) (gaps : List (NotIter T I))
       → AreComplements integer stream streams gaps → (place : ℕ) → place < length gaps
       → may_give_at gaps_of.may_give gaps place
@@ -111,7 +111,7 @@ module _ {T N I : Type 0} (integer : Elements T N) (stream : Stream I T N) where
   complements-at (of ∷ streams) (gap ∷ gaps) all (suc place) less =
       complements-at streams gaps all.1 place (omega (arith, less))
 
-  -- what the union of the complements leaves out is what lies in all of the streams
+  -- What the union of the complements leaves out is what lies in all of the streams.
   pub complements-give : (streams : List I) (gaps : List (NotIter T I)) (Outside : Outcomes)
       → AreComplements integer stream streams gaps
       → Outside ⊆ runs_by_all n any_of (length gaps) (may_give_at gaps_of.may_give gaps)
@@ -128,21 +128,21 @@ module _ {T N I : Type 0} (integer : Elements T N) (stream : Stream I T N) where
 
 -- ---- draws of a complement of a union
 
--- what lies within one answer lies within one of it and others
+-- Ranges that lie within the first returned range lie within some returned range.
 one-within : (answer : Interval) (answers used : List Interval) → AreWithin answer used
     → AreWithinSome (answer ∷ answers) used
 one-within answer answers [] within = tt
 one-within answer answers (run ∷ used) within =
     (inl (within.0, within.1), one-within answer answers used within.2)
 
--- what lies within some answers lies within them and one more
+-- Ranges that lie within some returned range still do if there is one more returned range.
 more-within : (answer : Interval) (answers used : List Interval) → AreWithinSome answers used
     → AreWithinSome (answer ∷ answers) used
 more-within answer answers [] within = tt
 more-within answer answers (run ∷ used) within =
     (inr within.0, more-within answer answers used within.1)
 
--- two lists of which each lies within some answers
+-- If the ranges of two lists lie within some returned ranges, so do those of both together.
 both-within : (answers used others : List Interval) → AreWithinSome answers used
     → AreWithinSome answers others → AreWithinSome answers (used ++ others)
 both-within answers [] others first second = second
@@ -152,17 +152,17 @@ both-within answers (run ∷ used) others first second =
 module _ {T N I A : Type 0} (integer : Elements T N) (stream : Stream I T N) where
   open integer use {rank}
 
-  -- the inputs of the union, where the range that it holds came of one place
+  -- The inputs of the union, if the range that it holds came from the given place.
   abbrev inputs : ℕ → MultiwayUnion T I A N → ℕ → Input
   inputs = multiway_union_inputs integer stream
 
-  -- Whether the ranges used of each input lie within these answers, and at most one of each is
-  -- held.
+  -- Whether the ranges that each input used lie within the returned ranges, and at most one range
+  -- of each is held.
   abbrev UseWithin : List (RangeInclusive T) → ℕ → (s t : MultiwayUnion T I A N) → Type 0
   UseWithin answers from s t = (now_from : ℕ) × ((place : ℕ)
       → UsesWithin (intervals_of rank answers) (inputs from s place) (inputs now_from t place))
 
-  -- draws of the union use ranges of each input that lie within its answers
+  -- Draws of the union use only ranges of each input that lie within the returned ranges.
   draws-use : (ranges : List (RangeInclusive T)) (s t : MultiwayUnion T I A N)
       → Yields (multiway_union integer stream).draw_gives s ranges t → (from : ℕ)
       → HoldOneAtMost (inputs from s) → UseWithin ranges from s t
@@ -198,7 +198,7 @@ module _ {T N I A : Type 0} (integer : Elements T N) (stream : Stream I T N) whe
         },
       )
 
-  -- and one more draw that gives nothing uses nothing more
+  -- If one more draw returns `None`, it uses nothing more.
   draws-end : (ranges : List (RangeInclusive T)) (s t : MultiwayUnion T I A N)
       → YieldsThen (multiway_union integer stream).draw_gives s ranges None t → (from : ℕ)
       → HoldOneAtMost (inputs from s) → UseWithin ranges from s t
@@ -218,7 +218,7 @@ module _ {T N I A : Type 0} (integer : Elements T N) (stream : Stream I T N) whe
         },
       )
 
-  -- so do those that one draw of its complement makes
+  -- The same holds for the draws of the union that one draw of its complement makes.
   pub passes-use : (s t : NotIter T (MultiwayUnion T I A N)) (item : Option (RangeInclusive T))
       (passes : PassesOver integer (multiway_union integer stream) s item t) (from : ℕ)
       → HoldOneAtMost (inputs from s.iter) → UseWithin passes.used from s.iter t.iter

@@ -17,11 +17,11 @@ use Rattle.rsb_many.proofs.pieces.Odd.{passes-none, passes-then}
 module _ {S T N : Type 0} (integer : Elements T N) (stream : Stream S T N) (telling : S → Telling)
     (asks : (s t : S) (item : Option (RangeInclusive T)) → stream.draw_gives s item t
     → AsksToPass (telling s) item (telling t)) where
-  -- what a stream tells that may have ended
+  -- The inputs and events of a stream that may have ended.
   abbrev telling_now : Fused S → Telling
   telling_now s = unless_told s.done (telling s.iter)
 
-  -- a draw passes some events, by whether the stream had ended, and has now
+  -- A draw passes some events, whether or not the stream had ended before it and has ended now.
   passes-by : (done after : Bool) (s t : S) (item : Option (RangeInclusive T))
       → MatchBool done (item ≡ None) (stream.draw_gives s item t)
       → MatchOption item (after ≡ true) (λ _. after ≡ false)
@@ -34,12 +34,12 @@ module _ {S T N : Type 0} (integer : Elements T N) (stream : Stream S T N) (tell
   passes-by false true s t (Some range) call over = absurd (cc)
   passes-by false false s t (Some range) call over = asks s t (Some range) call
 
-  -- a draw passes some events
+  -- A draw passes some events.
   passes-call : (s t : Fused S) (item : Option (RangeInclusive T))
       → (fused stream).draw_gives s item t → PassesSome (telling_now s) (telling_now t)
   passes-call s t item call = passes-by s.done t.done s.iter t.iter item call.0 call.1
 
-  -- so do several
+  -- So do several draws.
   passes-yields : (s : Fused S) (ranges : List (RangeInclusive T)) (t : Fused S)
       → HoldOneAtMost (telling_now s).inputs → Yields (fused stream).draw_gives s ranges t
       → PassesSome (telling_now s) (telling_now t)
@@ -51,7 +51,7 @@ module _ {S T N : Type 0} (integer : Elements T N) (stream : Stream S T N) (tell
       passes-then (telling_now s) (telling_now draws.0) (telling_now t) first
       (passes-yields draws.0 ranges t first.holds draws.2)
 
-  -- and an answer of the union
+  -- So does a draw of the union.
   pub union-passes : (s t : UnionIter T S) (item : Option (RangeInclusive T))
       → HoldOneAtMost (telling_now (fused_of s.iter)).inputs
       → (union_iter integer stream).draw_gives s item t

@@ -1,4 +1,4 @@
--- Sets made of what any number of streams gave.
+-- Sets built from what any number of streams gave.
 use Rattle.std.proofs.Common.{◌≡◌, ℕ, zero, suc, ◌<◌, ◌&&◌, ◌||◌, not, List, [], ◌∷◌, map, refl, ap, ◌∙◌, arith}
 use Rattle.std.proofs.Math.Bool.{not-not}
 use Rattle.rsb_integer.specs.Runs.{Interval, members}
@@ -11,7 +11,7 @@ use Rattle.rsb_many.specs.Many.{merges_all, runs_by_all, OneOfEach, SomeOfEach}
 
 -- ---- the members of merges
 
--- a merge of many has the members of some of the lists that it was made of
+-- The members of a merge of many are those of some of the lists that the streams gave.
 members-merges_all : (n count : ℕ) (may_give : ℕ → Outcomes) (runs : List Interval)
     → merges_all n count may_give runs
     → SomeOfEach count may_give (λ lists. (rank : ℕ)
@@ -23,7 +23,7 @@ members-merges_all n (suc count) may_give runs may = λ nothing. may (λ left ri
     members-merge left right runs rank all.1
     ∙ ap (λ test. members left rank || test) (same rank))))
 
--- the runs of a merge of many are the runs of what lies in some of them
+-- The runs of a joined merge are those of what lies in some of the streams.
 pub joined-merges_all : (n count : ℕ) (may_give : ℕ → Outcomes)
     → joined n (merges_all n count may_give) ⊆ runs_by_all n any_of count may_give
 joined-merges_all n count may_give runs may = λ nothing. may (λ given at all.
@@ -31,9 +31,9 @@ joined-merges_all n count may_give runs may = λ nothing. may (λ given at all.
     nothing lists each (runs-along n (members given) (any_of (map members lists)) runs
     (λ rank below. same rank) all)))
 
--- ---- less given gives less
+-- ---- if streams may give more
 
--- lists that may be given where more may be given
+-- If each stream may give more, lists that were one of each still are.
 pub of_each-wider : (count : ℕ) (less more : ℕ → Outcomes)
     → ((place : ℕ) → place < count → less place ⊆ more place) → (lists : List (List Interval))
     → OneOfEach count less lists → OneOfEach count more lists
@@ -46,7 +46,7 @@ of_each-wider (suc count) less more wider (runs ∷ lists) each = (
       (λ place below. wider (suc place) (omega (arith, below))) lists each.1,
 )
 
--- so do sets made of them
+-- If each stream may give more, the runs of sets built from the lists may still come.
 pub runs_by_all-wider : (n count : ℕ) (operation : List Selection → Selection)
     (less more : ℕ → Outcomes) → ((place : ℕ) → place < count → less place ⊆ more place)
     → runs_by_all n operation count less ⊆ runs_by_all n operation count more
@@ -55,7 +55,8 @@ runs_by_all-wider n count operation less more wider runs may = λ nothing. may (
 
 -- ---- complements
 
--- where each list is of a complement, what lies in none of them is what lies in all of the others
+-- If each list is that of a complement, what lies in none of them is what lies in all of the
+-- streams.
 none-of_complements : (n count : ℕ) (may_give gaps : ℕ → Outcomes)
     → ((place : ℕ) → place < count → gaps place ⊆ runs_by n complement (may_give place))
     → (lists : List (List Interval)) → OneOfEach count gaps lists
@@ -76,7 +77,7 @@ none-of_complements n (suc count) may_give gaps complements (runs ∷ lists) eac
     ∙ ap (λ test. test && not (any_of (map members lists) rank)) (not-not (members given rank))
     ∙ ap (λ test. members given rank && test) (same rank below))))
 
--- the complement of what lies in some of the complements is what lies in all
+-- The complement of what lies in some of the complements is what lies in all of the streams.
 pub complement-of_complements : (n count : ℕ) (may_give gaps : ℕ → Outcomes)
     → ((place : ℕ) → place < count → gaps place ⊆ runs_by n complement (may_give place))
     → runs_by n complement (runs_by_all n any_of count gaps) ⊆ runs_by_all n all_of count may_give

@@ -34,14 +34,14 @@ use Rattle.rsb_many.proofs.calling.Results.{these-given, GiveThese}
 use Rattle.rsb_many.proofs.events.Odd.{all-touching, whole-events}
 use Rattle.rsb_many.proofs.merging.Passes.{union-passes}
 
--- that two numbers are one is settled
+-- Two numbers are equal if the contrary is excluded.
 settled_same : (one other : ℕ) → ¬ (¬ (one ≡ other)) → one ≡ other
 settled_same one other holds =
     let under = settled_le one other (λ fails. holds (λ same. fails (omega (arith, same)))) in
     let over = settled_le other one (λ fails. holds (λ same. fails (omega (arith, same)))) in
     omega (arith, under, over)
 
--- ranges that may touch have ranks
+-- The ranges of a touching list are not empty.
 have-ranks : (n low : ℕ) (runs : List Interval) → IsTouchingFrom low runs → All HasRanks runs
 have-ranks n low [] touching = All-nil HasRanks
 have-ranks n low (run ∷ runs) touching =
@@ -49,7 +49,8 @@ have-ranks n low (run ∷ runs) touching =
 
 module _ (n count : ℕ) (may_give : ℕ → Outcomes)
     (touching : (place : ℕ) → may_give place ⊆ IsTouchingIn n) where
-  -- of streams that give such lists, an odd number of edges lies where at least so many have a rank
+  -- If the lists are touching, the number of edges up to a rank is odd exactly if at least `least`
+  -- of them cover it. Only crossing edges and the first edge count.
   deep-odd : {T : Type 0} (rank : T → ℕ) (least : ℕ) (start : Option T) (place : ℕ)
       (lists : List (List Interval)) (events : List Event)
       → edges_of rank start ≡ first_edge least → OneOfEach count may_give lists
@@ -64,7 +65,7 @@ module _ (n count : ℕ) (may_give : ℕ → Outcomes)
       ∙ deep-events n least lists events place
       (all-touching n count may_give touching lists each) are whole.edges
 
-  -- so the joined pieces are its runs
+  -- So the pieces, joined, are the runs of what lies in at least `least` lists.
   pub joined-deep : {T : Type 0} (rank : T → ℕ) (least : ℕ) (start : Option T)
       (told : EventOutcomes) → edges_of rank start ≡ first_edge least
       → ((events : List Event) → told events
@@ -79,13 +80,13 @@ module _ (n count : ℕ) (may_give : ℕ → Outcomes)
       (λ place below. are_pieces.same place below
       ∙ deep-odd rank least start place lists events is each are) all))))
 
-  -- what has started ends
+  -- All ranges that start also end.
   pub first-deep : (events : List Event) → SomeOfEach count may_give (λ lists. AreEvents lists events)
       → IsDepth 0 events
   first-deep events some = settled_same (0 + starts_in events) (ends_in events)
       (λ fails. some (λ lists each are. fails (none-deep lists events are)))
 
-  -- there are at most as many runs as in all lists together
+  -- There are at most as many runs as in all lists together.
   pub few-runs : (least : ℕ) → 0 < least → (given : Outcomes)
       → given ⊆ runs_by_all n (at_least least) count may_give
       → given ⊆ (λ runs. SomeOfEach count may_give (λ lists.
@@ -103,10 +104,10 @@ module _ (n count : ℕ) (may_give : ℕ → Outcomes)
 module _ {T N I A : Type 0} (integer : Elements T N) (stream : Stream I T N) where
   open integer use {rank, value_count as n}
 
-  -- ---- one answer
+  -- ---- one draw
 
   module _ (s t : MultiwayAtLeast T I A N) (ready : AtLeastReady integer stream s) where
-    -- an answer passes some events
+    -- A draw passes some events.
     at_least-passes : (item : Option (RangeInclusive T))
         → (joined_deep {A = A} integer stream).draw_gives s.iter item t.iter
         → PassesSome (at_least_telling integer stream s) (at_least_telling integer stream t)
@@ -114,7 +115,7 @@ module _ {T N I A : Type 0} (integer : Elements T N) (stream : Stream I T N) whe
         (deep_telling integer stream) (λ one other each gives. gives.asks) s.iter t.iter item
         ready.holds call
 
-    -- all that is known of an answer
+    -- A draw of the joined pieces is a draw of this stream.
     pub at_least-known : (item : Option (RangeInclusive T))
         → (joined_deep {A = A} integer stream).draw_gives s.iter item t.iter
         → (multiway_at_least {A = A} integer stream).draw_gives s item t
@@ -128,7 +129,7 @@ module _ {T N I A : Type 0} (integer : Elements T N) (stream : Stream I T N) whe
     at_least-known (Some range) call =
         record { answers = call.answers; rests = tt; asks = at_least-passes (Some range) call }
 
-    -- and it goes on
+    -- The draw makes progress.
     pub at_least-goes : (item : Option (RangeInclusive T))
         → (joined_deep {A = A} integer stream).draw_gives s.iter item t.iter
         → MakesProgress (joined_deep {A = A} integer stream).can_draw
@@ -147,12 +148,12 @@ module _ {T N I A : Type 0} (integer : Elements T N) (stream : Stream I T N) whe
           rests = λ finite. tt;
         }
 
-  -- ---- how it is made
+  -- ---- how it is built
   module _ (sweep : MultiwaySweep T I A N) (least : ℕ) (pieces : DeepPieces T I A N)
       (of : pieces.sweep ≡ sweep) (at : pieces.least ≡ least) (none : pieces.depth ≡ 0)
       (begun : edges_of rank pieces.start ≡ first_edge least) (undone : pieces.done ≡ false)
       (streams : List I) (over : SweepsOver integer stream streams sweep) where
-    -- the pieces are those of the sweep, and nothing has started
+    -- The pieces of the sweep before any range has started.
     abbrev begins : DeepPieces T I A N
     begins = record {
       sweep = sweep;
@@ -162,7 +163,7 @@ module _ {T N I A : Type 0} (integer : Elements T N) (stream : Stream I T N) whe
       done = false;
     }
 
-    -- they are
+    -- The given pieces are these.
     same : pieces ≡ begins
     same = λ i. record {
       sweep = of i;
@@ -172,7 +173,7 @@ module _ {T N I A : Type 0} (integer : Elements T N) (stream : Stream I T N) whe
       done = undone i;
     }
 
-    -- a piece begins at the first rank or none does
+    -- A piece begins at the first rank, or none has begun.
     low-first : (start : Option T) → edges_of rank start ≡ first_edge least → low_of rank start ≡ 0
     low-first None is = refl
     low-first (Some value) is = elim (true_or_false (nat_eq least 0)) [
@@ -182,7 +183,7 @@ module _ {T N I A : Type 0} (integer : Elements T N) (stream : Stream I T N) whe
       | inr some ↦ absurd (let no = rw some at is in cc)
     ]
 
-    -- it starts at a value, since there is one
+    -- If a piece has begun, it starts at a value, because the type has one.
     start-in : 0 < n → (start : Option T) → edges_of rank start ≡ first_edge least
         → IfSome start (λ value. rank value < n)
     start-in some None is = tt
@@ -190,7 +191,7 @@ module _ {T N I A : Type 0} (integer : Elements T N) (stream : Stream I T N) whe
         let first = low-first (Some value) is in
         omega (arith, first, some)
 
-    -- the pieces of a sweep just made may be drawn
+    -- The pieces of a sweep that was just built are ready.
     pub deep-made : 0 < n → (deep_pieces {A = A} integer stream).can_draw pieces
     deep-made some = λ going. subst (DeepReady integer stream) (sym same) (record {
       sweep = over.ready;
@@ -204,11 +205,11 @@ module _ {T N I A : Type 0} (integer : Elements T N) (stream : Stream I T N) whe
     })
 
     module _ (made : UnionIter T (DeepPieces T I A N)) (new : IsFresh pieces made.iter) where
-      -- what lies in at least so many streams
+      -- What lies in at least `least` streams.
       abbrev result : MultiwayAtLeast T I A N
       result = record { iter = made }
 
-      -- its inputs are those of the sweep
+      -- Its inputs are those of the sweep.
       as-inputs : (Fact : Input → Type 0) (place : ℕ)
           → Fact (sweep_inputs integer stream sweep place)
           → Fact (at_least_inputs integer stream result place)
@@ -218,7 +219,7 @@ module _ {T N I A : Type 0} (integer : Elements T N) (stream : Stream I T N) whe
           (subst (λ each. Fact ((deep_telling integer stream each).inputs place)) (sym new.source)
           (subst (λ each. Fact ((deep_telling integer stream each).inputs place)) (sym same) holds))
 
-      -- it may be drawn from
+      -- It is ready.
       pub at_least-ready : (joined_deep {A = A} integer stream).can_draw made
           → AtLeastReady integer stream result
       at_least-ready ready = record {
@@ -226,7 +227,7 @@ module _ {T N I A : Type 0} (integer : Elements T N) (stream : Stream I T N) whe
         holds = λ place. as-inputs (λ input. length input.held ≤ 1) place (over.begun place).one;
       }
 
-      -- what it may give is what lies in at least so many
+      -- It gives only runs of what lies in at least `least` streams.
       at_least-gives : (joined_deep {A = A} integer stream).may_give made
           ⊆ joined n (deep_may_give integer stream pieces)
           → (joined_deep {A = A} integer stream).may_give made
@@ -236,7 +237,7 @@ module _ {T N I A : Type 0} (integer : Elements T N) (stream : Stream I T N) whe
           (sweep_may_give integer stream sweep) begun over.gives runs
           (subst (λ each. joined n (deep_may_give integer stream each) runs) same (gives runs may))
 
-      -- and it is made of the streams
+      -- It is built from the streams.
       pub at_least-made : (joined_deep {A = A} integer stream).can_draw made
           → (joined_deep {A = A} integer stream).may_give made
           ⊆ joined n (deep_may_give integer stream pieces)
@@ -249,7 +250,7 @@ module _ {T N I A : Type 0} (integer : Elements T N) (stream : Stream I T N) whe
             (over.begun place);
       }
 
-      -- with at most as many runs as all streams together
+      -- It has at most as many runs as all streams together.
       pub at_least-few : 0 < least
           → (joined_deep {A = A} integer stream).may_give made
           ⊆ joined n (deep_may_give integer stream pieces)
@@ -260,9 +261,9 @@ module _ {T N I A : Type 0} (integer : Elements T N) (stream : Stream I T N) whe
           (may_give_at stream.may_give streams) over.touching least positive
           ((joined_deep {A = A} integer stream).may_give made) (at_least-gives gives)
 
--- ---- of lists that are known
+-- ---- streams that give known lists
 
--- a list that is given has at most as many runs as these together
+-- If the streams give known lists, the result has at most as many runs as these lists together.
 pub few-these : {S : Type 0} (n least : ℕ) (may_give : S → Outcomes) (streams : List S)
     (lists : List (List Interval)) (runs : List Interval) → GiveThese may_give streams lists
     → GivesRunsOfAllAtMost least n may_give streams (just runs)
@@ -274,7 +275,7 @@ few-these n least may_give streams lists runs these gives =
     fails (subst (λ those. length runs ≤ together those)
     (these-given may_give streams lists given these each) all.1)))
 
--- and so has each list that is given
+-- This bound on what is given holds for each list that is given.
 pub few-one : {S : Type 0} (n least : ℕ) (may_give : S → Outcomes) (streams : List S)
     (given : Outcomes) → GivesRunsOfAllAtMost least n may_give streams given
     → (runs : List Interval) → given runs

@@ -1,4 +1,4 @@
--- The pieces of what lies deep in a sweep, event by event.
+-- The pieces of what lies deep in a sweep, one event after the other.
 use Rattle.std.proofs.Common.{◌≡◌, inl, inr, ℕ, ◌+◌, ◌<◌, ◌≤◌, Bool, true, false, ◌&&◌, ◌||◌, ◌^◌, nat_le, nat_lt, List, [], ◌∷◌, ◌++◌, map, refl, sym, ap, subst, ◌∙◌, arith, Option, Some, None}
 use Rattle.std.proofs.lemmas.Bool.Decides.{nat_tests}
 use Rattle.std.proofs.lemmas.List.Sums.{sum_by-cons}
@@ -30,15 +30,15 @@ use Rattle.rsb_many.proofs.events.Depths.{some-depth, EndsOneMore}
 use Rattle.rsb_many.proofs.events.Edges.{edges-lower, pieces-begin, pieces-end, settled-event, start-next}
 use Rattle.rsb_many.proofs.pieces.Odd.{passes-end, passes-more, passes-none}
 
--- there is one at most
+-- An option has at most one value.
 len-most : {T : Type 0} (start : Option T) → option_len start ≤ 1
 len-most None = omega arith
 len-most (Some value) = omega arith
 
--- ---- one event less
+-- ---- once an event is passed
 
 module _ {T : Type 0} (rank : T → ℕ) (n : ℕ) (event : Event) (events : List Event) where
-  -- a piece that begins starts at the edge
+  -- A piece that begins starts at the edge.
   edge-begun : (start : T) → rank start ∷ [] ≡ edge_in n (edge_of event)
       → rank start ≡ edge_of event
   edge-begun start is = elim (true_or_false (nat_lt (edge_of event) n)) [
@@ -48,7 +48,7 @@ module _ {T : Type 0} (rank : T → ℕ) (n : ℕ) (event : Event) (events : Lis
     | inr outside ↦ absurd (let none = rw outside at is in cc)
   ]
 
-  -- edges to come lie past the start of a piece that has begun now
+  -- No edge to come lies before the start of a piece that has begun now.
   low-next : (old : Option T) (piece : Option (RangeInclusive T)) (new : Option T)
       → PassesEdge rank n (edge_of event) old piece new
       → HasEdgesFrom n (low_of rank old) (event ∷ events) → HasEdgesFrom n (low_of rank new) events
@@ -60,7 +60,7 @@ module _ {T : Type 0} (rank : T → ℕ) (n : ℕ) (event : Event) (events : Lis
       subst (λ each. HasEdgesFrom n (low_of rank each) events) (sym passes.1)
       (edges-lower n (edge_of event) 0 events (omega arith) edges.2)
 
-  -- the piece that ends, and then those that come after, are those that come before
+  -- The piece that ends at the edge, followed by the pieces after it, are pieces before it.
   edge-pieces : (old : Option T) (piece : Option (RangeInclusive T)) (new : Option T)
       (pieces : List Interval) → PassesEdge rank n (edge_of event) old piece new
       → HasEdgesFrom n (low_of rank old) (event ∷ events)
@@ -74,19 +74,19 @@ module _ {T : Type 0} (rank : T → ℕ) (n : ℕ) (event : Event) (events : Lis
       (subst (λ each. ArePieces n (odd_past (edges_of rank each ++ map edge_of events)) pieces)
       passes.1 all))
 
-  -- a piece that ends had begun, and none has begun then
+  -- A piece that ends had begun before the event, and no piece has begun after it.
   edge-ended : (old : Option T) (range : RangeInclusive T) (new : Option T)
       → PassesEdge rank n (edge_of event) old (Some range) new
       → (option_len old ≡ 1) × (option_len new ≡ 0)
   edge-ended None range new passes = absurd (let none = passes.0 in cc)
   edge-ended (Some start) range new passes = (refl, ap option_len passes.1)
 
--- ---- one event less, which may cross
+-- ---- once an event is passed at which the depth may cross the bound
 
 module _ {T : Type 0} (rank : T → ℕ) (n least depth : ℕ) (event : Event) (old : Option T)
     (piece : Option (RangeInclusive T)) (after : ℕ) (new : Option T)
     (passes : PassesDepth rank n least depth event old piece after new) where
-  -- either its edge is passed, or nothing changes
+  -- If the depth crosses the bound, the edge is passed; otherwise nothing changes.
   passes-edge : (test : Bool) → crosses least depth event ≡ test
       → MatchBool test (PassesEdge rank n (edge_of event) old piece new)
       ((piece ≡ None) × (new ≡ old))
@@ -94,7 +94,7 @@ module _ {T : Type 0} (rank : T → ℕ) (n least depth : ℕ) (event : Event) (
       (PassesEdge rank n (edge_of event) old piece new) ((piece ≡ None) × (new ≡ old))) is
       passes.edge
 
-  -- a piece that has begun starts at a value
+  -- A piece that has begun starts at a value.
   start-in : IfSome old (λ value. rank value < n) → IfSome new (λ value. rank value < n)
   start-in within = elim (true_or_false (crosses least depth event)) [
     | inl edge ↦ begun new refl (passes-edge true edge)
@@ -102,14 +102,14 @@ module _ {T : Type 0} (rank : T → ℕ) (n least depth : ℕ) (event : Event) (
         (sym (passes-edge false none).1) within
   ]
     where
-      -- by whether one has begun
+      -- The cases are whether a piece has begun.
       begun : (each : Option T) → new ≡ each → PassesEdge rank n (edge_of event) old piece new
           → IfSome each (λ value. rank value < n)
       begun None is edge = tt
       begun (Some value) is edge = start-next rank n event [] old piece value
           (subst (λ each. PassesEdge rank n (edge_of event) old piece each) is edge)
 
-  -- edges to come lie past it
+  -- No edge to come lies before the start of a piece that has begun.
   edges-next : (events : List Event) → HasEdgesFrom n (low_of rank old) (event ∷ events)
       → HasEdgesFrom n (low_of rank new) events
   edges-next events edges = elim (true_or_false (crosses least depth event)) [
@@ -120,7 +120,7 @@ module _ {T : Type 0} (rank : T → ℕ) (n least depth : ℕ) (event : Event) (
         edges-lower n (edge_of event) (low_of rank old) events starts edges.2)
   ]
 
-  -- the piece that ends, and then those that come after, are those that come before
+  -- The piece that ends at the event, followed by the pieces after it, are pieces before it.
   pieces-deep : (events : List Event) (pieces : List Interval) → CanPass depth event
       → HasEdgesFrom n (low_of rank old) (event ∷ events)
       → ArePieces n (odd_past (edges_of rank new ++ map edge_of (crossing least after events))) pieces
@@ -147,7 +147,7 @@ module _ {T : Type 0} (rank : T → ℕ) (n least depth : ℕ) (event : Event) (
             (odd_past (edges_of rank each ++ map edge_of later)) pieces) still.1 now)
       ])
 
-  -- a piece that ends had begun, and none has begun then
+  -- A piece that ends had begun before the event, and no piece has begun after it.
   piece-ended : (range : RangeInclusive T) → piece ≡ Some range
       → (option_len old ≡ 1) × (option_len new ≡ 0)
   piece-ended range is = elim (true_or_false (crosses least depth event)) [
@@ -156,7 +156,7 @@ module _ {T : Type 0} (rank : T → ℕ) (n least depth : ℕ) (event : Event) (
     | inr none ↦ absurd (let still = (passes-edge false none).0 in cc)
   ]
 
--- what has started ends among the events to come, after one event too
+-- If all ranges that have started end among the events to come, the same holds after one event.
 depth-next : (depth : ℕ) (event : Event) (events : List Event) → CanPass depth event
     → IsDepth depth (event ∷ events) → IsDepth (depth_after depth event) events
 depth-next depth (Start range input) events can is =
@@ -168,7 +168,7 @@ depth-next depth (End last input) events can is =
     let ends = sum_by-cons end_count (End last input) events in
     omega arith
 
--- a depth can be told on, where no more than so many are open after it
+-- If the events after it end at most `count` more ranges than they start, an event can be counted.
 can-pass : (depth count : ℕ) (event : Event) (events : List Event) → count < 2 ^ 64
     → IsDepth depth (event ∷ events) → EndsOneMore events count → CanPass depth event
 can-pass depth count (Start range input) events small is more =
@@ -182,12 +182,12 @@ can-pass depth count (End last input) events small is more =
     let fewer = more.fewer in
     omega arith
 
--- that is settled
+-- An event can be counted if the contrary is excluded.
 settled-pass : (depth : ℕ) (event : Event) → ¬ (¬ (CanPass depth event)) → CanPass depth event
 settled-pass depth (Start range input) holds = settled_lt (depth + 1) (2 ^ 64) holds
 settled-pass depth (End last input) holds = settled_le 1 depth holds
 
--- a piece that has begun goes on to the end of the type
+-- A piece that has begun extends to the end of the type, if no edge is to come.
 last-piece : (n start last : ℕ) → start < n → last + 1 ≡ n
     → ArePieces n (odd_past (start ∷ [])) (record { first = start; last = last } ∷ [])
 last-piece n start last inside is = record {
@@ -197,7 +197,7 @@ last-piece n start last inside is = record {
       ∙ to_end rank below;
 }
   where
-    -- a rank of the type lies in it where it lies past its start
+    -- A rank of the type lies in the piece if it is not before the start.
     to_end : (rank : ℕ) → rank < n
         → (covers (record { first = start; last = last }) rank || members [] rank)
         ≡ odd_past (start ∷ []) rank
@@ -205,7 +205,7 @@ last-piece n start last inside is = record {
         let under : nat_le rank last ≡ true = grind (arith, nat_tests) in
         rw under (by_both (nat_le start rank))
       where
-        -- with what is true, and without what is false
+        -- “And true” and “or false” change nothing.
         by_both : (test : Bool) → ((test && true) || false) ≡ exclusive_or test false
         by_both true = refl
         by_both false = refl
@@ -215,43 +215,43 @@ last-piece n start last inside is = record {
 module _ {T N I A : Type 0} (integer : Elements T N) (stream : Stream I T N) where
   open integer use {rank, value_count as n}
 
-  -- the pieces that may come where the sweep goes on
+  -- The pieces that may come if the stream is not done.
   abbrev going_gives : DeepPieces T I A N → Outcomes
   going_gives s pieces = SomeEvents (sweep_may_give integer stream s.sweep)
       (λ events. ArePieces n (odd_past (edges_of rank s.start
       ++ map edge_of (crossing s.least s.depth events))) pieces)
 
-  -- and what it tells
+  -- The inputs and the events that may come, if the stream is not done.
   abbrev going_telling : DeepPieces T I A N → Telling
   going_telling s = record {
     inputs = sweep_inputs integer stream s.sweep;
     events = sweep_may_give integer stream s.sweep;
   }
 
-  -- how many are left
+  -- How many pieces are left at most, if the stream is not done.
   abbrev going_left : DeepPieces T I A N → ℕ
   going_left s = size (events_left integer stream s.sweep) + option_len s.start
 
-  -- the same, by whether the sweep has ended
+  -- The same as a count, which is 0 once the stream is done.
   abbrev left-by : Bool → DeepPieces T I A N → Count
   left-by done s = count_unless done (count_map (λ left. left + option_len s.start)
       (events_left integer stream s.sweep))
 
-  -- fewer are left where the sweep goes on
+  -- If neither state is done, the count of pieces left decreases if `going_left` does.
   lesser : (s t : DeepPieces T I A N) → s.done ≡ false → t.done ≡ false
       → going_left t < going_left s
       → size (deep_left integer stream t) < size (deep_left integer stream s)
   lesser s t undone also less = subst (λ done. size (left-by done t) < size (deep_left integer stream s))
       (sym also) (subst (λ done. going_left t < size (left-by done s)) (sym undone) less)
 
-  -- what is known of an answer where the sweep goes on
+  -- What holds of a draw that returns a range, if the stream is not done.
   record GoesOn (s : DeepPieces T I A N) (range : RangeInclusive T) (t : DeepPieces T I A N) : Type 0
     where
       pub answers : (rest : List Interval) → going_gives t rest
           → going_gives s (interval_of rank range ∷ rest)
       pub asks : PassesSome (going_telling s) (going_telling t)
 
-  -- it is an answer of the pieces
+  -- Then this is a draw of the pieces.
   as-going : (s t : DeepPieces T I A N) (range : RangeInclusive T) → s.done ≡ false
       → t.done ≡ false → GoesOn s range t
       → (deep_pieces {A = A} integer stream).draw_gives s (Some range) t
@@ -265,7 +265,8 @@ module _ {T N I A : Type 0} (integer : Elements T N) (stream : Stream I T N) whe
         (sym also) goes.asks);
   }
 
-  -- what may come now might come at the entry, and some events were passed
+  -- What holds so far within a draw: what may come now might come at its entry, and some events
+  -- were passed.
   pub record DeepSoFar (entry now : DeepPieces T I A N) : Type 0 where
     pub undone : now.done ≡ false
     pub ready : DeepReady integer stream now
@@ -273,7 +274,7 @@ module _ {T N I A : Type 0} (integer : Elements T N) (stream : Stream I T N) whe
     pub passed : PassesSome (going_telling entry) (going_telling now)
     pub nearer : going_left now ≤ going_left entry
 
-  -- at the entry nothing was passed
+  -- At the entry no events were passed.
   pub deep-nothing : (entry : DeepPieces T I A N) → entry.done ≡ false
       → (entry.done ≡ false → DeepReady integer stream entry) → DeepSoFar entry entry
   deep-nothing entry undone ready = record {
@@ -285,7 +286,7 @@ module _ {T N I A : Type 0} (integer : Elements T N) (stream : Stream I T N) whe
     nearer = omega arith;
   }
 
-  -- where all was told, nothing comes
+  -- Once the stream is done, a call that returns `None` and changes nothing is a draw of it.
   pub deep-told : (s : DeepPieces T I A N) → s.done ≡ true
       → (deep_pieces {A = A} integer stream).draw_gives s None s
   deep-told s over = record {
@@ -306,21 +307,21 @@ module _ {T N I A : Type 0} (integer : Elements T N) (stream : Stream I T N) whe
       (event : SweepEvent T) (call : Sweeps integer stream was.sweep (Some event) j)
       (goes : MakesProgress (SweepReady integer stream) (events_left integer stream) was.sweep
       (Some event) j) where
-    -- its ranks
+    -- The event, with ranks.
     abbrev told : Event
     told = event_of rank event
 
-    -- the edges of each list of events that may come, with it
+    -- The edges never fall, from this event through any list of events that may come after it.
     edges : (events : List Event) → sweep_may_give integer stream j events
         → HasEdgesFrom n (low_of rank was.start) (told ∷ events)
     edges events may = so.ready.edges (told ∷ events) (call.answers events may)
 
-    -- it lies in the type
+    -- The event lies in the type.
     pub deep-event_in : IsEventIn n told
     deep-event_in = settled-event n told
         (λ fails. goes.keeps.some (λ events may. fails (edges events may).1))
 
-    -- it can be counted
+    -- It can be counted.
     pub deep-can : CanPass was.depth told
     deep-can = settled-pass was.depth told (λ fails. goes.keeps.some (λ events may.
         let more = some-depth (stream_count j) _ _ events may in
@@ -328,14 +329,14 @@ module _ {T N I A : Type 0} (integer : Elements T N) (stream : Stream I T N) whe
         fails (can-pass was.depth (stream_count j) told events (omega (arith, fits))
         (so.ready.deep (told ∷ events) (call.answers events may)) more)))
 
-    -- fewer are left
+    -- Fewer events are left.
     deep-less : size (events_left integer stream j) < size (events_left integer stream was.sweep)
     deep-less = (goes.on so.ready.sweep.ends).2
 
-    -- ---- it is passed
+    -- ---- the event is passed
     module _ (piece : Option (RangeInclusive T)) (depth : ℕ) (start : Option T)
         (passes : PassesDepth rank n was.least was.depth told was.start piece depth start) where
-      -- the pieces then
+      -- The stream after the event.
       abbrev now : DeepPieces T I A N
       now = record {
         sweep = j;
@@ -345,7 +346,7 @@ module _ {T N I A : Type 0} (integer : Elements T N) (stream : Stream I T N) whe
         done = was.done;
       }
 
-      -- more pieces may be drawn
+      -- It is ready.
       deep-ready : DeepReady integer stream now
       deep-ready = record {
         sweep = goes.keeps;
@@ -358,12 +359,12 @@ module _ {T N I A : Type 0} (integer : Elements T N) (stream : Stream I T N) whe
             (so.ready.deep (told ∷ events) (call.answers events may)));
       }
 
-      -- the events that were passed
+      -- Some events were passed.
       deep-passed : PassesSome (going_telling entry) (going_telling now)
       deep-passed = passes-more (going_telling entry) (going_telling was) (going_telling now) told
           so.passed call.answers call.asks call.holds
 
-      -- the piece that ends, and then what may come, might come before
+      -- The piece that ends, followed by what may come now, might come before the event.
       deep-gives : (pieces : List Interval) → going_gives now pieces
           → going_gives was (held_list rank piece ++ pieces)
       deep-gives pieces may = λ nothing. may (λ events given all.
@@ -371,7 +372,7 @@ module _ {T N I A : Type 0} (integer : Elements T N) (stream : Stream I T N) whe
           (pieces-deep rank n was.least was.depth told was.start piece depth start passes events
           pieces deep-can (edges events given) all))
 
-      -- no piece ended
+      -- If no piece ended, this holds so far.
       pub deep-more : piece ≡ None → DeepSoFar entry now
       deep-more none =
           let nearer = so.nearer in
@@ -387,7 +388,7 @@ module _ {T N I A : Type 0} (integer : Elements T N) (stream : Stream I T N) whe
             nearer = omega arith;
           }
 
-      -- all that is known of an answer, where one ended
+      -- If a piece ended, this is a draw that returns it.
       pub deep-known : (range : RangeInclusive T) → piece ≡ Some range → entry.done ≡ false
           → (deep_pieces {A = A} integer stream).draw_gives entry piece now
       deep-known range is undone = subst
@@ -399,7 +400,7 @@ module _ {T N I A : Type 0} (integer : Elements T N) (stream : Stream I T N) whe
             asks = deep-passed;
           }))
 
-      -- and it goes on
+      -- The draw makes progress.
       pub deep-goes : (range : RangeInclusive T) → piece ≡ Some range → entry.done ≡ false
           → MakesProgress (λ (s : DeepPieces T I A N). s.done ≡ false → DeepReady integer stream s)
           (deep_left integer stream) entry piece now
@@ -426,7 +427,7 @@ module _ {T N I A : Type 0} (integer : Elements T N) (stream : Stream I T N) whe
   module _ (entry was : DeepPieces T I A N) (so : DeepSoFar entry was) (j : MultiwaySweep T I A N)
       (call : Sweeps integer stream was.sweep None j) (undone : entry.done ≡ false)
       (left : Option T) where
-    -- the pieces then
+    -- The stream afterwards.
     abbrev ended : DeepPieces T I A N
     ended = record {
       sweep = j;
@@ -436,7 +437,7 @@ module _ {T N I A : Type 0} (integer : Elements T N) (stream : Stream I T N) whe
       done = true;
     }
 
-    -- all events were passed
+    -- All events were passed.
     deep-over : PassesAll (going_telling entry) told_all
     deep-over = passes-end (going_telling entry) (going_telling was) told_all so.passed call.answers
         (λ place. record {
@@ -444,7 +445,7 @@ module _ {T N I A : Type 0} (integer : Elements T N) (stream : Stream I T N) whe
           over = record { held = refl; gives = λ runs none. none };
         })
 
-    -- all that is known of an answer, where no piece has begun
+    -- If no piece has begun, this is a draw that returns `None`.
     pub deep-ends : was.start ≡ None
         → (deep_pieces {A = A} integer stream).draw_gives entry None ended
     deep-ends none = record {
@@ -457,15 +458,15 @@ module _ {T N I A : Type 0} (integer : Elements T N) (stream : Stream I T N) whe
           deep-over;
     }
 
-    -- where one has begun, it goes on to the greatest value
+    -- If a piece has begun, it extends to the greatest value.
     module _ (start last : T) (begun : was.start ≡ Some start) (is : rank last + 1 ≡ n)
         (range : RangeInclusive T)
         (told : interval_of rank range ≡ record { first = rank start; last = rank last }) where
-      -- it starts at a value
+      -- It starts at a value.
       last-in : rank start < n
       last-in = subst (λ each. IfSome each (λ value. rank value < n)) begun so.ready.start
 
-      -- all that is known of that answer
+      -- This is a draw that returns the last piece.
       pub deep-last : (deep_pieces {A = A} integer stream).draw_gives entry (Some range) ended
       deep-last = record {
         answers = λ rest all. subst (λ each. deep_may_give integer stream entry

@@ -1,4 +1,4 @@
--- The pieces of a sweep, event by event.
+-- The pieces of a sweep, one event after the other.
 use Rattle.std.proofs.Common.{◌≡◌, inl, inr, ℕ, ◌<◌, ◌≤◌, nat_eq, List, [], ◌∷◌, ◌++◌, map, append_assoc, refl, sym, ap, subst, ◌∙◌, arith, Option, Some, None}
 use Rattle.std.proofs.lemmas.Bool.{cases_eq}
 use Rattle.std.proofs.lemmas.List.{append-nil, map-append}
@@ -26,9 +26,10 @@ use Rattle.rsb_many.specs.declared.sweep_pieces.SweepPieces.{SweepPieces}
 use Rattle.rsb_many.proofs.events.Edges.{pieces-next, settled-event, start-next, whole-next, whole-over}
 use Rattle.rsb_many.proofs.inputs.Steps.{nat_eq-differs, nat_eq-itself}
 
--- ---- events that are passed
+-- ---- events are passed
 
--- the ends of ranges of an input among some events and others
+-- The ends of an input's ranges in two lists of events are those in the first and those in the
+-- second.
 ends_at-append : (place : ℕ) (events others : List Event)
     → ends_at place (events ++ others) ≡ ends_at place events ++ ends_at place others
 ends_at-append place [] others = refl
@@ -40,7 +41,8 @@ ends_at-append place (End last input ∷ events) others =
       | inr there ↦ rw there rest
     ]
 
--- ranges that end at some ranks were used, and then others
+-- If an input uses ranges that end at some ranks and then at others, it uses ranges that end at all
+-- of these.
 uses_to-then : (first second third : Input) (lasts others : List ℕ) → UsesTo lasts first second
     → UsesTo others second third → UsesTo (lasts ++ others) first third
 uses_to-then first second third lasts others before after = record {
@@ -51,11 +53,11 @@ uses_to-then first second third lasts others before after = record {
       ∙ ap (λ ends. lasts ++ ends) after.ends);
 }
 
--- no range was used
+-- An input that uses nothing uses ranges that end at no rank.
 uses_to-none : (before now : Input) → Uses before [] now → UsesTo [] before now
 uses_to-none before now uses = record { used = []; uses = uses; ends = refl }
 
--- an event that a sweep gives is passed
+-- When a sweep gives an event, each input uses the range that the event ends, if it has one.
 asks-uses : (before now : ℕ → Input) (event : Event) → AsksAt before event now → (place : ℕ)
     → UsesTo (ends_at place (event ∷ [])) (before place) (now place)
 asks-uses before now (Start range input) asks place =
@@ -70,7 +72,7 @@ asks-uses before now (End last input) asks place = elim (cases_eq place input) [
       (uses_to-none (before place) (now place) (asks.elsewhere place differs))
 ]
 
--- some events were passed, and one more
+-- If some events were passed, and the sweep gives one more, those and this one were passed.
 pub passes-more : (first second third : Telling) (event : Event) → PassesSome first second
     → ((rest : List Event) → third.events rest → second.events (event ∷ rest))
     → AsksAt second.inputs event third.inputs → HoldOneAtMost third.inputs
@@ -87,7 +89,7 @@ passes-more first second third event before told asks holds = record {
   holds = holds;
 }
 
--- some events were passed, and the sweep ended
+-- If some events were passed and the sweep ends, all events were passed.
 pub passes-end : (first second third : Telling) → PassesSome first second → second.events []
     → ((place : ℕ) → Ends (second.inputs place) (third.inputs place)) → PassesAll first third
 passes-end first second third before none ends = record {
@@ -105,7 +107,7 @@ passes-end first second third before none ends = record {
   over = λ place. (ends place).over;
 }
 
--- no events were passed
+-- If nothing changes, no events were passed.
 pub passes-none : (telling : Telling) → HoldOneAtMost telling.inputs → PassesSome telling telling
 passes-none telling holds = record {
   passed = [];
@@ -115,7 +117,7 @@ passes-none telling holds = record {
   holds = holds;
 }
 
--- some events were passed, and then others
+-- If some events were passed, and then others, all of these were passed.
 pub passes-then : (first second third : Telling) → PassesSome first second
     → PassesSome second third → PassesSome first third
 passes-then first second third before after = record {
@@ -135,7 +137,8 @@ passes-then first second third before after = record {
 module _ {T N I A : Type 0} (integer : Elements T N) (stream : Stream I T N) where
   open integer use {rank, value_count as n}
 
-  -- what may come now might come at the entry, and some events were passed
+  -- What holds so far within a draw: what may come now might come at its entry, and some events
+  -- were passed.
   pub record PiecesSoFar (entry now : SweepPieces T I A N) : Type 0 where
     pub tells : TellsPieces integer stream now
     pub same : pieces_may_give integer stream now ⊆ pieces_may_give integer stream entry
@@ -144,7 +147,7 @@ module _ {T N I A : Type 0} (integer : Elements T N) (stream : Stream I T N) whe
     pub nearer : size (events_left integer stream now.sweep)
         ≤ size (events_left integer stream entry.sweep)
 
-  -- at the entry nothing was passed
+  -- At the entry no events were passed.
   pub so_far-nothing : (entry : SweepPieces T I A N) → TellsPieces integer stream entry
       → PiecesSoFar entry entry
   so_far-nothing entry tells = record {
@@ -161,38 +164,38 @@ module _ {T N I A : Type 0} (integer : Elements T N) (stream : Stream I T N) whe
       (call : Sweeps integer stream was.sweep (Some event) j)
       (goes : MakesProgress (SweepReady integer stream) (events_left integer stream) was.sweep
       (Some event) j) where
-    -- its ranks
+    -- The event, with ranks.
     abbrev told : Event
     told = event_of rank event
 
-    -- before each list of events that may come
+    -- Each piece will end, from this event through any list of events that may come after it.
     whole : (events : List Event) → sweep_may_give integer stream j events
         → IsWhole rank n was.start (told ∷ events)
     whole events may = so.tells.whole (told ∷ events) (call.answers events may)
 
-    -- it lies in the type
+    -- The event lies in the type.
     pub event-in : IsEventIn n told
     event-in = settled-event n told
         (λ fails. goes.keeps.some (λ events may. fails (whole events may).edges.1))
 
-    -- fewer are left
+    -- Fewer events are left.
     pub event-less : size (events_left integer stream j) < size (events_left integer stream was.sweep)
     event-less = (goes.on so.tells.sweep.ends).2
 
-    -- ---- its edge is passed
+    -- ---- the edge of the event is passed
     module _ (piece : Option (RangeInclusive T)) (start : Option T)
         (passes : PassesEdge rank n (edge_of told) was.start piece start) where
-      -- the pieces then
+      -- The stream after the event.
       abbrev now : SweepPieces T I A N
       now = record { sweep = j; start = start }
 
-      -- a piece that has begun starts at a value
+      -- A piece that has begun starts at a value.
       start-in : (each : Option T) → start ≡ each → IfSome each (λ value. rank value < n)
       start-in None is = tt
       start-in (Some value) is = start-next rank n told [] was.start piece value
           (subst (λ new. PassesEdge rank n (edge_of told) was.start piece new) is passes)
 
-      -- more pieces may be drawn
+      -- The stream is ready.
       pub event-tells : TellsPieces integer stream now
       event-tells = record {
         sweep = goes.keeps;
@@ -201,14 +204,14 @@ module _ {T N I A : Type 0} (integer : Elements T N) (stream : Stream I T N) whe
             (whole events may);
       }
 
-      -- the events that were passed
+      -- Some events were passed.
       event-passed : PassesSome (pieces_telling integer stream entry)
           (pieces_telling integer stream now)
       event-passed = passes-more (pieces_telling integer stream entry)
           (pieces_telling integer stream was) (pieces_telling integer stream now) told so.passed
           call.answers call.asks call.holds
 
-      -- the piece that ends, and then what may come, might come before
+      -- The piece that ends, followed by what may come now, might come before the event.
       event-gives : (pieces : List Interval) → pieces_may_give integer stream now pieces
           → pieces_may_give integer stream was (held_list rank piece ++ pieces)
       event-gives pieces may = λ nothing. may (λ events given all.
@@ -216,7 +219,7 @@ module _ {T N I A : Type 0} (integer : Elements T N) (stream : Stream I T N) whe
           (pieces-next rank n told events was.start piece start pieces passes (whole events given)
           all))
 
-      -- no piece ended
+      -- If no piece ended, this holds so far.
       pub so_far-more : piece ≡ None → PiecesSoFar entry now
       so_far-more none = record {
         tells = event-tells;
@@ -227,7 +230,7 @@ module _ {T N I A : Type 0} (integer : Elements T N) (stream : Stream I T N) whe
         nearer = omega (arith, event-less, so.nearer);
       }
 
-      -- all that is known of an answer, where one ended
+      -- If a piece ended, this is a draw that returns it.
       pub piece-known : (range : RangeInclusive T) → piece ≡ Some range
           → (sweep_pieces {A = A} integer stream).draw_gives entry piece now
       piece-known range is = subst
@@ -240,7 +243,7 @@ module _ {T N I A : Type 0} (integer : Elements T N) (stream : Stream I T N) whe
             asks = event-passed;
           })
 
-      -- and it goes on
+      -- The draw makes progress.
       pub piece-goes : (range : RangeInclusive T) → piece ≡ Some range
           → MakesProgress (TellsPieces {A = A} integer stream)
           (λ s. events_left integer stream s.sweep) entry piece now
@@ -254,15 +257,15 @@ module _ {T N I A : Type 0} (integer : Elements T N) (stream : Stream I T N) whe
   -- ---- the sweep ends
   module _ (entry was : SweepPieces T I A N) (so : PiecesSoFar entry was)
       (j : MultiwaySweep T I A N) (call : Sweeps integer stream was.sweep None j) where
-    -- the pieces then
+    -- The stream afterwards.
     abbrev ended : SweepPieces T I A N
     ended = record { sweep = j; start = was.start }
 
-    -- no piece has begun
+    -- No piece has begun.
     no-start : was.start ≡ None
     no-start = whole-over rank n was.start (so.tells.whole [] call.answers)
 
-    -- nothing comes
+    -- No more pieces come.
     nothing-comes : pieces_may_give integer stream ended ⊆ just []
     nothing-comes [] may = refl
     nothing-comes (piece ∷ pieces) may = absurd (may (λ events given all.
@@ -274,7 +277,7 @@ module _ {T N I A : Type 0} (integer : Elements T N) (stream : Stream I T N) whe
         let over = only-none n (piece ∷ pieces) nothing in
         cc))
 
-    -- all that is known of such an answer
+    -- This is a draw that returns `None`.
     pub end-known : (sweep_pieces {A = A} integer stream).draw_gives entry None ended
     end-known = record {
       answers = so.same [] (λ nothing. nothing [] call.answers

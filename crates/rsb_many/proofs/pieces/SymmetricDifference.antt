@@ -25,9 +25,10 @@ use Rattle.rsb_many.proofs.pieces.Odd.{passes-none, passes-then}
 module _ {T N I A : Type 0} (integer : Elements T N) (stream : Stream I T N) where
   open integer use {rank, value_count as n}
 
-  -- ---- one answer
+  -- ---- one draw
 
-  -- the inputs of the pieces and the events that may come, and nothing once those have ended
+  -- The inputs of the pieces and the events that may come. Once the pieces have ended, there are
+  -- none.
   abbrev telling_by : Bool → SweepPieces T I A N → Telling
   telling_by done s = record {
     inputs = λ place. unless_ended done (pieces_inputs integer stream s place);
@@ -35,11 +36,11 @@ module _ {T N I A : Type 0} (integer : Elements T N) (stream : Stream I T N) whe
         (sweep_may_give integer stream s.sweep events);
   }
 
-  -- those of pieces that may have ended
+  -- The same for pieces that may have ended.
   abbrev telling_now : Fused (SweepPieces T I A N) → Telling
   telling_now s = telling_by s.done s.iter
 
-  -- a draw passes some events, by whether the pieces had ended, and have now
+  -- A draw passes some events, whether or not the pieces had ended before it and have ended now.
   passes-by : (done after : Bool) (s t : SweepPieces T I A N) (item : Option (RangeInclusive T))
       → MatchBool done (item ≡ None)
       ((sweep_pieces {A = A} integer stream).draw_gives s item t)
@@ -53,13 +54,13 @@ module _ {T N I A : Type 0} (integer : Elements T N) (stream : Stream I T N) whe
   passes-by false true s t (Some range) call over = absurd (cc)
   passes-by false false s t (Some range) call over = call.asks
 
-  -- a draw passes some events
+  -- A draw passes some events.
   passes-call : (s t : Fused (SweepPieces T I A N)) (item : Option (RangeInclusive T))
       → (fused (sweep_pieces {A = A} integer stream)).draw_gives s item t
       → PassesSome (telling_now s) (telling_now t)
   passes-call s t item call = passes-by s.done t.done s.iter t.iter item call.0 call.1
 
-  -- so do several
+  -- So do several draws.
   passes-yields : (s : Fused (SweepPieces T I A N)) (ranges : List (RangeInclusive T))
       (t : Fused (SweepPieces T I A N)) → HoldOneAtMost (telling_now s).inputs
       → Yields (fused (sweep_pieces {A = A} integer stream)).draw_gives s ranges t
@@ -73,7 +74,7 @@ module _ {T N I A : Type 0} (integer : Elements T N) (stream : Stream I T N) whe
       (passes-yields draws.0 ranges t first.holds draws.2)
 
   module _ (s t : MultiwaySymmetricDifference T I A N) (ready : OddReady integer stream s) where
-    -- an answer passes some events
+    -- A draw of the joined pieces passes some events.
     odd-passes : (item : Option (RangeInclusive T))
         → (joined_pieces {A = A} integer stream).draw_gives s.iter item t.iter
         → PassesSome (odd_telling integer stream s) (odd_telling integer stream t)
@@ -87,7 +88,7 @@ module _ {T N I A : Type 0} (integer : Elements T N) (stream : Stream I T N) whe
         (odd_telling integer stream t) first
         (passes-call draws.0 (fused_of t.iter.iter) t.iter.iter.held draws.2)
 
-    -- all that is known of an answer
+    -- A draw of the joined pieces is a draw of this stream.
     pub odd-known : (item : Option (RangeInclusive T))
         → (joined_pieces {A = A} integer stream).draw_gives s.iter item t.iter
         → (multiway_symmetric_difference {A = A} integer stream).draw_gives s item t
@@ -101,7 +102,7 @@ module _ {T N I A : Type 0} (integer : Elements T N) (stream : Stream I T N) whe
     odd-known (Some range) call =
         record { answers = call.answers; rests = tt; asks = odd-passes (Some range) call }
 
-    -- and it goes on
+    -- The draw makes progress.
     pub odd-goes : (item : Option (RangeInclusive T))
         → (joined_pieces {A = A} integer stream).draw_gives s.iter item t.iter
         → MakesProgress (joined_pieces {A = A} integer stream).can_draw
@@ -120,15 +121,15 @@ module _ {T N I A : Type 0} (integer : Elements T N) (stream : Stream I T N) whe
           rests = λ finite. tt;
         }
 
-  -- ---- how it is made
+  -- ---- how it is built
   module _ (sweep : MultiwaySweep T I A N) (pieces : SweepPieces T I A N)
       (of : pieces.sweep ≡ sweep) (none : pieces.start ≡ None) (streams : List I)
       (over : SweepsOver integer stream streams sweep) where
-    -- the pieces are those of the sweep, and none has begun
+    -- The given pieces are those of the sweep, and none has begun.
     same : pieces ≡ record { sweep = sweep; start = None }
     same = λ i. record { sweep = of i; start = none i }
 
-    -- the pieces of a sweep just made may be drawn
+    -- The pieces of a sweep that was just built are ready.
     pub pieces-made : TellsPieces integer stream pieces
     pieces-made = subst (TellsPieces integer stream) (sym same) (record {
       sweep = over.ready;
@@ -139,11 +140,11 @@ module _ {T N I A : Type 0} (integer : Elements T N) (stream : Stream I T N) whe
     })
 
     module _ (made : UnionIter T (SweepPieces T I A N)) (new : IsFresh pieces made.iter) where
-      -- what lies in an odd number of streams
+      -- What lies in an odd number of streams.
       abbrev result : MultiwaySymmetricDifference T I A N
       result = record { iter = made }
 
-      -- its inputs are those of the sweep
+      -- Its inputs are those of the sweep.
       as-inputs : (Fact : Input → Type 0) (place : ℕ)
           → Fact (sweep_inputs integer stream sweep place)
           → Fact (odd_inputs integer stream result place)
@@ -153,7 +154,7 @@ module _ {T N I A : Type 0} (integer : Elements T N) (stream : Stream I T N) whe
           (subst (λ each. Fact (pieces_inputs integer stream each place)) (sym new.source)
           (subst (λ each. Fact (pieces_inputs integer stream each place)) (sym same) holds))
 
-      -- it may be drawn from
+      -- It is ready.
       pub odd-ready : (joined_pieces {A = A} integer stream).can_draw made
           → OddReady integer stream result
       odd-ready ready = record {
@@ -161,7 +162,7 @@ module _ {T N I A : Type 0} (integer : Elements T N) (stream : Stream I T N) whe
         holds = λ place. as-inputs (λ input. length input.held ≤ 1) place (over.begun place).one;
       }
 
-      -- and it is made of the streams
+      -- It is built from the streams.
       pub odd-made : (joined_pieces {A = A} integer stream).can_draw made
           → (joined_pieces {A = A} integer stream).may_give made
           ⊆ joined n (pieces_may_give integer stream pieces)

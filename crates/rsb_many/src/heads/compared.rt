@@ -77,7 +77,8 @@ impl<T: Integer, A: Allocator> ComparedHeads<T, A> {
         requires values { All (HasValues T.rank T.value_count) self.old.heads.items }
         requires other { HasValues T.rank T.value_count other.now }
         ensures first { (none : Head T) → result
-            ≡ comes_before (key_at T.rank self.old.heads.items none place) (key_of T.rank other.now) }
+            ≡ comes_before (key_at T.rank self.old.heads.items none place)
+            (key_of T.rank other.now) }
         ensures heads { self.new.heads ≡ self.old.heads }
         ensures compared { self.new.comparisons.made ≡ self.old.comparisons.made + 1 }
     {

@@ -1,4 +1,4 @@
-//! What lies in all of the given streams.
+//! The values in all of the given streams.
 
 ghost use Rattle.std.specs.Prelude.{List};
 ghost use Rattle.rsb_streams.specs.StreamLaws.{canonical_stream-starts, drawn-itself};
@@ -15,9 +15,9 @@ use std::alloc::{Allocator, Global};
 use std::iter::FusedIterator;
 use std::ops::RangeInclusive;
 
-/// What lies in all of the given streams: every value if there are none. It draws the first gap of
-/// each stream when it is built, and holds at most one gap of each. It allocates only when it is
-/// built. (`MultiwayIntersection` in range-set-blaze.)
+/// The values in all of the given streams: every value if there are no streams. It draws the first
+/// gap of each stream when it is built, and holds at most one gap of each. It allocates only when
+/// it is built. (`MultiwayIntersection` in range-set-blaze.)
 #[derive(Debug, Drop)]
 pub struct MultiwayIntersection<T: Integer, I, A: Allocator = Global> {
     // The complement of the union of the complements.
@@ -25,7 +25,7 @@ pub struct MultiwayIntersection<T: Integer, I, A: Allocator = Global> {
 }
 
 impl<T: Integer, I: Draw<T>, A: Allocator> MultiwayIntersection<T, I, A> {
-    /// Returns what lies in all of the streams whose complements are merged. The merge must be
+    /// Returns the values in all of the streams whose complements are merged. The merge must be
     /// ready. It draws nothing more.
     pub(crate) fn of(gaps: KMerge<T, NotIter<T, I>, A>) -> Self
         requires { ⟦<KMerge<T, NotIter<T, I>, A> as Draw<T>>⟧.can_draw gaps }

@@ -1,4 +1,4 @@
-//! What lies in at least one of the given streams.
+//! The values in at least one of the given streams.
 
 ghost use Rattle.std.specs.Prelude.{List};
 ghost use Rattle.rsb_streams.specs.StreamLaws.{canonical_stream-starts, drawn-itself};
@@ -14,9 +14,9 @@ use std::alloc::{Allocator, Global};
 use std::iter::FusedIterator;
 use std::ops::RangeInclusive;
 
-/// What lies in at least one of the given streams: nothing if there are none. It draws the first
-/// range of each stream when it is built, and then looks ahead by at most one range of each. Once
-/// it has returned a range, what it has drawn from a stream lies within the ranges that it has
+/// The values in at least one of the given streams: none if there are no streams. It draws the
+/// first range of each stream when it is built, and then looks ahead by at most one range of each.
+/// Once it has returned a range, what it has drawn from a stream lies within the ranges that it has
 /// returned, except for at most one range. That one starts past the last returned range, with a gap
 /// between. It allocates only when it is built. (`MultiwayUnion` in range-set-blaze.)
 #[derive(Debug, Drop)]

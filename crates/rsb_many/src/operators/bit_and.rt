@@ -18,7 +18,8 @@ impl<T: Integer, I: Draw<T>, A: Allocator, R: DrawDisjoint<T>> BitAnd<R>
 
     ghost can_bitand = { CanDrawBoth ⟦<MultiwayUnion<T, I, A> as Draw<T>>⟧ R.Draw };
 
-    ghost bitand_gives = { MakesIntersection T.Integer.own ⟦<MultiwayUnion<T, I, A> as Draw<T>>⟧ R.Draw
+    ghost bitand_gives = { MakesIntersection T.Integer.own
+        ⟦<MultiwayUnion<T, I, A> as Draw<T>>⟧ R.Draw
         ⟦<Intersection<T, MultiwayUnion<T, I, A>, R> as Draw<T>>⟧ };
 
     fn bitand(self, other: R) -> Self::Output {
@@ -32,7 +33,8 @@ impl<T: Integer, I: Draw<T>, A: Allocator, R: DrawDisjoint<T>> BitAnd<R>
 
     ghost can_bitand = { CanDrawBoth ⟦<MultiwayIntersection<T, I, A> as Draw<T>>⟧ R.Draw };
 
-    ghost bitand_gives = { MakesIntersection T.Integer.own ⟦<MultiwayIntersection<T, I, A> as Draw<T>>⟧ R.Draw
+    ghost bitand_gives = { MakesIntersection T.Integer.own
+        ⟦<MultiwayIntersection<T, I, A> as Draw<T>>⟧ R.Draw
         ⟦<Intersection<T, MultiwayIntersection<T, I, A>, R> as Draw<T>>⟧ };
 
     fn bitand(self, other: R) -> Self::Output {
@@ -46,7 +48,8 @@ impl<T: Integer, I: Draw<T>, A: Allocator, R: DrawDisjoint<T>> BitAnd<R>
 
     ghost can_bitand = { CanDrawBoth ⟦<MultiwaySymmetricDifference<T, I, A> as Draw<T>>⟧ R.Draw };
 
-    ghost bitand_gives = { MakesIntersection T.Integer.own ⟦<MultiwaySymmetricDifference<T, I, A> as Draw<T>>⟧ R.Draw
+    ghost bitand_gives = { MakesIntersection T.Integer.own
+        ⟦<MultiwaySymmetricDifference<T, I, A> as Draw<T>>⟧ R.Draw
         ⟦<Intersection<T, MultiwaySymmetricDifference<T, I, A>, R> as Draw<T>>⟧ };
 
     fn bitand(self, other: R) -> Self::Output {
@@ -60,7 +63,8 @@ impl<T: Integer, I: Draw<T>, A: Allocator, R: DrawDisjoint<T>> BitAnd<R>
 
     ghost can_bitand = { CanDrawBoth ⟦<MultiwayAtLeast<T, I, A> as Draw<T>>⟧ R.Draw };
 
-    ghost bitand_gives = { MakesIntersection T.Integer.own ⟦<MultiwayAtLeast<T, I, A> as Draw<T>>⟧ R.Draw
+    ghost bitand_gives = { MakesIntersection T.Integer.own
+        ⟦<MultiwayAtLeast<T, I, A> as Draw<T>>⟧ R.Draw
         ⟦<Intersection<T, MultiwayAtLeast<T, I, A>, R> as Draw<T>>⟧ };
 
     fn bitand(self, other: R) -> Self::Output {
@@ -73,7 +77,8 @@ impl<T: Integer, A: Allocator, R: DrawDisjoint<T>> BitAnd<R> for DynSortedDisjoi
 
     ghost can_bitand = { CanDrawBoth ⟦<DynSortedDisjoint<T, A> as Draw<T>>⟧ R.Draw };
 
-    ghost bitand_gives = { MakesIntersection T.Integer.own ⟦<DynSortedDisjoint<T, A> as Draw<T>>⟧ R.Draw
+    ghost bitand_gives = { MakesIntersection T.Integer.own
+        ⟦<DynSortedDisjoint<T, A> as Draw<T>>⟧ R.Draw
         ⟦<Intersection<T, DynSortedDisjoint<T, A>, R> as Draw<T>>⟧ };
 
     fn bitand(self, other: R) -> Self::Output {

@@ -31,7 +31,8 @@ impl<T: Integer, I: Draw<T>, A: Allocator, R: DrawDisjoint<T>> BitOr<R>
 
     ghost can_bitor = { CanDrawBoth ⟦<MultiwayIntersection<T, I, A> as Draw<T>>⟧ R.Draw };
 
-    ghost bitor_gives = { MakesUnion T.Integer.own ⟦<MultiwayIntersection<T, I, A> as Draw<T>>⟧ R.Draw
+    ghost bitor_gives = { MakesUnion T.Integer.own
+        ⟦<MultiwayIntersection<T, I, A> as Draw<T>>⟧ R.Draw
         ⟦<Union<T, MultiwayIntersection<T, I, A>, R> as Draw<T>>⟧ };
 
     fn bitor(self, other: R) -> Self::Output {
@@ -45,7 +46,8 @@ impl<T: Integer, I: Draw<T>, A: Allocator, R: DrawDisjoint<T>> BitOr<R>
 
     ghost can_bitor = { CanDrawBoth ⟦<MultiwaySymmetricDifference<T, I, A> as Draw<T>>⟧ R.Draw };
 
-    ghost bitor_gives = { MakesUnion T.Integer.own ⟦<MultiwaySymmetricDifference<T, I, A> as Draw<T>>⟧ R.Draw
+    ghost bitor_gives = { MakesUnion T.Integer.own
+        ⟦<MultiwaySymmetricDifference<T, I, A> as Draw<T>>⟧ R.Draw
         ⟦<Union<T, MultiwaySymmetricDifference<T, I, A>, R> as Draw<T>>⟧ };
 
     fn bitor(self, other: R) -> Self::Output {

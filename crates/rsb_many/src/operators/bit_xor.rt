@@ -18,7 +18,8 @@ impl<T: Integer, I: Draw<T>, A: Allocator, R: DrawDisjoint<T>> BitXor<R>
 
     ghost can_bitxor = { CanDrawBoth ⟦<MultiwayUnion<T, I, A> as Draw<T>>⟧ R.Draw };
 
-    ghost bitxor_gives = { MakesSymmetricDifference T.Integer.own ⟦<MultiwayUnion<T, I, A> as Draw<T>>⟧ R.Draw
+    ghost bitxor_gives = { MakesSymmetricDifference T.Integer.own
+        ⟦<MultiwayUnion<T, I, A> as Draw<T>>⟧ R.Draw
         ⟦<SymmetricDifference<T, MultiwayUnion<T, I, A>, R> as Draw<T>>⟧ };
 
     fn bitxor(self, other: R) -> Self::Output {
@@ -32,7 +33,8 @@ impl<T: Integer, I: Draw<T>, A: Allocator, R: DrawDisjoint<T>> BitXor<R>
 
     ghost can_bitxor = { CanDrawBoth ⟦<MultiwayIntersection<T, I, A> as Draw<T>>⟧ R.Draw };
 
-    ghost bitxor_gives = { MakesSymmetricDifference T.Integer.own ⟦<MultiwayIntersection<T, I, A> as Draw<T>>⟧ R.Draw
+    ghost bitxor_gives = { MakesSymmetricDifference T.Integer.own
+        ⟦<MultiwayIntersection<T, I, A> as Draw<T>>⟧ R.Draw
         ⟦<SymmetricDifference<T, MultiwayIntersection<T, I, A>, R> as Draw<T>>⟧ };
 
     fn bitxor(self, other: R) -> Self::Output {
@@ -46,7 +48,8 @@ impl<T: Integer, I: Draw<T>, A: Allocator, R: DrawDisjoint<T>> BitXor<R>
 
     ghost can_bitxor = { CanDrawBoth ⟦<MultiwaySymmetricDifference<T, I, A> as Draw<T>>⟧ R.Draw };
 
-    ghost bitxor_gives = { MakesSymmetricDifference T.Integer.own ⟦<MultiwaySymmetricDifference<T, I, A> as Draw<T>>⟧ R.Draw
+    ghost bitxor_gives = { MakesSymmetricDifference T.Integer.own
+        ⟦<MultiwaySymmetricDifference<T, I, A> as Draw<T>>⟧ R.Draw
         ⟦<SymmetricDifference<T, MultiwaySymmetricDifference<T, I, A>, R> as Draw<T>>⟧ };
 
     fn bitxor(self, other: R) -> Self::Output {
@@ -60,7 +63,8 @@ impl<T: Integer, I: Draw<T>, A: Allocator, R: DrawDisjoint<T>> BitXor<R>
 
     ghost can_bitxor = { CanDrawBoth ⟦<MultiwayAtLeast<T, I, A> as Draw<T>>⟧ R.Draw };
 
-    ghost bitxor_gives = { MakesSymmetricDifference T.Integer.own ⟦<MultiwayAtLeast<T, I, A> as Draw<T>>⟧ R.Draw
+    ghost bitxor_gives = { MakesSymmetricDifference T.Integer.own
+        ⟦<MultiwayAtLeast<T, I, A> as Draw<T>>⟧ R.Draw
         ⟦<SymmetricDifference<T, MultiwayAtLeast<T, I, A>, R> as Draw<T>>⟧ };
 
     fn bitxor(self, other: R) -> Self::Output {
@@ -73,7 +77,8 @@ impl<T: Integer, A: Allocator, R: DrawDisjoint<T>> BitXor<R> for DynSortedDisjoi
 
     ghost can_bitxor = { CanDrawBoth ⟦<DynSortedDisjoint<T, A> as Draw<T>>⟧ R.Draw };
 
-    ghost bitxor_gives = { MakesSymmetricDifference T.Integer.own ⟦<DynSortedDisjoint<T, A> as Draw<T>>⟧ R.Draw
+    ghost bitxor_gives = { MakesSymmetricDifference T.Integer.own
+        ⟦<DynSortedDisjoint<T, A> as Draw<T>>⟧ R.Draw
         ⟦<SymmetricDifference<T, DynSortedDisjoint<T, A>, R> as Draw<T>>⟧ };
 
     fn bitxor(self, other: R) -> Self::Output {

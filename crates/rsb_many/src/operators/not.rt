@@ -43,7 +43,8 @@ impl<T: Integer, I: Draw<T>, A: Allocator> Not for MultiwaySymmetricDifference<T
 
     ghost can_not = { ⟦<MultiwaySymmetricDifference<T, I, A> as Draw<T>>⟧.can_draw };
 
-    ghost not_gives = { MakesComplement T.Integer.own ⟦<MultiwaySymmetricDifference<T, I, A> as Draw<T>>⟧
+    ghost not_gives = { MakesComplement T.Integer.own
+        ⟦<MultiwaySymmetricDifference<T, I, A> as Draw<T>>⟧
         ⟦<NotIter<T, MultiwaySymmetricDifference<T, I, A>> as Draw<T>>⟧ };
 
     fn not(self) -> Self::Output {

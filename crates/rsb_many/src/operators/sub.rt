@@ -31,7 +31,8 @@ impl<T: Integer, I: Draw<T>, A: Allocator, R: DrawDisjoint<T>> Sub<R>
 
     ghost can_sub = { CanDrawBoth ⟦<MultiwayIntersection<T, I, A> as Draw<T>>⟧ R.Draw };
 
-    ghost sub_gives = { MakesDifference T.Integer.own ⟦<MultiwayIntersection<T, I, A> as Draw<T>>⟧ R.Draw
+    ghost sub_gives = { MakesDifference T.Integer.own
+        ⟦<MultiwayIntersection<T, I, A> as Draw<T>>⟧ R.Draw
         ⟦<Difference<T, MultiwayIntersection<T, I, A>, R> as Draw<T>>⟧ };
 
     fn sub(self, other: R) -> Self::Output {
@@ -45,7 +46,8 @@ impl<T: Integer, I: Draw<T>, A: Allocator, R: DrawDisjoint<T>> Sub<R>
 
     ghost can_sub = { CanDrawBoth ⟦<MultiwaySymmetricDifference<T, I, A> as Draw<T>>⟧ R.Draw };
 
-    ghost sub_gives = { MakesDifference T.Integer.own ⟦<MultiwaySymmetricDifference<T, I, A> as Draw<T>>⟧ R.Draw
+    ghost sub_gives = { MakesDifference T.Integer.own
+        ⟦<MultiwaySymmetricDifference<T, I, A> as Draw<T>>⟧ R.Draw
         ⟦<Difference<T, MultiwaySymmetricDifference<T, I, A>, R> as Draw<T>>⟧ };
 
     fn sub(self, other: R) -> Self::Output {

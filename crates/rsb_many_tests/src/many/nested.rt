@@ -19,7 +19,8 @@ fn none_of<T: Integer, I: DrawDisjoint<T>, A: Allocator + Copy>(
 ) -> Result<NotIter<T, MultiwayUnion<T, I, A>>, AllocError>
     requires { All I.can_draw streams.items }
     ensures ready { IfOk result ⟦<NotIter<T, MultiwayUnion<T, I, A>> as Draw<T>>⟧.can_draw }
-    ensures gives { IfOk result (λ none. ⟦<NotIter<T, MultiwayUnion<T, I, A>> as Draw<T>>⟧.may_give none
+    ensures gives { IfOk result (λ none.
+        ⟦<NotIter<T, MultiwayUnion<T, I, A>> as Draw<T>>⟧.may_give none
         ⊆ runs_by T.value_count complement (runs_by_all T.value_count any_of (length streams.items)
         (may_give_at I.may_give streams.items))) }
 {

@@ -69,7 +69,8 @@ fn intersection_is_met(
 fn symmetric_difference_of_three(
     alloc: Global,
 ) -> Result<MultiwaySymmetricDifference<u8, Listed<'static>>, AllocError>
-    ensures { IfOk result ⟦<MultiwaySymmetricDifference<u8, Listed<'static>> as Draw<u8>>⟧.can_draw }
+    ensures { IfOk result
+        ⟦<MultiwaySymmetricDifference<u8, Listed<'static>> as Draw<u8>>⟧.can_draw }
 {
     streams_of(alloc, &THREE)?.symmetric_difference(alloc)
 }

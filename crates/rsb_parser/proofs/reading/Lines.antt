@@ -1,4 +1,4 @@
--- Lines read one after the other.
+-- Lines that are read one after the other.
 use Rattle.std.proofs.Common.{◌≡◌, ◌∙◌, ℕ, ℤ, ◌+◌, ◌<◌, List, [], ◌∷◌, ◌++◌, length, map, cond, sym, ap, subst, append_assoc, arith}
 use Rattle.std.proofs.lemmas.Bool.{le-ltb, lt-ltb, ltb-true}
 use Rattle.std.proofs.lemmas.List.{append-nil, map-append, length-append, nil_from_length}
@@ -9,15 +9,16 @@ use Rattle.std.specs.Str.Lines.{lines}
 use Rattle.rsb_parser.specs.declared.command.Command.{Command}
 use Rattle.rsb_parser.specs.Spelling.{AreCommands, IsBadLine, IsFirstBadLine, Spells, StartsWithCommand, has_words, lines_with_words, words}
 
--- the words of each line that has some
+-- The words of each line that has some.
 abbrev pub spoken : List (List ℕ) → List (List (List ℕ))
 spoken ls = filter has_words (map words ls)
 
--- the line is no bad one
+-- Whether the line is not bad.
 abbrev pub IsGood : List ℕ → Type 0
 IsGood line = IsBadLine line → ⊥
 
--- the lines before `rest` were read: they are this many, and spell these commands
+-- Whether the lines before `rest` were read: there are `number` of them, none is bad, and they
+-- spell these commands.
 pub record HasRead (input rest : List ℕ) (number : ℕ) (commands : List (Command ℤ)) : Type 0 where
   pub front : List (List ℕ)
   pub parts : lines input ≡ front ++ lines rest
@@ -25,24 +26,24 @@ pub record HasRead (input rest : List ℕ) (number : ℕ) (commands : List (Comm
   pub spelled : AllZip Spells (spoken front) commands
   pub good : All IsGood front
 
--- the lines with words of two lists are those of the one and then of the other
+-- The lines with words of two lists are those of the first list, then those of the second.
 pub spoken-append : (xs ys : List (List ℕ)) → spoken (xs ++ ys) ≡ spoken xs ++ spoken ys
 spoken-append xs ys =
     ap (filter has_words) (map-append words xs ys)
     ∙ filter-append has_words (map words xs) (map words ys)
 
--- a line without words is left out
+-- A line without words is left out.
 spoken-silent : (line : List ℕ) → length (words line) ≡ 0 → spoken (line ∷ []) ≡ []
 spoken-silent line none =
     ap (λ kept. cond kept (words line ∷ []) [])
     (le-ltb 0 (length (words line)) (omega (arith, none)))
 
--- a line with words is kept, as its words
+-- A line with words is kept, as its words.
 spoken-one : (line : List ℕ) → 0 < length (words line) → spoken (line ∷ []) ≡ words line ∷ []
 spoken-one line some =
     ap (λ kept. cond kept (words line ∷ []) []) (lt-ltb 0 (length (words line)) some)
 
--- the lines with words of two lists spell the commands of the one and then of the other
+-- The lines with words of two lists spell the commands of the first list, then those of the second.
 pub AllZip-append : (ls ms : List (List (List ℕ))) (cs ds : List (Command ℤ)) → AllZip Spells ls cs
     → AllZip Spells ms ds → AllZip Spells (ls ++ ms) (cs ++ ds)
 AllZip-append [] ms [] ds first second = second
@@ -53,12 +54,12 @@ AllZip-append (l ∷ ls) ms (c ∷ cs) ds first second =
 
 module _ (input rest line later : List ℕ) (number : ℕ) (commands : List (Command ℤ))
     (next : lines rest ≡ line ∷ lines later) (before : HasRead input rest number commands) where
-  -- the line is the next one of the input
+  -- The line is the next one of the input.
   one_more : lines input ≡ (before.front ++ line ∷ []) ++ lines later
   one_more = before.parts ∙ ap (λ ls. before.front ++ ls) next
       ∙ sym (append_assoc before.front (line ∷ []) (lines later))
 
-  -- the line has no words
+  -- If the line has no words, it adds no command.
   pub has_read_silent : length (words line) ≡ 0 → HasRead input later (number + 1) commands
   has_read_silent none = record {
     front = before.front ++ line ∷ [];
@@ -73,7 +74,7 @@ module _ (input rest line later : List ℕ) (number : ℕ) (commands : List (Com
         (λ bad. absurd (omega (arith, ltb-true _ _ bad.some, none)));
   }
 
-  -- its words spell a command
+  -- If the words of the line spell a command, that command is added.
   pub has_read_command : (command : Command ℤ) → 0 < length (words line)
       → Spells (words line) command → HasRead input later (number + 1) (commands ++ command ∷ [])
   has_read_command command some one = record {
@@ -86,7 +87,7 @@ module _ (input rest line later : List ℕ) (number : ℕ) (commands : List (Com
     good = All-push IsGood before.front line before.good (λ bad. bad.none command one);
   }
 
-  -- its words spell none
+  -- If the words of the line spell no command, it is the first bad line.
   pub has_read_bad : 0 < length (words line)
       → ((command : Command ℤ) → Spells (words line) command → ⊥)
       → IsFirstBadLine input (number + 1)
@@ -100,7 +101,7 @@ module _ (input rest line later : List ℕ) (number : ℕ) (commands : List (Com
     first = before.good;
   }
 
--- lines that spell some commands begin with one that does
+-- If lines spell at least one command, the first line spells a command.
 starts_with : (input : List ℕ) (first later : List (List (List ℕ))) (commands : List (Command ℤ))
     (command : Command ℤ) → lines_with_words input ≡ first ++ later
     → AllZip Spells first (commands ++ command ∷ []) → StartsWithCommand input
@@ -121,7 +122,7 @@ starts_with input (line ∷ others) later (c ∷ cs) command parts spelled = rec
   spelled = spelled.0;
 }
 
--- so does an input of which a line was read that spells one more
+-- If the lines that were read spell at least one command, the first line with words spells one.
 pub has_read_some : (input rest : List ℕ) (number : ℕ) (commands : List (Command ℤ))
     (command : Command ℤ) → HasRead input rest number (commands ++ command ∷ [])
     → StartsWithCommand input
@@ -129,20 +130,20 @@ has_read_some input rest number commands command before =
     starts_with input (spoken before.front) (spoken (lines rest)) commands command
     (ap spoken before.parts ∙ spoken-append before.front (lines rest)) before.spelled
 
--- nothing is left: the lines are all
+-- If nothing is left, the lines that were read are all lines of the input.
 has_read_lines : (input rest : List ℕ) (number : ℕ) (commands : List (Command ℤ))
     → length rest ≡ 0 → (before : HasRead input rest number commands) → lines input ≡ before.front
 has_read_lines input rest number commands none before =
     before.parts ∙ ap (λ r. before.front ++ lines r) (nil_from_length rest none)
     ∙ append-nil before.front
 
--- they are counted
+-- If nothing is left, `number` is the number of lines of the input.
 pub has_read_count : (input rest : List ℕ) (number : ℕ) (commands : List (Command ℤ))
     → length rest ≡ 0 → HasRead input rest number commands → number ≡ length (lines input)
 has_read_count input rest number commands none before =
     before.counted ∙ ap length (sym (has_read_lines input rest number commands none before))
 
--- and spell the commands
+-- If nothing is left, the input spells the commands.
 pub has_read_all : (input rest : List ℕ) (number : ℕ) (commands : List (Command ℤ))
     → length rest ≡ 0 → HasRead input rest number commands → AreCommands input commands
 has_read_all input rest number commands none before =

@@ -1,4 +1,4 @@
--- What words spell: one command at most, and none where the arguments are wrong.
+-- What words spell: at most one command, and none if the arguments are wrong.
 use Rattle.std.proofs.Common.{◌≡◌, ◌∙◌, ℕ, ℤ, ◌+◌, ◌*◌, Bool, true, false, List, [], ◌∷◌, get_or, map, arith, refl, sym, ap, subst}
 use Rattle.std.specs.List.{AllZip}
 use Rattle.rsb_parser.specs.declared.command.Command.{Command}
@@ -7,25 +7,25 @@ use Rattle.rsb_parser.specs.Spelling.{Argument, slot, number, IsArgument, IsNumb
 
 -- ---- what a word stands for, by its kind
 
--- a word is one slot at most
+-- A word names at most one slot.
 same_slot : (word : List ℕ) (m n : ℕ) → IsSlot word m → IsSlot word n → m ≡ n
 same_slot word m n left right =
     let same : 48 + m ≡ 48 + n = cc (left.digit, right.digit) in omega (arith, same)
 
--- a word spells one number at most
+-- A word spells at most one number.
 same_number : (word : List ℕ) (y z : ℤ) → IsNumber word y → IsNumber word z → y ≡ z
 same_number word y z left right = left.value ∙ sym right.value
 
--- the argument is a slot
+-- Whether the argument is a slot.
 abbrev pub is_slot : Argument → Bool
 is_slot (slot n) = true
 is_slot (number z) = false
 
--- which arguments are slots
+-- Which of the arguments are slots.
 abbrev pub kinds : List Argument → List Bool
 kinds arguments = map is_slot arguments
 
--- words stand for one list of arguments at most, where the kinds are known
+-- Words stand for at most one list of arguments, if the kinds of these are known.
 same_arguments : (words : List (List ℕ)) (xs ys : List Argument) → kinds xs ≡ kinds ys
     → AllZip IsArgument words xs → AllZip IsArgument words ys → xs ≡ ys
 same_arguments words [] [] same left right = refl
@@ -46,7 +46,7 @@ same_arguments (word ∷ words) (number y ∷ xs) (number z ∷ ys) same left ri
 
 -- ---- the first word of a line, and the others
 
--- words that stand for one argument or more have a first word, which stands for the first
+-- Words with a first one, which stands for `x`, and others, which stand for `xs`.
 record First (words : List (List ℕ)) (x : Argument) (xs : List Argument) : Type 0 where
   word : List ℕ
   others : List (List ℕ)
@@ -54,43 +54,44 @@ record First (words : List (List ℕ)) (x : Argument) (xs : List Argument) : Typ
   stands : IsArgument word x
   stand : AllZip IsArgument others xs
 
--- the first of words that stand for arguments
+-- Words that stand for at least one argument have a first word, which stands for the first.
 first_of : (words : List (List ℕ)) (x : Argument) (xs : List Argument)
     → AllZip IsArgument words (x ∷ xs) → First words x xs
 first_of [] x xs are = absurd are
 first_of (word ∷ others) x xs are =
     record { word = word; others = others; parts = refl; stands = are.0; stand = are.1 }
 
--- a line without words stands for no argument
+-- A line without words does not stand for one argument or more.
 pub no_words : (line : List ℕ) (x : Argument) (xs : List Argument) → words line ≡ []
     → AllZip IsArgument (words line) (x ∷ xs) → ⊥
 no_words line x xs none are =
     absurd (subst (λ (all : List (List ℕ)). AllZip IsArgument all (x ∷ xs)) none are)
 
--- a line whose first word is no slot stands for no arguments that begin with one
+-- A line whose first word is not a slot does not stand for arguments that begin with one.
 pub no_slot_first : (line rest word : List ℕ) (n : ℕ) (xs : List Argument)
     → words line ≡ word ∷ words rest → ((n : ℕ) → IsSlot word n → ⊥)
     → AllZip IsArgument (words line) (slot n ∷ xs) → ⊥
 no_slot_first line rest word n xs parts none are =
     none n (subst (λ (all : List (List ℕ)). AllZip IsArgument all (slot n ∷ xs)) parts are).0
 
--- a line whose first word is no number stands for no arguments that begin with one
+-- A line whose first word is not a number does not stand for arguments that begin with one.
 pub no_number_first : (line : List ℕ) (z : ℤ) (xs : List Argument) → LacksFirst IsNumber line
     → AllZip IsArgument (words line) (number z ∷ xs) → ⊥
 no_number_first line z xs none are =
     let first = first_of (words line) (number z) xs are in
     none first.word first.others first.parts z first.stands
 
--- a line with words left stands for no empty list of arguments
+-- A line with words left does not stand for an empty list of arguments.
 pub no_more : (line : List ℕ) → (words line ≡ [] → ⊥) → AllZip IsArgument (words line) [] → ⊥
 no_more line some are = go (words line) some are
   where
-    -- the same, of any words
+    -- The same for any list of words.
     go : (all : List (List ℕ)) → (all ≡ [] → ⊥) → AllZip IsArgument all [] → ⊥
     go [] some are = some refl
     go (word ∷ others) some are = absurd are
 
--- what stands for arguments less the first is what comes after the first word
+-- If a line stands for arguments, what comes after its first word stands for the arguments after
+-- the first.
 pub past_first : (line rest word : List ℕ) (x : Argument) (xs : List Argument)
     → words line ≡ word ∷ words rest
     → AllZip IsArgument (words line) (x ∷ xs) → AllZip IsArgument (words rest) xs
@@ -99,16 +100,16 @@ past_first line rest word x xs parts are =
 
 -- ---- commands, by their keywords
 
--- the first two letters tell the keywords apart
+-- The first two letters of a keyword as a number, which tells the keywords apart.
 abbrev letters : List ℕ → ℕ
 letters keyword = get_or keyword 0 0 * 256 + get_or keyword 1 0
 
--- commands of one keyword take arguments of the same kinds, and are told apart by them alone
+-- Whether two commands take arguments of the same kinds, and are the same if these arguments are.
 record AreAlike (left right : Command ℤ) : Type 0 where
   same_kinds : kinds (line_of left).arguments ≡ kinds (line_of right).arguments
   told_apart : (line_of left).arguments ≡ (line_of right).arguments → left ≡ right
 
--- commands of one keyword are alike
+-- Two commands with the same keyword are alike.
 alike : (left right : Command ℤ) → (line_of left).keyword ≡ (line_of right).keyword
     → AreAlike left right
 alike (Add m v w) (Add n x y) is = record { same_kinds = refl; told_apart = λ same. cc }
@@ -141,12 +142,12 @@ alike (Complement l m) _ is = let e = ap letters is in absurd (omega (arith, e))
 alike (Most j k l m) _ is = let e = ap letters is in absurd (omega (arith, e))
 alike (Compare l m) _ is = let e = ap letters is in absurd (omega (arith, e))
 
--- the first word is the command's keyword, and the others are its arguments
+-- Whether the keyword is that of the command, and the words stand for its arguments.
 record Spelled (keyword : List ℕ) (arguments : List (List ℕ)) (command : Command ℤ) : Type 0 where
   same_keyword : (line_of command).keyword ≡ keyword
   stand_for : AllZip IsArgument arguments (line_of command).arguments
 
--- words that spell a command are its keyword and its arguments
+-- Words that spell a command are its keyword and its arguments.
 spelled : (words arguments : List (List ℕ)) (keyword : List ℕ) (command : Command ℤ)
     → words ≡ keyword ∷ arguments → Spells words command → Spelled keyword arguments command
 spelled words arguments keyword command parts is =
@@ -157,7 +158,7 @@ spelled words arguments keyword command parts is =
           same is.stand_for;
     }
 
--- words spell one command at most
+-- Words spell at most one command.
 pub one_command : (words : List (List ℕ)) (left right : Command ℤ)
     → Spells words left → Spells words right → left ≡ right
 one_command words left right is_left is_right =
@@ -166,7 +167,7 @@ one_command words left right is_left is_right =
     both.told_apart (same_arguments is_right.arguments (line_of left).arguments
     (line_of right).arguments both.same_kinds l.stand_for is_right.stand_for)
 
--- lines spell one list of commands at most
+-- Lines spell at most one list of commands.
 pub one_list : (lines : List (List (List ℕ))) (left right : List (Command ℤ))
     → AllZip Spells lines left → AllZip Spells lines right → left ≡ right
 one_list [] [] [] is_left is_right = refl
@@ -177,9 +178,9 @@ one_list (line ∷ lines) (c ∷ cs) [] is_left is_right = absurd is_right
 one_list (line ∷ lines) (c ∷ cs) (d ∷ ds) is_left is_right =
     cc (one_command line c d is_left.0 is_right.0, one_list lines cs ds is_left.1 is_right.1)
 
--- ---- no command: the arguments are not of the kinds that the keyword asks for
+-- ---- no command: the arguments are not of the kinds that the keyword takes
 
--- words spell no command where the ones after the keyword stand for no arguments of its kinds
+-- Words spell no command if those after the keyword stand for no arguments of its kinds.
 pub no_arguments : (words arguments : List (List ℕ)) (keyword : List ℕ) (asked : Command ℤ)
     → words ≡ keyword ∷ arguments → keyword ≡ (line_of asked).keyword
     → ((xs : List Argument) → kinds xs ≡ kinds (line_of asked).arguments
@@ -190,7 +191,7 @@ no_arguments words arguments keyword asked parts same none command is =
     let both = alike command asked (c.same_keyword ∙ same) in
     none (line_of command).arguments both.same_kinds c.stand_for
 
--- words that are no slot and two numbers stand for no arguments of those kinds
+-- Words that are not a slot and two numbers stand for no arguments of those kinds.
 pub slot_range_none : (words : List (List ℕ))
     → ((read : ℕ × ℤ × ℤ)
     → AllZip IsArgument words (slot read.0 ∷ number read.1 ∷ number read.2 ∷ []) → ⊥)
@@ -198,21 +199,21 @@ pub slot_range_none : (words : List (List ℕ))
 slot_range_none words none (slot n ∷ number x ∷ number y ∷ []) same are = none (n, x, y) are
 slot_range_none words none _ same are = absurd cc
 
--- words that are no slot and one number stand for no arguments of those kinds
+-- Words that are not a slot and one number stand for no arguments of those kinds.
 pub slot_value_none : (words : List (List ℕ))
     → ((read : ℕ × ℤ) → AllZip IsArgument words (slot read.0 ∷ number read.1 ∷ []) → ⊥)
     → (xs : List Argument) → kinds xs ≡ true ∷ false ∷ [] → AllZip IsArgument words xs → ⊥
 slot_value_none words none (slot n ∷ number x ∷ []) same are = none (n, x) are
 slot_value_none words none _ same are = absurd cc
 
--- words that are no two slots stand for no arguments of those kinds
+-- Words that are not two slots stand for no arguments of those kinds.
 pub two_slots_none : (words : List (List ℕ))
     → ((read : ℕ × ℕ) → AllZip IsArgument words (slot read.0 ∷ slot read.1 ∷ []) → ⊥)
     → (xs : List Argument) → kinds xs ≡ true ∷ true ∷ [] → AllZip IsArgument words xs → ⊥
 two_slots_none words none (slot m ∷ slot n ∷ []) same are = none (m, n) are
 two_slots_none words none _ same are = absurd cc
 
--- words that are no three slots stand for no arguments of those kinds
+-- Words that are not three slots stand for no arguments of those kinds.
 pub three_slots_none : (words : List (List ℕ))
     → ((read : ℕ × ℕ × ℕ)
     → AllZip IsArgument words (slot read.0 ∷ slot read.1 ∷ slot read.2 ∷ []) → ⊥)
@@ -220,7 +221,7 @@ pub three_slots_none : (words : List (List ℕ))
 three_slots_none words none (slot l ∷ slot m ∷ slot n ∷ []) same are = none (l, m, n) are
 three_slots_none words none _ same are = absurd cc
 
--- words that are no four slots stand for no arguments of those kinds
+-- Words that are not four slots stand for no arguments of those kinds.
 pub four_slots_none : (words : List (List ℕ))
     → ((read : ℕ × ℕ × ℕ × ℕ)
     → AllZip IsArgument words (slot read.0 ∷ slot read.1 ∷ slot read.2 ∷ slot read.3 ∷ []) → ⊥)

@@ -1,4 +1,4 @@
--- Bytes that are cut after a line feed, and what is known of the lines of each part.
+-- Bytes that are split after a line feed, and what is known about the lines of each part.
 use Rattle.std.proofs.Common.{◌≡◌, ◌∙◌, ℕ, ℤ, suc, ◌+◌, ◌<◌, Bool, true, false, cond, eqb, List, [], ◌∷◌, ◌++◌, length, map, take, get_or, Option, Some, None, refl, sym, ap, subst, append_assoc, arith}
 use Rattle.std.proofs.Math.Seq.{take-suc}
 use Rattle.std.proofs.lemmas.Bool.{eqb-true, true≢false}
@@ -16,13 +16,13 @@ use Rattle.rsb_parser.proofs.reading.Lines.{AllZip-append, IsGood, spoken, spoke
 
 -- ---- lines of two parts
 
--- a byte goes to the first part, also where other parts follow
+-- A byte is added to the first part in the same way whether or not other parts follow.
 onto_first-append : (byte : ℕ) (xs ys : List (List ℕ)) → 0 < length xs
     → onto_first byte (xs ++ ys) ≡ onto_first byte xs ++ ys
 onto_first-append byte [] ys some = absurd (omega (arith, some))
 onto_first-append byte (x ∷ xs) ys some = refl
 
--- what comes after a line feed is split by itself
+-- What comes after a line feed is split by itself.
 slice_split-line_feed : (xs ys : List ℕ) → slice_split is_line_feed (xs ++ 10 ∷ ys)
     ≡ slice_split is_line_feed xs ++ slice_split is_line_feed ys
 slice_split-line_feed [] ys = refl
@@ -39,7 +39,7 @@ slice_split-line_feed (x ∷ xs) ys = by (is_line_feed x) (slice_split-line_feed
         ∙ onto_first-append x (slice_split is_line_feed xs) (slice_split is_line_feed ys)
         (omega (arith, length-slice_split is_line_feed xs))
 
--- the lines up to a line feed come before those after it
+-- The lines up to a line feed come before those after it.
 lines-line_feed : (xs ys : List ℕ) → lines (xs ++ 10 ∷ ys)
     ≡ map strip_carriage_return (slice_split is_line_feed xs) ++ lines ys
 lines-line_feed xs ys =
@@ -47,7 +47,7 @@ lines-line_feed xs ys =
     ∙ lines_of_parts-append (slice_split is_line_feed xs) (slice_split is_line_feed ys)
     (omega (arith, length-slice_split is_line_feed ys))
 
--- bytes that end with a line feed are closed
+-- Bytes that end with a line feed are closed.
 IsClosed-line_feed : (xs : List ℕ) → IsClosed (xs ++ 10 ∷ [])
 unfolding IsClosed
 IsClosed-line_feed xs more =
@@ -56,7 +56,7 @@ IsClosed-line_feed xs more =
     ap lines (append_assoc xs (10 ∷ []) more) ∙ lines-line_feed xs more
     ∙ ap (λ ls. ls ++ lines more) (sym own)
 
--- so are the bytes up to a line feed that stands among others
+-- The bytes up to a line feed, including it, are closed.
 IsClosed-take : (bytes : List ℕ) (i : ℕ) → i < length bytes → eqb (get_or bytes i 0) 10 ≡ true
     → IsClosed (take (i + 1) bytes)
 IsClosed-take bytes i within is =
@@ -65,19 +65,19 @@ IsClosed-take bytes i within is =
     ∙ ap (λ byte. take i bytes ++ byte ∷ []) (eqb-true (get_or bytes i 0) 10 is)))
     (IsClosed-line_feed (take i bytes))
 
--- also where bytes come before these
+-- This also holds if other bytes come before these.
 pub IsClosed-take-append : (rest bytes : List ℕ) (i : ℕ) → i < length bytes
     → eqb (get_or bytes i 0) 10 ≡ true → IsClosed (take (length rest + i + 1) (rest ++ bytes))
 IsClosed-take-append rest bytes i within is =
     IsClosed-take (rest ++ bytes) (length rest + i) (omega (arith, within, length-append rest bytes))
     (ap (λ byte. eqb byte 10) (get_or-append-add rest bytes i 0) ∙ is)
 
--- and no bytes
+-- An empty list of bytes is closed.
 IsClosed-nil : IsClosed []
 unfolding IsClosed
 IsClosed-nil more = refl
 
--- and two closed parts
+-- Two closed parts, one after the other, are closed.
 IsClosed-append : (xs ys : List ℕ) → IsClosed xs → IsClosed ys → IsClosed (xs ++ ys)
 unfolding IsClosed
 IsClosed-append xs ys closed other more =
@@ -85,14 +85,14 @@ IsClosed-append xs ys closed other more =
     ∙ sym (append_assoc (lines xs) (lines ys) (lines more))
     ∙ ap (λ ls. ls ++ lines more) (sym (closed ys))
 
--- the lines of what follows closed bytes come after theirs
+-- The lines of what follows closed bytes come after the lines of those bytes.
 lines-closed : (xs ys : List ℕ) → IsClosed xs → lines (xs ++ ys) ≡ lines xs ++ lines ys
 unfolding IsClosed
 lines-closed xs ys closed = closed ys
 
 -- ---- what the lines of two parts spell
 
--- what follows closed bytes spells its commands after theirs
+-- The commands of what follows closed bytes come after the commands of those bytes.
 AreCommands-append : (xs ys : List ℕ) (cs ds : List (Command ℤ)) → IsClosed xs → AreCommands xs cs
     → AreCommands ys ds → AreCommands (xs ++ ys) (cs ++ ds)
 AreCommands-append xs ys cs ds closed first second =
@@ -100,7 +100,7 @@ AreCommands-append xs ys cs ds closed first second =
     (sym (ap spoken (lines-closed xs ys closed) ∙ spoken-append (lines xs) (lines ys)))
     (AllZip-append (spoken (lines xs)) (spoken (lines ys)) cs ds first second)
 
--- lines that spell commands are no bad ones
+-- Lines that spell commands are not bad.
 all-good : (ls : List (List ℕ)) (cs : List (Command ℤ)) → AllZip Spells (spoken ls) cs
     → All IsGood ls
 all-good [] cs spelled = All-nil IsGood
@@ -116,7 +116,7 @@ all-good (l ∷ ls) cs spelled = by (has_words (words l)) refl (all-good ls) cs 
     by false is rest cs spelled =
         All-cons IsGood l ls (λ bad. absurd (true≢false (sym bad.some ∙ is))) (rest cs spelled)
 
--- the first bad line of what follows closed bytes without one
+-- If closed bytes spell commands, the first bad line is that of what follows.
 first_bad-after : (xs ys : List ℕ) (cs : List (Command ℤ)) (number : ℕ) → IsClosed xs
     → AreCommands xs cs → IsFirstBadLine ys number
     → IsFirstBadLine (xs ++ ys) (length (lines xs) + number)
@@ -131,7 +131,7 @@ first_bad-after xs ys cs number closed spelled bad = record {
   first = All-append IsGood (lines xs) bad.before (all-good (lines xs) cs spelled) bad.first;
 }
 
--- the first bad line of closed bytes, whatever comes
+-- The first bad line of closed bytes is the first one, whatever follows.
 first_bad-before : (xs more : List ℕ) (number : ℕ) → IsClosed xs → IsFirstBadLine xs number
     → IsFirstBadLine (xs ++ more) number
 first_bad-before xs more number closed bad = record {
@@ -147,11 +147,11 @@ first_bad-before xs more number closed bad = record {
 
 -- ---- an input in parts
 
--- before the first byte
+-- Before the first byte there are no lines, no commands and no rest.
 pub HasLines-nil : HasLines [] [] 0 []
 HasLines-nil = record { whole = []; parts = refl; closed = IsClosed-nil; spelled = tt; counted = refl }
 
--- closed bytes of the rest are whole lines too
+-- Closed bytes at the start of the rest are more whole lines.
 pub HasLines-lines : (bytes front rest left : List ℕ) (cs ds : List (Command ℤ)) (count more : ℕ)
     → HasLines bytes cs count rest → rest ≡ front ++ left → IsClosed front → AreCommands front ds
     → more ≡ length (lines front) → HasLines bytes (cs ++ ds) (count + more) left
@@ -170,7 +170,7 @@ HasLines-lines bytes front rest left cs ds count more has cut closed spelled cou
   );
 }
 
--- a bad line among closed bytes of the rest is the first one
+-- The first bad line of closed bytes at the start of the rest is the first of all bytes.
 pub HasBadLine-lines : (bytes front rest left : List ℕ) (cs : List (Command ℤ)) (count number : ℕ)
     → HasLines bytes cs count rest → rest ≡ front ++ left → IsClosed front
     → IsFirstBadLine front number → HasBadLine bytes (count + number)
@@ -185,23 +185,23 @@ HasBadLine-lines bytes front rest left cs count number has cut closed bad more =
     (first_bad-after has.whole (front ++ (left ++ more)) cs number has.closed has.spelled
     (first_bad-before front (left ++ more) number closed bad)))
 
--- where no bad line was found, what whole lines spell is known
+-- If no bad line was found, the commands of the whole lines are known.
 pub taken-lines : (bytes : List ℕ) (bad : Option ℕ) (Lines : Type 0) → IsNone bad
     → MatchOption bad Lines (HasBadLine bytes) → Lines
 taken-lines bytes None Lines none taken = taken
 taken-lines bytes (Some number) Lines none taken = absurd (true≢false none)
 
--- so it is of `None`
+-- If `bad` is `None`, no bad line was found.
 pub none_is : (bad : Option ℕ) → bad ≡ None → IsNone bad
 none_is bad is = rw is refl
 
--- and that is all that is known
+-- If no bad line was found, it is enough to know the commands of the whole lines.
 pub lines-taken : (bytes : List ℕ) (bad : Option ℕ) (Lines : Type 0) → IsNone bad
     → Lines → MatchOption bad Lines (HasBadLine bytes)
 lines-taken bytes None Lines none lines = lines
 lines-taken bytes (Some number) Lines none lines = absurd (true≢false none)
 
--- where one was, its number is
+-- If a bad line was found, its number is known.
 pub taken-bad : (bytes : List ℕ) (bad : Option ℕ) (number : ℕ) (Lines : Type 0)
     → bad ≡ Some number → MatchOption bad Lines (HasBadLine bytes) → HasBadLine bytes number
 taken-bad bytes bad number Lines is taken =
@@ -209,14 +209,14 @@ taken-bad bytes bad number Lines is taken =
 
 -- ---- at the end of the input
 
--- the rest spells its commands after the others
+-- The commands of the rest come after those of the whole lines.
 pub AreCommands-rest : (bytes rest : List ℕ) (cs ds : List (Command ℤ)) (count : ℕ)
     → HasLines bytes cs count rest → AreCommands rest ds → AreCommands bytes (cs ++ ds)
 AreCommands-rest bytes rest cs ds count has spelled =
     subst (λ all. AreCommands all (cs ++ ds)) (sym has.parts)
     (AreCommands-append has.whole rest cs ds has.closed has.spelled spelled)
 
--- a bad line of the rest is the first one
+-- The first bad line of the rest is the first of all bytes, because the whole lines have none.
 pub IsFirstBadLine-rest : (bytes rest : List ℕ) (cs : List (Command ℤ)) (count number : ℕ)
     → HasLines bytes cs count rest → IsFirstBadLine rest number
     → IsFirstBadLine bytes (count + number)
@@ -225,7 +225,7 @@ IsFirstBadLine-rest bytes rest cs count number has bad =
     (subst (λ many. IsFirstBadLine (has.whole ++ rest) (many + number)) (sym has.counted)
     (first_bad-after has.whole rest cs number has.closed has.spelled bad))
 
--- a first bad line that is known whatever comes is that of the bytes
+-- If a line is the first bad one whatever follows, it is the first bad one of the bytes.
 pub IsFirstBadLine-bytes : (bytes : List ℕ) (number : ℕ) → HasBadLine bytes number
     → IsFirstBadLine bytes number
 IsFirstBadLine-bytes bytes number bad =

@@ -1,5 +1,5 @@
--- What a caller needs of results of results: operations on two results, of any two streams and of
--- two lists that are known.
+-- What a caller needs about results of results: operations on two results, of any two streams or of
+-- two known lists.
 use Rattle.std.proofs.Common.{◌≡◌, ◌↔◌, ℕ, Bool, true, false, ◌&&◌, ◌||◌, not, refl, sym, ◌∙◌, inl, inr, List}
 use Rattle.std.specs.Prelude.{IsTrue}
 use Rattle.rsb_integer.specs.Runs.{Interval, members}
@@ -9,27 +9,27 @@ use Rattle.rsb_integer.proofs.RunsLemmas.{runs-along, runs-members}
 use Rattle.rsb_streams.specs.Stream.{Outcomes, ◌⊆◌, joined, just, runs_by, runs_by_two, SomeOutcomes}
 use Rattle.rsb_streams.proofs.calling.Results.{members-runs_by_two}
 
--- the operation gives the same of sets that agree in a type of n values
+-- Whether the operation gives the same for sets that agree in a type of n values.
 abbrev pub RespectsTwo : ℕ → (Selection → Selection → Selection) → Type 0
 RespectsTwo n operation = (these others those more : Selection) → Agree n these others
     → Agree n those more → Agree n (operation these those) (operation others more)
 
--- the union does
+-- Union respects equal sets.
 pub union-respects : (n : ℕ) → RespectsTwo n union
 union-respects n these others those more same also_same rank below =
     rw (same rank below, also_same rank below) refl
 
--- the intersection does
+-- Intersection respects equal sets.
 pub intersection-respects : (n : ℕ) → RespectsTwo n intersection
 intersection-respects n these others those more same also_same rank below =
     rw (same rank below, also_same rank below) refl
 
--- the difference does
+-- Difference respects equal sets.
 pub difference-respects : (n : ℕ) → RespectsTwo n difference
 difference-respects n these others those more same also_same rank below =
     rw (same rank below, also_same rank below) refl
 
--- an operation on two results of operations on one
+-- An operation on the results of two operations is one operation on both streams.
 pub runs_by_two-after : (n : ℕ) (outer : Selection → Selection → Selection)
     (one two : Selection → Selection) (P Q Ones Twos : Outcomes) → RespectsTwo n outer
     → Ones ⊆ runs_by n one P → Twos ⊆ runs_by n two Q
@@ -45,7 +45,7 @@ runs_by_two-after n outer one two P Q Ones Twos respects ones twos runs may = λ
     (runs-members n (one (members left)) first one_runs)
     (runs-members n (two (members right)) second two_runs)) all))))
 
--- operations that are the same rank by rank give the same
+-- Operations that are the same rank by rank give the same.
 pub runs_by_two-same : (n : ℕ) (one two : Selection → Selection → Selection) (P Q : Outcomes)
     → ((these those : Selection) (rank : ℕ) → one these those rank ≡ two these those rank)
     → runs_by_two n one P Q ⊆ runs_by_two n two P Q
@@ -57,11 +57,12 @@ runs_by_two-same n one two P Q same runs may = λ nothing. may (λ left right at
 -- ---- results on two lists
 
 module _ (n : ℕ) (left right : List Interval) where
-  -- the runs of a set made of the two lists
+  -- The runs of a set built from the two lists.
   abbrev pub of_both : (Selection → Selection → Selection) → Outcomes
   of_both operation = runs_by_two n operation (just left) (just right)
 
-  -- the two lists by an operation, where no more than they is given
+  -- An operation on streams that give only the two lists gives only the runs of the operation on
+  -- the lists.
   pub both-of : (operation : Selection → Selection → Selection) (P Q Given : Outcomes)
       → P ⊆ just left → Q ⊆ just right → Given ⊆ runs_by_two n operation P Q
       → Given ⊆ of_both operation
@@ -69,7 +70,7 @@ module _ (n : ℕ) (left right : List Interval) where
       given runs at (λ one other may might all. nothing one other (these one may) (those other might)
       all)
 
-  -- an operation on two such results
+  -- An operation on two such results is an operation on the lists.
   pub two-of_both : (outer one two : Selection → Selection → Selection) (Ones Twos : Outcomes)
       → RespectsTwo n outer → Ones ⊆ of_both one → Twos ⊆ of_both two
       → runs_by_two n outer Ones Twos
@@ -84,11 +85,12 @@ module _ (n : ℕ) (left right : List Interval) where
       (members-runs_by_two n one left right first (ones first at))
       (members-runs_by_two n two left right second (twos second also))) all))
 
-  -- the left list alone
+  -- The operation that returns the left set gives the runs of the left list.
   pub left-of_both : of_both (λ these those. these) ⊆ joined n (just left)
   left-of_both runs may = λ nothing. may (λ first second at also all. nothing first at all)
 
-  -- two results that are the same operation on the lists are equal
+  -- If two results are those of the same operation on the lists, the test whether they are equal is
+  -- true.
   pub equal-of_both : (operation : Selection → Selection → Selection) (P Q : Outcomes) (test : Bool)
       → P ⊆ of_both operation → Q ⊆ of_both operation
       → SomeOutcomes P Q (λ one two. IsTrue test ↔ Agree n (members one) (members two))
@@ -103,18 +105,18 @@ module _ (n : ℕ) (left right : List Interval) where
 
 -- ---- laws of sets, rank by rank
 
--- what both have, and what the left has and the right lacks, is what the left has
+-- What both have, with what only the left one has, is what the left one has.
 pub parts-join : (left right : Bool) → ((left && right) || (left && not right)) ≡ left
 parts-join true true = refl
 parts-join true false = refl
 parts-join false right = refl
 
--- what is not in one or the other is in neither
+-- What is not in the union is in neither of the two.
 pub neither-of : (left right : Bool) → not (left || right) ≡ (not left && not right)
 neither-of true right = refl
 neither-of false right = refl
 
--- what one of two has, and not both, lies in one alone
+-- What the union has and the intersection does not is in exactly one of the two.
 pub unshared-alone : (left right : Bool)
     → ((left || right) && not (left && right)) ≡ exclusive_or left right
 unshared-alone true true = refl

@@ -7,13 +7,13 @@ use Rattle.rsb_integer.proofs.MembersLemmas.{members-cons}
 use Rattle.rsb_integer.proofs.RunsLemmas.{runs-along}
 use Rattle.rsb_streams.specs.Stream.{Outcomes, ◌⊆◌, IsMergeOf, joined, merges, runs_by_two}
 
--- the first two of three in an `or` may change places
+-- The first two of three operands of `||` can change places.
 or-swap : (head left right : Bool) → (head || (left || right)) ≡ (left || (head || right))
 or-swap head left right =
     sym (or_assoc head left right) ∙ ap (λ test. test || right) (or_comm head left)
     ∙ or_assoc left head right
 
--- a merge has the members of both lists
+-- A merge has the members of both lists.
 pub members-merge : (left right runs : List Interval) (rank : ℕ) → IsMergeOf left right runs
     → members runs rank ≡ union (members left) (members right) rank
 members-merge left right [] rank merged = rw (merged.0, merged.1) refl
@@ -32,7 +32,7 @@ members-merge left right (run ∷ runs) rank merged = elim merged [
       ∙ sym (ap (λ test. members left rank || test) (members-cons run rest rank)))
 ]
 
--- the runs of a merge are the runs of the union
+-- The joined runs of a merge are the runs of the union.
 pub union-of_merge : (n : ℕ) (P Q Merged : Outcomes) → Merged ⊆ merges n P Q
     → joined n Merged ⊆ runs_by_two n union P Q
 union-of_merge n P Q Merged merge runs may = λ nothing. may (λ given at all.

@@ -25,13 +25,13 @@ use Rattle.rsb_streams.proofs.lookahead.EachCall.{from-one}
 
 -- ---- less given gives less
 
--- by an operation on one
+-- If one stream gives only what another may give, so does an operation on it.
 pub runs_by-within : (n : ℕ) (operation : Selection → Selection) (P Less : Outcomes) → Less ⊆ P
     → runs_by n operation Less ⊆ runs_by n operation P
 runs_by-within n operation P Less within runs may = λ nothing. may (λ given at all.
     nothing given (within given at) all)
 
--- and on two
+-- If two streams give only what two others may give, so does an operation on them.
 pub runs_by_two-within : (n : ℕ) (operation : Selection → Selection → Selection)
     (P Q Less Fewer : Outcomes) → Less ⊆ P → Fewer ⊆ Q
     → runs_by_two n operation Less Fewer ⊆ runs_by_two n operation P Q
@@ -41,16 +41,16 @@ runs_by_two-within n operation P Q Less Fewer within also_within runs may = λ n
 
 -- ---- an operation after another
 
--- the operation gives the same of sets that agree in a type of n values
+-- Whether the operation gives the same for sets that agree in a type of n values.
 abbrev pub Respects : ℕ → (Selection → Selection) → Type 0
 Respects n operation = (these others : Selection) → Agree n these others
     → Agree n (operation these) (operation others)
 
--- the complement does
+-- The complement respects equal sets.
 pub complement-respects : (n : ℕ) → Respects n complement
 complement-respects n these others same rank below = ap not (same rank below)
 
--- an operation on the result of one on one
+-- An operation on the result of an operation on one stream is a single operation on that stream.
 pub runs_by-after : (n : ℕ) (outer inner : Selection → Selection) (P : Outcomes)
     → Respects n outer
     → runs_by n outer (runs_by n inner P) ⊆ runs_by n (λ given. outer (inner given)) P
@@ -61,7 +61,7 @@ runs_by-after n outer inner P respects runs may = λ nothing. may (λ given at a
     (respects (members given) (inner (members first))
     (runs-members n (inner (members first)) given inner_runs)) all)))
 
--- and of one on two
+-- An operation on the result of an operation on two streams is a single operation on both.
 pub runs_by-after_two : (n : ℕ) (outer : Selection → Selection)
     (inner : Selection → Selection → Selection) (P Q : Outcomes) → Respects n outer
     → runs_by n outer (runs_by_two n inner P Q)
@@ -75,14 +75,14 @@ runs_by-after_two n outer inner P Q respects runs may = λ nothing. may (λ give
 
 -- ---- the members of what an operation gives
 
--- two tests that do not differ are the same
+-- Two tests that cannot be different are the same.
 pub settled-same : (left right : Bool) → ¬ (¬ (left ≡ right)) → left ≡ right
 settled-same true true holds = refl
 settled-same true false holds = absurd (holds (λ same. absurd (cc)))
 settled-same false true holds = absurd (holds (λ same. absurd (cc)))
 settled-same false false holds = refl
 
--- a list that an operation on one list may give has the members that the operation selects
+-- A list that an operation on one list may give has the members that the operation selects.
 pub members-runs_by : (n : ℕ) (operation : Selection → Selection) (given set : List Interval)
     → runs_by n operation (just given) set
     → Agree n (members set) (operation (members given))
@@ -92,7 +92,7 @@ members-runs_by n operation given set may rank below =
     fails (runs-members n (operation (members other)) set all rank below
     ∙ ap (λ (runs : List Interval). operation (members runs) rank) is)))
 
--- and a list that an operation on two lists may give
+-- A list that an operation on two lists may give has the members that the operation selects.
 pub members-runs_by_two : (n : ℕ) (operation : Selection → Selection → Selection)
     (left right set : List Interval) → runs_by_two n operation (just left) (just right) set
     → Agree n (members set) (operation (members left) (members right))
@@ -103,7 +103,7 @@ members-runs_by_two n operation left right set may rank below =
     ∙ ap (λ (runs : List Interval). operation (members runs) (members other) rank) is
     ∙ ap (λ (runs : List Interval). operation (members left) (members runs) rank) also)))
 
--- the complement of a complement has the runs of the members
+-- The complement of a complement gives the runs of the members.
 pub complement-twice : (n : ℕ) (P Gaps : Outcomes) → Gaps ⊆ runs_by n complement P
     → runs_by n complement Gaps ⊆ joined n P
 complement-twice n P Gaps gaps runs may = λ nothing. may (λ given at all.
@@ -115,12 +115,12 @@ complement-twice n P Gaps gaps runs may = λ nothing. may (λ given at all.
 
 -- ---- intersections by complements
 
--- what is not in both of two is not in the one or not in the other
+-- A rank that one of two sets lacks is not in both.
 not-both : (left right : Bool) → (not left || not right) ≡ not (left && right)
 not-both true right = refl
 not-both false right = refl
 
--- the union of two complements is the complement of the intersection
+-- The union of two complements is the complement of the intersection.
 pub union-of_complements : (n : ℕ) (P Q Gaps Others : Outcomes) → Gaps ⊆ runs_by n complement P
     → Others ⊆ runs_by n complement Q
     → runs_by_two n union Gaps Others ⊆ runs_by n complement (runs_by_two n intersection P Q)
@@ -141,7 +141,7 @@ union-of_complements n P Q Gaps Others gaps others runs may = λ nothing.
     below)))
     all))))
 
--- the runs of a list that an operation on two gives are such a list
+-- The runs of a list that an operation on two streams may give are such a list.
 pub joined-runs_by_two : (n : ℕ) (operation : Selection → Selection → Selection) (P Q : Outcomes)
     → joined n (runs_by_two n operation P Q) ⊆ runs_by_two n operation P Q
 joined-runs_by_two n operation P Q runs may = λ nothing. may (λ given at all.
@@ -150,7 +150,7 @@ joined-runs_by_two n operation P Q runs may = λ nothing. may (λ given at all.
     (runs-along n (members given) (operation (members left) (members right)) runs
     (runs-members n (operation (members left) (members right)) given given_runs) all)))
 
--- the complement of the union of two complements is the intersection
+-- The complement of the union of two complements is the intersection.
 pub intersection-by_complements : (n : ℕ) (P Q Gaps Others Union : Outcomes)
     → Gaps ⊆ runs_by n complement P → Others ⊆ runs_by n complement Q
     → Union ⊆ runs_by_two n union Gaps Others
@@ -160,12 +160,12 @@ intersection-by_complements n P Q Gaps Others Union gaps others union runs may =
     (complement-twice n (runs_by_two n intersection P Q) Union
     (λ each at. union-of_complements n P Q Gaps Others gaps others each (union each at)) runs may)
 
--- what is neither outside the one nor in the other is in the one and not in the other
+-- What is neither outside of the left one nor in the right one is in the left one only.
 not-outside : (left right : Bool) → not (not left || right) ≡ (left && not right)
 not-outside true right = refl
 not-outside false right = refl
 
--- the complement of the union of one's complement with another is the difference
+-- The complement of the union of the left one's complement with the right one is the difference.
 pub difference-by_complements : (n : ℕ) (P Q Gaps Union : Outcomes)
     → Gaps ⊆ runs_by n complement P → Union ⊆ runs_by_two n union Gaps Q
     → runs_by n complement Union ⊆ runs_by_two n difference P Q
@@ -184,14 +184,14 @@ difference-by_complements n P Q Gaps Union gaps either runs may = λ nothing. ma
 
 -- ---- how many runs
 
--- a stream that gives one list gives no more runs than that has
+-- A stream that gives only one list gives at most as many runs as it has.
 pub just-at_most : (P : Outcomes) (these : List Interval) → P ⊆ just these
     → HasAtMost P (length these)
 just-at_most P these is runs may =
     let same = ap (λ (list : List Interval). length list) (is runs may) in
     omega (arith, same)
 
--- where a stream gives so few, its complement gives one more at most
+-- If a stream gives at most the given number of runs, its complement gives at most one more.
 pub complement-at_most : {T N I O : Type 0} (integer : Elements T N) (stream : Stream I T N)
     (made : Stream O T N) (of : I) (result : O) (most : ℕ)
     → GivesOneRunMoreAtMost integer stream made of result → HasAtMost (stream.may_give of) most
@@ -207,7 +207,8 @@ module _ {T N L R O : Type 0} (integer : Elements T N) (left : Stream L T N) (ri
     (made : Stream O T N) (one : L) (other : R) (result : O) (most also_most : ℕ)
     (few : HasAtMost (left.may_give one) most) (also : HasAtMost (right.may_give other) also_most)
   where
-    -- where two streams give so few, an operation on them gives as many at most as both
+    -- If two streams give at most the given numbers of runs, an operation on them gives at most
+    -- their sum.
     pub operation-at_most : (operation : Selection → Selection → Selection)
         → GivesRunsOfBothAtMost operation integer left right made one other result
         → HasAtMost (made.may_give result) (most + also_most)
@@ -219,7 +220,7 @@ module _ {T N L R O : Type 0} (integer : Elements T N) (left : Stream L T N) (ri
         let number = all.1 in
         fails (omega (arith, bound, other_bound, number))))
 
-    -- what both have is less than that where that is any
+    -- If the sum is not 0, an intersection gives less.
     pub intersection-less : GivesFewerRunsThanBoth integer left right made one other result
         → 0 < most + also_most → (runs : List Interval) → made.may_give result runs
         → length runs < most + also_most
@@ -242,7 +243,7 @@ module _ {T N L R O : Type 0} (integer : Elements T N) (left : Stream L T N) (ri
           ]
         ]))
 
-    -- and nothing where the one or the other gives none
+    -- If one of the two numbers is 0, an intersection gives none.
     pub intersection-none : GivesFewerRunsThanBoth integer left right made one other result
         → (most ≡ 0) ⊎ (also_most ≡ 0) → HasAtMost (made.may_give result) 0
     unfolding GivesFewerRunsThanBoth
@@ -261,7 +262,7 @@ module _ {T N L R O : Type 0} (integer : Elements T N) (left : Stream L T N) (ri
 
 -- ---- runs and gaps
 
--- what the calls told until `None` is a list that might come
+-- What calls returned until `None` is a list that might come.
 pub filled-drawn : {T N I : Type 0} (integer : Elements T N) (stream : Stream I T N)
     (items : List (RangeInclusive T × Bool)) (s t u : FillGapsIter T I)
     → Yields (FillSteps integer stream) s items t → FillSteps integer stream t None u
@@ -274,7 +275,7 @@ filled-drawn integer stream (item ∷ items) s t u all end =
 
 -- ---- how far a union looks ahead
 
--- what is said of an input of which nothing was drawn is said of the stream
+-- If nothing has been drawn from an input, a call that looks ahead in it looks ahead in the stream.
 looks-undrawn : (answer : Interval) (may_give : Outcomes) (before now : Input)
     → IsUndrawn may_give before → LooksAhead answer before now
     → LooksAhead answer (undrawn may_give) now
@@ -289,7 +290,7 @@ looks-undrawn answer may_give before now new looks = record {
   ahead = looks.ahead;
 }
 
--- the first answer of a union of two looks ahead of each stream by one range at most
+-- The first draw of a union of two streams looks at most one range ahead in each.
 pub first-ahead : {T N L R : Type 0} (integer : Elements T N) (left : Stream L T N)
     (right : Stream R T N) (one : L) (other : R) (s t : Union T L R)
     (item : Option (RangeInclusive T)) → UnitesUndrawn integer left right one other s.iter
@@ -307,7 +308,8 @@ first-ahead integer left right one other s t (Some answer) new gives =
           (new Left side) (looks.1 side),
     )
 
--- what looks ahead of a stream of which nothing was drawn draws few of its ranges
+-- A call that looks at most one range ahead draws at most one range more than lie within the
+-- returned range.
 looks-few : (answer : Interval) (may_give : Outcomes) (now : Input)
     → LooksAhead answer (undrawn may_give) now → DrawsFew answer may_give now.undrawn
 looks-few answer may_give now looks =
@@ -321,7 +323,8 @@ looks-few answer may_give now looks =
       few = rw order (rw (length-append looks.used now.held) (omega (arith, one)));
     }
 
--- the first answer of a union of two draws few ranges of each
+-- From each stream, the first draw of a union draws at most one range more than lie within the
+-- returned range.
 pub first-few : {T N L R : Type 0} (integer : Elements T N) (left : Stream L T N)
     (right : Stream R T N) (one : L) (other : R) (s t : Union T L R)
     (item : Option (RangeInclusive T)) (side : Side)

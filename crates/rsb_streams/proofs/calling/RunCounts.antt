@@ -1,4 +1,4 @@
--- How many runs operations on streams make.
+-- How many runs the results of operations on streams have.
 use Rattle.std.proofs.Common.{◌≡◌, ℕ, Bool, false, List}
 use Rattle.std.proofs.lemmas.Bool.{and_parts}
 use Rattle.rsb_integer.specs.Runs.{Interval, members, AreRuns, IsCanonicalIn}
@@ -12,7 +12,7 @@ use Rattle.rsb_streams.specs.declared.draw.Draw.{Ghosts as Stream}
 
 -- ---- of lists
 
--- an intersection has no run where one of the lists has none, and else fewer than both together
+-- An intersection has no run if one of the lists has none, and otherwise fewer than both together.
 bounded-intersection : (n : ℕ) (left right runs : List Interval) → IsCanonicalIn n left
     → IsCanonicalIn n right → AreRuns n (intersection (members left) (members right)) runs
     → HasFewerRunsThanBoth left right runs
@@ -29,7 +29,7 @@ bounded-intersection n left right runs canonical also are =
 
 -- ---- of streams that give canonical lists
 
--- a bound on what an operation makes of one list holds of what it makes of a stream
+-- A bound on the runs that an operation has for one list is a bound for a stream.
 bounded-runs_by : (n : ℕ) (Bound : List Interval → List Interval → Type 0)
     (operation : Selection → Selection) (P Given : Outcomes)
     → ((given runs : List Interval) → IsCanonicalIn n given
@@ -40,7 +40,7 @@ bounded-runs_by n Bound operation P Given bounds canonical gives runs may = λ n
     gives runs may (λ given at are.
     nothing given at (are, bounds given runs (canonical given at) are))
 
--- and one on what it makes of two lists
+-- A bound on the runs that an operation has for two lists is a bound for two streams.
 bounded-runs_by_two : (n : ℕ) (Bound : List Interval → List Interval → List Interval → Type 0)
     (operation : Selection → Selection → Selection) (P Q Given : Outcomes)
     → ((left right runs : List Interval) → IsCanonicalIn n left → IsCanonicalIn n right
@@ -52,7 +52,7 @@ bounded-runs_by_two n Bound operation P Q Given bounds canonical also gives runs
     nothing left right at too
     (are, bounds left right runs (canonical left at) (also right too) are))
 
--- a complement has one run more at most
+-- A complement has at most one run more.
 pub run_count-complement : {T N I O : Type 0} (integer : Elements T N) (stream : Stream I T N)
     (made : Stream O T N) (of : I) (result : O)
     → stream.may_give of ⊆ IsCanonicalIn integer.value_count
@@ -69,7 +69,8 @@ module _ {T N L R O : Type 0} (integer : Elements T N) (left : Stream L T N) (ri
     (made : Stream O T N) (one : L) (other : R) (result : O) where
   open integer use {value_count as n}
 
-  -- what is made rank by rank, nothing where both have nothing, has runs of both at most
+  -- If an operation selects no rank that is in neither set, its result has at most as many runs as
+  -- both.
   pub run_count-of_one : (op : Bool → Bool → Bool) → op false false ≡ false
       → left.may_give one ⊆ IsCanonicalIn n → right.may_give other ⊆ IsCanonicalIn n
       → made.may_give result ⊆ runs_by_two n (λ these those rank. op (these rank) (those rank))
@@ -84,7 +85,7 @@ module _ {T N L R O : Type 0} (integer : Elements T N) (left : Stream L T N) (ri
       these those runs (canonical-runs n these canonical.0 canonical.1)
       (canonical-runs n those also.0 also.1))
 
-  -- an intersection has fewer
+  -- An intersection has fewer runs than both.
   pub run_count-intersection : left.may_give one ⊆ IsCanonicalIn n
       → right.may_give other ⊆ IsCanonicalIn n
       → made.may_give result ⊆ runs_by_two n intersection (left.may_give one) (right.may_give other)

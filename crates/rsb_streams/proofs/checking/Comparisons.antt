@@ -18,85 +18,86 @@ use Rattle.rsb_streams.proofs.sources.Known.{range-end, range-start}
 use borrow.Author.Tests.{eq-eqb, eqb-true, leb-false, leb-true, ltb-false, ltb-true}
 use mathlib.Core.Bool.{beq}
 
--- a comparison of numbers says less exactly where the first is less
+-- A comparison of two numbers is less exactly if the first is less than the second.
 pub is_lt-nat : (a b : ℕ) → is_lt (nat_cmp a b) ≡ nat_lt a b
 is_lt-nat a b = grind (arith, nat_tests)
 
--- and less or equal exactly where the first is at most the second
+-- A comparison of two numbers is less or equal exactly if the first is at most the second.
 is_le-nat : (a b : ℕ) → is_le (nat_cmp a b) ≡ nat_le a b
 is_le-nat a b = grind (arith, nat_tests)
 
--- the one of two values that is taken for its greater rank has the greater of both ranks
+-- The value chosen for its greater rank has the greater of both ranks.
 later-rank : {T : Type 0} (rank : T → ℕ) (x y : T) (test : Bool) → nat_lt (rank y) (rank x) ≡ test
     → rank (cond test x y) ≡ max (rank x) (rank y)
 later-rank rank x y true is = let less = ltb-true (rank y) (rank x) is in omega arith
 later-rank rank x y false is = let most = ltb-false (rank y) (rank x) is in omega arith
 
--- the one of two values that is taken for its lesser rank has the lesser of both ranks
+-- The value chosen for its lesser rank has the lesser of both ranks.
 earlier-rank : {T : Type 0} (rank : T → ℕ) (x y : T) (test : Bool) → nat_lt (rank y) (rank x) ≡ test
     → rank (cond test y x) ≡ min (rank x) (rank y)
 earlier-rank rank x y true is = let less = ltb-true (rank y) (rank x) is in omega arith
 earlier-rank rank x y false is = let most = ltb-false (rank y) (rank x) is in omega arith
 
--- values are ordered as their ranks are
+-- Whether values are ordered as their ranks are.
 pub record IsRanked {T : Type 0} (rank : T → ℕ) (n : ℕ)
     (partial_cmp : T → T → Option Ordering) (cmp : T → T → Ordering) : Type 0 where
   pub matches : (x y : T) → partial_cmp x y ≡ Some (cmp x y)
   pub in_order : (x y : T) → rank x < n → rank y < n → cmp x y ≡ nat_cmp (rank x) (rank y)
 
--- the interval has a rank
+-- Whether the interval is non-empty.
 abbrev has_rank : Interval → Bool
 has_rank run = nat_le run.first run.last
 
 module _ {T : Type 0} {rank : T → ℕ} {n : ℕ} {partial_cmp : T → T → Option Ordering}
     {cmp : T → T → Ordering} (ranked : IsRanked rank n partial_cmp cmp)
     (x y : T) (left : rank x < n) (right : rank y < n) where
-  -- one value is less than another exactly where its rank is
+  -- One value is less than another exactly if its rank is.
   pub less-by : partial_lt partial_cmp x y ≡ nat_lt (rank x) (rank y)
   less-by =
       ap (is_some_and is_lt) (ranked.matches x y) ∙ ap is_lt (ranked.in_order x y left right)
       ∙ is_lt-nat (rank x) (rank y)
 
-  -- a lesser value has a lesser rank
+  -- A lesser value has a lesser rank.
   pub less-rank : true ≡ partial_lt partial_cmp x y → rank x < rank y
   less-rank is = ltb-true (rank x) (rank y) (sym less-by ∙ sym is)
 
-  -- a value that is not less has no lesser rank
+  -- If one value is not less than another, neither is its rank.
   pub not_less-rank : false ≡ partial_lt partial_cmp x y → rank y ≤ rank x
   not_less-rank is = ltb-false (rank x) (rank y) (sym less-by ∙ sym is)
 
-  -- one value is at most another exactly where its rank is
+  -- One value is at most another exactly if its rank is.
   pub at_most-by : partial_le partial_cmp x y ≡ nat_le (rank x) (rank y)
   at_most-by =
       ap (is_some_and is_le) (ranked.matches x y) ∙ ap is_le (ranked.in_order x y left right)
       ∙ is_le-nat (rank x) (rank y)
 
-  -- what `is_empty` answers of a range from one value to another, which may be at its end
+  -- Whether `answer` is what `is_empty` returns for a range between two values, which may be
+  -- iterated to its end.
   abbrev IsEmptyBy : Bool → Bool → Type 0
   IsEmptyBy exhausted answer =
       MatchBool exhausted (IsTrue answer) (answer ≡ not (partial_le partial_cmp x y))
 
-  -- whether the range has a rank is what it denies
+  -- The range is non-empty exactly if `is_empty` returns false.
   some-by : (exhausted answer : Bool) → IsEmptyBy exhausted answer
       → has_rank (interval_of rank (record { start = x; end = y; exhausted = exhausted })) ≡ not answer
   some-by true answer is = ap not (sym is)
   some-by false answer is =
       sym at_most-by ∙ sym (not-not (partial_le partial_cmp x y)) ∙ ap not (sym is)
 
-  -- its ranks lie in the type
+  -- The range ends within the type.
   below-by : (exhausted : Bool)
       → (interval_of rank (record { start = x; end = y; exhausted = exhausted })).last < n
   below-by true = omega arith
   below-by false = right
 
-  -- the rank of the greater value is the greater rank
+  -- The rank of the greater value is the greater rank.
   pub max-rank : rank (ord_max cmp x y) ≡ max (rank x) (rank y)
   max-rank =
       ap (λ test. rank (cond test x y))
       (ap is_lt (ranked.in_order y x right left) ∙ is_lt-nat (rank y) (rank x))
       ∙ later-rank rank x y (nat_lt (rank y) (rank x)) refl
 
-  -- and that of the lesser value is the lesser rank
+  -- The rank of the lesser value is the lesser rank.
   pub min-rank : rank (ord_min cmp x y) ≡ min (rank x) (rank y)
   min-rank =
       ap (λ test. rank (cond test y x))
@@ -107,34 +108,34 @@ module _ {T : Type 0} {rank : T → ℕ} {n : ℕ} {partial_cmp : T → T → Op
     {cmp : T → T → Ordering} (ranked : IsRanked rank n partial_cmp cmp)
     (range : RangeInclusive T) (left : rank (range_inclusive_start range) < n)
     (right : rank (range_inclusive_end range) < n) where
-  -- what `is_empty` answers of a range
+  -- Whether `answer` is what `is_empty` returns for the range.
   abbrev IsEmptyAt : Bool → Type 0
   IsEmptyAt answer = IsEmptyBy ranked (range_inclusive_start range)
       (range_inclusive_end range) left right (range_inclusive_exhausted range) answer
 
-  -- a range whose ends are values has no rank past the type
+  -- A range whose ends are values of the type ends within the type.
   pub ends-below : (interval_of rank range).last < n
   ends-below = below-by ranked (range_inclusive_start range)
       (range_inclusive_end range) left right (range_inclusive_exhausted range)
 
-  -- whether it has one is what `is_empty` denies
+  -- The range is non-empty exactly if `is_empty` returns false.
   pub some-test : (answer : Bool) → IsEmptyAt answer → has_rank (interval_of rank range) ≡ not answer
   some-test answer is = some-by ranked (range_inclusive_start range)
       (range_inclusive_end range) left right (range_inclusive_exhausted range) answer is
 
-  -- so it has none where it is empty
+  -- If `is_empty` returns true, the range is empty.
   pub empty-ranks : IsEmptyAt true → HasNoRanks (interval_of rank range)
   empty-ranks is = leb-false _ _ (some-test true is)
 
-  -- and some where it is not
+  -- If `is_empty` returns false, the range is non-empty.
   pub some-ranks : IsEmptyAt false → HasRanks (interval_of rank range)
   some-ranks is = leb-true _ _ (some-test false is)
 
--- a comparison of numbers says equal exactly where they are equal
+-- A comparison of two numbers is equal exactly if they are equal.
 is_eq-nat : (a b : ℕ) → is_eq (nat_cmp a b) ≡ nat_eq a b
 is_eq-nat a b = grind (arith, nat_tests)
 
--- three tests hold
+-- If all three tests are true, so are the first two.
 three-hold : (a b c : Bool) → (a && (b && c)) ≡ true → (a ≡ true) × (b ≡ true)
 three-hold true true c holds = (refl, refl)
 three-hold true false c holds = absurd (cc)
@@ -143,13 +144,13 @@ three-hold false b c holds = absurd (cc)
 module _ {T : Type 0} {rank : T → ℕ} {n : ℕ} {partial_cmp : T → T → Option Ordering}
     {cmp : T → T → Ordering} (ranked : IsRanked rank n partial_cmp cmp)
     (eq : T → T → Bool) (ordered : IsPartialOrder eq partial_cmp) where
-  -- values are equal exactly where their ranks are
+  -- Values are equal exactly if their ranks are.
   equal-by : (x y : T) → rank x < n → rank y < n → eq x y ≡ nat_eq (rank x) (rank y)
   equal-by x y left right =
       ties ordered ranked.matches x y ∙ ap is_eq (ranked.in_order x y left right)
       ∙ is_eq-nat (rank x) (rank y)
 
-  -- what `==` answers of ranges
+  -- What `==` returns for two ranges.
   abbrev range_eq : RangeInclusive T → RangeInclusive T → Bool
   range_eq x y = eq (range_inclusive_start x) (range_inclusive_start y)
       && (eq (range_inclusive_end x) (range_inclusive_end y)
@@ -160,7 +161,7 @@ module _ {T : Type 0} {rank : T → ℕ} {n : ℕ} {partial_cmp : T → T → Op
       (below : (interval_of rank range).last < n)
       (some_other : (interval_of rank other).first ≤ (interval_of rank other).last)
       (below_other : (interval_of rank other).last < n) where
-    -- their starts are equal exactly where the first ranks are
+    -- Their starts are equal exactly if their first ranks are.
     starts-by : eq (range_inclusive_start range) (range_inclusive_start other)
         ≡ nat_eq (interval_of rank range).first (interval_of rank other).first
     starts-by =
@@ -171,7 +172,7 @@ module _ {T : Type 0} {rank : T → ℕ} {n : ℕ} {partial_cmp : T → T → Op
         ∙ ap (λ first. nat_eq first (rank (range_inclusive_start other))) (sym start)
         ∙ ap (nat_eq (interval_of rank range).first) (sym start_other)
 
-    -- and their ends where the last ranks are
+    -- Their ends are equal exactly if their last ranks are.
     ends-by : eq (range_inclusive_end range) (range_inclusive_end other)
         ≡ nat_eq (interval_of rank range).last (interval_of rank other).last
     ends-by =
@@ -182,7 +183,7 @@ module _ {T : Type 0} {rank : T → ℕ} {n : ℕ} {partial_cmp : T → T → Op
         ∙ ap (λ last. nat_eq last (rank (range_inclusive_end other))) (sym end)
         ∙ ap (nat_eq (interval_of rank range).last) (sym end_other)
 
-    -- ranges with members that are not unequal have the same ranks
+    -- Non-empty ranges that `!=` does not tell apart have the same ranks.
     pub same-ranks : false ≡ not (range_eq range other)
         → interval_of rank range ≡ interval_of rank other
     same-ranks is =
@@ -193,7 +194,7 @@ module _ {T : Type 0} {rank : T → ℕ} {n : ℕ} {partial_cmp : T → T → Op
         same_interval (interval_of rank range) (interval_of rank other)
         (eqb-true _ _ (sym starts-by ∙ parts.0)) (eqb-true _ _ (sym ends-by ∙ parts.1))
 
-    -- and ranges with the same ranks are not unequal
+    -- Ranges that `!=` tells apart do not have the same ranks.
     pub other-ranks : true ≡ not (range_eq range other)
         → ¬ (interval_of rank range ≡ interval_of rank other)
     other-ranks is same =
@@ -205,7 +206,7 @@ module _ {T : Type 0} {rank : T → ℕ} {n : ℕ} {partial_cmp : T → T → Op
         rw (start, end, exhausted-some rank range some, exhausted-some rank other some_other) refl in
         not_both (not (range_eq range other)) (sym is) (ap not equal)
 
--- what `checked_add_one` answers is a value
+-- What `checked_add_one` returns is a value of the type.
 pub next-value : (n end next : ℕ) → end < n → (end + 1 ≡ n → ⊥) → next ≡ end + 1 → next < n
 next-value n end next below more is = elim (cases_lt (end + 1) n) [
   | inl less ↦ omega arith

@@ -14,27 +14,28 @@ use Rattle.rsb_streams.specs.OutOfPlace.{past_end, start_after, IsFirstBad, IsPl
 use Rattle.rsb_streams.proofs.checking.Placed.{placed-append, placed-front, placed-parts, placed_next, placed_next-push}
 use borrow.Author.Tests.{ltb-false, ltb-true}
 
--- a position that passed the test lies in a list
+-- A position that passed the test is within the list.
 pub place-within : (position n : ℕ) → true ≡ nat_lt position n → position < n
 place-within position n is = ltb-true position n (sym is)
 
--- and one that failed lies past it
+-- A position that failed the test is at or past the end of the list.
 pub place-past : (position n : ℕ) → false ≡ nat_lt position n → n ≤ position
 place-past position n is = ltb-false position n (sym is)
 
 module _ {T : Type 0} (rank : T → ℕ) (may_touch : Bool) (n : ℕ)
     (ranges : List (RangeInclusive T)) where
-  -- the ranks of each range
+  -- The ranks of each range.
   abbrev runs : List Interval
   runs = intervals_of rank ranges
 
-  -- the ranges before the position ascend, and `previous` is the end of the last of them
+  -- What holds before each iteration. The ranges before the position ascend, and `previous` is the
+  -- end of the last of them.
   pub record IsChecked (position : ℕ) (previous : Option T) : Type 0 where
     pub within : position ≤ length ranges
     pub before : IsPlacedIn may_touch n (take position runs)
     pub next : placed_next may_touch 0 (take position runs) ≡ start_after rank may_touch previous
 
-  -- before the first range nothing is to be checked
+  -- Before the first range, nothing is left to check.
   pub checked-none : IsChecked 0 None
   checked-none = record {
     within = omega arith;
@@ -46,11 +47,11 @@ module _ {T : Type 0} (rank : T → ℕ) (may_touch : Bool) (n : ℕ)
   module _ (position : ℕ) (previous : Option T) (checked : IsChecked position previous)
       (range : RangeInclusive T)
       (within : position < length ranges) (item : range ≡ get_or ranges position range) where
-    -- the ranks of the range
+    -- The ranks of the range.
     abbrev run : Interval
     run = interval_of rank range
 
-    -- with it one interval more is before the position
+    -- The intervals up to and including the position are those before it, then this one.
     one-more : take (position + 1) runs ≡ take position runs ++ run ∷ []
     one-more =
         let size : position < length runs = omega
@@ -60,7 +61,7 @@ module _ {T : Type 0} (rank : T → ℕ) (may_touch : Bool) (n : ℕ)
         ∙ ap (λ each. take position runs ++ each ∷ [])
         (get_or-map (interval_of rank) ranges position range ∙ sym (ap (interval_of rank) item)))
 
-    -- where the list ascends with it, it follows the ones before
+    -- If the list ascends with the range, the range may follow those before it.
     pub follows-after : IsPlacedIn may_touch n (take (position + 1) runs)
         → IsPlacedFrom may_touch (start_after rank may_touch previous) (run ∷ [])
     follows-after placed =
@@ -68,7 +69,7 @@ module _ {T : Type 0} (rank : T → ℕ) (may_touch : Bool) (n : ℕ)
         (placed-parts may_touch 0 (take position runs) (run ∷ [])
         (subst (IsPlacedFrom may_touch 0) one-more placed.0)).1
 
-    -- the range does not follow the ones before
+    -- If the range may not follow those before it, it is the first fault.
     pub bad-here : ¬ (IsPlacedFrom may_touch (start_after rank may_touch previous) (run ∷ []))
         → IsFirstBad (IsPlacedIn may_touch n) runs position
     bad-here broken = record {
@@ -77,13 +78,14 @@ module _ {T : Type 0} (rank : T → ℕ) (may_touch : Bool) (n : ℕ)
       broken = λ placed. broken (follows-after placed);
     }
 
-    -- it lies in the type, as those before do
+    -- If the range is within the type, so are all up to it.
     pub below-here : run.last < n → AllEndBelow n (take (position + 1) runs)
     below-here below =
         rw one-more (All-push (λ (each : Interval). each.last < n) (take position runs) run
         checked.before.1 below)
 
-    -- it does
+    -- If the range may follow those before it and is within the type, `IsChecked` holds at the next
+    -- position.
     pub checked-one : IsPlacedFrom may_touch (start_after rank may_touch previous) (run ∷ [])
         → run.last < n
         → (end : T) → end ≡ range_inclusive_end range → IsChecked (position + 1) (Some end)
@@ -100,14 +102,14 @@ module _ {T : Type 0} (rank : T → ℕ) (may_touch : Bool) (n : ℕ)
               ∙ ap (past_end may_touch) (range-end rank range placed.1 ∙ sym (ap rank is)));
         }
 
-  -- a list that ascends does so up to each position
+  -- A list that ascends does so up to each position.
   pub placed-take : (position : ℕ) → IsPlacedIn may_touch n runs
       → IsPlacedIn may_touch n (take position runs)
   placed-take position placed =
       placed-front may_touch n (take position runs) (drop position runs)
       (subst (IsPlacedIn may_touch n) (sym (take-append-drop position runs)) placed)
 
-  -- where the position is past the last range, the whole list ascends
+  -- If the position is past the last range, the whole list ascends.
   pub checked-all : (position : ℕ) (previous : Option T) → IsChecked position previous
       → length ranges ≤ position
       → IsPlacedIn may_touch n runs

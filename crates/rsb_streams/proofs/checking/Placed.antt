@@ -9,7 +9,7 @@ use Rattle.rsb_streams.specs.TouchingLaws.{touching-lower}
 
 -- ---- which lists they are
 
--- with a gap between they are canonical from a rank on
+-- With gaps between, `IsPlacedFrom` is `IsCanonicalFrom`.
 placed-canonical_from : (low : ℕ) (runs : List Interval)
     → IsPlacedFrom false low runs ≡ IsCanonicalFrom low runs
 placed-canonical_from low [] = refl
@@ -17,7 +17,7 @@ placed-canonical_from low (run ∷ runs) =
     ap (λ rest. (low ≤ run.first) × (run.first ≤ run.last) × rest)
     (placed-canonical_from (run.last + 2) runs)
 
--- without one they may touch
+-- If ranges may touch, `IsPlacedFrom` is `IsTouchingFrom`.
 placed-touching_from : (low : ℕ) (runs : List Interval)
     → IsPlacedFrom true low runs ≡ IsTouchingFrom low runs
 placed-touching_from low [] = refl
@@ -25,29 +25,29 @@ placed-touching_from low (run ∷ runs) =
     ap (λ rest. (low ≤ run.first) × (run.first ≤ run.last) × rest)
     (placed-touching_from (run.last + 1) runs)
 
--- with a gap between they are canonical
+-- With gaps between, `IsPlacedIn` is `IsCanonicalIn`.
 pub placed-canonical : (n : ℕ) → IsPlacedIn false n ≡ IsCanonicalIn n
 placed-canonical n = λ i runs. placed-canonical_from 0 runs i × AllEndBelow n runs
 
--- and without one they are the lists that may touch
+-- If ranges may touch, `IsPlacedIn` is `IsTouchingIn`.
 pub placed-touching : (n : ℕ) → IsPlacedIn true n ≡ IsTouchingIn n
 placed-touching n = λ i runs. placed-touching_from 0 runs i × AllEndBelow n runs
 
 -- ---- parts
 
--- where such a list may go on after these intervals
+-- The first rank at which a placed list may continue after these intervals.
 abbrev pub placed_next : Bool → ℕ → List Interval → ℕ
 placed_next may_touch low [] = low
 placed_next may_touch low (run ∷ runs) = placed_next may_touch (past_end may_touch run.last) runs
 
--- a list with this interval last may go on past its end
+-- A list whose last interval is `run` may continue at `past_end` of its end.
 pub placed_next-push : (may_touch : Bool) (low : ℕ) (runs : List Interval) (run : Interval)
     → placed_next may_touch low (runs ++ run ∷ []) ≡ past_end may_touch run.last
 placed_next-push may_touch low [] run = refl
 placed_next-push may_touch low (other ∷ runs) run =
     placed_next-push may_touch (past_end may_touch other.last) runs run
 
--- both parts of such a list are such, the second from where the first lets it go on
+-- Both parts of a placed list are placed, the second from where the first may continue.
 pub placed-parts : (may_touch : Bool) (low : ℕ) (runs others : List Interval)
     → IsPlacedFrom may_touch low (runs ++ others)
     → IsPlacedFrom may_touch low runs
@@ -57,7 +57,8 @@ placed-parts may_touch low (run ∷ runs) others placed =
     let parts = placed-parts may_touch (past_end may_touch run.last) runs others placed.2 in
     ((placed.0, placed.1, parts.0), parts.1)
 
--- and two lists that are so make one
+-- Two placed lists put together are placed, if the second is placed from where the first may
+-- continue.
 pub placed-append : (may_touch : Bool) (low : ℕ) (runs others : List Interval)
     → IsPlacedFrom may_touch low runs
     → IsPlacedFrom may_touch (placed_next may_touch low runs) others
@@ -69,7 +70,7 @@ placed-append may_touch low (run ∷ runs) others front rest = (
   placed-append may_touch (past_end may_touch run.last) runs others front.2 rest,
 )
 
--- a front of such a list is such a list
+-- A prefix of a placed list is placed.
 pub placed-front : (may_touch : Bool) (n : ℕ) (runs others : List Interval)
     → IsPlacedIn may_touch n (runs ++ others) → IsPlacedIn may_touch n runs
 placed-front may_touch n runs others placed = (
@@ -77,14 +78,14 @@ placed-front may_touch n runs others placed = (
   All-front (λ (run : Interval). run.last < n) runs others placed.1,
 )
 
--- so is a front of a list that may touch
+-- A prefix of a touching list is touching.
 pub touching-front : (n : ℕ) (runs others : List Interval) → IsTouchingIn n (runs ++ others)
     → IsTouchingIn n runs
 touching-front n =
     subst (λ (law : List Interval → Type 0). (runs others : List Interval) → law (runs ++ others)
     → law runs) (placed-touching n) (placed-front true n)
 
--- and what follows its first interval
+-- A touching list without its first interval is touching.
 pub touching-tail : (n : ℕ) (run : Interval) (runs : List Interval) → IsTouchingIn n (run ∷ runs)
     → IsTouchingIn n runs
 touching-tail n run runs touching = (

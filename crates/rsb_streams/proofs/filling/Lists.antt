@@ -9,9 +9,9 @@ use Rattle.rsb_streams.specs.FillGapsIter.{FillsFrom}
 use Rattle.rsb_streams.specs.Stream.{gaps_from}
 use Rattle.rsb_streams.proofs.gaps.Lists.{gap-last, gap-then, gaps-above, gaps-along, no-gaps}
 
--- ---- there is one such list
+-- ---- there is only one such list
 
--- what is told as a run starts no earlier than the list
+-- A run of the list starts no earlier than the list may.
 run-from : (low : ℕ) (pairs : List (Interval × Bool)) (run : Interval) (rest : List Interval)
     → IsAscendingFrom low pairs → told_runs pairs ≡ run ∷ rest → low ≤ run.first
 run-from low [] run rest ascending is = absurd (cc)
@@ -25,7 +25,7 @@ run-from low ((other, false) ∷ pairs) run rest ascending is =
     let later = run-from (other.first + 1) pairs run rest ascending.1 is in
     omega arith
 
--- what is told as a gap starts no earlier than the list
+-- A gap of the list starts no earlier than the list may.
 gap-from : (low : ℕ) (pairs : List (Interval × Bool)) (gap : Interval) (rest : List Interval)
     → IsAscendingFrom low pairs → told_gaps pairs ≡ gap ∷ rest → low ≤ gap.first
 gap-from low [] gap rest ascending is = absurd (cc)
@@ -39,7 +39,7 @@ gap-from low ((other, true) ∷ pairs) gap rest ascending is =
     let later = gap-from (other.first + 1) pairs gap rest ascending.1 is in
     omega arith
 
--- lists that ascend with the same runs and the same gaps are one list
+-- Lists that ascend and have the same runs and the same gaps are the same.
 same-pairs : (low lower : ℕ) (pairs others : List (Interval × Bool)) → IsAscendingFrom low pairs
     → IsAscendingFrom lower others → told_runs pairs ≡ told_runs others
     → told_gaps pairs ≡ told_gaps others → pairs ≡ others
@@ -67,7 +67,7 @@ same-pairs low lower ((run, false) ∷ pairs) ((other, true) ∷ others) left ri
     let two = run-from (run.first + 1) pairs other (told_runs others) left.1 runs in
     absurd (omega arith)
 
--- there is one filled list of a set
+-- A set has only one filled list.
 pub filled-unique : (n : ℕ) (selected : Selection) (pairs others : List (Interval × Bool))
     → IsFilledList n selected pairs → IsFilledList n selected others → pairs ≡ others
 filled-unique n selected pairs others left right =
@@ -77,16 +77,16 @@ filled-unique n selected pairs others left right =
     (runs-same n (complement selected) (complement selected) (told_gaps pairs) (told_gaps others)
     left.gaps right.gaps (λ rank below. refl))
 
--- ---- lists from a rank on
+-- ---- lists from a rank onwards
 
--- a list that ascends may be asked to start earlier
+-- A list that ascends from a rank onwards ascends from every lower rank onwards.
 ascending-lower : (low lower : ℕ) (pairs : List (Interval × Bool)) → lower ≤ low
     → IsAscendingFrom low pairs → IsAscendingFrom lower pairs
 ascending-lower low lower [] less ascending = tt
 ascending-lower low lower (pair ∷ pairs) less ascending =
     let starts = ascending.0 in (omega arith, ascending.1)
 
--- the gap to the greatest value, where no run comes
+-- If no run comes, the list is the gap to the greatest value.
 pub fills-last : (n : ℕ) (gap : Interval) → gap.first ≤ gap.last → gap.last + 1 ≡ n
     → FillsFrom n gap.first [] ((gap, false) ∷ [])
 fills-last n gap ordered to = record {
@@ -95,7 +95,7 @@ fills-last n gap ordered to = record {
   gaps = gap-last n gap.first gap refl ordered to;
 }
 
--- the gap before a run
+-- If there is a gap before a run, the list starts with the gap.
 pub fills-gap : (n : ℕ) (gap run : Interval) (given : List Interval)
     (pairs : List (Interval × Bool)) → gap.first < run.first → run.first ≤ run.last → run.last < n
     → gap.last + 1 ≡ run.first → IsCanonicalFrom (run.last + 2) given
@@ -114,7 +114,7 @@ fills-gap n gap run given pairs less ordered below touching canonical fills = re
       (λ rank within. sym (gaps-along n run.first run given refl ordered rank within)) fills.gaps);
 }
 
--- a run that starts where a gap might
+-- If a run starts where a gap might, the list starts with the run.
 pub fills-run : (n : ℕ) (run : Interval) (given : List Interval) (pairs : List (Interval × Bool))
     → run.first ≤ run.last → FillsFrom n (run.last + 1) given pairs
     → FillsFrom n run.first (run ∷ given) ((run, true) ∷ pairs)
@@ -129,7 +129,7 @@ fills-run n run given pairs ordered fills = record {
       (gaps-along n run.first run given refl ordered) fills.gaps;
 }
 
--- nothing comes past the greatest value
+-- Nothing comes past the greatest value.
 pub fills-end : (n last : ℕ) (given : List Interval) → last + 1 ≡ n → AllEndBelow n given
     → IsCanonicalFrom (last + 2) given → FillsFrom n n given []
 fills-end n last [] is below canonical = record {
@@ -143,7 +143,7 @@ fills-end n last (run ∷ given) is below canonical =
     let under = All-head (λ (each : Interval). each.last < n) run given below in
     absurd (omega arith)
 
--- from the least value on it is the filled list
+-- From the least value onwards, it is the filled list.
 pub fills-all : (n : ℕ) (given : List Interval) (pairs : List (Interval × Bool))
     → IsCanonicalIn n given → FillsFrom n 0 given pairs → IsFilledList n (members given) pairs
 fills-all n given pairs canonical fills = record {

@@ -26,35 +26,35 @@ use Rattle.rsb_streams.proofs.joining.Gathered.{head-sorted}
 module _ {I T N : Type 0} (integer : Elements T N) (source : Stream I T N) where
   open integer use {rank, value_count as n}
 
-  -- the stream, with what is put back
+  -- The stream, to which a range may be put back.
   abbrev held : Stream (PutBack T I) T N
   held = put_back integer source
 
-  -- the stream is ready for a gap from a value on
+  -- Whether the stream is ready for a gap that starts at the value.
   abbrev Ready : PutBack T I → T → Type 0
   Ready = NotReady integer held
 
-  -- the runs and gaps may be asked for
+  -- Whether the iterator may be called.
   abbrev can : FillGapsIter T I → Type 0
   can = fill_can_next integer source
 
-  -- what they may be
+  -- What the iterator may give.
   abbrev may : FillGapsIter T I → FilledOutcomes
   may = fill_may_give integer source
 
-  -- what is known of a call
+  -- Whether a call fits the iterator.
   abbrev Answered : FillGapsIter T I → Option (RangeInclusive T × Bool) → FillGapsIter T I → Type 0
   Answered = FillSteps integer source
 
-  -- a state
+  -- A state of the iterator.
   abbrev state : PutBack T I → Option T → FillGapsIter T I
   state iter start = record { iter = iter; start = start }
 
-  -- ---- runs and gaps of which nothing was told yet
+  -- ---- runs and gaps of which none was returned yet
   module _ (iter : I) (s : FillGapsIter T I) (least : T) (fresh : IsFresh iter s.iter)
       (begins : s.start ≡ Some least) (is_least : rank least ≡ 0)
       (canonical : source.may_give iter ⊆ IsCanonicalIn n) where
-    -- they may be asked for where the stream may be drawn from
+    -- The iterator may be called if the stream is ready.
     pub fresh-can : source.can_draw iter → 2 ≤ n → can s
     fresh-can drawable some = subst (λ start. can (state s.iter start)) (sym begins) (record {
       callable = fresh-ready integer source iter s.iter fresh drawable (λ runs at.
@@ -64,7 +64,7 @@ module _ {I T N : Type 0} (integer : Elements T N) (source : Stream I T N) where
           (canonical runs (fresh-may integer source iter s.iter fresh runs at)).0;
     })
 
-    -- they are the filled list of what the stream may give
+    -- The iterator gives the filled list of what the stream may give.
     pub fresh-filled : GivesFilled n (source.may_give iter) (may s)
     fresh-filled pairs at = λ nothing.
         subst (λ start. fills_after rank n start (held.may_give s.iter) pairs) begins at
@@ -74,17 +74,17 @@ module _ {I T N : Type 0} (integer : Elements T N) (source : Stream I T N) where
         (subst (λ from. FillsFrom n from given pairs) is_least fills)))
 
   module _ (laws : IsLawful integer source) where
-    -- the stream with what is put back keeps the laws
+    -- The stream to which a range may be put back is lawful.
     held_laws : IsLawful integer held
     held_laws = put_back-lawful integer source laws
 
     module _ (i j : PutBack T I) (now : Option T) (start : T) (ready_now : can (state i now))
         (is : now ≡ Some start) where
-      -- the stream is ready
+      -- The stream is ready for a gap at `start`.
       ready : Ready i start
       ready = subst (λ each. can (state i each)) is ready_now
 
-      -- an answer comes first where it does from the start on
+      -- A call may return a pair that might come first from `start` onwards.
       answers-at : (pair : RangeInclusive T × Bool) (t : FillGapsIter T I)
           → ((rest : List (Interval × Bool)) → may t rest
           → may (state i (Some start)) ((interval_of rank pair.0, pair.1) ∷ rest))
@@ -97,7 +97,7 @@ module _ {I T N : Type 0} (integer : Elements T N) (source : Stream I T N) where
 
       -- ---- the stream has ended
 
-      -- the gap to the greatest value
+      -- The gap to the greatest value is the last.
       pub last-gap : (greatest : T) (answer : RangeInclusive T) → held.draw_gives i None j
           → rank greatest + 1 ≡ n → range_inclusive_exhausted answer ≡ false
           → range_inclusive_start answer ≡ start → range_inclusive_end answer ≡ greatest
@@ -113,7 +113,7 @@ module _ {I T N : Type 0} (integer : Elements T N) (source : Stream I T N) where
           (fills-last n (record { first = rank start; last = rank greatest })
           (omega (arith, low, top)) top))))
 
-      -- and none is left after it
+      -- After the last gap, nothing is left.
       pub last-goes : (pair : RangeInclusive T × Bool)
           → MakesProgress can (fill_remaining integer) (state i now) (Some pair) (state j None)
       last-goes pair =
@@ -127,11 +127,11 @@ module _ {I T N : Type 0} (integer : Elements T N) (source : Stream I T N) where
       -- ---- one range of the stream
       module _ (range : RangeInclusive T) (call : held.draw_gives i (Some range) j)
           (goes : MakesProgress held.can_draw held.draws_left i (Some range) j) where
-        -- the ranks of the range
+        -- The ranks of the range.
         abbrev run : Interval
         run = interval_of rank range
 
-        -- the range and what comes after it are canonical
+        -- The range, followed by what may come after it, might come before, and is canonical.
         comes : (rest : List Interval) → held.may_give j rest
             → held.may_give i (run ∷ rest) × IsCanonicalFrom (rank start) (run ∷ rest)
             × IsCanonicalIn n (run ∷ rest)
@@ -147,31 +147,31 @@ module _ {I T N : Type 0} (integer : Elements T N) (source : Stream I T N) where
               ),
             )
 
-        -- the range starts no earlier than the gap might, is non-empty, and lies in the type
+        -- The range is non-empty, within the type, and starts no earlier than the gap might.
         facts : (rank start ≤ run.first) × (run.first ≤ run.last) × (run.last < n)
         facts = head-sorted n (rank start) run (held.may_give j) (held_laws.sorted j goes.keeps).some
             (λ rest at. let all = comes rest at in
             canonical-sorted n (rank start) (run ∷ rest) all.1 all.2.1)
 
-        -- the range starts at the rank of its start
+        -- The range starts at the rank of its start.
         low : run.first ≡ rank (range_inclusive_start range)
         low = range-start rank range facts.1
 
-        -- where it starts and whence, as values
+        -- The start of the gap and the start of the range are values of the type.
         pub values : (rank start < n) × (rank (range_inclusive_start range) < n)
         values =
             let all = facts in
             let first = low in
             (ready.value, omega (arith, all.1, all.2, first))
 
-        -- a gap lies before it, and it is put back
+        -- There is a gap before the range, which is put back.
         module _ (w : PutBack T I) (put : IsPutBack range j w) (next : T)
             (next_is : next ≡ range_inclusive_start range) (less : rank start < rank next) where
-          -- the range starts there
+          -- The range starts at that value.
           first : run.first ≡ rank next
           first = low ∙ sym (ap rank next_is)
 
-          -- the stream is ready for the range
+          -- The stream is ready for the range.
           ready-run : can (state w (Some next))
           ready-run = record {
             callable = put_back-ready integer source range j w call.room put goes.keeps
@@ -186,7 +186,7 @@ module _ {I T N : Type 0} (integer : Elements T N) (source : Stream I T N) where
                 (omega (arith, is_first), canonical.1, canonical.2);
           }
 
-          -- the gap comes first
+          -- The gap comes first.
           pub gap-answers : (last : T) (answer : RangeInclusive T) → rank last + 1 ≡ rank next
               → range_inclusive_exhausted answer ≡ false → range_inclusive_start answer ≡ start
               → range_inclusive_end answer ≡ last
@@ -209,7 +209,7 @@ module _ {I T N : Type 0} (integer : Elements T N) (source : Stream I T N) where
               (omega (arith, less, is_first)) all.1 all.2 (omega (arith, one, is_first))
               canonical.2 fills_run))))
 
-          -- and fewer values lie from there on
+          -- Fewer values are left from the range onwards.
           pub gap-goes : (answer : RangeInclusive T)
               → MakesProgress {A = RangeInclusive T × Bool} can (fill_remaining integer) (state i now) (Some (answer, false))
               (state w (Some next))
@@ -222,20 +222,20 @@ module _ {I T N : Type 0} (integer : Elements T N) (source : Stream I T N) where
                 rests = λ finite. tt;
               })
 
-        -- it starts where a gap might
+        -- The range starts where a gap might.
         module _ (next : Option T) (end : T) (to : end ≡ range_inclusive_end range)
             (most : rank (range_inclusive_start range) ≤ rank start)
             (none : IsNone next ↔ (rank end + 1 ≡ n))
             (more : IfSome next (λ each. rank each ≡ rank end + 1)) where
-          -- it starts there
+          -- The range starts at the value where a gap might.
           first-is : run.first ≡ rank start
           first-is = let all = facts in let is_low = low in omega (arith, all.0, is_low, most)
 
-          -- it ends at the rank of its end
+          -- The range ends at the rank of its end.
           last-is : run.last ≡ rank end
           last-is = range-end rank range facts.1 ∙ sym (ap rank to)
 
-          -- what may come after it, as runs and gaps past it
+          -- What may come after the range are the runs and gaps past it.
           after-run : (next : Option T) → (IsNone next ↔ (rank end + 1 ≡ n))
               → IfSome next (λ each. rank each ≡ rank end + 1)
               → (rest : List (Interval × Bool)) → may (state j next) rest
@@ -251,7 +251,7 @@ module _ {I T N : Type 0} (integer : Elements T N) (source : Stream I T N) where
               subst (λ from. SomeOutcome (held.may_give j) (λ given. FillsFrom n from given rest))
               past at
 
-          -- the run comes first
+          -- The run comes first.
           pub run-answers : Answered (state i now) (Some (range, true)) (state j next)
           run-answers = answers-at (range, true) (state j next) (λ rest at nothing.
               after-run next none more rest at (λ given might fills.
@@ -259,7 +259,7 @@ module _ {I T N : Type 0} (integer : Elements T N) (source : Stream I T N) where
               (subst (λ from. FillsFrom n from (run ∷ given) ((run, true) ∷ rest)) first-is
               (fills-run n run given rest facts.1 fills))))
 
-          -- the stream is ready for what comes past it
+          -- The stream is ready for what comes past the range.
           ready-past : (next : Option T) → (IsNone next ↔ (rank end + 1 ≡ n))
               → IfSome next (λ each. rank each ≡ rank end + 1) → can (state j next)
           ready-past None none more = tt
@@ -274,7 +274,7 @@ module _ {I T N : Type 0} (integer : Elements T N) (source : Stream I T N) where
                     (omega (arith, more, is_last)) (comes rest at).1.2;
               }
 
-          -- fewer values lie past it
+          -- Fewer values are left past the range.
           fewer : (next : Option T) → IfSome next (λ each. rank each ≡ rank end + 1)
               → values_from rank n next < n - rank start
           fewer None more = let begin = ready.value in omega (arith, begin)
@@ -285,7 +285,7 @@ module _ {I T N : Type 0} (integer : Elements T N) (source : Stream I T N) where
               let is_last = last-is in
               omega (arith, begin, all.1, all.2, is_first, is_last, more)
 
-          -- so the call makes progress
+          -- So the call makes progress.
           pub run-goes : MakesProgress {A = RangeInclusive T × Bool} can (fill_remaining integer) (state i now)
               (Some (range, true)) (state j next)
           run-goes =

@@ -17,32 +17,32 @@ use Rattle.rsb_streams.specs.declared.draw.Draw.{Ghosts as Stream}
 
 -- ---- single ranks
 
--- no rank before the first is in a gap
+-- No rank before the first is in a gap.
 gaps-below : (first rank : ℕ) (selected : Selection) → rank < first → gaps_from first selected rank
     ≡ false
 gaps-below first rank selected below =
     let test : nat_le first rank ≡ false = grind (arith, nat_tests) in
     ap (λ each. each && not (selected rank)) test
 
--- from the first on a rank is in a gap where it is not selected
+-- Starting at the first rank, a rank is in a gap exactly if it is not selected.
 pub gaps-above : (first rank : ℕ) (selected : Selection) → first ≤ rank
     → gaps_from first selected rank ≡ not (selected rank)
 gaps-above first rank selected above =
     let test : nat_le first rank ≡ true = grind (arith, nat_tests) in
     ap (λ each. each && not (selected rank)) test
 
--- a selected rank is in no gap
+-- A selected rank is in no gap.
 gaps-inside : (first rank : ℕ) (selected : Selection) → selected rank ≡ true
     → gaps_from first selected rank ≡ false
 gaps-inside first rank selected here =
     ap (λ each. nat_le first rank && not each) here ∙ and-false (nat_le first rank)
 
--- a rank from the first on that is not selected is in a gap
+-- Starting at the first rank, a rank that is not selected is in a gap.
 gaps-outside : (first rank : ℕ) (selected : Selection) → first ≤ rank → selected rank ≡ false
     → gaps_from first selected rank ≡ true
 gaps-outside first rank selected above gap = gaps-above first rank selected above ∙ ap not gap
 
--- a gap lies where it may start or past that
+-- A rank in a gap is at least the first rank.
 pub gaps-start : (first rank : ℕ) (selected : Selection) → gaps_from first selected rank ≡ true
     → first ≤ rank
 gaps-start first rank selected gap = elim (cases_lt rank first) [
@@ -50,9 +50,9 @@ gaps-start first rank selected gap = elim (cases_lt rank first) [
   | inr above ↦ above
 ]
 
--- ---- where a run comes first, and the given ones past it
+-- ---- a run, and the given ones past it
 
--- past the run the gaps are those of the others
+-- Past the run, the gaps are those of the others.
 pub gaps-past : (low : ℕ) (run : Interval) (given : List Interval) (rank : ℕ) → low ≤ run.first
     → run.first ≤ run.last → run.last < rank
     → gaps_from (run.last + 1) (members given) rank ≡ gaps_from low (members (run ∷ given)) rank
@@ -61,7 +61,7 @@ gaps-past low run given rank starts ordered past =
     ∙ sym (ap not (members-tail run given rank (inr past)))
     ∙ sym (gaps-above low rank (members (run ∷ given)) (omega arith))
 
--- the gaps past a run that starts where a gap might
+-- If a run starts where a gap might, the gaps are those past the run.
 pub gaps-along : (n low : ℕ) (run : Interval) (given : List Interval) → low ≡ run.first
     → run.first ≤ run.last
     → Agree n (gaps_from (run.last + 1) (members given)) (gaps_from low (members (run ∷ given)))
@@ -75,7 +75,7 @@ gaps-along n low run given is ordered rank within = elim (cases_lt run.last rank
       ])
 ]
 
--- the gap before a run, and the gaps past it
+-- The gaps are the gap before the run, then the gaps past it.
 pub gap-then : (n low : ℕ) (gap run : Interval) (given runs : List Interval) → low < run.first
     → run.first ≤ run.last → run.last < n → gap.first ≡ low → gap.last + 1 ≡ run.first
     → IsCanonicalFrom (run.last + 2) given
@@ -117,13 +117,13 @@ gap-then n low gap run given runs less ordered below from to canonical all =
       ]
     ])
 
--- nothing is left past the greatest value
+-- Past the greatest value there is no gap.
 pub no-gaps : (n : ℕ) (selected : Selection) → AreRuns n (gaps_from n selected) []
 no-gaps n selected =
     runs-from_canonical n (gaps_from n selected) [] tt (All-nil (λ (run : Interval). run.last < n))
     (λ rank within. sym (gaps-below n rank selected within))
 
--- the gap to the greatest value, where nothing is given
+-- If nothing is given, the only gap is to the greatest value.
 pub gap-last : (n low : ℕ) (gap : Interval) → gap.first ≡ low → low ≤ gap.last → gap.last + 1 ≡ n
     → AreRuns n (gaps_from low (members [])) (gap ∷ [])
 gap-last n low gap from order to =
@@ -139,13 +139,13 @@ gap-last n low gap from order to =
           ∙ sym (gaps-outside low rank (members []) here refl)
     ])
 
--- ---- a complement that was just made
+-- ---- a complement that was just built
 
 module _ {T N I : Type 0} (integer : Elements T N) (source : Stream I T N) (iter : I) (least : T)
     (is : integer.rank least ≡ 0) where
   open integer use {rank, value_count as n}
 
-  -- the input may be drawn from, and the first gap may start at the least value
+  -- If the input is ready and canonical, it is ready for a first gap at the least value.
   pub fresh-ready : source.can_draw iter → 2 ≤ n → source.may_give iter ⊆ IsCanonicalIn n
       → NotReady integer source iter least
   fresh-ready ready some canonical = record {
@@ -154,7 +154,7 @@ module _ {T N I : Type 0} (integer : Elements T N) (source : Stream I T N) (iter
     ahead = λ runs at. subst (λ low. IsCanonicalFrom low runs) (sym is) (canonical runs at).0;
   }
 
-  -- the gaps from the least value on are the complement
+  -- The gaps from the least value onwards are the complement.
   pub fresh-gaps : runs_by n (gaps_from (rank least)) (source.may_give iter) ⊆ runs_by n complement
       (source.may_give iter)
   fresh-gaps runs at = λ nothing. at (λ given might all. nothing given might

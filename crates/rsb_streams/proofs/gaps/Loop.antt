@@ -25,30 +25,31 @@ use Rattle.rsb_streams.proofs.joining.Gathered.{head-sorted}
 module _ {I T N : Type 0} (integer : Elements T N) (source : Stream I T N) where
   open integer use {rank, value_count as n}
 
-  -- the input is ready for a gap from a value on
+  -- Whether the input is ready for a gap that starts at the value.
   abbrev Ready : I → T → Type 0
   Ready = NotReady integer source
 
-  -- the complement may be called
+  -- Whether the complement is ready.
   abbrev can : NotIter T I → Type 0
   can = (not_iter integer source).can_draw
 
-  -- what the complement may give
+  -- What the complement may give.
   abbrev may : NotIter T I → Outcomes
   may = (not_iter integer source).may_give
 
-  -- how many gaps are left at most
+  -- The number of gaps that are left, at most.
   abbrev left : NotIter T I → Count
   left = (not_iter integer source).draws_left
 
-  -- what may come now might come at the entry
+  -- What holds before each iteration: what may come now might come at the entry, and no more gaps
+  -- are left.
   pub record SoFar (entry now : NotIter T I) : Type 0 where
     pub ready : can now
     pub same : may now ⊆ may entry
     pub took : (used : List (RangeInclusive T)) × Yields source.draw_gives entry.iter used now.iter
     pub nearer : size (left now) ≤ size (left entry)
 
-  -- at the entry it is so
+  -- It holds at the entry.
   pub begun : (entry : NotIter T I) → can entry → SoFar entry entry
   begun entry ready = record {
     ready = ready;
@@ -57,7 +58,7 @@ module _ {I T N : Type 0} (integer : Elements T N) (source : Stream I T N) where
     nearer = omega arith;
   }
 
-  -- one more range is used
+  -- One more range was drawn from the input.
   took-more : (entry : NotIter T I) (i j : I) (now : Option T) (range : RangeInclusive T)
       → SoFar entry (record { iter = i; start = now }) → source.draw_gives i (Some range) j
       → (used : List (RangeInclusive T)) × Yields source.draw_gives entry.iter used j
@@ -66,18 +67,18 @@ module _ {I T N : Type 0} (integer : Elements T N) (source : Stream I T N) where
     yields-more source.draw_gives so.took.0 range entry.iter i j so.took.1 call,
   )
 
-  -- the range of ranks from a value to another
+  -- The returned range has the ranks from that of `start` to that of `end`.
   pub answered : (start end : T) (answer : RangeInclusive T) → range_inclusive_exhausted answer
       ≡ false
       → range_inclusive_start answer ≡ start → range_inclusive_end answer ≡ end
       → interval_of rank answer ≡ record { first = rank start; last = rank end }
   answered start end answer fresh from to = rw (fresh, from, to) refl
 
-  -- what is known of a call of the complement
+  -- Whether a draw fits the complement.
   abbrev Answered : NotIter T I → Option (RangeInclusive T) → NotIter T I → Type 0
   Answered = (not_iter integer source).draw_gives
 
-  -- nothing comes after the last gap
+  -- After the last gap, nothing comes.
   pub rests : (entry now : NotIter T I) → SoFar entry now → now.start ≡ None
       → Answered entry None now
   rests entry now so none =
@@ -90,7 +91,7 @@ module _ {I T N : Type 0} (integer : Elements T N) (source : Stream I T N) where
         asks = record { used = so.took.0; draws = inl so.took.1 };
       }
 
-  -- and none is left
+  -- After the last gap, none is left.
   pub last-goes : (entry now : NotIter T I) (j : I) (start : T) (answer : RangeInclusive T)
       → SoFar entry now → now.start ≡ Some start
       → MakesProgress can left entry (Some answer) (record { iter = j; start = None })
@@ -104,7 +105,7 @@ module _ {I T N : Type 0} (integer : Elements T N) (source : Stream I T N) where
       }
 
   module _ (laws : IsLawful integer source) where
-    -- the gap to the greatest value
+    -- If the input returns `None`, the draw returns the gap to the greatest value.
     pub last-gap : (entry : NotIter T I) (i j : I) (now : Option T) (start greatest : T)
         (answer : RangeInclusive T)
         → SoFar entry (record { iter = i; start = now }) → now ≡ Some start → source.draw_gives i None j
@@ -126,7 +127,7 @@ module _ {I T N : Type 0} (integer : Elements T N) (source : Stream I T N) where
           asks = record { used = so_now.took.0; draws = inr ((i, so_now.took.1, call), refl) };
         }
 
-    -- one range of the input, and where the next gap may start
+    -- The input gives one range, and the next gap may start past its end.
     module _ (entry : NotIter T I) (i j : I) (now : Option T) (start past_gap end : T)
         (next : Option T)
         (range : RangeInclusive T) (so_now : SoFar entry (record { iter = i; start = now }))
@@ -136,15 +137,15 @@ module _ {I T N : Type 0} (integer : Elements T N) (source : Stream I T N) where
         (from : past_gap ≡ range_inclusive_start range) (to : end ≡ range_inclusive_end range)
         (none : IsNone next ↔ (rank end + 1 ≡ n))
         (some : IfSome next (λ each. rank each ≡ rank end + 1)) where
-      -- the ranks of the range
+      -- The ranks of the range.
       abbrev run : Interval
       run = interval_of rank range
 
-      -- so it was before the range, with the value where the next gap may start
+      -- What holds before the range, with the value where the next gap may start written out.
       so : SoFar entry (record { iter = i; start = Some start })
       so = subst (λ each. SoFar entry (record { iter = i; start = each })) is so_now
 
-      -- the range and what comes after it are canonical, and start no earlier than the gap may
+      -- The range and what comes after it are canonical, and start no earlier than the gap may.
       comes : (rest : List Interval) → source.may_give j rest
           → IsCanonicalIn n (run ∷ rest) × HasSortedStartsFrom n (rank start) (run ∷ rest)
       comes rest at =
@@ -156,43 +157,43 @@ module _ {I T N : Type 0} (integer : Elements T N) (source : Stream I T N) where
             canonical-sorted n (rank start) (run ∷ rest) ahead below,
           )
 
-      -- the range starts no earlier than the gap may, is non-empty, and lies in the type
+      -- The range is non-empty, within the type, and starts no earlier than the gap may.
       facts : (rank start ≤ run.first) × (run.first ≤ run.last) × (run.last < n)
       facts = head-sorted n (rank start) run (source.may_give j) (laws.sorted j goes.keeps).some
           (λ rest at. (comes rest at).1)
 
-      -- the range starts at the value past the gap
+      -- The range starts at the rank of `past_gap`.
       starts-at : run.first ≡ rank past_gap
       starts-at = range-start rank range facts.1 ∙ sym (ap rank from)
 
-      -- the two values are told apart by their ranks
+      -- Values compare as their ranks do.
       module _ {partial_cmp : T → T → Option Ordering} {cmp : T → T → Ordering}
           (ranked : IsRanked rank n partial_cmp cmp) where
-        -- the gap may start at a value of the type
+        -- The gap may start at a value of the type.
         low : rank start < n
         low = so.ready.value
 
-        -- the range starts at a value of the type
+        -- The range starts at a value of the type.
         high : rank past_gap < n
         high = let all = facts in omega (arith, all.1, all.2, starts-at)
 
-        -- where the gap's start is less than the range's, so is its rank
+        -- If the start of the gap is less than that of the range, so is its rank.
         pub gap-less : true ≡ partial_lt partial_cmp start past_gap → rank start < rank past_gap
         gap-less test = less-rank ranked start past_gap low high test
 
-        -- where it is not, the range's start has no greater rank
+        -- Otherwise, the rank of the range's start is at most that of the start of the gap.
         pub gap-none : false ≡ partial_lt partial_cmp start past_gap → rank past_gap ≤ rank start
         gap-none test = not_less-rank ranked start past_gap low high test
 
-      -- the range ends at the rank of its end
+      -- The range ends at the rank of its end.
       last-is : run.last ≡ rank end
       last-is = range-end rank range facts.1 ∙ sym (ap rank to)
 
-      -- the complement may be called with the next start
+      -- The complement is ready at the next start.
       pub ready-next : can (record { iter = j; start = next })
       ready-next = ready-by next none some
         where
-          -- the same, by whether there is a next start
+          -- The cases are whether there is a next start.
           ready-by : (next : Option T) → (IsNone next ↔ (rank end + 1 ≡ n))
               → IfSome next (λ each. rank each ≡ rank end + 1)
               → can (record { iter = j; start = next })
@@ -209,13 +210,13 @@ module _ {I T N : Type 0} (integer : Elements T N) (source : Stream I T N) where
                     (comes rest at).0.0.2;
               }
 
-      -- what comes after it, as gaps past it
+      -- What may come after the range are the gaps past it.
       after-next : (rest : List Interval) → may (record { iter = j; start = next }) rest
           → SomeOutcome (source.may_give j)
           (λ given. AreRuns n (gaps_from (run.last + 1) (members given)) rest)
       after-next rest at = after-by next none some at
         where
-          -- the same, by whether there is a next start
+          -- The cases are whether there is a next start.
           after-by : (next : Option T) → (IsNone next ↔ (rank end + 1 ≡ n))
               → IfSome next (λ each. rank each ≡ rank end + 1)
               → may (record { iter = j; start = next }) rest
@@ -229,7 +230,7 @@ module _ {I T N : Type 0} (integer : Elements T N) (source : Stream I T N) where
               let is : rank each ≡ run.last + 1 = omega (arith, last-is, some) in
               subst (λ low. runs_by n (gaps_from low) (source.may_give j) rest) is at
 
-      -- a gap before the range
+      -- The gap before the range comes first.
       pub gap-answers : (before : T) (answer : RangeInclusive T) → rank start < rank past_gap
           → rank before + 1 ≡ rank past_gap
           → range_inclusive_exhausted answer ≡ false
@@ -253,7 +254,8 @@ module _ {I T N : Type 0} (integer : Elements T N) (source : Stream I T N) where
                 record { used = took.0; draws = inl took.1 };
           }
 
-      -- no gap before the range
+      -- If there is no gap before the range, what may come at the next start might come at the
+      -- entry.
       pub no-gap : rank past_gap ≤ rank start → may (record { iter = j; start = next }) ⊆ may entry
       no-gap most rest at = so.same rest (λ nothing.
           let all = facts in
@@ -264,13 +266,13 @@ module _ {I T N : Type 0} (integer : Elements T N) (source : Stream I T N) where
           (gaps_from (rank start) (members (run ∷ given))) rest
           (gaps-along n (rank start) run given (omega (arith, all.0, low, most)) all.1) runs)))
 
-      -- fewer gaps are left
+      -- Fewer gaps are left at the next start.
       fewer : (finite : IsFinite (source.draws_left i))
           → IsFinite (left (record { iter = j; start = next }))
           × (size (left (record { iter = j; start = next })) < size (left entry))
       fewer finite = fewer-by next
         where
-          -- the same, by whether there is a next start
+          -- The cases are whether there is a next start.
           fewer-by : (next : Option T) → IsFinite (left (record { iter = j; start = next }))
               × (size (left (record { iter = j; start = next })) < size (left entry))
           fewer-by None = let more = so.nearer in (tt, omega arith)
@@ -279,11 +281,11 @@ module _ {I T N : Type 0} (integer : Elements T N) (source : Stream I T N) where
               let less = goes.on finite in
               (less.1, omega (arith, less.2))
 
-      -- the input ends
+      -- The input ends.
       input-ends : IsFinite (source.draws_left i)
       input-ends = (laws.sorted i so.ready.callable).ends
 
-      -- a call that answers a gap makes progress
+      -- A draw that returns a gap makes progress.
       pub gap-goes : (answer : RangeInclusive T)
           → MakesProgress can left entry (Some answer) (record { iter = j; start = next })
       gap-goes answer =
@@ -291,7 +293,7 @@ module _ {I T N : Type 0} (integer : Elements T N) (source : Stream I T N) where
           let less = fewer input-ends in
           record { on = λ finite. (ready, less.0, less.1); keeps = ready; rests = λ finite. tt }
 
-      -- where no gap lies before the range, the loop goes on at the next start
+      -- If there is no gap before the range, the loop continues at the next start.
       pub so-next : rank past_gap ≤ rank start → SoFar entry (record { iter = j; start = next })
       so-next most =
           let less = fewer input-ends in

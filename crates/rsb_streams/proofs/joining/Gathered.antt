@@ -11,7 +11,7 @@ use Rattle.rsb_integer.proofs.RunsLemmas.{runs-canonical, runs-from_canonical, r
 use Rattle.rsb_streams.specs.StreamLaws.{settled_le, settled_lt, sorted-lower, sorted-members}
 use Rattle.rsb_streams.specs.Stream.{Outcomes, ◌⊆◌, just, joined, HasOutcome, SomeOutcome, HasSortedStartsFrom, HasSortedStarts}
 
--- the runs of a set that selects nothing below a rank start there or past it
+-- If a set selects no rank below `low`, its runs start at `low` or later.
 pub runs-start : (n : ℕ) (selected : Selection) (low : ℕ) (runs : List Interval)
     → AreRuns n selected runs
     → ((rank : ℕ) → rank < n → selected rank ≡ true → low ≤ rank) → IsCanonicalFrom low runs
@@ -27,7 +27,8 @@ runs-start n selected low (run ∷ runs) all from =
       canonical.0.2,
     )
 
--- the runs of a run and of what comes past it
+-- The runs of a run and of what comes past it, with a gap between, are that run and the runs of the
+-- rest.
 pub run-then : (n : ℕ) (run : Interval) (given late runs : List Interval) → run.first ≤ run.last
     → run.last < n
     → ((rank : ℕ) → members given rank ≡ (covers run rank || members late rank))
@@ -47,7 +48,7 @@ run-then n run given late runs ordered below same past all =
     ∙ ap (λ test. covers run rank || test) (runs-members n (members late) runs all rank within)
     ∙ sym (same rank))
 
--- nothing has no runs
+-- An empty list has only the empty list of runs.
 pub no-runs : (n : ℕ) → joined n (just []) ⊆ just []
 no-runs n [] may = refl
 no-runs n (run ∷ runs) may = absurd (may (λ given is all.
@@ -57,15 +58,15 @@ no-runs n (run ∷ runs) may = absurd (may (λ given is all.
     (subst (λ each. members each run.first ≡ true) is
     (maximal.whole run.first (covers-inside run run.first (omega arith) ordered))) refl))
 
--- two runs that overlap or touch cover what the run from the start of the one to the end of both
--- covers
+-- Two intervals that overlap or touch cover what the one from the start of the first to the greater
+-- end covers.
 join-covers : (rank : ℕ) (run next : Interval) → run.first ≤ next.first → next.first ≤ run.last + 1
     → run.first ≤ run.last → next.first ≤ next.last
     → (covers run rank || covers next rank)
     ≡ covers (record { first = run.first; last = max run.last next.last }) rank
 join-covers rank run next low touching ordered order = grind (arith, nat_tests)
 
--- the facts about a first range, where something may come after it
+-- What is known of a first range: it starts at `low` or later, is non-empty and within the type.
 pub head-sorted : (n low : ℕ) (run : Interval) (Rest : Outcomes) → HasOutcome Rest
     → ((rest : List Interval) → Rest rest → HasSortedStartsFrom n low (run ∷ rest))
     → (low ≤ run.first) × (run.first ≤ run.last) × (run.last < n)
@@ -75,8 +76,8 @@ head-sorted n low run Rest some sorted = (
   settled_lt run.last n (λ fails. some (λ rest may. fails (sorted rest may).2)),
 )
 
--- the ranges drawn so far cover the run, and what may still come starts no earlier: `Before` could
--- come when the call began, `Now` can come now
+-- Whether the ranges drawn so far cover the run, and what may still come starts no earlier.
+-- `Before` is what could come when the draw began, `Now` what can come now.
 pub record Gathers (n : ℕ) (Before Now : Outcomes) (run : Interval) : Type 0 where
   pub ordered : run.first ≤ run.last
   pub below : run.last < n
@@ -85,7 +86,7 @@ pub record Gathers (n : ℕ) (Before Now : Outcomes) (run : Interval) : Type 0 w
       → SomeOutcome Before (λ given. (rank : ℕ) → members given rank
       ≡ (covers run rank || members rest rank))
 
--- the first range
+-- The first range starts the run.
 pub gathers-first : (n : ℕ) (Before Now : Outcomes) (run : Interval) → Before ⊆ HasSortedStarts n
     → HasOutcome Now
     → ((rest : List Interval) → Now rest → Before (run ∷ rest)) → Gathers n Before Now run
@@ -102,12 +103,12 @@ module _ (n : ℕ) (Before Now After : Outcomes) (run next : Interval)
     (gathers : Gathers n Before Now run)
     (some : HasOutcome After)
     (answers : (rest : List Interval) → After rest → Now (next ∷ rest)) where
-  -- the next range starts no earlier than the run, is non-empty, and lies in the type
+  -- The next range is non-empty, within the type, and starts no earlier than the run.
   pub next-sorted : (run.first ≤ next.first) × (next.first ≤ next.last) × (next.last < n)
   next-sorted = head-sorted n run.first next After some
       (λ rest may. gathers.sorted (next ∷ rest) (answers rest may))
 
-  -- one more range, which overlaps or touches
+  -- If the next range overlaps or touches the run, both together are the run.
   pub gathers-more : next.first ≤ run.last + 1
       → Gathers n Before After (record { first = run.first; last = max run.last next.last })
   gathers-more touching =
@@ -131,7 +132,7 @@ module _ (n : ℕ) (Before Now After : Outcomes) (run next : Interval)
             (join-covers rank run next low touching ordered order)));
       }
 
--- the run is answered, and what may come after it starts past it
+-- The run comes first, if what may come later starts past it, with a gap between.
 pub gathers-answer : (n : ℕ) (Before Now Later : Outcomes) (run : Interval)
     → Gathers n Before Now run
     → ((late : List Interval) → Later late
@@ -143,7 +144,7 @@ gathers-answer n Before Now Later run gathers later rest may = λ nothing. may (
     nothing given before (run-then n run given late rest gathers.ordered gathers.below same past.1
     runs)))
 
--- the next range starts apart, and stays
+-- If the next range starts past the run, with a gap between, so do all members that come later.
 pub next-past : (n : ℕ) (next : Interval) (rest : List Interval) (low end rank : ℕ)
     → HasSortedStartsFrom n low (next ∷ rest) → end + 1 < next.first → members (next ∷ rest) rank
     ≡ true

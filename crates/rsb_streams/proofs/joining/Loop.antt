@@ -25,13 +25,13 @@ use Rattle.rsb_streams.proofs.joining.Gathered.{Gathers, gathers-first, gathers-
 module _ {S T N : Type 0} (integer : Elements T N) (source : Stream S T N) where
   open integer use {rank, value_count as n}
 
-  -- the draws since the entry: what they gave, and what was held, lies within
+  -- Whether what was held at the entry and what was drawn since lie within the interval.
   pub record Took (entry now : PutBack T S) (within : Interval) : Type 0 where
     pub drawn : List (RangeInclusive T)
     pub draws : Yields (fused source).draw_gives (fused_of entry) drawn (fused_of now)
     pub all : AreWithin within (held_list rank entry.held ++ intervals_of rank drawn)
 
-  -- the first draw, by whether a range was held
+  -- The range of the first draw lies within the interval. The cases are whether it was held.
   took-by : (held : Option (RangeInclusive T)) (s t : Fused S) (range : RangeInclusive T)
       (within : Interval) → within.first ≤ (interval_of rank range).first
       → (interval_of rank range).last ≤ within.last
@@ -45,7 +45,7 @@ module _ {S T N : Type 0} (integer : Elements T N) (source : Stream S T N) where
       let same : held ≡ range = cc in
       ([], sym call.1, rw same (low, high, tt))
 
-  -- what the first range took
+  -- The first draw took a range within the interval.
   took-first : (s t : PutBack T S) (range : RangeInclusive T) (within : Interval)
       → within.first ≤ (interval_of rank range).first
       → (interval_of rank range).last ≤ within.last
@@ -54,7 +54,7 @@ module _ {S T N : Type 0} (integer : Elements T N) (source : Stream S T N) where
       let took = took-by s.held (fused_of s) (fused_of t) range within low high call.call in
       record { drawn = took.0; draws = took.1; all = took.2 }
 
-  -- what one more range took
+  -- One more range was drawn within the interval.
   took-more : (entry s t : PutBack T S) (range : RangeInclusive T) (before within : Interval)
       → HasRoom s → Took entry s before → within.first ≤ before.first
       → before.last ≤ within.last → within.first ≤ (interval_of rank range).first
@@ -71,7 +71,8 @@ module _ {S T N : Type 0} (integer : Elements T N) (source : Stream S T N) where
         from to;
   }
 
-  -- the ranges drawn since the entry cover those from start to end
+  -- What holds before each iteration. The ranges drawn since the entry cover the ranks from `start`
+  -- to `end`, and fewer are left.
   pub record SoFar (entry now : PutBack T S) (start end : T) : Type 0 where
     pub room : HasRoom now
     pub ready : (put_back integer source).can_draw now
@@ -83,39 +84,39 @@ module _ {S T N : Type 0} (integer : Elements T N) (source : Stream S T N) where
         < size ((put_back integer source).draws_left entry)
 
   module _ (laws : IsLawful integer source) where
-    -- what is held and still to come
+    -- What is held and still to come.
     abbrev may : PutBack T S → Outcomes
     may = (put_back integer source).may_give
 
-    -- how many ranges that is
+    -- The number of ranges held and still to come.
     abbrev left : PutBack T S → Count
     left = (put_back integer source).draws_left
 
-    -- the stream with what is held keeps the laws
+    -- The stream with what is held is lawful.
     held_laws : IsLawful integer (put_back integer source)
     held_laws = put_back-lawful integer source laws
 
-    -- where it may be called, it ends
+    -- If the stream is ready, it ends.
     ends : (s : PutBack T S) → (put_back integer source).can_draw s → IsFinite (left s)
     ends s ready = (held_laws.sorted s ready).ends
 
-    -- a call of it makes progress
+    -- Whether a draw makes progress.
     abbrev Goes : PutBack T S → Option (RangeInclusive T) → PutBack T S → Type 0
     Goes s item t = MakesProgress (put_back integer source).can_draw left s item t
 
-    -- the union of the stream
+    -- The type of the union.
     abbrev Union : Type 0
     Union = UnionIter T S
 
-    -- what is known of a call of the union
+    -- Whether a draw fits the union.
     abbrev Answered : Union → Option (RangeInclusive T) → Union → Type 0
     Answered = (union_iter integer source).draw_gives
 
-    -- the ranks from a value to another
+    -- The ranks from one value to another.
     abbrev run : T → T → Interval
     run start end = record { first = rank start; last = rank end }
 
-    -- nothing comes
+    -- If the source returns `None`, the union returns `None`, and nothing comes.
     pub rests : (s t : Union) (item : Option (RangeInclusive T)) → item ≡ None
         → (put_back integer source).draw_gives s.iter None t.iter → Answered s item t
     rests s t item is call =
@@ -138,7 +139,7 @@ module _ {S T N : Type 0} (integer : Elements T N) (source : Stream S T N) where
           };
         })
 
-    -- the first range
+    -- The first range begins what is gathered.
     pub begun : (s t : PutBack T S) (range : RangeInclusive T) (start end : T)
         → (put_back integer source).can_draw s
         → (put_back integer source).draw_gives s (Some range) t
@@ -161,7 +162,7 @@ module _ {S T N : Type 0} (integer : Elements T N) (source : Stream S T N) where
           nearer = on.2;
         }
 
-    -- where the next range starts and ends
+    -- The next range starts and ends at values of the type.
     pub next-values : (entry s t : PutBack T S) (start end : T) (range : RangeInclusive T)
         → SoFar entry s start end
         → (put_back integer source).draw_gives s (Some range) t → Goes s (Some range) t
@@ -175,7 +176,7 @@ module _ {S T N : Type 0} (integer : Elements T N) (source : Stream S T N) where
         let high = range-end rank range facts.1 in
         (omega (arith, facts.1, facts.2, low), omega (arith, facts.2, high))
 
-    -- one more range, which overlaps or touches
+    -- One more range, which overlaps or touches, is gathered.
     pub more : (entry s t : PutBack T S) (start end last : T) (range : RangeInclusive T)
         → SoFar entry s start end
         → (put_back integer source).draw_gives s (Some range) t → Goes s (Some range) t
@@ -206,14 +207,14 @@ module _ {S T N : Type 0} (integer : Elements T N) (source : Stream S T N) where
           nearer = omega (arith, on.2, so.nearer);
         }
 
-    -- what was gathered, as a range
+    -- The interval of what was gathered is that of the returned range.
     gathered : (start end : T) (answer : RangeInclusive T) → range_inclusive_exhausted answer
         ≡ false
         → range_inclusive_start answer ≡ start → range_inclusive_end answer ≡ end
         → run start end ≡ interval_of rank answer
     gathered start end answer fresh from to = rw (fresh, from, to) refl
 
-    -- the answer comes first where the ranks gathered come first
+    -- The draw returns the gathered range, if the ranks from `start` to `end` may come first.
     answer-from : (entry : PutBack T S) (t : Union) (start end : T) (answer : RangeInclusive T)
         → range_inclusive_exhausted answer ≡ false
         → range_inclusive_start answer ≡ start → range_inclusive_end answer ≡ end
@@ -228,7 +229,7 @@ module _ {S T N : Type 0} (integer : Elements T N) (source : Stream S T N) where
       asks = asks;
     }
 
-    -- what was taken lies within the answer, and one more draw gave what is held
+    -- What was drawn lies within the returned range, and one more draw gave what is held.
     joins : (entry s : PutBack T S) (t : Union) (start end : T) (answer : RangeInclusive T)
         → range_inclusive_exhausted answer ≡ false
         → range_inclusive_start answer ≡ start → range_inclusive_end answer ≡ end
@@ -247,7 +248,7 @@ module _ {S T N : Type 0} (integer : Elements T N) (source : Stream S T N) where
               (held_list rank t.iter.held)) same ahead;
         }
 
-    -- the answer at the end
+    -- At the end, the draw returns what was gathered.
     pub answer-last : (entry s : PutBack T S) (t : Union) (start end : T)
         (answer : RangeInclusive T)
         → SoFar entry s start end → (put_back integer source).draw_gives s None t.iter
@@ -270,13 +271,14 @@ module _ {S T N : Type 0} (integer : Elements T N) (source : Stream S T N) where
         (call-by integer source s.held None (fused_of s) (fused_of t.iter) so.room call.call))
         (from-none rank (rank end + 2) t.iter.held call.room))
 
-    -- the answer where the next range starts apart, and is put back
+    -- The next range starts past the gathered ranks, with a gap between, and is put back.
     module _ (entry s u : PutBack T S) (t : Union) (start end : T) (range answer : RangeInclusive T)
         (so : SoFar entry s start end)
         (call : (put_back integer source).draw_gives s (Some range) u)
         (goes : Goes s (Some range) u) (put : IsPutBack range u t.iter)
         (apart : rank end + 1 < rank (range_inclusive_start range)) where
-      -- what may still come might come before, and its members lie past the run and do not touch it
+      -- What may still come might come before, and its members are past the gathered ranks, with a
+      -- gap between.
       past : (late : List Interval) → may t.iter late
           → may s late × ((place : ℕ) → members late place ≡ true → rank end + 2 ≤ place)
       past late at =
@@ -290,7 +292,7 @@ module _ {S T N : Type 0} (integer : Elements T N) (source : Stream S T N) where
                 (subst (λ each. members each place ≡ true) first.2 member),
           )
 
-      -- the run comes before what may still come
+      -- The draw returns the gathered range, which comes before what may still come.
       pub answer-ahead : range_inclusive_exhausted answer ≡ false
           → range_inclusive_start answer ≡ start → range_inclusive_end answer ≡ end
           → Answered (record { iter = entry }) (Some answer) t
@@ -310,7 +312,7 @@ module _ {S T N : Type 0} (integer : Elements T N) (source : Stream S T N) where
           (sym put.iter) drew))
           (from-some rank (rank end + 2) t.iter.held range put.held (omega (arith, low, apart))))
 
-      -- the union may be called again, and is nearer its end
+      -- The union is ready again, and its end is nearer.
       pub ahead-goes : MakesProgress ((union_iter integer source).can_draw)
           (union_iter integer source).draws_left (record { iter = entry }) (Some answer) t
       ahead-goes =

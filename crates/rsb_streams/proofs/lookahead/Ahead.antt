@@ -19,34 +19,35 @@ use Rattle.rsb_streams.specs.declared.merge.Merge.{Merge}
 use Rattle.rsb_streams.specs.declared.union_iter.UnionIter.{UnionIter}
 use Rattle.rsb_streams.proofs.lookahead.EachCall.{fresh-undrawn, from-lower, uses-back, uses-ended, uses-front, uses-nothing, uses-then, within-first, within-join, within-second}
 
--- what was used of an input lies within an answer
+-- Whether what a call used of an input lies within the returned range.
 record UsesWithin (answer : Interval) (before now : Input) : Type 0 where
   used : List Interval
   uses : Uses before used now
   within : AreWithin answer used
 
--- what the last draw of a stream leaves of an input
+-- Whether the last draw of a stream used nothing more of an input. What is held then is at most one
+-- range, which starts at `first` or later.
 record Leaves (first : ℕ) (before now : Input) : Type 0 where
   uses : Uses before [] now
   ahead : IsOneFrom first now.held
 
--- nothing is held behind what is
+-- If nothing is held behind the prefix, the prefix and what follows it are at most one range.
 held-alone : (first : ℕ) (front held : List Interval) → held ≡ [] → IsOneFrom first front
     → IsOneFrom first (front ++ held)
 held-alone first front held none ahead = rw none (rw append-nil ahead)
 
--- ranges that lie within do so where two places are one
+-- If the ranges of `front` lie within a range, so do those held at one place.
 same-within : {Same Other : Type 0} (at : Same ⊎ Other) (answer : Interval) (front : List Interval)
     → AreWithin answer front → AreWithin answer (if_same at front)
 same-within (inl same) answer front within = within
 same-within (inr other) answer front within = tt
 
--- what a draw did to an input, by whether it is the one that gave the range
+-- What a draw did to an input, by whether the input gave the range.
 abbrev AtPlace : {Same Other : Type 0} → Same ⊎ Other → Input → Interval → Input → Type 0
 AtPlace (inl same) before run now = GivesFrom before run now
 AtPlace (inr other) before run now = Spares before run now
 
--- it did so at each place
+-- A draw that takes one range satisfies `AtPlace` at each place.
 at-place : {Place : Type 0} (before : Place → Input) (run : Interval) (now : Place → Input)
     (takes : TakesOne before run now) (place : Place)
     (at : (place ≡ takes.place) ⊎ (¬ (place ≡ takes.place)))
@@ -55,7 +56,7 @@ at-place before run now takes place (inl same) =
     subst (λ each. GivesFrom (before each) run (now each)) (sym same) takes.here
 at-place before run now takes place (inr other) = takes.elsewhere place other
 
--- the last draw gave a range, which is held
+-- If the last draw gave a range, which is then held, `Leaves` holds of the input.
 leaves-by : {Same Other : Type 0} (at : Same ⊎ Other) (first : ℕ) (run : Interval)
     (before now : Input) → first ≤ run.first → AtPlace at before run now
     → Leaves first before (holding (if_same at (run ∷ [])) now)
@@ -72,7 +73,8 @@ leaves-by (inr other) first run before now past spares = record {
   ahead = from-lower run.first first now.held past spares.later;
 }
 
--- a draw gave a range that lies within the answer, and so did the others
+-- If a drawn range and what later draws use lie within the returned range, so does all that is
+-- used.
 more-by : {Same Other : Type 0} (at : Same ⊎ Other) (answer run : Interval)
     (before middle now : Input) → answer.first ≤ run.first → run.last ≤ answer.last
     → AtPlace at before run middle → UsesWithin answer middle now → UsesWithin answer before now
@@ -89,7 +91,7 @@ more-by (inr other) answer run before middle now low high spares rest = record {
 
 -- ---- an input that has ended
 
--- it holds nothing
+-- If nothing is held and the stream has ended, an input has ended.
 ended-holds : {Same Other : Type 0} (at : Same ⊎ Other) (done : Bool) (input : Input)
     (held : List Interval) → held ≡ [] → done ≡ true
     → HasEnded (holding (if_same at held) (unless_ended done input))
@@ -103,11 +105,11 @@ module _ {Place S T N : Type 0} (same : Sameness Place) (integer : Elements T N)
     → AsksOne integer.rank inputs s item t) where
   open integer use {rank}
 
-  -- the inputs, and nothing once the stream has ended
+  -- The inputs, as ended inputs once the stream has ended.
   abbrev inputs_now : Fused S → Place → Input
   inputs_now s place = unless_ended s.done (inputs s.iter place)
 
-  -- a draw takes a range of one of them, by whether the stream had ended
+  -- A draw takes one range of one input. The cases are whether the stream had ended.
   took-by : (done after : Bool) (s t : S) (range : RangeInclusive T)
       → MatchBool done (Some range ≡ None) (stream.draw_gives s (Some range) t) → after ≡ false
       → TakesOne (λ place. unless_ended done (inputs s place)) (interval_of rank range)
@@ -118,12 +120,12 @@ module _ {Place S T N : Type 0} (same : Sameness Place) (integer : Elements T N)
       let takes = asks s t (Some range) call in
       record { place = takes.place; here = takes.here; elsewhere = takes.elsewhere }
 
-  -- a draw takes a range of one of them
+  -- A draw takes one range of one input.
   took : (s t : Fused S) (range : RangeInclusive T) → (fused stream).draw_gives s (Some range) t
       → TakesOne (inputs_now s) (interval_of rank range) (inputs_now t)
   took s t range call = took-by s.done t.done s.iter t.iter range call.0 call.1
 
-  -- what draws used of an input
+  -- What the draws used of an input lies within the returned range.
   used-along : (place : Place) (answer : Interval) (ranges : List (RangeInclusive T))
       (s t : Fused S) → Yields (fused stream).draw_gives s ranges t
       → AreWithin answer (intervals_of rank ranges)
@@ -143,7 +145,7 @@ module _ {Place S T N : Type 0} (same : Sameness Place) (integer : Elements T N)
       (same place takes.place))
       (used-along place answer ranges u t all.2 within.2)
 
-  -- a draw that answers nothing uses nothing, by whether the stream had ended
+  -- A draw that returns `None` uses nothing. The cases are whether the stream had ended.
   none-by : (done : Bool) (s t : S) (item : Option (RangeInclusive T)) (place : Place)
       → item ≡ None → MatchBool done (item ≡ None) (stream.draw_gives s item t)
       → Uses (unless_ended done (inputs s place)) [] (undrawn (just []))
@@ -152,7 +154,7 @@ module _ {Place S T N : Type 0} (same : Sameness Place) (integer : Elements T N)
       let ends = asks s t None (subst (λ each. stream.draw_gives s each t) is call) place in
       record { drawn = ends.uses.drawn; drew = ends.uses.drew; in_order = ends.uses.in_order }
 
-  -- the last draw, by what it gave
+  -- The last draw satisfies `Leaves` at each place. The cases are whether it gave a range.
   last-by : (from : Place) (first : ℕ) (held : Option (RangeInclusive T)) (u t : Fused S)
       → (fused stream).draw_gives u held t → IsOneFrom first (held_list rank held)
       → (from_now : Place) × ((place : Place) → Leaves first (inputs_now u place)
@@ -179,7 +181,7 @@ module _ {Place S T N : Type 0} (same : Sameness Place) (integer : Elements T N)
             (at-place (inputs_now u) run (inputs_now t) takes place (same place takes.place)),
       )
 
-  -- an answer of the union looks ahead of each input
+  -- A draw of a union that returns a range looks at most one range ahead in each input.
   joins-ahead : (from : Place) (s t : UnionIter T S) (answer : RangeInclusive T)
       → Joins integer stream s answer t
       → (from_now : Place) × ((place : Place) → LooksAhead (interval_of rank answer)
@@ -212,7 +214,7 @@ module _ {Place S T N : Type 0} (same : Sameness Place) (integer : Elements T N)
             },
       )
 
-  -- nothing was held before, so nothing but the input's own is used
+  -- If nothing is held before an input of which nothing is used, nothing is used of both together.
   none-held : {Same Other : Type 0} (at : Same ⊎ Other) (held : List Interval) (input : Input)
       → held ≡ [] → Uses input [] (undrawn (just []))
       → Uses (holding (if_same at held) input) [] (undrawn (just []))
@@ -221,7 +223,7 @@ module _ {Place S T N : Type 0} (same : Sameness Place) (integer : Elements T N)
   none-held (inr other) held input none uses =
       record { drawn = uses.drawn; drew = uses.drew; in_order = uses.in_order }
 
-  -- what a draw of a union asks of the inputs of the stream below it
+  -- A draw of a union satisfies `AsksAhead` for the inputs of the stream below it.
   pub asks-ahead : (s t : UnionIter T S) (item : Option (RangeInclusive T))
       → AsksToJoin integer stream s item t → AsksAhead same integer inputs s item t
   asks-ahead s t None nothing = λ from place. record {
@@ -235,7 +237,8 @@ module _ {Place S T N : Type 0} (same : Sameness Place) (integer : Elements T N)
 
 -- ---- a union just built
 
--- nothing is held before an input of which nothing is drawn
+-- If nothing is held before an undrawn input, and the stream has not ended, the input is still
+-- undrawn.
 undrawn-by : {Same Other : Type 0} (at : Same ⊎ Other) (may_give : Outcomes)
     (front : List Interval) (done : Bool) (input : Input) → front ≡ [] → done ≡ false
     → IsUndrawn may_give input
@@ -246,7 +249,7 @@ undrawn-by (inl same) may_give front false input none undone new =
 undrawn-by (inr other) may_give front false input none undone new =
     record { held = new.held; gives = new.gives }
 
--- nothing is drawn of the inputs of a stream, nor by a fresh union of it
+-- If the inputs of a stream are undrawn, they are also undrawn as inputs of a fresh union of it.
 pub joins-undrawn : {Place S T N : Type 0} (same : Sameness Place) (integer : Elements T N)
     (inputs : S → Place → Input) (may_give : Place → Outcomes) (below : S) (s : UnionIter T S)
     → IsFresh below s.iter → AreUndrawn may_give (inputs below)
@@ -259,12 +262,12 @@ joins-undrawn same integer inputs may_give below s fresh new = λ from place.
 module _ {T N L R : Type 0} (integer : Elements T N) (left : Stream L T N) (right : Stream R T N)
     (one : L) (other : R) (both : Merge T L R) (first : IsFresh one both.left)
     (second : IsFresh other both.right) where
-  -- nothing is drawn of two streams, which are merged
+  -- Nothing has been drawn from the two streams that are merged.
   pub merges-undrawn : MergesUndrawn integer left right one other both
   merges-undrawn Left = fresh-undrawn integer left one both.left first
   merges-undrawn Right = fresh-undrawn integer right other both.right second
 
-  -- nor by a fresh union of the merge
+  -- A fresh union of the merge has drawn nothing from them.
   pub unites-undrawn : (s : UnionIter T (Merge T L R)) → IsFresh both s.iter
       → UnitesUndrawn integer left right one other s
   unites-undrawn s fresh = joins-undrawn same_side integer (merge_inputs integer left right)

@@ -18,7 +18,7 @@ use Rattle.rsb_streams.specs.declared.put_back.PutBack.{PutBack}
 
 -- ---- what is used of an input
 
--- nothing
+-- A call that does nothing uses nothing.
 pub uses-nothing : (input : Input) → Uses input [] input
 uses-nothing input = record {
   drawn = [];
@@ -26,7 +26,7 @@ uses-nothing input = record {
   in_order = append-nil input.held;
 }
 
--- some, and then some more
+-- Calls one after the other use what the first uses, then what the second uses.
 pub uses-then : (first second third : Input) (xs ys : List Interval) → Uses first xs second
     → Uses second ys third → Uses first (xs ++ ys) third
 uses-then first second third xs ys before after = record {
@@ -40,7 +40,7 @@ uses-then first second third xs ys before after = record {
       ∙ sym (append_assoc xs ys third.held);
 }
 
--- what is held before the others is used first
+-- What is held before the rest is used first.
 pub uses-front : (before now : Input) (front used : List Interval) → Uses before used now
     → Uses (holding front before) (front ++ used) now
 uses-front before now front used uses = record {
@@ -51,7 +51,7 @@ uses-front before now front used uses = record {
       ∙ sym (append_assoc front used now.held);
 }
 
--- what was used is held again
+-- If what was used is held again, nothing is used.
 pub uses-back : (before now : Input) (used : List Interval) → Uses before used now
     → Uses before [] (holding used now)
 uses-back before now used uses = record {
@@ -60,7 +60,7 @@ uses-back before now used uses = record {
   in_order = uses.in_order;
 }
 
--- what has ended gives nothing
+-- If an input ends, nothing of it is used.
 pub uses-ended : (before now : Input) → Ends before now → Uses before [] now
 uses-ended before now ends = record {
   drawn = ends.uses.drawn;
@@ -68,28 +68,28 @@ uses-ended before now ends = record {
   in_order = ends.uses.in_order ∙ sym ends.over.held;
 }
 
--- ---- what lies within an answer
+-- ---- what lies within a returned range
 
--- of two lists
+-- Two lists put together lie within a range if both do.
 pub within-join : (answer : Interval) (xs ys : List Interval) → AreWithin answer xs
     → AreWithin answer ys → AreWithin answer (xs ++ ys)
 within-join answer [] ys first second = second
 within-join answer (run ∷ xs) ys first second =
     (first.0, first.1, within-join answer xs ys first.2 second)
 
--- of the first of two lists
+-- The first of two lists lies within a range if both together do.
 pub within-first : (answer : Interval) (xs ys : List Interval) → AreWithin answer (xs ++ ys)
     → AreWithin answer xs
 within-first answer [] ys all = tt
 within-first answer (run ∷ xs) ys all = (all.0, all.1, within-first answer xs ys all.2)
 
--- of the second of two lists
+-- The second of two lists lies within a range if both together do.
 pub within-second : (answer : Interval) (xs ys : List Interval) → AreWithin answer (xs ++ ys)
     → AreWithin answer ys
 within-second answer [] ys all = all
 within-second answer (run ∷ xs) ys all = within-second answer xs ys all.2
 
--- in a wider interval
+-- What lies within an interval lies within every wider one.
 pub within-wider : (answer wider : Interval) (xs : List Interval) → wider.first ≤ answer.first
     → answer.last ≤ wider.last → AreWithin answer xs → AreWithin wider xs
 within-wider answer wider [] low high all = tt
@@ -98,7 +98,7 @@ within-wider answer wider (run ∷ xs) low high all =
     let high_end = all.1 in
     (omega arith, omega arith, within-wider answer wider xs low high all.2)
 
--- of some that are held and of ranges that were drawn, with one more
+-- If one more drawn range lies within the returned range, so do all with it.
 pub within-more : {T : Type 0} (rank : T → ℕ) (answer : Interval) (front : List Interval)
     (drawn : List (RangeInclusive T)) (range : RangeInclusive T)
     → AreWithin answer (front ++ intervals_of rank drawn)
@@ -112,38 +112,38 @@ within-more rank answer (run ∷ front) drawn range all low high =
 
 -- ---- what is held ahead
 
--- nothing lies ahead
+-- If no range is held, `IsOneFrom` holds of the held list.
 pub from-none : {T : Type 0} (rank : T → ℕ) (first : ℕ) (held : Option (RangeInclusive T))
     → held ≡ None → IsOneFrom first (held_list rank held)
 from-none rank first held is = rw is tt
 
--- this range lies ahead
+-- If the held range starts at `first` or later, `IsOneFrom` holds of the held list.
 pub from-some : {T : Type 0} (rank : T → ℕ) (first : ℕ) (held : Option (RangeInclusive T))
     (range : RangeInclusive T) → held ≡ Some range → first ≤ (interval_of rank range).first
     → IsOneFrom first (held_list rank held)
 from-some rank first held range is most = rw is most
 
--- one at most lies ahead
+-- At most one range is held ahead.
 pub from-one : (first : ℕ) (runs : List Interval) → IsOneFrom first runs → length runs ≤ 1
 from-one first [] from = omega arith
 from-one first (run ∷ []) from = omega arith
 from-one first (run ∷ other ∷ runs) from = absurd from
 
--- and it does so of what comes earlier
+-- What starts at `first` or later starts at any lower rank or later.
 pub from-lower : (first low : ℕ) (runs : List Interval) → low ≤ first → IsOneFrom first runs
     → IsOneFrom low runs
 from-lower first low [] most from = tt
 from-lower first low (run ∷ []) most from = omega (arith, most, from)
 from-lower first low (run ∷ other ∷ runs) most from = absurd from
 
--- nothing is held
+-- If no range is held, the list of the held range is empty.
 pub no-list : {T : Type 0} (rank : T → ℕ) (held : Option (RangeInclusive T)) → held ≡ None
     → held_list rank held ≡ []
 no-list rank held is = rw is refl
 
 -- ---- calls in a row
 
--- calls, and one more
+-- Calls and one more are a longer sequence of calls.
 pub yields-more : {S A : Type 0} (steps : S → Option A → S → Type 0) (items : List A) (item : A)
     (s t u : S) → Yields steps s items t → steps t (Some item) u
     → Yields steps s (items ++ item ∷ []) u
@@ -152,11 +152,11 @@ yields-more steps [] item s t u all call =
 yields-more steps (first ∷ items) item s t u all call =
     (all.0, all.1, yields-more steps items item all.0 t u all.2 call)
 
--- ---- a stream of which one range may be put back
+-- ---- a stream to which one range may be put back
 module _ {T N I : Type 0} (integer : Elements T N) (stream : Stream I T N) where
   open integer use {rank}
 
-  -- where nothing is held, a draw is one of the stream
+  -- If nothing is held, a draw is one of the stream.
   pub call-by : (held item : Option (RangeInclusive T)) (s t : Fused I) → held ≡ None
       → MatchOption held ((fused stream).draw_gives s item t)
       (λ each. (item ≡ Some each) × (t ≡ s))
@@ -164,7 +164,7 @@ module _ {T N I : Type 0} (integer : Elements T N) (stream : Stream I T N) where
   call-by None item s t room call = call
   call-by (Some range) item s t room call = absurd (cc)
 
-  -- at the end nothing was held
+  -- If a draw returns `None`, nothing was held before.
   pub room-by : (held : Option (RangeInclusive T)) (s t : Fused I)
       → MatchOption held ((fused stream).draw_gives s None t)
       (λ each. (None ≡ Some each) × (t ≡ s))
@@ -172,7 +172,7 @@ module _ {T N I : Type 0} (integer : Elements T N) (stream : Stream I T N) where
   room-by None s t call = refl
   room-by (Some range) s t call = let no = call.0 in absurd (cc)
 
-  -- what has ended holds nothing and gives nothing, by what is held
+  -- An input has ended if it holds nothing and its stream has ended. The cases are what is held.
   over-by : (held : Option (RangeInclusive T)) (done : Bool) (iter : I) → held ≡ None
       → done ≡ true
       → HasEnded (input_of integer stream (record { held = held; iter = iter; done = done }))
@@ -180,7 +180,8 @@ module _ {T N I : Type 0} (integer : Elements T N) (stream : Stream I T N) where
   over-by None false iter room end = absurd (cc)
   over-by None true iter room end = record { held = refl; gives = λ runs at. at }
 
-  -- nothing is drawn of a fresh one, by what it holds
+  -- If the stream is as it was at first, holds nothing and has not ended, nothing has been drawn
+  -- from it.
   fresh-by : (held : Option (RangeInclusive T)) (done : Bool) (iter first : I) → held ≡ None
       → done ≡ false → iter ≡ first → IsUndrawn (stream.may_give first)
       (input_of integer stream (record { held = held; iter = iter; done = done }))
@@ -191,18 +192,18 @@ module _ {T N I : Type 0} (integer : Elements T N) (stream : Stream I T N) where
     gives = λ runs at. subst (λ each. stream.may_give each runs) same at;
   }
 
-  -- nothing is drawn of a fresh one
+  -- Nothing has been drawn from a fresh input.
   pub fresh-undrawn : (iter : I) (s : PutBack T I) → IsFresh iter s
       → IsUndrawn (stream.may_give iter) (input_of integer stream s)
   fresh-undrawn iter s fresh =
       fresh-by s.held s.done s.iter iter fresh.room fresh.undone fresh.source
 
   module _ (answers : IsAnswered integer stream) where
-    -- what is held, and what its stream gives
+    -- The held range, as the list that is held, and what the stream may give.
     abbrev input : Option (RangeInclusive T) → Fused I → Input
     input held s = record { held = held_list rank held; undrawn = (fused stream).may_give s }
 
-    -- a draw uses the range that it answers, by whether it was held
+    -- A draw uses the range that it returns. The cases are whether it was held.
     uses-by : (held after : Option (RangeInclusive T)) (s t : Fused I) (range : RangeInclusive T)
         → after ≡ None
         → MatchOption held ((fused stream).draw_gives s (Some range) t)
@@ -222,14 +223,14 @@ module _ {T N I : Type 0} (integer : Elements T N) (stream : Stream I T N) where
           in_order = ap (λ each. interval_of rank each ∷ []) same;
         })
 
-    -- a draw uses the range that it answers
+    -- A draw uses the range that it returns.
     pub draw-uses : (s t : PutBack T I) (range : RangeInclusive T)
         → (put_back integer stream).draw_gives s (Some range) t
         → Uses (input_of integer stream s) (interval_of rank range ∷ []) (input_of integer stream t)
     draw-uses s t range call =
         uses-by s.held t.held (fused_of s) (fused_of t) range call.room call.call
 
-    -- at the end nothing was held, and nothing is used, by whether a range was held
+    -- If a draw returns `None`, nothing is used. The cases are whether a range was held.
     ends-by : (held : Option (RangeInclusive T)) (s t : Fused I)
         → MatchOption held ((fused stream).draw_gives s None t)
         (λ each. (None ≡ Some each) × (t ≡ s))
@@ -245,14 +246,14 @@ module _ {T N I : Type 0} (integer : Elements T N) (stream : Stream I T N) where
     )
     ends-by (Some held) s t call = let no = call.0 in absurd (cc)
 
-    -- a draw that answers nothing ends it
+    -- A draw that returns `None` ends the input.
     pub draw-ends : (s t : PutBack T I) → (put_back integer stream).draw_gives s None t
         → Ends (input_of integer stream s) (input_of integer stream t)
     draw-ends s t call =
         let found = ends-by s.held (fused_of s) (fused_of t) call.call in
         record { uses = found.0; over = over-by t.held t.done t.iter call.room found.1 }
 
-    -- a range is held again that was put back, by what is held
+    -- If a range is put back, it is held again. The cases are what is held.
     back-by : (held after : Option (RangeInclusive T)) (s t : Fused I) (range : RangeInclusive T)
         (before : Input) → held ≡ None → after ≡ Some range → t ≡ s
         → Uses before (interval_of rank range ∷ []) (input held s)
@@ -263,7 +264,7 @@ module _ {T N I : Type 0} (integer : Elements T N) (stream : Stream I T N) where
       in_order = uses.in_order ∙ ap (λ each. interval_of rank range ∷ held_list rank each) room;
     })
 
-    -- a range that was drawn and put back is held
+    -- A range that was drawn and put back is held, so nothing is used.
     pub back-uses : (s u t : PutBack T I) (range : RangeInclusive T)
         → (put_back integer stream).draw_gives s (Some range) u → IsPutBack range u t
         → Uses (input_of integer stream s) [] (input_of integer stream t)

@@ -22,7 +22,8 @@ use Rattle.rsb_streams.proofs.joining.Gathered.{head-sorted}
 -- ---- outcomes, in a type of n values
 
 module _ (n : ℕ) (P Q After Later : Outcomes) (run : Interval) where
-  -- a range of the left list comes first
+  -- If a range of the left list starts no later than the right list, it may come first in the
+  -- merge.
   pub head-left : P ⊆ HasSortedStarts n → ((rest : List Interval) → After rest → P (run ∷ rest))
       → Later ⊆ Q
       → Later ⊆ HasSortedStartsFrom n run.first
@@ -33,7 +34,8 @@ module _ (n : ℕ) (P Q After Later : Outcomes) (run : Interval) where
       nothing (run ∷ left) right (answers left at) (within right also)
       ((first.0, first.1, first.2, runs), inl (left, refl, all.1)))
 
-  -- a range of the right list comes first
+  -- If a range of the right list starts no later than the left list, it may come first in the
+  -- merge.
   pub head-right : Q ⊆ HasSortedStarts n → ((rest : List Interval) → Later rest → Q (run ∷ rest))
       → After ⊆ P
       → After ⊆ HasSortedStartsFrom n run.first
@@ -44,7 +46,7 @@ module _ (n : ℕ) (P Q After Later : Outcomes) (run : Interval) where
       nothing left (run ∷ right) (within left at) (answers right also)
       ((first.0, first.1, first.2, runs), inr (right, refl, all.1)))
 
--- a merge of nothing and nothing is nothing
+-- A merge of two empty lists is empty.
 no-merge : (runs : List Interval) → IsMergeOf [] [] runs → runs ≡ []
 no-merge [] merged = refl
 no-merge (run ∷ runs) merged = elim merged [
@@ -52,7 +54,7 @@ no-merge (run ∷ runs) merged = elim merged [
   | inr from_right ↦ let no = from_right.1 in absurd (cc)
 ]
 
--- where nothing may come of either stream, nothing may come of the merge
+-- If neither stream may give a range, the merge gives nothing.
 pub no-merges : (n : ℕ) (P Q : Outcomes) → P ⊆ just [] → Q ⊆ just [] → merges n P Q ⊆ just []
 no-merges n P Q first second [] may = refl
 no-merges n P Q first second (run ∷ runs) may = absurd (may (λ left right at also all.
@@ -66,35 +68,35 @@ module _ {L R T N : Type 0} (integer : Elements T N) (left : Stream L T N)
     (left_laws : IsLawful integer left) (right_laws : IsLawful integer right) where
   open integer use {rank, value_count as n}
 
-  -- the left stream, with what is put back
+  -- The left stream, to which a range may be put back.
   abbrev lefts : Stream (PutBack T L) T N
   lefts = put_back integer left
 
-  -- the right stream, with what is put back
+  -- The right stream, to which a range may be put back.
   abbrev rights : Stream (PutBack T R) T N
   rights = put_back integer right
 
-  -- the left one keeps the laws
+  -- The left stream with what is put back is lawful.
   left_held : IsLawful integer lefts
   left_held = put_back-lawful integer left left_laws
 
-  -- the right one keeps the laws
+  -- The right stream with what is put back is lawful.
   right_held : IsLawful integer rights
   right_held = put_back-lawful integer right right_laws
 
-  -- the merge may be called
+  -- Whether the merge is ready.
   abbrev Ready : Merge T L R → Type 0
   Ready = (merge integer left right).can_draw
 
-  -- what the merge may give
+  -- What the merge may give.
   abbrev may : Merge T L R → Outcomes
   may = (merge integer left right).may_give
 
-  -- what is known of a call of the merge
+  -- Whether a draw fits the merge.
   abbrev Answered : Merge T L R → Option (RangeInclusive T) → Merge T L R → Type 0
   Answered = (merge integer left right).draw_gives
 
-  -- a draw of the left stream uses its range
+  -- A draw of the left stream uses its range.
   gives-left : (s t : PutBack T L) (range : RangeInclusive T)
       → lefts.draw_gives s (Some range) t
       → GivesFrom (input_of integer left s) (interval_of rank range) (input_of integer left t)
@@ -103,7 +105,7 @@ module _ {L R T N : Type 0} (integer : Elements T N) (left : Stream L T N)
     room = no-list rank t.held call.room;
   }
 
-  -- a draw of the right one uses its range
+  -- A draw of the right stream uses its range.
   gives-right : (s t : PutBack T R) (range : RangeInclusive T)
       → rights.draw_gives s (Some range) t
       → GivesFrom (input_of integer right s) (interval_of rank range) (input_of integer right t)
@@ -112,7 +114,7 @@ module _ {L R T N : Type 0} (integer : Elements T N) (left : Stream L T N)
     room = no-list rank t.held call.room;
   }
 
-  -- the range is one of the left stream
+  -- If the left stream gave the range, the draw takes one range of the left stream.
   takes-left : (s t : Merge T L R) (run : Interval)
       → GivesFrom (input_of integer left s.left) run (input_of integer left t.left)
       → Spares (input_of integer right s.right) run (input_of integer right t.right)
@@ -123,14 +125,14 @@ module _ {L R T N : Type 0} (integer : Elements T N) (left : Stream L T N)
     elsewhere = λ other not. other-by other not;
   }
     where
-      -- by the other side
+      -- The other side is the right one, which is spared.
       other-by : (other : Side) → ¬ (other ≡ Left)
           → Spares (merge_inputs integer left right s other) run
           (merge_inputs integer left right t other)
       other-by Left not = absurd (not refl)
       other-by Right not = spares
 
-  -- the range is one of the right stream
+  -- If the right stream gave the range, the draw takes one range of the right stream.
   takes-right : (s t : Merge T L R) (run : Interval)
       → GivesFrom (input_of integer right s.right) run (input_of integer right t.right)
       → Spares (input_of integer left s.left) run (input_of integer left t.left)
@@ -141,14 +143,14 @@ module _ {L R T N : Type 0} (integer : Elements T N) (left : Stream L T N)
     elsewhere = λ other not. other-by other not;
   }
     where
-      -- by the other side
+      -- The other side is the left one, which is spared.
       other-by : (other : Side) → ¬ (other ≡ Right)
           → Spares (merge_inputs integer left right s other) run
           (merge_inputs integer left right t other)
       other-by Left not = spares
       other-by Right not = absurd (not refl)
 
-  -- both streams end
+  -- If both streams return `None`, both inputs end.
   both-end : (s t : Merge T L R) → lefts.draw_gives s.left None t.left
       → rights.draw_gives s.right None t.right → (side : Side)
       → Ends (merge_inputs integer left right s side) (merge_inputs integer left right t side)
@@ -156,7 +158,7 @@ module _ {L R T N : Type 0} (integer : Elements T N) (left : Stream L T N)
   both-end s t first second Right =
       draw-ends integer right right_laws.answers s.right t.right second
 
-  -- nothing comes of the left stream
+  -- If the left stream returns `None`, the merge returns what the right stream does.
   pub only-right : (s t : Merge T L R) (item : Option (RangeInclusive T)) → Ready s
       → lefts.draw_gives s.left None t.left → rights.draw_gives s.right item t.right → Answered s item t
   only-right s t None ready none call =
@@ -190,7 +192,7 @@ module _ {L R T N : Type 0} (integer : Elements T N) (left : Stream L T N)
             });
       }
 
-  -- nothing more comes of the right stream
+  -- If only the right stream returns `None`, the merge returns the range of the left stream.
   pub only-left : (s t : Merge T L R) (range : RangeInclusive T) → Ready s
       → lefts.draw_gives s.left (Some range) t.left → rights.draw_gives s.right None t.right
       → Answered s (Some range) t
@@ -213,14 +215,14 @@ module _ {L R T N : Type 0} (integer : Elements T N) (left : Stream L T N)
             });
       }
 
-  -- both streams give a range
+  -- Both streams give a range.
   module _ (s : Merge T L R) (u : PutBack T L) (v : PutBack T R) (first second : RangeInclusive T)
       (ready : Ready s)
       (left_call : lefts.draw_gives s.left (Some first) u)
       (right_call : rights.draw_gives s.right (Some second) v)
       (left_goes : MakesProgress lefts.can_draw lefts.draws_left s.left (Some first) u)
       (right_goes : MakesProgress rights.can_draw rights.draws_left s.right (Some second) v) where
-    -- the left range is non-empty and lies in the type
+    -- The left range is non-empty and within the type.
     left_first : (0 ≤ (interval_of rank first).first)
         × ((interval_of rank first).first ≤ (interval_of rank first).last)
         × ((interval_of rank first).last < n)
@@ -229,7 +231,7 @@ module _ {L R T N : Type 0} (integer : Elements T N) (left : Stream L T N)
         (λ rest at. ready.left.sorted (interval_of rank first ∷ rest)
         (left_held.answers s.left u (Some first) left_call rest at))
 
-    -- the right range is non-empty and lies in the type
+    -- The right range is non-empty and within the type.
     right_first : (0 ≤ (interval_of rank second).first)
         × ((interval_of rank second).first ≤ (interval_of rank second).last)
         × ((interval_of rank second).last < n)
@@ -238,7 +240,7 @@ module _ {L R T N : Type 0} (integer : Elements T N) (left : Stream L T N)
         (λ rest at. ready.right.sorted (interval_of rank second ∷ rest)
         (right_held.answers s.right v (Some second) right_call rest at))
 
-    -- where they start
+    -- Both ranges start at values of the type.
     pub start-values : (rank (range_inclusive_start first) < n)
         × (rank (range_inclusive_start second) < n)
     start-values =
@@ -248,11 +250,11 @@ module _ {L R T N : Type 0} (integer : Elements T N) (left : Stream L T N)
         let high = range-start rank second two.1 in
         (omega (arith, one.1, one.2, low), omega (arith, two.1, two.2, high))
 
-    -- the right one starts first, and the left one is put back
+    -- The right range starts first, and the left one is put back.
     module _ (w : PutBack T L) (put : IsPutBack first u w)
         (less : rank (range_inclusive_start second) < rank (range_inclusive_start first)) where
-      -- the left stream with its range put back may give what it might give before, and no start
-      -- of it lies before the right range
+      -- What the left stream may give with its range put back, it might give before, and it starts
+      -- no earlier than the right range.
       held-left : (runs : List Interval) → lefts.may_give w runs
           → lefts.may_give s.left runs × HasSortedStartsFrom n (interval_of rank second).first runs
       held-left runs at =
@@ -268,7 +270,7 @@ module _ {L R T N : Type 0} (integer : Elements T N) (left : Stream L T N)
             subst (HasSortedStartsFrom n (interval_of rank second).first) (sym found.2) all,
           )
 
-      -- the right range comes before what may still come
+      -- The right range comes before what may still come.
       pub right-answers : Answered s (Some second) (record { left = w; right = v })
       right-answers =
           let low = range-start rank first left_first.1 in
@@ -289,7 +291,7 @@ module _ {L R T N : Type 0} (integer : Elements T N) (left : Stream L T N)
                 });
           }
 
-      -- the merge may be called again, and is nearer its end
+      -- The merge is ready again, and its end is nearer.
       pub right-goes : MakesProgress Ready (merge integer left right).draws_left s
           (Some second)
           (record { left = w; right = v })
@@ -313,11 +315,11 @@ module _ {L R T N : Type 0} (integer : Elements T N) (left : Stream L T N)
             rests = λ finite. tt;
           }
 
-    -- the left one starts no later, and the right one is put back
+    -- The left range starts no later, and the right one is put back.
     module _ (w : PutBack T R) (put : IsPutBack second v w)
         (most : rank (range_inclusive_start first) ≤ rank (range_inclusive_start second)) where
-      -- the right stream with its range put back may give what it might give before, and no start
-      -- of it lies before the left range
+      -- What the right stream may give with its range put back, it might give before, and it starts
+      -- no earlier than the left range.
       held-right : (runs : List Interval) → rights.may_give w runs
           → rights.may_give s.right runs × HasSortedStartsFrom n (interval_of rank first).first runs
       held-right runs at =
@@ -333,7 +335,7 @@ module _ {L R T N : Type 0} (integer : Elements T N) (left : Stream L T N)
             subst (HasSortedStartsFrom n (interval_of rank first).first) (sym found.2) all,
           )
 
-      -- the left range comes before what may still come
+      -- The left range comes before what may still come.
       pub left-answers : Answered s (Some first) (record { left = u; right = w })
       left-answers =
           let low = range-start rank first left_first.1 in
@@ -354,7 +356,7 @@ module _ {L R T N : Type 0} (integer : Elements T N) (left : Stream L T N)
                 });
           }
 
-      -- the merge may be called again, and is nearer its end
+      -- The merge is ready again, and its end is nearer.
       pub left-goes : MakesProgress Ready (merge integer left right).draws_left s
           (Some first)
           (record { left = u; right = w })

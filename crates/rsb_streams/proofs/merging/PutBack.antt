@@ -12,7 +12,7 @@ use Rattle.rsb_streams.specs.StreamLaws.{sorted-lower}
 use Rattle.rsb_streams.specs.declared.draw.Draw.{Ghosts as Stream}
 use Rattle.rsb_streams.specs.declared.put_back.PutBack.{PutBack}
 
--- the source has ended where a draw gave nothing
+-- The flag for the end is set exactly if the draw returned `None`.
 pub told : {A : Type 0} (item : Option A) (ended : Bool) → ended ≡ is_none item
     → MatchOption item (ended ≡ true) (λ _. ended ≡ false)
 told None ended is = is
@@ -20,15 +20,15 @@ told (Some x) ended is = is
 
 module _ {T N I : Type 0} (integer : Elements T N) (source : Stream I T N)
     (sorted : IsSorted integer source) where
-  -- it may be drawn from
+  -- Whether the source is ready.
   abbrev Ready : PutBack T I → Type 0
   Ready = (put_back integer source).can_draw
 
-  -- how many are left, by what is held and whether the source has ended
+  -- The number of ranges that are left, by what is held and whether the source has ended.
   abbrev left_by : Option (RangeInclusive T) → Bool → I → Count
   left_by held done i = count_map (λ count. count + option_len held) (count_unless done (source.draws_left i))
 
-  -- where nothing is held, a draw of a source that has not ended goes on as the source does
+  -- If nothing is held and the source has not ended, a draw makes progress as the source does.
   goes-by : (held after : Option (RangeInclusive T)) (done ended : Bool) (i j : I)
       (item : Option (RangeInclusive T)) → held ≡ None → after ≡ None → done ≡ false
       → ended ≡ is_none item → MakesProgress source.can_draw source.draws_left i item j
@@ -54,7 +54,7 @@ module _ {T N I : Type 0} (integer : Elements T N) (source : Stream I T N)
         (λ finite. tt),
       )
 
-  -- a draw goes on as the source does
+  -- A draw makes progress as the source does.
   pub drawn-goes : (s : PutBack T I) (after : Option (RangeInclusive T)) (ended : Bool) (j : I)
       (item : Option (RangeInclusive T)) → s.held ≡ None → after ≡ None → s.done ≡ false
       → ended ≡ is_none item → MakesProgress source.can_draw source.draws_left s.iter item j
@@ -64,7 +64,7 @@ module _ {T N I : Type 0} (integer : Elements T N) (source : Stream I T N)
       let parts = goes-by s.held after s.done ended s.iter j item none over undone end goes in
       record { on = parts.0; keeps = parts.1; rests = parts.2 }
 
-  -- where a range is held, it comes, and nothing is held then
+  -- If a range is held and the stream is ready, it is also ready without the range.
   held-ready : (i : I) (done : Bool) (range : RangeInclusive T)
       → Ready (record { held = Some range; iter = i; done = done })
       → Ready (record { held = None; iter = i; done = done })
@@ -75,7 +75,7 @@ module _ {T N I : Type 0} (integer : Elements T N) (source : Stream I T N)
         sorted-lower integer.value_count (interval_of integer.rank range).first 0 runs (omega arith) all.3;
   }
 
-  -- so it goes on with one fewer
+  -- A draw that returns the held range makes progress.
   pub held-goes : (s : PutBack T I) (after : Option (RangeInclusive T)) (range : RangeInclusive T)
       → s.held ≡ Some range → after ≡ None → Ready s
       → MakesProgress Ready (put_back integer source).draws_left s (Some range)

@@ -1,7 +1,8 @@
 -- One more range, for the pieces that an odd number of ranges covers.
 use Rattle.rsb_integer.specs.declared.integer.Integer.{Ghosts as Elements}
 use Rattle.rsb_streams.specs.declared.draw.Draw.{Ghosts as Stream}
-use Rattle.std.proofs.Common.{◌≡◌, ◌+◌, ◌<◌, ◌≤◌, true, false, List, ◌∷◌, ◌++◌, length, refl, sym, ap, ◌∙◌, subst, arith}
+use Rattle.std.proofs.Common.{◌≡◌, ℕ, ◌+◌, ◌<◌, ◌≤◌, true, false, cond, nat_le, nat_lt, List, ◌∷◌, ◌++◌, length, refl, sym, ap, ◌∙◌, subst, arith}
+use Rattle.std.proofs.lemmas.Bool.Decides.{nat_tests}
 use Rattle.std.specs.Prelude.{Option, Some, None}
 use Rattle.std.specs.Ordering.{partial_lt}
 use Rattle.std.specs.declared.cmp.Ordering.{Ordering}
@@ -9,9 +10,11 @@ use Rattle.std.specs.Iterator.{Count, IsFinite, MakesProgress, size}
 use Rattle.std.specs.Range.{range_inclusive_start, range_inclusive_end, range_inclusive_exhausted}
 use Rattle.std.specs.declared.ops.RangeInclusive.{RangeInclusive}
 use Rattle.rsb_integer.specs.Rank.{interval_of}
-use Rattle.rsb_integer.specs.Runs.{Interval, from_to}
+use Rattle.rsb_integer.specs.Runs.{Interval, covers, from_to, members}
+use Rattle.rsb_integer.specs.Selection.{exclusive_or}
 use Rattle.rsb_integer.proofs.MembersLemmas.{same_interval}
-use Rattle.rsb_streams.specs.OddPieces.{odd_may_give, odd_remaining, oddly_covered, past_both, pieces_of, pending, ends_of, ArePieces, IsGoing, IsTwofold, odd_pieces}
+use Rattle.rsb_streams.specs.OddPieces.{odd_may_give, odd_remaining, oddly_covered, past_both, pieces_of, pending, rank_after, ends_of, begun_from, ArePieces, IsGoing, IsTwofold, odd_pieces}
+use Rattle.rsb_streams.specs.Lookahead.{IsOneFrom}
 use Rattle.rsb_streams.specs.Stream.{Outcomes, ◌⊆◌, run_if_any, unless, HasOutcome}
 use Rattle.rsb_streams.specs.declared.odd_pieces.OddPieces.{OddPieces}
 use Rattle.rsb_streams.proofs.checking.Comparisons.{IsRanked, less-rank, not_less-rank}
@@ -19,33 +22,43 @@ use Rattle.rsb_streams.proofs.gaps.Loop.{answered}
 use Rattle.rsb_streams.proofs.odd.Ranks.{past-twofold, pieces-before, pieces-first, pieces-past, twofold-tail}
 use Rattle.rsb_streams.proofs.sources.Known.{IsLawful, range-start, range-end}
 use Rattle.rsb_streams.proofs.joining.Gathered.{head-sorted}
+use Rattle.rsb_streams.proofs.odd.Drawn.{begun-past, begun-some, drew-more, members-if, one-if, past-odd, takes-more, Drew}
 use Rattle.rsb_streams.proofs.odd.Ends.{so-by}
 use Rattle.rsb_streams.proofs.odd.States.{OddSoFar, state, one-held, HasPassed}
+
+-- No rank from `next` on is before `next`.
+none-from : (first next at : ℕ) → next ≤ at → false ≡ cond (nat_le first at) (nat_lt at next) false
+none-from first next at past = grind (arith, nat_tests)
+
+-- No rank is from `first` on and before `next` if that is no later.
+none-between : (first next at : ℕ) → next ≤ first
+    → false ≡ cond (nat_le first at) (nat_lt at next) false
+none-between first next at most = grind (arith, nat_tests)
 
 module _ {I T N : Type 0} (integer : Elements T N) (source : Stream I T N) where
   open integer use {rank, value_count as n}
 
-  -- the pieces may be drawn
+  -- Whether the pieces are ready.
   abbrev can : OddPieces T I → Type 0
   can = (odd_pieces integer source).can_draw
 
-  -- what they may be
+  -- What the pieces may give.
   abbrev may : OddPieces T I → Outcomes
   may = odd_may_give integer source
 
-  -- how many are left at most
+  -- The number of pieces that are left, at most.
   abbrev left_of : OddPieces T I → Count
   left_of = odd_remaining integer source
 
-  -- what may come now might come at the entry
+  -- What holds before each iteration: what may come now might come at the entry.
   abbrev SoFar : OddPieces T I → OddPieces T I → Type 0
   SoFar = OddSoFar integer source
 
-  -- what is known of a call
+  -- Whether a draw fits the pieces.
   abbrev Answered : OddPieces T I → Option (RangeInclusive T) → OddPieces T I → Type 0
   Answered = (odd_pieces integer source).draw_gives
 
-  -- the values are told apart by their ranks
+  -- The source is lawful, and values compare as their ranks do.
   module _ (laws : IsLawful integer source) {partial_cmp : T → T → Option Ordering}
       {cmp : T → T → Ordering} (ranked : IsRanked rank n partial_cmp cmp) where
     -- ---- one more range
@@ -54,16 +67,16 @@ module _ {I T N : Type 0} (integer : Elements T N) (source : Stream I T N) where
         (goes : MakesProgress source.can_draw source.draws_left was.iter (Some range) j)
         (from : next ≡ range_inclusive_start range) (to : next_end ≡ range_inclusive_end range)
       where
-        -- something may come after it
+        -- Something may come after the range.
         some : HasOutcome (source.may_give j)
         some = (laws.sorted j goes.keeps).some
 
-        -- it comes first
+        -- The range, followed by what may come after it, might come before the draw.
         before : (given : List Interval) → source.may_give j given
             → source.may_give was.iter (interval_of rank range ∷ given)
         before given at = laws.answers was.iter j (Some range) call given at
 
-        -- it is non-empty, and lies in the type
+        -- The range is non-empty and within the type.
         facts : (0 ≤ (interval_of rank range).first)
             × ((interval_of rank range).first ≤ (interval_of rank range).last)
             × ((interval_of rank range).last < n)
@@ -71,25 +84,25 @@ module _ {I T N : Type 0} (integer : Elements T N) (source : Stream I T N) where
             (λ given at. (laws.sorted was.iter so_now.going.callable).all
             (interval_of rank range ∷ given) (before given at))
 
-        -- its ranks
+        -- The interval of the range is from the rank of its start to the rank of its end.
         is_run : interval_of rank range ≡ from_to (rank next) (rank next_end)
         is_run = same_interval (interval_of rank range) (from_to (rank next) (rank next_end))
             (range-start rank range facts.1 ∙ sym (ap rank from))
             (range-end rank range facts.1 ∙ sym (ap rank to))
 
-        -- so it comes first by its ends
+        -- So this interval, followed by what may come after it, might come before the draw.
         comes : (given : List Interval) → source.may_give j given
             → source.may_give was.iter (from_to (rank next) (rank next_end) ∷ given)
         comes given at =
             subst (λ run. source.may_give was.iter (run ∷ given)) is_run (before given at)
 
-        -- fewer are to come
+        -- The source ends, and has fewer ranges left than before the draw.
         pub fewer : IsFinite (source.draws_left j) × (size (source.draws_left j) < size (source.draws_left was.iter))
         fewer =
             let on = goes.on (laws.sorted was.iter so_now.going.callable).ends in
             (on.1, on.2)
 
-        -- its ends are values
+        -- Both ends of the range are values of the type.
         next-values : (rank next < n) × (rank next_end < n)
         next-values =
             let all = facts in
@@ -97,7 +110,8 @@ module _ {I T N : Type 0} (integer : Elements T N) (source : Stream I T N) where
             let high = ap (λ run. run.last) is_run in
             (omega (arith, all.1, all.2, low, high), omega (arith, all.2, high))
 
-        -- where it alone is pending, the pieces may be drawn
+        -- If the range and those to come satisfy `IsTwofold`, the state in which only this range is
+        -- pending satisfies `IsGoing`.
         going-next : ((given : List Interval) → source.may_give j given
             → IsTwofold n (from_to (rank next) (rank next_end) ∷ given))
             → IsGoing integer source (state j next (Some next_end))
@@ -106,18 +120,33 @@ module _ {I T N : Type 0} (integer : Elements T N) (source : Stream I T N) where
           twofold = twofold;
         }
 
-        -- the state where it alone is pending
+        -- The state in which only the range is pending.
         abbrev next_state : OddPieces T I
         next_state = record { iter = j; done = was.done; start = next; end = Some next_end }
 
-        -- it is not at its end
+        -- The pieces have not ended, so what holds of that state with `done` unset holds of it.
         from-state : (Holds : OddPieces T I → Type 0) → Holds (state j next (Some next_end))
             → Holds next_state
         from-state Holds at = subst
             (λ done. Holds (record { iter = j; done = done; start = next; end = Some next_end }))
             (sym so_now.undone) at
 
-        -- it begins where none is pending
+        -- The members of the new range as the pending one.
+        new-run : (at : ℕ)
+            → members (begun_from rank next (Some next_end)) at ≡ covers (interval_of rank range) at
+        new-run at =
+            begun-some rank next (Some next_end) next_end at refl
+            ∙ ap (λ run. covers run at) (sym is_run)
+
+        -- If no range is pending, the new one is the first that is drawn and not ended.
+        pub drew-begins : Drew integer source entry was → None ≡ was.end
+            → Drew integer source entry next_state
+        drew-begins drew is = drew-more integer source entry was drew so_now.undone range next_state
+            so_now.undone call (λ at. new-run at ∙ sym (ap (λ held.
+            exclusive_or (members (begun_from rank was.start held) at)
+            (covers (interval_of rank range) at)) (sym is)))
+
+        -- If no range is pending, the new one is pending next.
         pub so-begins : None ≡ was.end → SoFar entry next_state
         so-begins is =
             let so = so-by integer source entry was None so_now (sym is) in
@@ -132,18 +161,18 @@ module _ {I T N : Type 0} (integer : Elements T N) (source : Stream I T N) where
               nearer = omega (arith, less.1, nearer);
             })
 
-        -- one is pending
+        -- A range up to `end` is pending.
         module _ (end : T) (is : Some end ≡ was.end) where
-          -- so it was before
+          -- What holds before the iteration, with the pending end written out.
           so : SoFar entry (state was.iter was.start (Some end))
           so = so-by integer source entry was (Some end) so_now (sym is)
 
-          -- both, and what comes after them
+          -- The pending range, the new one and those to come satisfy `IsTwofold`.
           twofold : (given : List Interval) → source.may_give j given
               → IsTwofold n (from_to (rank was.start) (rank end) ∷ from_to (rank next) (rank next_end) ∷ given)
           twofold given at = so.going.twofold (from_to (rank next) (rank next_end) ∷ given) (comes given at)
 
-          -- the pending one is non-empty and lies in the type
+          -- The pending range is non-empty and within the type.
           pending-facts : (0 ≤ rank was.start) × (rank was.start ≤ rank end) × (rank end < n)
           pending-facts = head-sorted n 0 (from_to (rank was.start) (rank end))
               (λ given. (rest : List Interval) × source.may_give j rest
@@ -152,7 +181,7 @@ module _ {I T N : Type 0} (integer : Elements T N) (source : Stream I T N) where
               (given, at, refl)))
               (λ given at. rw at.2 (twofold at.0 at.1).sorted)
 
-          -- all four ends are values
+          -- The ends of both ranges are values of the type.
           pub both-values : (rank was.start < n) × (rank end < n) × (rank next < n) × (rank next_end < n)
           both-values =
               let all = pending-facts in
@@ -160,19 +189,20 @@ module _ {I T N : Type 0} (integer : Elements T N) (source : Stream I T N) where
               let high = all.2 in
               (omega (arith, low, high), high, next-values.0, next-values.1)
 
-          -- where the pending one starts before the next one, so do others
+          -- If the pending range starts before the new one, the new one does not start at rank 0.
           pub next-above : true ≡ partial_lt partial_cmp was.start next → 0 < rank next
           next-above test =
               let less = less-rank ranked was.start next both-values.0
               both-values.2 test in
               omega (arith, less)
 
-          -- the pending one comes first where the other starts past it
-          pub apart-answers : true ≡ partial_lt partial_cmp end next → (answer : RangeInclusive T)
+          -- If the new range starts past the pending end, the draw returns the pending range.
+          pub apart-answers : Drew integer source entry was
+              → true ≡ partial_lt partial_cmp end next → (answer : RangeInclusive T)
               → range_inclusive_exhausted answer ≡ false → range_inclusive_start answer ≡ was.start
               → range_inclusive_end answer ≡ end
               → Answered entry (Some answer) next_state
-          apart-answers test answer fresh at_start at_end =
+          apart-answers drew test answer fresh at_start at_end =
               let apart = less-rank ranked end next both-values.1
               both-values.2 test in
               let first = from_to (rank was.start) (rank end) in
@@ -188,9 +218,16 @@ module _ {I T N : Type 0} (integer : Elements T N) (source : Stream I T N) where
                     (pieces-first n first (run ∷ given) rest both.1 both.2
                     (omega arith, both.3.1, both.3.2, both.3.3) all))));
                 rests = tt;
+                asks =
+                    let last = ap (λ run. run.last) gap in
+                    takes-more integer source entry was drew so_now.undone range
+                    (state j next (Some next_end)) refl call answer (omega (arith, last, apart))
+                    (λ at from. new-run at ∙ sym (ap (λ test.
+                    exclusive_or test (covers (interval_of rank range) at))
+                    (begun-past rank was.start was.end end at (sym is) (omega (arith, last, from)))));
               })
 
-          -- and fewer are left
+          -- That draw makes progress.
           pub apart-goes : (answer : RangeInclusive T)
               → MakesProgress can left_of entry (Some answer) next_state
           apart-goes answer =
@@ -205,19 +242,63 @@ module _ {I T N : Type 0} (integer : Elements T N) (source : Stream I T N) where
                 rests = λ finite. tt;
               })
 
-          -- they overlap, and what lies past the lesser end is pending
+          -- The two ranges overlap, and what is past the lesser end is pending next.
           module _ (test : false ≡ partial_lt partial_cmp end next) (now : OddPieces T I)
               (passed : HasPassed rank j end next_end now) where
-            -- the next one starts at the end of the pending one at most
+            -- The new range starts no later than the pending end.
             meets : rank next ≤ rank end
             meets = not_less-rank ranked end next both-values.1 both-values.2 test
 
-            -- what is still to come comes of the source as it is then
+            -- The new range is non-empty.
+            in_order : rank next ≤ rank next_end
+            in_order =
+                let ordered = facts.1 in
+                let low = ap (λ run. run.first) is_run in
+                let high = ap (λ run. run.last) is_run in
+                omega (arith, ordered, low, high)
+
+            -- It starts no earlier than the pending range.
+            later : rank was.start ≤ rank next
+            later = (head-sorted n (rank was.start) (from_to (rank next) (rank next_end))
+                (source.may_give j) some (λ given at. (twofold given at).sorted.3)).0
+
+            -- The call left the source as it is in the next state.
+            call-now : source.draw_gives was.iter (Some range) now.iter
+            call-now = subst (λ iter. source.draw_gives was.iter (Some range) iter) (sym passed.iter)
+                call
+
+            -- What is pending next is in exactly one of the two ranges, at a rank that is not
+            -- before the new one.
+            odd-now : (at : ℕ)
+                → false ≡ cond (nat_le (rank was.start) at) (nat_lt at (rank next)) false
+                → members (pending rank now) at
+                ≡ exclusive_or (members (pending rank was) at) (covers (interval_of rank range) at)
+            odd-now at before_both =
+                ap (λ runs. members runs at) passed.left
+                ∙ members-if (past_both rank end next_end) at
+                ∙ past-odd (from_to (rank was.start) (rank end)) (from_to (rank next) (rank next_end))
+                (past_both rank end next_end) later meets in_order refl refl at before_both
+                ∙ ap (λ test. exclusive_or test (covers (from_to (rank next) (rank next_end)) at))
+                (sym (begun-some rank was.start was.end end at (sym is)))
+                ∙ ap (λ run. exclusive_or (members (pending rank was) at) (covers run at))
+                (sym is_run)
+
+            -- If the pending range does not start before the new one, no piece is returned, and
+            -- both are drawn.
+            pub drew-passed : Drew integer source entry was
+                → false ≡ partial_lt partial_cmp was.start next → Drew integer source entry now
+            drew-passed drew not_before =
+                let most = not_less-rank ranked was.start next both-values.0
+                both-values.2 not_before in
+                drew-more integer source entry was drew so_now.undone range now passed.undone call-now
+                (λ at. odd-now at (none-between (rank was.start) (rank next) at most))
+
+            -- What the source may give in the next state, it may give after the draw.
             same-source : (given : List Interval) → source.may_give now.iter given
                 → source.may_give j given
             same-source given at = subst (λ iter. source.may_give iter given) passed.iter at
 
-            -- what is pending and to come
+            -- What is pending and to come next satisfies `IsTwofold`.
             twofold-now : (given : List Interval) → source.may_give now.iter given
                 → IsTwofold n (pending rank now ++ given)
             twofold-now given at = subst (λ each. IsTwofold n (each ++ given)) (sym passed.left)
@@ -225,26 +306,27 @@ module _ {I T N : Type 0} (integer : Elements T N) (source : Stream I T N) where
                 (past_both rank end next_end) given (twofold given (same-source given at)) meets refl
                 refl)
 
-            -- more pieces may be drawn
+            -- The next state satisfies `IsGoing`.
             going-now : IsGoing integer source now
             going-now = record {
               callable = subst source.can_draw (sym passed.iter) goes.keeps;
               twofold = twofold-now;
             }
 
-            -- what comes then, as pieces
+            -- Pieces of what is pending and to come next are pieces of what is past the lesser end
+            -- and to come.
             then-pieces : (given rest : List Interval)
                 → ArePieces n (oddly_covered (pending rank now ++ given)) rest
                 → ArePieces n (oddly_covered (run_if_any (past_both rank end next_end) ++ given)) rest
             then-pieces given rest all =
                 subst (λ each. ArePieces n (oddly_covered (each ++ given)) rest) passed.left all
 
-            -- so what may come then are pieces of what is pending and to come
+            -- What may come in the next state are pieces of what is pending and to come.
             now-may : may now ⊆ pieces_of n (pending rank now) (source.may_give now.iter)
             now-may pieces at = subst (λ each. unless each
                 (pieces_of n (pending rank now) (source.may_give now.iter)) pieces) passed.undone at
 
-            -- fewer are left
+            -- Fewer pieces are left in the next state than at the entry.
             now-less : size (left_of now) < size (left_of entry)
             now-less =
                 let less = fewer in
@@ -256,12 +338,14 @@ module _ {I T N : Type 0} (integer : Elements T N) (source : Stream I T N) where
                 rw passed.undone refl in
                 omega (arith, less.1, short, nearer, same, all)
 
-            -- what lies before the second comes first
-            pub gap-answers : true ≡ partial_lt partial_cmp was.start next → (last : T)
+            -- If the pending range starts before the new one, the draw returns what is before the
+            -- new one.
+            pub gap-answers : Drew integer source entry was
+                → true ≡ partial_lt partial_cmp was.start next → (last : T)
                 (answer : RangeInclusive T) → rank last + 1 ≡ rank next
                 → range_inclusive_exhausted answer ≡ false → range_inclusive_start answer ≡ was.start
                 → range_inclusive_end answer ≡ last → Answered entry (Some answer) now
-            gap-answers before_next last answer one fresh at_start at_end =
+            gap-answers drew before_next last answer one fresh at_start at_end =
                 let less = less-rank ranked was.start next both-values.0
                 both-values.2 before_next in
                 let gap = answered integer source was.start last answer fresh at_start at_end in
@@ -276,9 +360,19 @@ module _ {I T N : Type 0} (integer : Elements T N) (source : Stream I T N) where
                       (twofold given (same-source given might)) meets refl refl (from_to (rank was.start) (rank last)) rest less refl
                       one (then-pieces given rest all)))));
                   rests = tt;
+                  asks =
+                      let high = ap (λ run. run.last) gap in
+                      takes-more integer source entry was drew so_now.undone range now passed.undone
+                      call-now answer (subst (IsOneFrom (rank_after rank (Some answer)))
+                      (sym passed.left)
+                      (one-if (rank_after rank (Some answer)) (past_both rank end next_end)
+                      (nat_le (past_both rank end next_end).first (past_both rank end next_end).last)
+                      (omega (arith, high, one, meets, in_order))))
+                      (λ at from. odd-now at (none-from (rank was.start) (rank next) at
+                      (omega (arith, high, one, from))));
                 }
 
-            -- and fewer are left
+            -- That draw makes progress.
             pub gap-goes : (answer : RangeInclusive T) → MakesProgress can left_of entry (Some answer) now
             gap-goes answer =
                 let less = fewer in
@@ -292,7 +386,8 @@ module _ {I T N : Type 0} (integer : Elements T N) (source : Stream I T N) where
                   rests = λ finite. tt;
                 }
 
-            -- nothing lies before it, and the loop goes on
+            -- If the pending range does not start before the new one, there is no piece before it,
+            -- and the loop continues.
             pub so-passed : false ≡ partial_lt partial_cmp was.start next → SoFar entry now
             so-passed not_before =
                 let most = not_less-rank ranked was.start next both-values.0

@@ -12,7 +12,7 @@ use Rattle.rsb_streams.specs.Stream.{HasSortedStarts, HasSortedStartsFrom, run_i
 
 -- ---- an odd number of intervals
 
--- no interval has a rank below the first start
+-- No rank below the start of a sorted list is in an odd number of its intervals.
 pub odd-below : (n low : ℕ) (runs : List Interval) (rank : ℕ) → HasSortedStartsFrom n low runs
     → rank < low → oddly_covered runs rank ≡ false
 odd-below n low [] rank sorted below = refl
@@ -23,7 +23,7 @@ odd-below n low (run ∷ runs) rank sorted below =
     (covers-outside run rank (inl under))
     ∙ odd-below n run.first runs rank sorted.3 under
 
--- an interval in front changes nothing where it has no rank
+-- An interval put before a list changes `oddly_covered` exactly at its own ranks.
 pub odd-front : (run : Interval) (runs : List Interval) (rank : ℕ)
     → oddly_covered (run_if_any run ++ runs) rank
     ≡ exclusive_or (covers run rank) (oddly_covered runs rank)
@@ -37,7 +37,7 @@ odd-front run runs rank = elim (true_or_false (nat_le run.first run.last)) [
 
 -- ---- how often a rank is covered
 
--- an interval in front counts where it has the rank
+-- An interval put before a list counts once at its own ranks.
 cover-front : (run : Interval) (runs : List Interval) (rank : ℕ)
     → cover (run_if_any run ++ runs) rank ≡ cond (covers run rank) 1 0 + cover runs rank
 cover-front run runs rank = elim (true_or_false (nat_le run.first run.last)) [
@@ -50,11 +50,11 @@ cover-front run runs rank = elim (true_or_false (nat_le run.first run.last)) [
       omega (arith, nothing, rest)
 ]
 
--- what follows an interval is no deeper
+-- If no rank is in more than two intervals of a list, this also holds without the first interval.
 pub deep-tail : (run : Interval) (runs : List Interval) → IsTwoDeep (run ∷ runs) → IsTwoDeep runs
 deep-tail run runs deep rank = let all = deep rank in omega arith
 
--- and so is a list that may be called after its first interval is told
+-- If a list satisfies `IsTwofold`, it also does without its first interval.
 pub twofold-tail : (n : ℕ) (run : Interval) (runs : List Interval) → IsTwofold n (run ∷ runs)
     → IsTwofold n runs
 twofold-tail n run runs all = record {
@@ -64,7 +64,7 @@ twofold-tail n run runs all = record {
 
 -- ---- pieces
 
--- a list whose members lie from a rank on starts there or past it
+-- If no member of a sorted list is below `low`, the list starts at `low` or later.
 sorted-from : (n low : ℕ) (runs : List Interval) → HasSortedStarts n runs
     → ((rank : ℕ) → rank < n → members runs rank ≡ true → low ≤ rank)
     → HasSortedStartsFrom n low runs
@@ -78,11 +78,11 @@ sorted-from n low (run ∷ runs) sorted from =
       sorted.3,
     )
 
--- nothing has no pieces but nothing
+-- The empty list is a list of pieces of no intervals.
 pub no-pieces : (n : ℕ) → ArePieces n (oddly_covered []) []
 no-pieces n = record { sorted = tt; same = λ rank below. refl }
 
--- and nothing else
+-- It is the only one.
 pub only-none : (n : ℕ) (pieces : List Interval) → ArePieces n (oddly_covered []) pieces
     → pieces ≡ []
 only-none n [] all = refl
@@ -93,7 +93,7 @@ only-none n (piece ∷ pieces) all =
     (members-head piece pieces piece.first (omega arith) ordered)
     (all.same piece.first (omega arith)))
 
--- pieces of a set are those of one with the same ranks
+-- Pieces of a set are pieces of every set with the same ranks.
 pub pieces-along : (n : ℕ) (selected other : Selection) (pieces : List Interval)
     → Agree n selected other → ArePieces n selected pieces → ArePieces n other pieces
 pieces-along n selected other pieces same all = record {
@@ -101,7 +101,7 @@ pieces-along n selected other pieces same all = record {
   same = λ rank below. all.same rank below ∙ same rank below;
 }
 
--- the first interval is a piece where the others start past it
+-- If the other intervals start past the first, the first is a piece.
 pub pieces-first : (n : ℕ) (run : Interval) (runs pieces : List Interval) → run.first ≤ run.last
     → run.last < n → HasSortedStartsFrom n (run.last + 1) runs
     → ArePieces n (oddly_covered runs) pieces
@@ -134,19 +134,21 @@ pieces-first n run runs pieces ordered below past all = record {
 module _ (run next past : Interval) (low : run.first ≤ next.first) (meets : next.first ≤ run.last)
     (ordered : next.first ≤ next.last) (from : past.first ≡ min run.last next.last + 1)
     (to : past.last ≡ max run.last next.last) where
-  -- what lies in one of both alone lies before the second's start, or past the lesser end
-  odd-split : (rank : ℕ) (before : Bool) (others : Bool)
+  -- The ranks in only one of the two are those before the start of the second and those past the
+  -- lesser end.
+  pub odd-split : (rank : ℕ) (before : Bool) (others : Bool)
       → before ≡ cond (nat_le run.first rank) (nat_lt rank next.first) false
       → exclusive_or (covers run rank) (exclusive_or (covers next rank) others)
       ≡ exclusive_or before (exclusive_or (covers past rank) others)
   odd-split rank before others is = grind (arith, nat_tests)
 
-  -- no rank lies in more of what is left than in both
+  -- A rank in what is past the lesser end is in at least one of the two.
   cover-split : (rank : ℕ)
       → cond (covers past rank) 1 0 ≤ cond (covers run rank) 1 0 + cond (covers next rank) 1 0
   cover-split rank = grind (arith, nat_tests)
 
--- where no rank lies in more than two, what comes after two that overlap starts past the lesser end
+-- If no rank is in more than two intervals, what comes after two that overlap starts past the
+-- lesser end.
 past-both : (n : ℕ) (run next : Interval) (given : List Interval) → next.first ≤ run.last
     → IsTwofold n (run ∷ next ∷ given)
     → HasSortedStartsFrom n (min run.last next.last + 1) given
@@ -177,11 +179,11 @@ module _ (n : ℕ) (run next past : Interval) (given : List Interval)
     (all : IsTwofold n (run ∷ next ∷ given)) (meets : next.first ≤ run.last)
     (from : past.first ≡ min run.last next.last + 1)
     (to : past.last ≡ max run.last next.last) where
-  -- what is left of two that overlap, and what comes after them, starts no earlier than the second
+  -- What is left of two that overlap, and what comes after them, starts no earlier than the second.
   pub past-starts : HasSortedStartsFrom n next.first (run_if_any past ++ given)
   past-starts = front (nat_le past.first past.last) refl
     where
-      -- the same, by whether something is left
+      -- The cases are whether anything is left.
       front : (test : Bool) → nat_le past.first past.last ≡ test
           → HasSortedStartsFrom n next.first (cond test (past ∷ []) [] ++ given)
       front true some =
@@ -199,7 +201,7 @@ module _ (n : ℕ) (run next past : Interval) (given : List Interval)
           sorted-lower n (min run.last next.last + 1) next.first given
           (omega (arith, ordered, meets)) (past-both n run next given meets all)
 
-  -- and no rank lies in more than two of them
+  -- No rank is in more than two of these intervals.
   pub past-twofold : IsTwofold n (run_if_any past ++ given)
   past-twofold = record {
     sorted = sorted-lower n next.first 0 (run_if_any past ++ given) (omega arith) past-starts;
@@ -210,7 +212,7 @@ module _ (n : ℕ) (run next past : Interval) (given : List Interval)
         omega (arith, front, less, most);
   }
 
-  -- pieces of what is left are pieces of all where both start at one rank
+  -- If both start at one rank, the pieces of what is left are the pieces of all.
   pub pieces-past : (pieces : List Interval) → next.first ≤ run.first
       → ArePieces n (oddly_covered (run_if_any past ++ given)) pieces
       → ArePieces n (oddly_covered (run ∷ next ∷ given)) pieces
@@ -220,7 +222,7 @@ module _ (n : ℕ) (run next past : Interval) (given : List Interval)
       ∙ sym (odd-split run next past all.sorted.3.0 meets all.sorted.3.1 from to rank false
       (oddly_covered given rank) (grind (arith, nat_tests))))
 
-  -- else what lies before the second is a piece
+  -- Otherwise, what is before the second is the first piece.
   pub pieces-before : (piece : Interval) (pieces : List Interval) → run.first < next.first
       → piece.first ≡ run.first → piece.last + 1 ≡ next.first
       → ArePieces n (oddly_covered (run_if_any past ++ given)) pieces

@@ -10,7 +10,7 @@ use Rattle.rsb_streams.specs.Stream.{Outcomes, ◌⊆◌, HasSortedStarts, IsMer
 
 -- ---- a canonical list
 
--- it has no interval with a rank before it
+-- No interval of a canonical list has a rank below the start of the list.
 cover-below : (low : ℕ) (runs : List Interval) (rank : ℕ) → IsCanonicalFrom low runs → rank < low
     → cover runs rank ≡ 0
 cover-below low [] rank canonical below = refl
@@ -22,7 +22,7 @@ cover-below low (run ∷ runs) rank canonical below =
     let rest = cover-below (run.last + 2) runs rank canonical.2 (omega arith) in
     omega (arith, first, rest)
 
--- it has each rank once at most
+-- No rank is in more than one interval of a canonical list.
 canonical-cover : (low : ℕ) (runs : List Interval) (rank : ℕ) → IsCanonicalFrom low runs
     → cover runs rank ≤ 1
 canonical-cover low [] rank canonical = omega arith
@@ -40,7 +40,7 @@ canonical-cover low (run ∷ runs) rank canonical = elim (covers-cases run rank)
       omega (arith, first, rest)
 ]
 
--- so its members are what an odd number of its intervals has
+-- So its members are the ranks in an odd number of its intervals.
 canonical-odd : (low : ℕ) (runs : List Interval) (rank : ℕ) → IsCanonicalFrom low runs
     → oddly_covered runs rank ≡ members runs rank
 canonical-odd low [] rank canonical = refl
@@ -59,7 +59,7 @@ canonical-odd low (run ∷ runs) rank canonical = elim (covers-cases run rank) [
 
 -- ---- a merge
 
--- it has each rank as often as both lists together
+-- A rank is in a merge as often as in both lists together.
 cover-merge : (left right runs : List Interval) (rank : ℕ) → IsMergeOf left right runs
     → cover runs rank ≡ cover left rank + cover right rank
 cover-merge left right [] rank merged = rw (merged.0, merged.1) refl
@@ -72,22 +72,23 @@ cover-merge left right (run ∷ runs) rank merged = elim merged [
       rw from_right.1 (omega (arith, rest))
 ]
 
--- the first two of three in an exclusive or may be put together
-xor-assoc : (a b c : Bool)
+-- Exclusive or is associative.
+pub xor-assoc : (a b c : Bool)
     → exclusive_or a (exclusive_or b c) ≡ exclusive_or (exclusive_or a b) c
 xor-assoc true true true = refl
 xor-assoc true true false = refl
 xor-assoc true false c = refl
 xor-assoc false b c = refl
 
--- and change places
+-- The first two of three operands of exclusive or can change places.
 xor-swap : (a b c : Bool) → exclusive_or a (exclusive_or b c) ≡ exclusive_or b (exclusive_or a c)
 xor-swap true true c = refl
 xor-swap true false c = refl
 xor-swap false true c = refl
 xor-swap false false c = refl
 
--- an odd number of its intervals has what an odd number of those of one list alone has
+-- A rank is in an odd number of a merge's intervals if it is in an odd number of those of exactly
+-- one list.
 odd-merge : (left right runs : List Interval) (rank : ℕ) → IsMergeOf left right runs
     → oddly_covered runs rank ≡ exclusive_or (oddly_covered left rank) (oddly_covered right rank)
 odd-merge left right [] rank merged = rw (merged.0, merged.1) refl
@@ -104,11 +105,11 @@ odd-merge left right (run ∷ runs) rank merged = elim merged [
       ∙ xor-swap (covers run rank) (oddly_covered left rank) (oddly_covered rest rank))
 ]
 
--- ---- of two canonical lists
+-- ---- a merge of two canonical lists
 
 module _ (left right runs : List Interval) (first : IsCanonicalFrom 0 left)
     (second : IsCanonicalFrom 0 right) (merged : IsMergeOf left right runs) where
-  -- no rank lies in more than two ranges of their merge
+  -- No rank is in more than two ranges of their merge.
   pub merge-deep : IsTwoDeep runs
   merge-deep rank =
       let one = canonical-cover 0 left rank first in
@@ -116,7 +117,7 @@ module _ (left right runs : List Interval) (first : IsCanonicalFrom 0 left)
       let both = cover-merge left right runs rank merged in
       omega (arith, one, other, both)
 
-  -- an odd number of its ranges has what lies in one of them alone
+  -- A rank is in an odd number of the ranges if it is a member of exactly one list.
   pub merge-odd : (rank : ℕ)
       → oddly_covered runs rank ≡ symmetric_difference (members left) (members right) rank
   merge-odd rank =
@@ -124,7 +125,7 @@ module _ (left right runs : List Interval) (first : IsCanonicalFrom 0 left)
       ∙ ap (λ test. exclusive_or test (oddly_covered right rank)) (canonical-odd 0 left rank first)
       ∙ ap (λ test. exclusive_or (members left rank) test) (canonical-odd 0 right rank second)
 
--- the joined pieces of a merge are the runs of the symmetric difference
+-- The joined pieces of a merge are the runs of the symmetric difference.
 pub symmetric-of_merge : (n : ℕ) (P Q Pieces : Outcomes) → P ⊆ IsCanonicalFrom 0
     → Q ⊆ IsCanonicalFrom 0
     → ((pieces : List Interval) → Pieces pieces → SomeOutcomes P Q (λ left right.
@@ -137,7 +138,7 @@ symmetric-of_merge n P Q Pieces first second comes runs may = λ nothing. may (�
     (λ rank within. merge.2.same rank within
     ∙ merge-odd left right merge.0 (first left might) (second right also) merge.1 rank) all)))
 
--- a merge of what two streams of canonical lists give is nowhere deeper than two
+-- If two streams are canonical, each merge of what they give satisfies `IsTwofold`.
 pub merges-twofold : (n : ℕ) (P Q : Outcomes) → P ⊆ IsCanonicalFrom 0 → Q ⊆ IsCanonicalFrom 0
     → (runs : List Interval) → merges n P Q runs → HasSortedStarts n runs → IsTwofold n runs
 merges-twofold n P Q first second runs may sorted = record {

@@ -9,19 +9,19 @@ use Rattle.rsb_integer.proofs.CountLemmas.{count-members, count-within}
 use Rattle.rsb_streams.specs.StreamLaws.{settled_canonical_in}
 use Rattle.rsb_streams.specs.Stream.{Outcomes, ◌⊆◌, HasOutcome}
 
--- some ranges were drawn, with which what may come now might come at first, and so many members
--- were counted
+-- What holds before each iteration: the ranges drawn so far, followed by what may come now, might
+-- come at first. Their members were counted.
 pub record CountedSoFar (first now : Outcomes) (counted : ℕ) : Type 0 where
   pub drawn : List Interval
   pub given : (rest : List Interval) → now rest → first (drawn ++ rest)
   pub number : counted ≡ sum_by length_of drawn
 
--- a call answered the run
+-- A draw returned the run.
 module _ (n : ℕ) (first before after : Outcomes) (canonical : first ⊆ IsCanonicalIn n)
     (counted : ℕ) (so_far : CountedSoFar first before counted) (run : Interval)
     (answers : (rest : List Interval) → after rest → before (run ∷ rest))
     (some : HasOutcome after) where
-  -- what was drawn and the run are canonical
+  -- What was drawn so far and the run are canonical.
   drawn-canonical : IsCanonicalIn n (so_far.drawn ++ run ∷ [])
   drawn-canonical = settled_canonical_in n (so_far.drawn ++ run ∷ []) (λ fails. some (λ rest may.
       fails (canonical-front n (so_far.drawn ++ run ∷ []) rest
@@ -29,11 +29,11 @@ module _ (n : ℕ) (first before after : Outcomes) (canonical : first ⊆ IsCano
       (canonical (so_far.drawn ++ run ∷ rest)
       (so_far.given (run ∷ rest) (answers rest may)))))))
 
-  -- so the run is in order
+  -- So the run is in order.
   pub counted-ordered : run.first ≤ run.last
   counted-ordered = (canonical-parts 0 so_far.drawn (run ∷ []) drawn-canonical.0).1.1
 
-  -- and its members and those before are n at most
+  -- The members counted so far and those of the run are at most n.
   pub counted-within : counted + length_of run ≤ n
   counted-within =
       let list = so_far.drawn ++ run ∷ [] in
@@ -43,7 +43,7 @@ module _ (n : ℕ) (first before after : Outcomes) (canonical : first ⊆ IsCano
       let number = so_far.number in
       omega (arith, total, most, sum, number)
 
-  -- so many were counted then
+  -- The number counted is then the old one and that of the run.
   pub counted-more : (more : ℕ) → more ≡ counted + length_of run → CountedSoFar first after more
   counted-more more is =
       let sum = sum_by-append length_of so_far.drawn (run ∷ []) in
@@ -56,7 +56,8 @@ module _ (n : ℕ) (first before after : Outcomes) (canonical : first ⊆ IsCano
         number = omega (arith, is, sum, number);
       }
 
--- where nothing comes any more, what was drawn is a list that might come, and all was counted
+-- If nothing more comes, what was drawn is a list that might come, and all of its members are
+-- counted.
 pub counted-all : (n : ℕ) (first now : Outcomes) → first ⊆ IsCanonicalIn n → (counted : ℕ)
     → CountedSoFar first now counted → now []
     → (runs : List Interval) × first runs × (counted ≡ count n (members runs))

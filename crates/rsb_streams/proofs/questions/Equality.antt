@@ -12,14 +12,14 @@ use Rattle.rsb_integer.proofs.CanonicalLemmas.{canonical-same}
 use Rattle.rsb_streams.specs.Stream.{◌⊆◌, SomeOutcomes}
 use Rattle.rsb_streams.proofs.sources.Known.{IsLawful}
 
--- lists that go on alike after the same front are the same
+-- If two lists with the same prefix are the same, so is what follows it.
 same-rest : (front left right : List Interval) → front ++ left ≡ front ++ right → left ≡ right
 same-rest [] left right same = same
 same-rest (run ∷ front) left right same =
     let rest : front ++ left ≡ front ++ right = cc in
     same-rest front left right rest
 
--- two canonical lists that are not the same have other members
+-- Two canonical lists that are not the same have different members.
 unequal-tells : (n : ℕ) (left right : List Interval) → IsCanonicalIn n left
     → IsCanonicalIn n right → ¬ (left ≡ right)
     → IsTrue false ↔ Agree n (members left) (members right)
@@ -35,7 +35,8 @@ module _ {L R T N : Type 0} (integer : Elements T N) (left : Stream L T N)
     (first : L) (second : R) where
   open integer use {rank, value_count as n}
 
-  -- both may be drawn from, and what they gave so far is one list
+  -- What holds before each iteration: both streams are ready, and what they gave so far is one
+  -- list.
   pub record SameSoFar (s : L) (t : R) : Type 0 where
     pub left_ready : left.can_draw s
     pub right_ready : right.can_draw t
@@ -47,7 +48,7 @@ module _ {L R T N : Type 0} (integer : Elements T N) (left : Stream L T N)
 
   module _ (left_laws : IsLawful integer left) (right_laws : IsLawful integer right)
       (s : L) (t : R) (so_far : SameSoFar s t) where
-    -- after ranges with the same ranks they gave the same
+    -- If both return ranges with the same ranks, they still gave the same list.
     pub same-more : (range counterpart : RangeInclusive T) (next : L) (other : R)
         → left.draw_gives s (Some range) next → left.can_draw next
         → right.draw_gives t (Some counterpart) other → right.can_draw other
@@ -66,7 +67,7 @@ module _ {L R T N : Type 0} (integer : Elements T N) (left : Stream L T N)
               (right_laws.answers t other (Some counterpart) right_call rest at)));
         }
 
-    -- where both end, they have the same members
+    -- If both streams end, they have the same members.
     both-end : (next : L) (other : R) → left.draw_gives s None next → right.draw_gives t None other
         → SomeOutcomes (left.may_give first) (right.may_give second)
         (λ one two. IsTrue true ↔ Agree n (members one) (members two))
@@ -78,7 +79,7 @@ module _ {L R T N : Type 0} (integer : Elements T N) (left : Stream L T N)
 
     module _ (left_canonical : left.may_give first ⊆ IsCanonicalIn n)
         (right_canonical : right.may_give second ⊆ IsCanonicalIn n) where
-      -- lists that do not go on alike have other members
+      -- If what may still come is not the same, they have different members.
       rests-tell : (one two : List Interval) → left.may_give s one → right.may_give t two
           → ¬ (one ≡ two)
           → SomeOutcomes (left.may_give first) (right.may_give second)
@@ -92,7 +93,7 @@ module _ {L R T N : Type 0} (integer : Elements T N) (left : Stream L T N)
           (right_canonical (so_far.given ++ two) right_at)
           (λ same. unequal (same-rest so_far.given one two same)))
 
-      -- where the left stream ends, they have the same members exactly where the right one does too
+      -- If the left stream ends, they have the same members exactly if the right stream ends too.
       pub left-ends : (item : Option (RangeInclusive T)) (test : Bool) (next : L) (other : R)
           → left.draw_gives s None next → right.draw_gives t item other
           → MakesProgress right.can_draw right.draws_left t item other → is_some item ≡ not test
@@ -109,7 +110,7 @@ module _ {L R T N : Type 0} (integer : Elements T N) (left : Stream L T N)
           (right_laws.answers t other (Some range) right_call rest at) (λ same. absurd (cc))
           nothing)
 
-      -- where the right stream alone ends, they have other members
+      -- If only the right stream ends, they have different members.
       pub right-ends : (range : RangeInclusive T) (next : L) (other : R)
           → left.draw_gives s (Some range) next → left.can_draw next → right.draw_gives t None other
           → SomeOutcomes (left.may_give first) (right.may_give second)
@@ -121,7 +122,7 @@ module _ {L R T N : Type 0} (integer : Elements T N) (left : Stream L T N)
           (right_laws.answers t other None right_call) (λ same. absurd (cc))
           nothing)
 
-      -- where they answer ranges with other ranks, they have other members
+      -- If the ranges that they return have different ranks, they have different members.
       pub ranges-differ : (range counterpart : RangeInclusive T) (next : L) (other : R)
           → left.draw_gives s (Some range) next → left.can_draw next
           → right.draw_gives t (Some counterpart) other → right.can_draw other

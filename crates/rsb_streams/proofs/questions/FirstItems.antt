@@ -20,7 +20,7 @@ module _ {S T N : Type 0} (integer : Elements T N) (source : Stream S T N) (laws
     (s t : S) (ready : source.can_draw s) where
   open integer use {rank, value_count as n}
 
-  -- nothing comes exactly where there is no member
+  -- The first draw returns `None` exactly if the stream has no member.
   pub tells-nothing : (item : Option (RangeInclusive T)) (test : Bool) → source.draw_gives s item t
       → MakesProgress source.can_draw source.draws_left s item t → is_some item ≡ not test
       → SomeOutcome (source.may_give s) (λ runs. IsTrue test ↔ IsEmpty (members runs))
@@ -39,7 +39,7 @@ module _ {S T N : Type 0} (integer : Elements T N) (source : Stream S T N) (laws
             (members-head run rest run.first (omega arith) sorted.1) (none run.first))),
       ))
 
-  -- where nothing comes, not every rank does
+  -- If the first draw returns `None`, the stream does not have every rank.
   pub none-lacks : source.draw_gives s None t → 0 < n
       → SomeOutcome (source.may_give s) (λ runs. IsTrue false ↔ IsUniversal n (members runs))
   none-lacks call some = λ nothing. nothing [] (laws.answers s t None call) (
@@ -47,7 +47,8 @@ module _ {S T N : Type 0} (integer : Elements T N) (source : Stream S T N) (laws
     (λ all. let every : false ≡ true = all 0 some in absurd (cc)),
   )
 
-  -- what holds of each canonical list that begins with the first range holds of what comes
+  -- What holds of each canonical list that begins with the first range holds of what the stream
+  -- gives.
   pub first-tells : (range : RangeInclusive T) (Fact : List Interval → Type 0)
       → source.draw_gives s (Some range) t
       → MakesProgress source.can_draw source.draws_left s (Some range) t
@@ -61,7 +62,7 @@ module _ {S T N : Type 0} (integer : Elements T N) (source : Stream S T N) (laws
       nothing (interval_of rank range ∷ rest) before
       (fact rest (canonical (interval_of rank range ∷ rest) before)))
 
-  -- the first range is in order, and lies in the type
+  -- The first range is in order and within the type.
   pub first-range : (range : RangeInclusive T) → source.draw_gives s (Some range) t
       → MakesProgress source.can_draw source.draws_left s (Some range) t
       → ((interval_of rank range).first ≤ (interval_of rank range).last)
@@ -75,7 +76,7 @@ module _ {S T N : Type 0} (integer : Elements T N) (source : Stream S T N) (laws
 
 -- ---- a canonical list that has every rank
 
--- a first range that starts past the least rank leaves that out
+-- If the first range starts past the least rank, the list does not have every rank.
 pub late-lacks : (n : ℕ) (run : Interval) (rest : List Interval) → IsCanonicalIn n (run ∷ rest)
     → 0 < run.first → IsTrue false ↔ IsUniversal n (members (run ∷ rest))
 late-lacks n run rest canonical late = (
@@ -88,7 +89,8 @@ late-lacks n run rest canonical late = (
       ∙ members-below (run.last + 2) rest 0 canonical.0.2 (omega arith)))),
 )
 
--- a first range from the least rank on has every rank exactly where it ends at the greatest
+-- If the first range starts at the least rank, the list has every rank exactly if it ends at the
+-- greatest.
 pub first-whole : (n : ℕ) (run : Interval) (rest : List Interval) (test : Bool)
     → IsCanonicalIn n (run ∷ rest) → run.first ≡ 0 → nat_le n (run.last + 1) ≡ test
     → IsTrue test ↔ IsUniversal n (members (run ∷ rest))
@@ -107,6 +109,6 @@ first-whole n run rest false canonical least is = (
       ∙ members-below (run.last + 2) rest (run.last + 1) canonical.0.2 (omega arith)))),
 )
 
--- one rank is at most another where one more than it is at most one more than that
+-- Adding one to both numbers does not change whether the first is at most the second.
 pub same-test : (a b n m : ℕ) → a + 1 ≡ n → m ≡ b + 1 → nat_le n m ≡ nat_le a b
 same-test a b n m first second = grind (arith, nat_tests)

@@ -9,7 +9,7 @@ use Rattle.rsb_streams.specs.Rows.{IsAnswered}
 use Rattle.rsb_streams.specs.Stream.{IsDrawn}
 use Rattle.rsb_streams.specs.declared.draw.Draw.{Ghosts as Stream}
 
--- what the calls gave until `None` is a list that might come
+-- What calls of `next` gave until `None` is a list that might come.
 pub list-taken : {S T N : Type 0} (integer : Elements T N) (stream : Stream S T N)
     {can_next : S → Type 0} {next_gives : S → Option (RangeInclusive T) → S → Type 0}
     {remaining : S → Count}

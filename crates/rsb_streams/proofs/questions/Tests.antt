@@ -9,8 +9,8 @@ use Rattle.rsb_integer.proofs.MembersLemmas.{members-end}
 use Rattle.rsb_integer.proofs.RunsLemmas.{runs-canonical, runs-members}
 use Rattle.rsb_streams.specs.Stream.{Outcomes, ◌⊆◌, runs_by_two, SomeOutcome, SomeOutcomes}
 
--- where it means a fact of two sets that an operation on them gives nothing, that an operation on
--- two streams gives nothing tells the fact
+-- If a fact of two sets holds exactly if an operation on them is empty, a test for an empty result
+-- tests the fact.
 pub nothing-tells : (n : ℕ) (operation : Selection → Selection → Selection)
     (Fact : Selection → Selection → Type 0) (P Q Given : Outcomes) (test : Bool)
     → ((left right : Selection) → ((rank : ℕ) → rank < n → IsFalse (operation left right rank))
@@ -34,7 +34,7 @@ nothing-tells n operation Fact P Q Given test means given some = λ nothing. som
       ])),
     )))
 
--- nothing is left of a set exactly where the other has all of it
+-- The difference of two sets is empty exactly if the left one is a subset of the right one.
 pub difference-tells : (n : ℕ) (left right : Selection)
     → ((rank : ℕ) → rank < n → IsFalse (difference left right rank)) ↔ IsSubset n left right
 difference-tells n left right = (
@@ -49,7 +49,7 @@ difference-tells n left right = (
   ]),
 )
 
--- two sets have nothing in common exactly where they are disjoint
+-- The intersection of two sets is empty exactly if they are disjoint.
 pub intersection-tells : (n : ℕ) (left right : Selection)
     → ((rank : ℕ) → rank < n → IsFalse (intersection left right rank)) ↔ AreDisjoint n left right
 intersection-tells n left right = (

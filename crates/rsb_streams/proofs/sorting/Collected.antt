@@ -21,16 +21,16 @@ use Rattle.rsb_streams.proofs.unsorted.Spans.{spans-members}
 use Rattle.rsb_streams.proofs.unsorted.Drained.{answers-proper}
 
 module _ {T : Type 0} (rank : T → ℕ) (n : ℕ) where
-  -- the members of a list of ranges
+  -- The members of a list of ranges.
   abbrev of : List (RangeInclusive T) → Selection
   of ranges = members (intervals_of rank ranges)
 
-  -- proper ranges with the members of the items
+  -- Whether the kept ranges are proper and have the members of the items.
   pub record Collects (items kept : List (RangeInclusive T)) : Type 0 where
     pub proper : All (IsProper rank n) kept
     pub same : (place : ℕ) → of kept place ≡ of items place
 
-  -- the spans of the items do
+  -- Proper ranges that are the spans of the items satisfy `Collects`.
   pub collects-spans : (items kept : List (RangeInclusive T)) → All (IsProper rank n) kept
       → AreSpans (non_empty (intervals_of rank items)) (intervals_of rank kept)
       → Collects items kept
@@ -39,7 +39,7 @@ module _ {T : Type 0} (rank : T → ℕ) (n : ℕ) where
     same = λ place. spans-members (intervals_of rank items) (intervals_of rank kept) place are;
   }
 
-  -- they end in the type, so the items have no member past it
+  -- The kept ranges are within the type, so the items have no member past it.
   pub collects-end : (items kept : List (RangeInclusive T)) → Collects items kept → (place : ℕ)
       → n ≤ place → of items place ≡ false
   collects-end items kept collects place past =
@@ -50,13 +50,13 @@ module _ {T : Type 0} (rank : T → ℕ) (n : ℕ) where
       (λ range proper. proper.in_type) kept collects.proper)) past
 
   module _ {I : Type 0} (input : I → Option (RangeInclusive T) → I → Type 0) (iter : I) where
-    -- the calls of an iterator drained to items, of which these were kept
+    -- Whether the iterator drains to some items, and `kept` has their members.
     pub record Gathered (kept : List (RangeInclusive T)) : Type 0 where
       pub items : List (RangeInclusive T)
       pub drains : Drains input iter items
       pub collects : Collects items kept
 
-    -- so they were where those of the stream over it drained to what was kept
+    -- So it does if the stream over the iterator drains to `kept`.
     pub gathered : (stream s t : UnsortedDisjoint T I) (answers kept : List (RangeInclusive T))
         → GivesSpans rank input iter (UnsortedSteps rank n input) stream → s ≡ stream
         → Yields (UnsortedSteps rank n input) s answers t
@@ -79,18 +79,18 @@ module _ {T : Type 0} (rank : T → ℕ) (n : ℕ) where
               (answers-proper rank n input answers s t all) given.2);
         }
 
-  -- ---- what was kept, in another order
+  -- ---- what is kept, in another order
 
   module _ (items kept sorted : List (RangeInclusive T)) (collects : Collects items kept)
       (moved : IsPermutation kept sorted) where
-    -- it has sorted starts, where the starts do not fall
+    -- If the sorted ranges ascend by their starts, their intervals are sorted by start.
     pub collects-sorted : (cmp : T → T → Ordering) (in_order : IsInOrder rank n cmp)
         → StartsAscend rank n cmp in_order sorted → HasSortedStarts n (intervals_of rank sorted)
     collects-sorted cmp in_order ascend =
         sorted-starts rank n cmp in_order sorted
         (All-permutation (IsProper rank n) kept sorted moved collects.proper) ascend
 
-    -- and its union has the runs of the items
+    -- The union of the sorted ranges has the runs of the items.
     pub runs-sorted : (runs : List Interval) → joined n (just (intervals_of rank sorted)) runs
         → AreRuns n (of items) runs
     runs-sorted runs may =

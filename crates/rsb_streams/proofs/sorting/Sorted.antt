@@ -20,7 +20,7 @@ use Rattle.rsb_streams.proofs.checking.Comparisons.{is_lt-nat}
 use Rattle.rsb_streams.proofs.sources.Known.{range-start}
 use borrow.Author.Tests.{ltb-false}
 
--- what the runs of a list that is known may be, they are
+-- Runs that may be those of a known list are its runs.
 pub runs-joined : (n : ℕ) (given runs : List Interval) → joined n (just given) runs
     → AreRuns n (members given) runs
 runs-joined n given runs may =
@@ -31,7 +31,7 @@ runs-joined n given runs may =
 
 -- ---- another order
 
--- a cover is a sum over the list
+-- The cover of a rank is a sum over the list.
 cover-sum : (runs : List Interval) (place : ℕ)
     → cover runs place ≡ sum_by (λ (run : Interval). cond (covers run place) 1 0) runs
 cover-sum [] place = refl
@@ -39,7 +39,7 @@ cover-sum (run ∷ runs) place =
     ap (λ others. cond (covers run place) 1 0 + others) (cover-sum runs place)
     ∙ sym (sum_by-cons (λ (each : Interval). cond (covers each place) 1 0) run runs)
 
--- intervals in another order have the same members
+-- Intervals in another order have the same members.
 pub members-permutation : (runs others : List Interval) (place : ℕ) → IsPermutation runs others
     → members others place ≡ members runs place
 members-permutation runs others place moved =
@@ -50,20 +50,20 @@ members-permutation runs others place moved =
 -- ---- sorted by their starts
 
 module _ {T : Type 0} (rank : T → ℕ) (n : ℕ) where
-  -- a range with a member that lies in the type
+  -- Whether a range is non-empty and within the type.
   abbrev Proper : RangeInclusive T → Type 0
   Proper = IsProper rank n
 
-  -- values are ordered as their ranks are
+  -- Whether values are ordered as their ranks are.
   abbrev pub IsInOrder : (T → T → Ordering) → Type 0
   IsInOrder cmp = (x y : T) → rank x < n → rank y < n → cmp x y ≡ nat_cmp (rank x) (rank y)
 
   module _ (cmp : T → T → Ordering) (in_order : IsInOrder cmp) where
-    -- the starts do not fall
+    -- Whether the ranges are sorted by start.
     abbrev pub StartsAscend : List (RangeInclusive T) → Type 0
     StartsAscend ranges = IsSortedByKey range_inclusive_start cmp ranges
 
-    -- a range whose start is not less than that of another starts no earlier
+    -- If the start of `next` is not less than that of `range`, `next` starts no earlier.
     starts-after : (range next : RangeInclusive T) → Proper range → Proper next
         → is_lt (cmp (range_inclusive_start next) (range_inclusive_start range)) ≡ false
         → (interval_of rank range).first ≤ (interval_of rank next).first
@@ -78,7 +78,7 @@ module _ {T : Type 0} (rank : T → ℕ) (n : ℕ) where
         ∙ sym (ap is_lt ordered) ∙ not_less) in
         omega (arith, most, start, next_start)
 
-    -- the others do not fall either
+    -- The ranges after the first are sorted by start too.
     ascend-tail : (range : RangeInclusive T) (ranges : List (RangeInclusive T))
         → StartsAscend (range ∷ ranges) → StartsAscend ranges
     ascend-tail range ranges ascend k default low within =
@@ -87,7 +87,8 @@ module _ {T : Type 0} (rank : T → ℕ) (n : ℕ) where
         (range_inclusive_start (get_or ranges k default))) ≡ false) same
         (ascend (suc k) default (omega arith) (omega arith))
 
-    -- from a rank on that the first of them does not start before
+    -- If the first range starts at `low` or later, ranges sorted by start are a sorted list from
+    -- `low` onwards.
     sorted-from : (low : ℕ) (ranges : List (RangeInclusive T)) → All Proper ranges
         → StartsAscend ranges
         → ((range : RangeInclusive T) (others : List (RangeInclusive T)) → ranges ≡ range ∷ others
@@ -108,7 +109,7 @@ module _ {T : Type 0} (rank : T → ℕ) (n : ℕ) where
               (later 0 range (omega arith) (omega arith))),
         )
 
-    -- proper ranges whose starts do not fall have sorted starts
+    -- Proper ranges sorted by start are a list sorted by start.
     pub sorted-starts : (ranges : List (RangeInclusive T)) → All Proper ranges
         → StartsAscend ranges → HasSortedStarts n (intervals_of rank ranges)
     sorted-starts ranges proper ascend =

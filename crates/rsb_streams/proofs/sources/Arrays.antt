@@ -21,34 +21,36 @@ use Rattle.rsb_streams.proofs.sources.Listed.{listed-yields}
 
 -- ---- ranges by their ends, in a type of n values
 module _ {T : Type 0} (rank : T → ℕ) (n : ℕ) where
-  -- the range was not iterated, has a value, and lies in the type
+  -- Whether the range was not iterated to its end, is non-empty, and is within the type.
   pub record IsWhole (range : RangeInclusive T) : Type 0 where
     pub whole : range_inclusive_exhausted range ≡ false
     pub in_order : rank (range_inclusive_start range) ≤ rank (range_inclusive_end range)
     pub in_type : rank (range_inclusive_end range) < n
 
-  -- the first range starts at `low` or past it, and none touches or overlaps another
+  -- Whether the first range starts at `low` or later, and no two ranges overlap or touch.
   abbrev pub AreApartFrom : ℕ → List (RangeInclusive T) → Type 0
   AreApartFrom low [] = Unit {0}
   AreApartFrom low (range ∷ ranges) =
       (low ≤ rank (range_inclusive_start range)) × IsWhole range
       × AreApartFrom (rank (range_inclusive_end range) + 2) ranges
 
-  -- the first range starts at `low` or past it, and none overlaps another: they may touch
+  -- Whether the first range starts at `low` or later, and each other one past the end of the one
+  -- before. They may touch.
   abbrev pub MayTouchFrom : ℕ → List (RangeInclusive T) → Type 0
   MayTouchFrom low [] = Unit {0}
   MayTouchFrom low (range ∷ ranges) =
       (low ≤ rank (range_inclusive_start range)) × IsWhole range
       × MayTouchFrom (rank (range_inclusive_end range) + 1) ranges
 
-  -- the first range starts at `low` or past it, and no start falls
+  -- Whether the first range starts at `low` or later, and each other one no earlier than the one
+  -- before.
   abbrev pub AreByStartsFrom : ℕ → List (RangeInclusive T) → Type 0
   AreByStartsFrom low [] = Unit {0}
   AreByStartsFrom low (range ∷ ranges) =
       (low ≤ rank (range_inclusive_start range)) × IsWhole range
       × AreByStartsFrom (rank (range_inclusive_start range)) ranges
 
-  -- its interval is from its start to its end
+  -- The interval of such a range is from the rank of its start to the rank of its end.
   whole-interval : (range : RangeInclusive T) → IsWhole range → interval_of rank range
       ≡ record {
         first = rank (range_inclusive_start range);
@@ -61,7 +63,7 @@ module _ {T : Type 0} (rank : T → ℕ) (n : ℕ) where
         last = rank (range_inclusive_end range);
       })) is.whole
 
-  -- ranges apart are a canonical list
+  -- Ranges that are apart are a canonical list.
   apart-canonical : (low : ℕ) (ranges : List (RangeInclusive T)) → AreApartFrom low ranges
       → IsCanonicalFrom low (intervals_of rank ranges) × AllEndBelow n (intervals_of rank ranges)
   apart-canonical low [] apart = (tt, All-nil (λ (run : Interval). run.last < n))
@@ -74,7 +76,7 @@ module _ {T : Type 0} (rank : T → ℕ) (n : ℕ) where
         All-cons (λ (run : Interval). run.last < n) _ runs apart.1.in_type rest.1,
       )
 
-  -- ranges that may touch are a list of such
+  -- Ranges that may touch are a touching list.
   touching-list : (low : ℕ) (ranges : List (RangeInclusive T)) → MayTouchFrom low ranges
       → IsTouchingFrom low (intervals_of rank ranges) × AllEndBelow n (intervals_of rank ranges)
   touching-list low [] touching = (tt, All-nil (λ (run : Interval). run.last < n))
@@ -87,7 +89,7 @@ module _ {T : Type 0} (rank : T → ℕ) (n : ℕ) where
         All-cons (λ (run : Interval). run.last < n) _ runs touching.1.in_type rest.1,
       )
 
-  -- ranges by their starts are a list by starts
+  -- Ranges sorted by start are a list sorted by start.
   starts-sorted : (low : ℕ) (ranges : List (RangeInclusive T)) → AreByStartsFrom low ranges
       → HasSortedStartsFrom n low (intervals_of rank ranges)
   starts-sorted low [] sorted = tt
@@ -102,11 +104,11 @@ module _ {T : Type 0} (rank : T → ℕ) (n : ℕ) where
 
 -- ---- arrays
 module _ {T : Type 0} (size : ℕ) (rank : T → ℕ) where
-  -- what an array of ranges becomes
+  -- What an array of ranges becomes.
   abbrev Items : Type 0
   Items = IntoIter (RangeInclusive T) size
 
-  -- it may always be called
+  -- Its iteration. It may always be called.
   abbrev items : Iteration Items (RangeInclusive T)
   items = record {
     can_next = λ s. Unit {0};
@@ -114,7 +116,7 @@ module _ {T : Type 0} (size : ℕ) (rank : T → ℕ) where
     remaining = λ s. at_most (length (array_into_iter_items s));
   }
 
-  -- it is a source of a law that the fronts of a list keep, where its items keep that
+  -- If its items satisfy a law that prefixes keep, it is a source for that law.
   array-source : (law : List Interval → Type 0)
       → ((runs others : List Interval) → law (runs ++ others) → law runs) → (s : Items)
       → law (intervals_of rank (array_into_iter_items s)) → IsSource rank items law s
@@ -131,19 +133,19 @@ module _ {T : Type 0} (size : ℕ) (rank : T → ℕ) where
         ∙ map-append (interval_of rank) ranges (array_into_iter_items t)) lawful);
   }
 
-  -- so it is of a canonical list
+  -- It is a source of a canonical list if its items are canonical.
   pub array-canonical : (n : ℕ) (s : Items)
       → IsCanonicalIn n (intervals_of rank (array_into_iter_items s))
       → IsSource rank items (IsCanonicalIn n) s
   array-canonical n = array-source (IsCanonicalIn n) (canonical-front n)
 
-  -- and of one by starts
+  -- It is a source of a list sorted by start if its items are sorted by start.
   pub array-sorted : (n : ℕ) (s : Items)
       → HasSortedStarts n (intervals_of rank (array_into_iter_items s))
       → IsSource rank items (HasSortedStarts n) s
   array-sorted n = array-source (HasSortedStarts n) (sorted-front n 0)
 
-  -- an array of ranges apart becomes a source of a canonical list
+  -- An array of ranges that are apart becomes a source of a canonical list.
   pub array-apart : (n : ℕ) (ranges : List (RangeInclusive T)) → AreApartFrom rank n 0 ranges
       → (s : Items) → array_into_iter_items s ≡ ranges
       → IsSource rank items (IsCanonicalIn n) s
@@ -152,7 +154,7 @@ module _ {T : Type 0} (size : ℕ) (rank : T → ℕ) where
       (subst (λ left. IsCanonicalIn n (intervals_of rank left)) (sym is)
       (apart-canonical rank n 0 ranges apart))
 
-  -- an array of ranges that may touch, of a list of such
+  -- An array of ranges that may touch becomes a source of a touching list.
   pub array-touching : (n : ℕ) (ranges : List (RangeInclusive T)) → MayTouchFrom rank n 0 ranges
       → (s : Items) → array_into_iter_items s ≡ ranges
       → IsSource rank items (IsTouchingIn n) s
@@ -161,7 +163,7 @@ module _ {T : Type 0} (size : ℕ) (rank : T → ℕ) where
       (subst (λ left. IsTouchingIn n (intervals_of rank left)) (sym is)
       (touching-list rank n 0 ranges touching))
 
-  -- and an array of ranges by their starts, of a list by starts
+  -- An array of ranges sorted by start becomes a source of a list sorted by start.
   pub array-by_starts : (n : ℕ) (ranges : List (RangeInclusive T))
       → AreByStartsFrom rank n 0 ranges
       → (s : Items) → array_into_iter_items s ≡ ranges

@@ -16,12 +16,12 @@ use Rattle.rsb_streams.specs.Stream.{◌⊆◌, after, just, unless, HasSortedSt
 use Rattle.rsb_streams.specs.declared.draw.Draw.{Ghosts as Stream}
 use Rattle.rsb_streams.specs.declared.put_back.PutBack.{PutBack}
 
--- the laws of a stream
+-- The laws of a stream: each draw fits what may be given, and a ready stream is sorted by start.
 pub record IsLawful {S T N : Type 0} (integer : Elements T N) (source : Stream S T N) : Type 0 where
   pub answers : IsAnswered integer source
   pub sorted : IsSorted integer source
 
--- the stream of which a range may be put back keeps the laws that the stream keeps
+-- If a stream is lawful, so is the stream to which a range may be put back.
 pub put_back-lawful : {S T N : Type 0} (integer : Elements T N) (source : Stream S T N)
     → IsLawful integer source → IsLawful integer (put_back integer source)
 put_back-lawful integer source laws = record {
@@ -29,13 +29,13 @@ put_back-lawful integer source laws = record {
   sorted = put_back-sorted integer source laws.sorted;
 }
 
--- the interval of a range that has members begins at the rank of its start
+-- The interval of a non-empty range starts at the rank of its start.
 pub range-start : {T : Type 0} (rank : T → ℕ) (range : RangeInclusive T)
     → (interval_of rank range).first ≤ (interval_of rank range).last
     → (interval_of rank range).first ≡ rank (range_inclusive_start range)
 range-start rank range ordered = ap (λ run. run.first) (interval_of-some rank range ordered)
 
--- and ends at the rank of its end
+-- The interval of a non-empty range ends at the rank of its end.
 pub range-end : {T : Type 0} (rank : T → ℕ) (range : RangeInclusive T)
     → (interval_of rank range).first ≤ (interval_of rank range).last
     → (interval_of rank range).last ≡ rank (range_inclusive_end range)
@@ -45,11 +45,12 @@ range-end rank range ordered = ap (λ run. run.last) (interval_of-some rank rang
 module _ {S T N : Type 0} (integer : Elements T N) (source : Stream S T N) where
   open integer use {rank, value_count as n}
 
-  -- the stream, with what is put back
+  -- The stream to which a range may be put back.
   abbrev held_source : Stream (PutBack T S) T N
   held_source = put_back integer source
 
-  -- a range comes first, and then what was still to come, by what is held before it and with it
+  -- The range that is put back comes first, followed by what was still to come. The cases are what
+  -- is held before and after.
   may-by : (range : RangeInclusive T) (before held : Option (RangeInclusive T)) (s t : Fused S)
       (runs : List Interval)
       → before ≡ None → held ≡ Some range → t ≡ s
@@ -65,7 +66,7 @@ module _ {S T N : Type 0} (integer : Elements T N) (source : Stream S T N) where
         first.2,
       )
 
-  -- it comes first, and then what was still to come
+  -- The range that is put back comes first, followed by what was still to come.
   pub put_back-may : (range : RangeInclusive T) (s t : PutBack T S) (runs : List Interval)
       → HasRoom s
       → IsPutBack range s t → held_source.may_give t runs
@@ -74,7 +75,7 @@ module _ {S T N : Type 0} (integer : Elements T N) (source : Stream S T N) where
   put_back-may range s t runs room put may =
       may-by range s.held t.held (fused_of s) (fused_of t) runs room put.held put.iter may
 
-  -- the stream may be called where no start falls of the range and what was still to come
+  -- If the range followed by what was still to come is sorted by start, the stream is still ready.
   pub put_back-ready : (range : RangeInclusive T) (s t : PutBack T S) → HasRoom s
       → IsPutBack range s t
       → held_source.can_draw s
@@ -88,7 +89,7 @@ module _ {S T N : Type 0} (integer : Elements T N) (source : Stream S T N) where
         subst (HasSortedStarts n) (sym first.2) (sorted first.0 first.1);
   }
 
-  -- and gives one range more
+  -- One more range is left than before.
   pub put_back-size : (range : RangeInclusive T) (s t : PutBack T S) → HasRoom s
       → IsPutBack range s t
       → size (held_source.draws_left t) ≡ size (held_source.draws_left s) + 1
@@ -96,7 +97,7 @@ module _ {S T N : Type 0} (integer : Elements T N) (source : Stream S T N) where
       let left = ap (λ (each : Fused S). size ((fused source).draws_left each)) put.iter in
       rw (put.held, room) (omega (arith, left))
 
-  -- ---- a stream of which nothing is drawn yet
+  -- ---- a stream from which nothing has been drawn yet
   fresh-by : (held : Option (RangeInclusive T)) (done : Bool) (iter s : S) → held ≡ None → done
       ≡ false → iter ≡ s
       → after rank held (unless done (source.may_give iter)) ⊆ source.may_give s
@@ -105,13 +106,13 @@ module _ {S T N : Type 0} (integer : Elements T N) (source : Stream S T N) where
       (subst (λ each. unless each (source.may_give iter) runs) undone
       (subst (λ each. after rank each (unless done (source.may_give iter)) runs) room at))
 
-  -- it gives what the stream gives
+  -- It gives what the stream gives.
   pub fresh-may : (iter : S) (s : PutBack T S) → IsFresh iter s
       → held_source.may_give s ⊆ source.may_give iter
   fresh-may iter s fresh = fresh-by s.held s.done s.iter iter fresh.room
       fresh.undone fresh.source
 
-  -- and may be called where the stream may
+  -- If the stream is ready and what it gives is sorted by start, it is ready.
   pub fresh-ready : (iter : S) (s : PutBack T S) → IsFresh iter s → source.can_draw iter
       → source.may_give iter ⊆ HasSortedStarts n → held_source.can_draw s
   fresh-ready iter s fresh can sorted = record {
@@ -119,15 +120,15 @@ module _ {S T N : Type 0} (integer : Elements T N) (source : Stream S T N) where
     sorted = λ runs at. sorted runs (fresh-may iter s fresh runs at);
   }
 
-  -- ---- a call that answered `None`
+  -- ---- a call that returned `None`
 
-  -- nothing comes after it, by whether the stream had ended
+  -- Nothing comes after the call. The cases are whether the stream had ended.
   ended-by : (done : Bool) (t : S) → done ≡ true
       → (done ≡ false → source.can_draw t) × (unless done (source.may_give t) ⊆ just [])
   ended-by true t end = ((λ no. absurd (cc)), (λ runs may. may))
   ended-by false t end = absurd (cc)
 
-  -- and by whether a range was held
+  -- Nothing comes after the call. The cases are whether a range was held.
   rests-by : (held : Option (RangeInclusive T)) (s t : Fused S)
       → MatchOption held ((fused source).draw_gives s None t)
       (λ range. (None ≡ Some range) × (t ≡ s))
@@ -135,7 +136,7 @@ module _ {S T N : Type 0} (integer : Elements T N) (source : Stream S T N) where
   rests-by None s t call = ended-by t.done t.iter call.1
   rests-by (Some range) s t call = let no = call.0 in absurd (cc)
 
-  -- it may be called again, and nothing comes
+  -- The stream is ready again, and nothing comes.
   pub put_back-rests : (s t : PutBack T S) → held_source.draw_gives s None t
       → held_source.can_draw t × (held_source.may_give t ⊆ just [])
   put_back-rests s t call =
@@ -157,13 +158,14 @@ module _ {S T : Type 0} {can_draw : S → Type 0}
     {can_next : S → Type 0} {next_gives : S → Option (RangeInclusive T) → S → Type 0}
     {remaining : S → Count}
     (drawn : IsDrawn can_draw draw_gives draws_left can_next next_gives remaining) where
-  -- a call of `next` is a draw
+  -- If the stream is ready, a call of `next` is a draw.
   pub drawn-call : (s t : S) (item : Option (RangeInclusive T)) → can_draw s
       → next_gives s item t → draw_gives s item t
   drawn-call s t None can call = drawn.ends s t (drawn.callable s can) call
   drawn-call s t (Some range) can call = drawn.gives s t range call
 
--- a call that goes on for `next` goes on for `draw`, where what may be called may be drawn from
+-- If every stream that may be called is ready, a call that makes progress for `next` also does for
+-- `draw`.
 pub goes-drawn : {S A : Type 0} (can_next can_draw : S → Type 0) (left : S → Count)
     → ((s : S) → can_next s → can_draw s) → (s t : S) (item : Option A)
     → MakesProgress can_next left s item t → MakesProgress can_draw left s item t

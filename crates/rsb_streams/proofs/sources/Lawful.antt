@@ -1,4 +1,4 @@
--- Streams that satisfy a law, as sources of streams that are known to satisfy it.
+-- Lawful streams, as sources of streams that are known to satisfy a law.
 use Rattle.rsb_integer.specs.declared.integer.Integer.{Ghosts as Elements}
 use Rattle.rsb_streams.specs.declared.draw.Draw.{Ghosts as Stream}
 use Rattle.std.proofs.Common.{ℕ, List, [], ◌∷◌, ◌++◌, sym, subst}
@@ -19,7 +19,7 @@ use Rattle.rsb_streams.proofs.checking.Placed.{touching-front}
 use Rattle.rsb_streams.specs.Stream.{◌⊆◌, HasSortedStarts, HasSortedStartsFrom}
 use Rattle.rsb_streams.proofs.sources.Known.{IsLawful}
 
--- a front of a list by starts is such a list
+-- A prefix of a list sorted by start is sorted by start.
 pub sorted-front : (n low : ℕ) (runs others : List Interval)
     → HasSortedStartsFrom n low (runs ++ others)
     → HasSortedStartsFrom n low runs
@@ -32,7 +32,7 @@ module _ {S T N : Type 0} (integer : Elements T N) (source : Stream S T N)
     (drawn : NextIsDraw source next) where
   open integer use {rank, value_count as n}
 
-  -- what calls gave comes before what may still come
+  -- What calls gave, followed by what may still come, might come before the calls.
   given-before : (ranges : List (RangeInclusive T)) (s t : S) (rest : List Interval)
       → Yields next.next_gives s ranges t → source.may_give t rest
       → source.may_give s (intervals_of rank ranges ++ rest)
@@ -41,7 +41,7 @@ module _ {S T N : Type 0} (integer : Elements T N) (source : Stream S T N)
       laws.answers s all.0 (Some range) (drawn.gives s all.0 range all.1) (intervals_of rank ranges ++ rest)
       (given-before ranges all.0 t rest all.2 may)
 
-  -- after calls that gave ranges the stream may be called
+  -- After calls that gave ranges, the stream may be called.
   callable-after : (ranges : List (RangeInclusive T)) (s t : S) → next.can_next s
       → IsFinite (next.remaining s)
       → Yields (Call rank next) s ranges t → next.can_next t
@@ -49,11 +49,11 @@ module _ {S T N : Type 0} (integer : Elements T N) (source : Stream S T N)
   callable-after (range ∷ ranges) s t can finite all =
       let near = all.1.nearer finite in callable-after ranges all.0 t near.0 near.1 all.2
 
-  -- what calls have given keeps a law that fronts keep, and that is so where it is not never so
+  -- Here the law holds of a prefix if it holds of the whole list, and holds if it cannot fail.
   module _ (law : List Interval → Type 0)
       (front : (runs others : List Interval) → law (runs ++ others) → law runs)
       (settled : (runs : List Interval) → ¬ (¬ (law runs)) → law runs) where
-    -- a stream that gives nothing but what keeps the law is a source of one that keeps it
+    -- If a stream gives only what satisfies the law, it is a source for that law.
     pub lawful-source : (s : S) → next.can_next s → source.may_give s ⊆ law
         → IsSource rank next law s
     lawful-source s can keeps =
@@ -69,26 +69,26 @@ module _ {S T N : Type 0} (integer : Elements T N) (source : Stream S T N)
               may)))));
         }
 
-  -- every stream of ranges by their starts is a source of one
+  -- Every lawful stream is a source of a list sorted by start.
   pub sorted-source : (s : S) → next.can_next s
       → IsSource rank next (HasSortedStarts n) s
   sorted-source s can =
       lawful-source (HasSortedStarts n) (sorted-front n 0) (settled_sorted n 0) s can
       (laws.sorted s (drawn.drawable s can)).all
 
-  -- and every canonical stream of a canonical one
+  -- Every canonical stream is a source of a canonical list.
   pub canonical-source : (s : S) → next.can_next s → source.may_give s ⊆ IsCanonicalIn n
       → IsSource rank next (IsCanonicalIn n) s
   canonical-source =
       lawful-source (IsCanonicalIn n) (canonical-front n) (settled_canonical_in n)
 
-  -- so is every stream whose ranges may touch, of one whose ranges may touch
+  -- Every stream that gives touching lists is a source of a touching list.
   pub touching-source : (s : S) → next.can_next s → source.may_give s ⊆ IsTouchingIn n
       → IsSource rank next (IsTouchingIn n) s
   touching-source =
       lawful-source (IsTouchingIn n) (touching-front n) (settled_touching_in n)
 
-  -- and every canonical stream, since no two of its ranges overlap
+  -- Every canonical stream is a source of a touching list, because its ranges do not overlap.
   pub canonical-touching_source : (s : S) → next.can_next s → source.may_give s ⊆ IsCanonicalIn n
       → IsSource rank next (IsTouchingIn n) s
   canonical-touching_source s can canonical =

@@ -1,4 +1,4 @@
--- Iterators whose state shows the list of what is left, as sources of streams.
+-- Iterators whose state shows the list of the ranges to come, as sources of streams.
 use Rattle.std.proofs.Common.{◌≡◌, ℕ, List, [], ◌∷◌, ◌++◌, refl, sym, ap, ◌∙◌, subst, inl, inr, arith}
 use Rattle.std.proofs.lemmas.List.{append-nil, map-append}
 use Rattle.std.specs.Prelude.{Some, None}
@@ -17,7 +17,7 @@ module _ {S T : Type 0} (rank : T → ℕ) (iterator : Iteration S (RangeInclusi
     (some : (s t : S) (range : RangeInclusive T) → iterator.next_gives s (Some range) t
     → left s ≡ range ∷ left t)
     (none : (s t : S) → iterator.next_gives s None t → left s ≡ []) where
-  -- calls give the list from its head on
+  -- Calls give a prefix of the list, and leave the rest.
   pub listed-yields : (ranges : List (RangeInclusive T)) (s t : S) → Yields iterator.next_gives s ranges t
       → left s ≡ ranges ++ left t
   listed-yields [] s t all = ap left all
@@ -28,7 +28,7 @@ module _ {S T : Type 0} (rank : T → ℕ) (iterator : Iteration S (RangeInclusi
       (more : (s : S) (range : RangeInclusive T) (ranges : List (RangeInclusive T)) → iterator.can_next s
       → left s ≡ range ∷ ranges → (t : S)
       × Call rank iterator s (Some range) t) where
-    -- calls give a front of the list, leave the rest, and another call may be made
+    -- Calls give a prefix of the list and leave the rest. After them, another call may be made.
     called : (ranges : List (RangeInclusive T)) (s t : S) → iterator.can_next s
         → Yields (Call rank iterator) s ranges t → (left s ≡ ranges ++ left t)
         × iterator.can_next t
@@ -37,7 +37,7 @@ module _ {S T : Type 0} (rank : T → ℕ) (iterator : Iteration S (RangeInclusi
         let rest = called ranges all.0 t (all.1.nearer (finite s)).0 all.2 in
         (some s all.0 range all.1.gives ∙ ap (λ rest. range ∷ rest) rest.0, rest.1)
 
-    -- where no call gives a range, none is left
+    -- If no call returns a range, none is left.
     stuck : (t : S) → iterator.can_next t
         → ((range : RangeInclusive T) (u : S)
         → ¬ (Call rank iterator t (Some range) u))
@@ -46,7 +46,7 @@ module _ {S T : Type 0} (rank : T → ℕ) (iterator : Iteration S (RangeInclusi
     stuck t can never (range ∷ ranges) is =
         let next = more t range ranges can is in absurd (never range next.0 next.1)
 
-    -- the calls give the whole list, and nothing else
+    -- The calls give exactly the list that is left.
     pub listed-calls : (s : S) → iterator.can_next s
         → calls_give rank iterator s ⊆ just (intervals_of rank (left s))
     listed-calls s can runs at =
@@ -59,13 +59,14 @@ module _ {S T : Type 0} (rank : T → ℕ) (iterator : Iteration S (RangeInclusi
         at.2 ∙ ap (intervals_of rank)
         (sym (append-nil ranges) ∙ ap (λ rest. ranges ++ rest) (sym end) ∙ sym all.0)
 
--- ---- the list itself as the state, where it is canonical in a type of n values
+-- ---- the list itself as the state, if it is canonical in a type of n values
 module _ {T : Type 0} (rank : T → ℕ) (n : ℕ) where
-  -- the ranges that are left
+  -- The type of the state: the ranges that are left.
   abbrev Ranges : Type 0
   Ranges = List (RangeInclusive T)
 
-  -- it may be called where they are canonical, and a call gives the first of them
+  -- The list as an iterator. It may be called if it is canonical, and a call returns its first
+  -- range.
   abbrev pub itself : Iteration Ranges (RangeInclusive T)
   itself = record {
     can_next = λ ranges. IsCanonicalIn n (intervals_of rank ranges);
@@ -73,7 +74,7 @@ module _ {T : Type 0} (rank : T → ℕ) (n : ℕ) where
     remaining = item_count (λ ranges. ranges);
   }
 
-  -- where a range is left, a call gives it
+  -- If a range is left, a call returns it.
   more-left : (s : Ranges) (range : RangeInclusive T) (ranges : Ranges) → itself.can_next s → s ≡ range ∷ ranges
       → (t : Ranges) × Call rank itself s (Some range) t
   more-left s range ranges canonical is = (
@@ -89,7 +90,7 @@ module _ {T : Type 0} (rank : T → ℕ) (n : ℕ) where
     },
   )
 
-  -- its calls give it
+  -- Its calls give exactly the list.
   pub list-calls : (s : Ranges) → itself.can_next s
       → calls_give rank itself s ⊆ just (intervals_of rank s)
   list-calls =
@@ -97,7 +98,7 @@ module _ {T : Type 0} (rank : T → ℕ) (n : ℕ) where
       (λ s t call. call.0)
       (λ s. tt) more-left
 
-  -- and it is a source
+  -- It is a source of a canonical list.
   pub list-source : (s : Ranges) → itself.can_next s → IsSource rank itself (IsCanonicalIn n) s
   list-source s canonical = record {
     callable = canonical;

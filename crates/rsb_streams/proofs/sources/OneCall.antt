@@ -13,7 +13,7 @@ use Rattle.rsb_streams.specs.StreamLaws.{sorted-lower}
 use Rattle.rsb_streams.specs.Stream.{HasSortedStarts}
 use Rattle.rsb_streams.specs.Fused.{fuse_can_next, fuse_remaining}
 
--- what follows the first interval of a list by starts is such a list
+-- What follows the first interval of a list sorted by start is also sorted by start.
 pub sorted-tail : (n : ℕ) (run : Interval) (runs : List Interval) → HasSortedStarts n (run ∷ runs)
     → HasSortedStarts n runs
 sorted-tail n run runs sorted = sorted-lower n run.first 0 runs (omega arith) sorted.3
@@ -21,15 +21,16 @@ sorted-tail n run runs sorted = sorted-lower n run.first 0 runs (omega arith) so
 module _ {I T : Type 0} (rank : T → ℕ) (iterator : Iteration I (RangeInclusive T))
     (law : List Interval → Type 0)
     (tail : (run : Interval) (runs : List Interval) → law (run ∷ runs) → law runs) where
-  -- the stream may be called, ends, and its calls give what keeps the law
+  -- Whether the stream is a source for the law.
   abbrev Source : I → Type 0
   Source = IsSource rank iterator law
 
-  -- a call in the `Fuse` makes progress
+  -- Whether a call of the stream in a `Fuse` makes progress.
   abbrev Goes : Fuse I → Option (RangeInclusive T) → Fuse I → Type 0
   Goes = MakesProgress (fuse_can_next iterator.can_next) (fuse_remaining iterator.remaining)
 
-  -- after a call that gave a range the stream is still such, by whether it had ended
+  -- If the stream was a source, it still is after a call that returned a range. The cases are
+  -- whether it had ended.
   after-by : (done after : Bool) (s t : I) (range : RangeInclusive T) → (done ≡ false → Source s)
       → MatchBool done (Some range ≡ None) (iterator.next_gives s (Some range) t) → after ≡ false
       → Goes (record { iter = s; done = done }) (Some range) (record { iter = t; done = after })
@@ -41,14 +42,14 @@ module _ {I T : Type 0} (rank : T → ℕ) (iterator : Iteration I (RangeInclusi
       source-after rank iterator law tail s t range (source refl) call
       (on.0 refl, on.1, on.2)
 
-  -- the law is kept from one call to the next
+  -- In a `Fuse`, a source is still a source after a call that returned a range.
   pub source-next : (s t : Fuse I) (range : RangeInclusive T) → fuse_can_next Source s
       → fuse_steps iterator.next_gives s (Some range) t → Goes s (Some range) t → fuse_can_next Source t
   source-next s t range source call goes = λ undone.
       after-by (fuse_done s) (fuse_done t) (fuse_source s) (fuse_source t) range source call.0
       call.1 goes
 
-  -- a call that makes progress makes it from one such stream to another
+  -- A call in a `Fuse` that makes progress leads from one source to another.
   pub source-goes : (s t : Fuse I) (item : Option (RangeInclusive T)) → fuse_can_next Source s
       → IsFinite (fuse_remaining iterator.remaining s)
       → fuse_steps iterator.next_gives s item t → Goes s item t

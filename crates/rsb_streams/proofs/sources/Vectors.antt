@@ -19,11 +19,11 @@ use Rattle.rsb_streams.proofs.sources.Lawful.{sorted-front}
 use Rattle.rsb_streams.proofs.sources.Listed.{listed-calls, listed-yields}
 use Rattle.rsb_streams.proofs.checking.Placed.{touching-front}
 
--- what a `Vec` of ranges becomes
+-- What a `Vec` of ranges becomes.
 abbrev Items : Type 0 → Type 0 → Type 0
 Items T Z = IntoIter (RangeInclusive T) Z
 
--- it may always be called
+-- Its iteration. It may always be called.
 abbrev items : {T Z : Type 0} → Iteration (Items T Z) (RangeInclusive T)
 items {T} {Z} = record {
   can_next = λ s. Unit {0};
@@ -32,11 +32,11 @@ items {T} {Z} = record {
 }
 
 module _ {T Z : Type 0} (rank : T → ℕ) (n : ℕ) where
-  -- where a call gives none, none was left
+  -- If a call returns `None`, no item was left.
   ended : (s t : Items T Z) → into_iter_steps s None t → into_iter_items s ≡ []
   ended s t call = nil_from_length (into_iter_items s) (omega (arith, s.rest.ok.0, call.0))
 
-  -- one item is taken, and the others stay
+  -- The state after the first item is taken.
   abbrev taken : (s : Items T Z) (range : RangeInclusive T) (ranges : List (RangeInclusive T))
       → into_iter_items s ≡ range ∷ ranges
       → Items T Z
@@ -59,7 +59,7 @@ module _ {T Z : Type 0} (rank : T → ℕ) (n : ℕ) where
         };
       }
 
-  -- where an item is left, a call gives it
+  -- If an item is left, a call returns it.
   more : (s : Items T Z) (range : RangeInclusive T) (ranges : List (RangeInclusive T)) → Unit {0}
       → into_iter_items s ≡ range ∷ ranges
       → (t : Items T Z) × Call rank items s
@@ -74,7 +74,7 @@ module _ {T Z : Type 0} (rank : T → ℕ) (n : ℕ) where
         },
       )
 
-  -- its calls give its items
+  -- Its calls give its items.
   pub vec-calls : (s : Items T Z)
       → calls_give rank items s
       ⊆ just (intervals_of rank (into_iter_items s))
@@ -82,7 +82,7 @@ module _ {T Z : Type 0} (rank : T → ℕ) (n : ℕ) where
       listed-calls rank items into_iter_items
       (λ s t range call. call.0) ended (λ s. tt) more s tt
 
-  -- and it is a source where they keep a law that fronts keep
+  -- If its items satisfy a law that prefixes keep, it is a source for that law.
   vec-source_of : (law : List Interval → Type 0)
       → ((runs others : List Interval) → law (runs ++ others) → law runs)
       → (s : Items T Z) → law (intervals_of rank (into_iter_items s))
@@ -101,17 +101,17 @@ module _ {T Z : Type 0} (rank : T → ℕ) (n : ℕ) where
         ∙ map-append (interval_of rank) ranges (into_iter_items t)) lawful);
   }
 
-  -- so where they are canonical
+  -- It is a source of a canonical list if its items are canonical.
   pub vec-source : (s : Items T Z) → IsCanonicalIn n (intervals_of rank (into_iter_items s))
       → IsSource rank items (IsCanonicalIn n) s
   vec-source = vec-source_of (IsCanonicalIn n) (canonical-front n)
 
-  -- and where their starts do not fall
+  -- It is a source of a list sorted by start if its items are sorted by start.
   pub vec-sorted : (s : Items T Z) → HasSortedStarts n (intervals_of rank (into_iter_items s))
       → IsSource rank items (HasSortedStarts n) s
   vec-sorted = vec-source_of (HasSortedStarts n) (sorted-front n 0)
 
-  -- and where they may touch
+  -- It is a source of a touching list if its items are touching.
   pub vec-touching : (s : Items T Z) → IsTouchingIn n (intervals_of rank (into_iter_items s))
       → IsSource rank items (IsTouchingIn n) s
   vec-touching = vec-source_of (IsTouchingIn n) (touching-front n)

@@ -13,7 +13,8 @@ use Rattle.rsb_streams.proofs.checking.Comparisons.{IsRanked, at_most-by, less-r
 use Rattle.rsb_streams.proofs.sources.Known.{range-end, range-start}
 use borrow.Author.Tests.{leb-true, leb-false}
 
--- the interval of a range that is told to be non-empty
+-- If the test of a range returns false, the range was not iterated to its end, and its ends are in
+-- order.
 some-by : (exhausted test told : Bool) (first last : ℕ) → nat_le first last ≡ test
     → MatchBool exhausted (IsTrue told) (told ≡ not test) → false ≡ told
     → (exhausted ≡ false) × (first ≤ last)
@@ -21,7 +22,8 @@ some-by true test told first last is tells fails = absurd (cc)
 some-by false true told first last is tells fails = (refl, leb-true first last is)
 some-by false false told first last is tells fails = absurd (cc)
 
--- and of one that is told to be empty
+-- If the test of a range returns true, the range was iterated to its end, or its ends are not in
+-- order.
 empty-by : (exhausted test told : Bool) (first last : ℕ) → nat_le first last ≡ test
     → MatchBool exhausted (IsTrue told) (told ≡ not test) → true ≡ told
     → (exhausted ≡ true) ⊎ (last < first)
@@ -31,31 +33,31 @@ empty-by false false told first last is tells holds = inr (leb-false first last 
 
 module _ {T : Type 0} {rank : T → ℕ} {n : ℕ} {partial_cmp : T → T → Option Ordering}
     {cmp : T → T → Ordering} (ranked : IsRanked rank n partial_cmp cmp) where
-  -- the ranks of a range, by whether it was iterated to its end
+  -- The ranks of a range, by whether it was iterated to its end.
   abbrev interval_at : Bool → RangeInclusive T → Interval
   interval_at exhausted range = cond exhausted (record { first = 1; last = 0 })
       (record { first = rank (range_inclusive_start range); last = rank (range_inclusive_end range) })
 
-  -- one that was is empty
+  -- A range that was iterated to its end is empty.
   gone-empty : (range : RangeInclusive T) → range_inclusive_exhausted range ≡ true
       → HasNoRanks (interval_of rank range)
   gone-empty range gone =
       subst HasNoRanks (ap (λ exhausted. interval_at exhausted range) (sym gone)) (omega arith)
 
-  -- what is told of a range is whether it is empty
+  -- Whether `told` is what a test of the range for emptiness returns.
   abbrev pub Tells : RangeInclusive T → Bool → Type 0
   Tells range told = MatchBool (range_inclusive_exhausted range) (IsTrue told)
       (told ≡ not (partial_le partial_cmp (range_inclusive_start range) (range_inclusive_end range)))
 
   module _ (range : RangeInclusive T) (start : rank (range_inclusive_start range) < n)
       (end : rank (range_inclusive_end range) < n) (told : Bool) (tells : Tells range told) where
-    -- the test of its ends is one of ranks
+    -- The comparison of the ends is that of their ranks.
     tested : nat_le (rank (range_inclusive_start range)) (rank (range_inclusive_end range))
         ≡ partial_le partial_cmp (range_inclusive_start range) (range_inclusive_end range)
     tested = sym (at_most-by ranked (range_inclusive_start range)
         (range_inclusive_end range) start end)
 
-    -- a range that is not told to be empty is proper
+    -- If the test returns false, the range is proper.
     pub proper-told : false ≡ told → IsProper rank n range
     proper-told fails =
         let some = some-by (range_inclusive_exhausted range) _ told _ _ tested tells fails in
@@ -65,7 +67,7 @@ module _ {T : Type 0} {rank : T → ℕ} {n : ℕ} {partial_cmp : T → T → Op
           in_type = subst (λ (run : Interval). run.last < n) is end;
         }
 
-    -- one that is told to be empty is
+    -- If the test returns true, the range is empty.
     pub empty-told : true ≡ told → HasNoRanks (interval_of rank range)
     empty-told holds = elim (empty-by (range_inclusive_exhausted range) _ told _ _ tested tells holds) [
       | inl gone ↦ gone-empty range gone
@@ -76,12 +78,13 @@ module _ {T : Type 0} {rank : T → ℕ} {n : ℕ} {partial_cmp : T → T → Op
       ]
     ]
 
-  -- what `checked_add_one` answers at the end of a range
+  -- What `checked_add_one` returns at the end of a range: the next value, or `None` at the greatest
+  -- one.
   pub record IsAfter (range : RangeInclusive T) (after : Option T) : Type 0 where
     pub none : IsNone after ↔ (rank (range_inclusive_end range) + 1 ≡ n)
     pub next : IfSome after (λ next. rank next ≡ rank (range_inclusive_end range) + 1)
 
-  -- so it does at the value that ends the range
+  -- If it was called with the end of a range, `checked_add_one` returned the value after the range.
   pub is_after : (range : RangeInclusive T) (end : T) (after : Option T)
       → end ≡ range_inclusive_end range → (IsNone after ↔ (rank end + 1 ≡ n))
       → IfSome after (λ next. rank next ≡ rank end + 1) → IsAfter range after
@@ -90,7 +93,7 @@ module _ {T : Type 0} {rank : T → ℕ} {n : ℕ} {partial_cmp : T → T → Op
     next = subst (λ value. IfSome after (λ next. rank next ≡ rank value + 1)) is next;
   }
 
-  -- a start that is told to lie past it does
+  -- If `starts_past` is true, the start leaves a gap after the range.
   past-true : (after : Option T) (range : RangeInclusive T) (start : T) → IsAfter range after
       → rank (range_inclusive_end range) < n → rank start < n
       → true ≡ starts_past partial_cmp after start
@@ -102,7 +105,7 @@ module _ {T : Type 0} {rank : T → ℕ} {n : ℕ} {partial_cmp : T → T → Op
       let less = less-rank ranked next start value within told in
       omega (arith, less, is.next)
 
-  -- one that is not does not
+  -- If `starts_past` is false, the start leaves no gap after the range.
   past-false : (after : Option T) (range : RangeInclusive T) (start : T) → IsAfter range after
       → rank (range_inclusive_end range) < n → rank start < n
       → false ≡ starts_past partial_cmp after start
@@ -115,7 +118,7 @@ module _ {T : Type 0} {rank : T → ℕ} {n : ℕ} {partial_cmp : T → T → Op
       let most = not_less-rank ranked next start value within told in
       omega (arith, most, is.next)
 
-  -- what a test of a start answered
+  -- The result of a test of a value equal to `start` is `starts_past` of `start`.
   pub told-past : (test told : Bool) (after : Option T) (value start : T) → test ≡ told
       → test ≡ starts_past partial_cmp after value → value ≡ start
       → told ≡ starts_past partial_cmp after start
@@ -126,41 +129,41 @@ module _ {T : Type 0} {rank : T → ℕ} {n : ℕ} {partial_cmp : T → T → Op
 
   module _ (one other : RangeInclusive T) (one_proper : IsProper rank n one)
       (other_proper : IsProper rank n other) where
-    -- where the one starts
+    -- The first rank of `one` is that of its start.
     one_start : (interval_of rank one).first ≡ rank (range_inclusive_start one)
     one_start = range-start rank one one_proper.in_order
 
-    -- where it ends
+    -- The last rank of `one` is that of its end.
     one_end : (interval_of rank one).last ≡ rank (range_inclusive_end one)
     one_end = range-end rank one one_proper.in_order
 
-    -- where the other starts
+    -- The first rank of `other` is that of its start.
     other_start : (interval_of rank other).first ≡ rank (range_inclusive_start other)
     other_start = range-start rank other other_proper.in_order
 
-    -- where it ends
+    -- The last rank of `other` is that of its end.
     other_end : (interval_of rank other).last ≡ rank (range_inclusive_end other)
     other_end = range-end rank other other_proper.in_order
 
-    -- its start is a value
+    -- The start of `one` is a value of the type.
     one_value : rank (range_inclusive_start one) < n
     one_value = omega (arith, one_start, one_proper.in_order, one_proper.in_type)
 
-    -- so is that of the other
+    -- The start of `other` is a value of the type.
     other_value : rank (range_inclusive_start other) < n
     other_value = omega (arith, other_start, other_proper.in_order, other_proper.in_type)
 
-    -- their ends are values
+    -- The end of `one` is a value of the type.
     one_last : rank (range_inclusive_end one) < n
     one_last = omega (arith, one_end, one_proper.in_type)
 
-    -- both of them
+    -- The end of `other` is a value of the type.
     other_last : rank (range_inclusive_end other) < n
     other_last = omega (arith, other_end, other_proper.in_type)
 
     module _ (after_one after_other : Option T) (after : IsAfter one after_one)
         (also : IsAfter other after_other) where
-      -- where neither is told to start past the other, they overlap or touch
+      -- If neither range starts past the other, with a gap between, they overlap or touch.
       pub meet-told : false ≡ starts_past partial_cmp after_one (range_inclusive_start other)
           → false ≡ starts_past partial_cmp after_other (range_inclusive_start one)
           → Meet (interval_of rank one) (interval_of rank other)
@@ -171,7 +174,8 @@ module _ {T : Type 0} {rank : T → ℕ} {n : ℕ} {partial_cmp : T → T → Op
           past in
           (omega (arith, low, one_start, other_end), omega (arith, high, other_start, one_end))
 
-      -- where one is, they do not
+      -- If one of the ranges starts past the other, with a gap between, they neither overlap nor
+      -- touch.
       pub apart-told : (true ≡ starts_past partial_cmp after_one (range_inclusive_start other))
           ⊎ (true ≡ starts_past partial_cmp after_other (range_inclusive_start one))
           → ¬ (Meet (interval_of rank one) (interval_of rank other))
@@ -186,14 +190,14 @@ module _ {T : Type 0} {rank : T → ℕ} {n : ℕ} {partial_cmp : T → T → Op
             absurd (omega (arith, meets.0, low, one_start, other_end))
       ]
 
-    -- the range from the lesser start to the greater end
+    -- The range from the lesser start to the greater end.
     module _ (whole : RangeInclusive T)
         (start : range_inclusive_start whole
         ≡ ord_min cmp (range_inclusive_start one) (range_inclusive_start other))
         (end : range_inclusive_end whole
         ≡ ord_max cmp (range_inclusive_end one) (range_inclusive_end other))
         (fresh : range_inclusive_exhausted whole ≡ false) where
-      -- starts where the one or the other does
+      -- It starts at the lesser of the two starts.
       pub joined-first : (interval_of rank whole).first
           ≡ min (interval_of rank one).first (interval_of rank other).first
       joined-first =
@@ -202,7 +206,7 @@ module _ {T : Type 0} {rank : T → ℕ} {n : ℕ} {partial_cmp : T → T → Op
           ap (λ exhausted. (interval_at exhausted whole).first) fresh
           ∙ omega (arith, ap rank start, least, one_start, other_start)
 
-      -- ends where the one or the other does
+      -- It ends at the greater of the two ends.
       pub joined-last : (interval_of rank whole).last
           ≡ max (interval_of rank one).last (interval_of rank other).last
       joined-last =
@@ -211,7 +215,7 @@ module _ {T : Type 0} {rank : T → ℕ} {n : ℕ} {partial_cmp : T → T → Op
           ap (λ exhausted. (interval_at exhausted whole).last) fresh
           ∙ omega (arith, ap rank end, most, one_end, other_end)
 
-      -- and is proper
+      -- It is proper.
       pub joined-proper : IsProper rank n whole
       joined-proper = record {
         in_order = omega (arith, joined-first, joined-last, one_proper.in_order);

@@ -15,12 +15,13 @@ use Rattle.rsb_streams.specs.declared.unsorted_disjoint.UnsortedDisjoint.{Unsort
 use Rattle.rsb_streams.proofs.unsorted.Pieces.{piece-one, span-some}
 use Rattle.rsb_streams.proofs.unsorted.Spans.{more-spans, no-spans, non_empty-keep}
 
--- the intervals that have a rank, of one list after another
+-- The non-empty intervals of two lists put together are those of the first, then those of the
+-- second.
 pub non_empty-append : (items others : List Interval)
     → non_empty (items ++ others) ≡ non_empty items ++ non_empty others
 non_empty-append items others = filter-append (λ (item : Interval). nat_le item.first item.last) items others
 
--- calls after calls are calls
+-- Calls that follow other calls make one sequence of calls with them.
 yields-then : {S X : Type 0} (steps : S → Option X → S → Type 0) (items others : List X) (s t u : S)
     → Yields steps s items t → Yields steps t others u → Yields steps s (items ++ others) u
 yields-then steps [] others s t u all more = subst (λ each. Yields steps each others u) (sym all) more
@@ -30,11 +31,11 @@ yields-then steps (item ∷ items) others s t u all more =
 -- ---- calls in a `Fuse`
 
 module _ {S X : Type 0} (steps : S → Option X → S → Type 0) where
-  -- a call, by whether it has ended
+  -- Whether a call fits a `Fuse`, by whether it has ended.
   abbrev CallBy : Bool → Fuse S → Option X → Fuse S → Type 0
   CallBy done s item t = MatchBool done (item ≡ None) (steps (fuse_source s) item (fuse_source t))
 
-  -- one that has ended gives nothing
+  -- A `Fuse` that has ended gives nothing.
   ended-draws : (items : List X) (s t : Fuse S) → fuse_done s ≡ true
       → Yields (fuse_steps steps) s items t → items ≡ []
   ended-draws [] s t done all = refl
@@ -43,7 +44,7 @@ module _ {S X : Type 0} (steps : S → Option X → S → Type 0) where
       subst (λ test. CallBy test s (Some item) all.0) done all.1.0 in
       absurd (cc)
 
-  -- one that has not drains to what its iterator drains to
+  -- A `Fuse` that has not ended drains to what its iterator drains to.
   fuse-drains : (items : List X) (s t u : Fuse S) → fuse_done s ≡ false
       → Yields (fuse_steps steps) s items t → fuse_steps steps t None u
       → Drains steps (fuse_source s) items
@@ -61,18 +62,18 @@ module _ {S X : Type 0} (steps : S → Option X → S → Type 0) where
 
 module _ {T I : Type 0} (rank : T → ℕ) (n : ℕ)
     (steps : I → Option (RangeInclusive T) → I → Type 0) where
-  -- a call of it
+  -- Whether a call fits the stream.
   abbrev Steps : UnsortedDisjoint T I → Option (RangeInclusive T) → UnsortedDisjoint T I → Type 0
   Steps = UnsortedSteps rank n steps
 
-  -- the ranges that it gives are proper
+  -- The ranges that the stream gives are proper.
   pub answers-proper : (answers : List (RangeInclusive T)) (s t : UnsortedDisjoint T I)
       → Yields Steps s answers t → All (IsProper rank n) answers
   answers-proper [] s t all = All-nil (IsProper rank n)
   answers-proper (answer ∷ answers) s t all =
       All-cons (IsProper rank n) answer answers all.1.proper (answers-proper answers all.0 t all.2)
 
-  -- once it has ended and holds nothing, it gives nothing
+  -- Once the source has ended and nothing is held, the stream gives nothing.
   ended-none : (answers : List (RangeInclusive T)) (s t : UnsortedDisjoint T I)
       → fuse_done s.iter ≡ true → s.gathered ≡ None → Yields Steps s answers t → answers ≡ []
   ended-none [] s t done held all = refl
@@ -84,20 +85,20 @@ module _ {T I : Type 0} (rank : T → ℕ) (n : ℕ)
       (subst (λ ranges. IsSpan (non_empty (intervals_of rank ranges)) (interval_of rank answer)) none
       piece.spans))
 
-  -- nothing begins a piece where none is answered
+  -- If the call returns `None`, no range is held to begin a new piece.
   begins-none : (held : Option (RangeInclusive T)) → IfSome held (BeginsAfter rank n None)
       → held ≡ None
   begins-none None begins = refl
   begins-none (Some range) begins = absurd begins.apart
 
-  -- what the calls drain to are the spans of what those of the iterator drain to, the piece so far
-  -- before it
+  -- Whether `answers` are the spans of the items in `before`, followed by the non-empty ones of
+  -- those that the source drains to.
   abbrev DrainsTo : List Interval → Fuse I → List (RangeInclusive T) → Type 0
   DrainsTo before source answers = (items : List (RangeInclusive T)) × (end : Fuse I)
       × YieldsThen (fuse_steps steps) source items None end
       × AreSpans (before ++ non_empty (intervals_of rank items)) (intervals_of rank answers)
 
-  -- a call that answers none ends it
+  -- If a call returns `None`, no non-empty item is left, so there are no spans.
   drained-none : (s u : UnsortedDisjoint T I) (before : List Interval)
       → IsGathered rank n before s.gathered → Steps s None u → DrainsTo before s.iter []
   drained-none s u before held call =
@@ -115,11 +116,11 @@ module _ {T I : Type 0} (rank : T → ℕ) (n : ℕ)
 
   module _ (s t : UnsortedDisjoint T I) (before : List Interval) (answer : RangeInclusive T)
       (held : IsGathered rank n before s.gathered) (call : Steps s (Some answer) t) where
-    -- the piece that a call answers
+    -- The piece whose span the call returns.
     abbrev piece : List Interval
     piece = before ++ non_empty (intervals_of rank call.drawn)
 
-    -- nothing comes after a call that ends with the iterator
+    -- If nothing is held after the call, the returned range is the only span left.
     drained-last : t.gathered ≡ None → DrainsTo before s.iter (answer ∷ [])
     drained-last none = (
       call.drawn,
@@ -135,15 +136,16 @@ module _ {T I : Type 0} (rank : T → ℕ) (n : ℕ)
           (λ item others is. absurd (cc))),
     )
 
-    -- the pieces after it follow one that ends with an item that begins a new one
+    -- If a range is held after the call, the later calls drain to the spans of a piece that it
+    -- begins.
     module _ (range : RangeInclusive T) (is : t.gathered ≡ Some range)
         (answers : List (RangeInclusive T))
         (rest : DrainsTo (interval_of rank range ∷ []) t.iter answers) where
-      -- that item begins a new one
+      -- The range begins a new piece, after that of the returned span.
       begins : BeginsAfter rank n (Some answer) range
       begins = subst (λ each. IfSome each (BeginsAfter rank n (Some answer))) is call.begins
 
-      -- the items are those of the piece and the others
+      -- The items of the piece, then that range and the items after it, are all of the items.
       all-items : piece ++ interval_of rank range ∷ non_empty (intervals_of rank rest.0)
           ≡ before ++ non_empty (intervals_of rank (call.drawn ++ range ∷ rest.0))
       all-items =
@@ -157,7 +159,7 @@ module _ {T I : Type 0} (rank : T → ℕ) (n : ℕ)
           (intervals_of rank (range ∷ rest.0)))
           ∙ ap non_empty (sym (map-append (interval_of rank) call.drawn (range ∷ rest.0))))
 
-      -- so all is drained
+      -- The returned range and those of the later calls are the spans of all the items.
       drained-more : DrainsTo before s.iter (answer ∷ answers)
       drained-more = (
         call.drawn ++ range ∷ rest.0,
@@ -181,7 +183,8 @@ module _ {T I : Type 0} (rank : T → ℕ) (n : ℕ)
             begins.apart (subst (Meet (interval_of rank answer)) (sym first) meets))),
       )
 
-  -- a call comes before what is drained after it, by whether an item is held then
+  -- A call and those after it drain to spans, if those after it do. The cases are whether a range
+  -- is held between.
   drained-by : (kept : Option (RangeInclusive T)) (answer : RangeInclusive T)
       (answers : List (RangeInclusive T)) (s next t : UnsortedDisjoint T I)
       (before : List Interval) → next.gathered ≡ kept → IsGathered rank n before s.gathered
@@ -197,7 +200,7 @@ module _ {T I : Type 0} (rank : T → ℕ) (n : ℕ)
   drained-by (Some range) answer answers s next t before is held call rest after =
       drained-more s next before answer held call range is answers (after range is)
 
-  -- the calls drain to spans
+  -- The calls of the stream drain to spans.
   drained : (answers : List (RangeInclusive T)) (s t u : UnsortedDisjoint T I)
       (before : List Interval) → IsGathered rank n before s.gathered
       → Yields Steps s answers t → Steps t None u → DrainsTo before s.iter answers
@@ -210,7 +213,7 @@ module _ {T I : Type 0} (rank : T → ℕ) (n : ℕ)
       (subst (IsGathered rank n (interval_of rank range ∷ [])) (sym is)
       (piece-one (interval_of rank range))) all.2 end)
 
-  -- a stream that was just made gives the spans of what its iterator gives
+  -- A stream that was just built gives the spans of what its iterator gives.
   pub gives-spans : (source : Fuse I) (iter : I) → fuse_source source ≡ iter
       → fuse_done source ≡ false
       → GivesSpans rank steps iter Steps (record { iter = source; gathered = None })

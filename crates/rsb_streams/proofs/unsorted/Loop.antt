@@ -1,4 +1,4 @@
--- The loop of joining ranges.
+-- The loop of `UnsortedDisjoint::next`, which joins ranges.
 use Rattle.std.proofs.Common.{◌≡◌, ℕ, ◌+◌, ◌≤◌, true, min, max, List, [], ◌∷◌, ◌++◌, append_assoc, refl, sym, ap, ◌∙◌, subst, arith}
 use Rattle.std.proofs.iter.Next.{Yields-more}
 use Rattle.std.proofs.lemmas.List.{append-nil, map-append}
@@ -22,20 +22,20 @@ module _ {T N I : Type 0} (integer : Elements T N) (iterator : Iteration I (Rang
   open integer use {rank, value_count as n}
   open iterator use {can_next, next_gives as steps, remaining}
 
-  -- what joins the ranges of the iterator
+  -- The iterator that joins the ranges of `iterator`.
   abbrev joins : Iteration (UnsortedDisjoint T I) (RangeInclusive T)
   joins = unsorted_disjoint integer iterator
 
-  -- the stream
+  -- The type of the stream.
   abbrev Joining : Type 0
   Joining = UnsortedDisjoint T I
 
-  -- how many ranges are left, with one that is held
+  -- The number of ranges that are left, with the held one.
   abbrev left : Joining → ℕ
   left s = size (joins.remaining s)
 
-  -- since the entry some items were drawn, and what is held is the span of the piece that they go
-  -- on
+  -- What holds before each iteration. The items drawn since the call began are all of one piece,
+  -- with those before. The held range is its span.
   pub record SoFar (entry now : Joining) : Type 0 where
     pub ready : joins.can_next now
     pub drawn : List (RangeInclusive T)
@@ -44,7 +44,7 @@ module _ {T N I : Type 0} (integer : Elements T N) (iterator : Iteration I (Rang
         → IsGathered rank n (items ++ non_empty (intervals_of rank drawn)) now.gathered
     pub nearer : left now ≤ left entry
 
-  -- nothing yet
+  -- It holds before the first iteration, when nothing is drawn yet.
   pub so_far-none : (entry : Joining) → joins.can_next entry
       → SoFar entry entry
   so_far-none entry ready = record {
@@ -56,7 +56,7 @@ module _ {T N I : Type 0} (integer : Elements T N) (iterator : Iteration I (Rang
     nearer = omega arith;
   }
 
-  -- a call of the iterator makes progress
+  -- Whether a call of the iterator makes progress.
   abbrev Goes : Fuse I → Option (RangeInclusive T) → Fuse I → Type 0
   Goes = MakesProgress (fuse_can_next can_next) (fuse_remaining remaining)
 
@@ -65,11 +65,11 @@ module _ {T N I : Type 0} (integer : Elements T N) (iterator : Iteration I (Rang
   module _ (entry now : Joining) (source : Fuse I) (range : RangeInclusive T)
       (so : SoFar entry now) (call : fuse_steps steps now.iter (Some range) source)
       (goes : Goes now.iter (Some range) source) where
-    -- it was drawn after the others
+    -- The range was drawn after the items so far.
     draws-more : Yields (fuse_steps steps) entry.iter (so.drawn ++ range ∷ []) source
     draws-more = Yields-more (fuse_steps steps) entry.iter so.drawn now.iter range source so.draws call
 
-    -- and comes after them
+    -- The range, if it is non-empty, is the last of the items.
     items-more : (items : List Interval) (more : List Interval)
         → non_empty (interval_of rank range ∷ []) ≡ more
         → (items ++ non_empty (intervals_of rank so.drawn)) ++ more
@@ -81,7 +81,7 @@ module _ {T N I : Type 0} (integer : Elements T N) (iterator : Iteration I (Rang
         ∙ sym (non_empty-append (intervals_of rank so.drawn) (interval_of rank range ∷ []))
         ∙ ap non_empty (sym (map-append (interval_of rank) so.drawn (range ∷ []))))
 
-    -- an empty item is passed over
+    -- An empty range is passed over.
     pub so_far-skip : HasNoRanks (interval_of rank range)
         → SoFar entry (record { iter = source; gathered = now.gathered })
     so_far-skip empty =
@@ -100,7 +100,7 @@ module _ {T N I : Type 0} (integer : Elements T N) (iterator : Iteration I (Rang
         }
 
     module _ (proper : IsProper rank n range) where
-      -- a proper item is one more
+      -- A proper range is the last of the items.
       one-more : (items : List Interval)
           → (items ++ non_empty (intervals_of rank so.drawn)) ++ interval_of rank range ∷ []
           ≡ items ++ non_empty (intervals_of rank (so.drawn ++ range ∷ []))
@@ -108,7 +108,7 @@ module _ {T N I : Type 0} (integer : Elements T N) (iterator : Iteration I (Rang
           items-more items (interval_of rank range ∷ [])
           (non_empty-keep (interval_of rank range) [] proper.in_order)
 
-      -- where none is held, it begins the first piece
+      -- If nothing is held, the range begins the first piece.
       pub so_far-first : now.gathered ≡ None
           → SoFar entry (record { iter = source; gathered = Some range })
       so_far-first none =
@@ -126,7 +126,7 @@ module _ {T N I : Type 0} (integer : Elements T N) (iterator : Iteration I (Rang
             nearer = omega (arith, on.2, so.nearer);
           }
 
-      -- where it overlaps or touches the span of the piece, it goes on the piece
+      -- If the range overlaps or touches the span of the piece, it joins the piece.
       pub so_far-joined : (span whole : RangeInclusive T) → now.gathered ≡ Some span
           → IsProper rank n whole → Meet (interval_of rank span) (interval_of rank range)
           → (interval_of rank whole).first
@@ -152,9 +152,9 @@ module _ {T N I : Type 0} (integer : Elements T N) (iterator : Iteration I (Rang
             nearer = omega (arith, on.2, held);
           }
 
-      -- where it does not, the span is answered, and it is held
+      -- If the range is apart from the span, the call returns the span and holds the range.
       module _ (span : RangeInclusive T) (is : now.gathered ≡ Some span) where
-        -- what is known of the call
+        -- The call fits what the stream may give.
         pub answer-span : ¬ (Meet (interval_of rank span) (interval_of rank range))
             → joins.next_gives entry (Some span)
             (record { iter = source; gathered = Some range })
@@ -170,7 +170,7 @@ module _ {T N I : Type 0} (integer : Elements T N) (iterator : Iteration I (Rang
           begins = record { proper = proper; apart = apart };
         }
 
-        -- and it makes progress
+        -- The call makes progress.
         pub span-goes : MakesProgress joins.can_next
             joins.remaining entry (Some span)
             (record { iter = source; gathered = Some range })
@@ -189,22 +189,22 @@ module _ {T N I : Type 0} (integer : Elements T N) (iterator : Iteration I (Rang
 
   -- ---- the end
 
-  -- a source that has ended may be called, and has nothing left
+  -- A stream whose source has ended, and that holds nothing.
   module _ (source : Fuse I) (done : fuse_done source ≡ true) where
-    -- a stream over it that holds nothing
+    -- The stream, as a state.
     abbrev ended : Joining
     ended = record { iter = source; gathered = None }
 
-    -- it ends
+    -- The calls of the source end.
     ended-finite : IsFinite (fuse_remaining remaining source)
     ended-finite = subst (λ test. IsFinite (count_unless test (remaining (fuse_source source))))
         (sym done) tt
 
-    -- nothing is left
+    -- Nothing is left in the stream.
     ended-left : left ended ≡ 0
     ended-left = ap (λ test. size (count_unless test (remaining (fuse_source source))) + 0) done
 
-    -- it may be called
+    -- The stream may be called.
     ended-ready : joins.can_next ended
     ended-ready = record {
       callable = λ undone. absurd (cc);
@@ -214,7 +214,7 @@ module _ {T N I : Type 0} (integer : Elements T N) (iterator : Iteration I (Rang
 
   module _ (entry now : Joining) (source : Fuse I) (so : SoFar entry now)
       (call : fuse_steps steps now.iter None source) where
-    -- what is held is answered
+    -- If the source returns `None`, the call returns what is held.
     pub answer-last : joins.next_gives entry now.gathered
         (record { iter = source; gathered = None })
     answer-last = record {
@@ -227,7 +227,7 @@ module _ {T N I : Type 0} (integer : Elements T N) (iterator : Iteration I (Rang
       begins = tt;
     }
 
-    -- and the call makes progress, by what is held
+    -- The call makes progress. The cases are whether a range was held.
     last-by : (held : Option (RangeInclusive T)) → now.gathered ≡ held
         → MakesProgress joins.can_next joins.remaining
         entry held (record { iter = source; gathered = None })
@@ -247,7 +247,7 @@ module _ {T N I : Type 0} (integer : Elements T N) (iterator : Iteration I (Rang
           rests = λ finite. tt;
         }
 
-    -- the call makes progress
+    -- The call that returns what is held makes progress.
     pub last-goes : MakesProgress joins.can_next
         joins.remaining entry now.gathered
         (record { iter = source; gathered = None })

@@ -12,11 +12,11 @@ use Rattle.rsb_streams.specs.UnsortedDisjoint.{HoldsTogether, IsPiece, IsSpan, M
 
 -- ---- spans
 
--- no items have no span
+-- An empty list has no span.
 pub span-some : (span : Interval) → ¬ (IsSpan [] span)
 span-some span is = let none = is.starts.1.1 in absurd (omega arith)
 
--- items have one span
+-- A list has at most one span.
 pub span-same : (items : List Interval) (span other : Interval) → IsSpan items span
     → IsSpan items other → span ≡ other
 span-same items span other is also =
@@ -32,7 +32,7 @@ span-same items span other is also =
     (omega (arith, low, low_other, is.starts.2, also.starts.2))
     (omega (arith, high, high_other, is.ends.2, also.ends.2))
 
--- an item alone is its span
+-- The span of a single item is the item.
 pub span-one : (item : Interval) → IsSpan (item ∷ []) item
 span-one item = record {
   starts = (item, Contains-head item [], refl);
@@ -43,10 +43,10 @@ span-one item = record {
       (All-nil (λ (each : Interval). each.last ≤ item.last));
 }
 
--- one more item
+-- A list with one more item.
 module _ (items : List Interval) (span item whole : Interval) (is : IsSpan items span)
     (first : whole.first ≡ min span.first item.first) (last : whole.last ≡ max span.last item.last) where
-  -- the least start is one of the items', or the new one's
+  -- The least start is that of the item, or of one of the others.
   push-starts : (start : Interval) × Contains (items ++ item ∷ []) start
       × (start.first ≡ whole.first)
   push-starts = elim (cases_lt item.first span.first) [
@@ -58,7 +58,7 @@ module _ (items : List Interval) (span item whole : Interval) (is : IsSpan items
     )
   ]
 
-  -- so is the greatest end
+  -- The greatest end is that of the item, or of one of the others.
   push-ends : (end : Interval) × Contains (items ++ item ∷ []) end × (end.last ≡ whole.last)
   push-ends = elim (cases_lt span.last item.last) [
     | inl higher ↦ (item, Contains-push items item, omega arith)
@@ -69,7 +69,7 @@ module _ (items : List Interval) (span item whole : Interval) (is : IsSpan items
     )
   ]
 
-  -- the span reaches from the lesser start to the greater end
+  -- The span is from the lesser start to the greater end of the old span and the item.
   pub span-push : IsSpan (items ++ item ∷ []) whole
   span-push =
       let low : whole.first ≤ span.first = omega arith in
@@ -90,12 +90,12 @@ module _ (items : List Interval) (span item whole : Interval) (is : IsSpan items
 
 -- ---- pieces
 
--- a list is not empty that has an item
+-- A list that has an item is not empty.
 pub not_nil : {X : Type 0} (before after : List X) (item : X) → ¬ ([] ≡ before ++ item ∷ after)
 not_nil [] after item is = absurd (cc)
 not_nil (first ∷ before) after item is = absurd (cc)
 
--- where an item stands in a list and one more, it is that one, or stands in the list
+-- A place in a list with one more item is that of the last item, or is in the list before it.
 split-push : {X : Type 0} (before after items : List X) (last item : X)
     → items ++ last ∷ [] ≡ before ++ item ∷ after
     → ((item ≡ last) × (before ≡ items)) ⊎ ((rest : List X) × (items ≡ before ++ item ∷ rest))
@@ -120,7 +120,7 @@ split-push (first ∷ before) after (other ∷ items) last item is =
       )
     ]
 
--- an item alone is a piece
+-- A single item is a piece.
 pub piece-one : (item : Interval) → IsPiece (item ∷ []) item
 piece-one item = record {
   spans = span-one item;
@@ -130,7 +130,7 @@ piece-one item = record {
   ];
 }
 
--- with an item that overlaps or touches its span, a piece is one
+-- A piece with an item that overlaps or touches its span is a piece.
 pub piece-more : (items : List Interval) (span item whole : Interval) → IsPiece items span
     → Meet span item → whole.first ≡ min span.first item.first
     → whole.last ≡ max span.last item.last
@@ -149,13 +149,13 @@ piece-more items span item whole piece meets first last = record {
 
 -- ---- members
 
--- what is false besides says nothing
+-- A test or false is that test.
 or-false : (test : Bool) → (test || false) ≡ test
 or-false true = refl
 or-false false = refl
 
--- two intervals that overlap or touch cover what the one from the lesser start to the greater end
--- covers
+-- Two intervals that overlap or touch cover what the interval from the lesser start to the greater
+-- end covers.
 meet-covers : (rank : ℕ) (one other : Interval) → Meet one other → one.first ≤ one.last
     → other.first ≤ other.last
     → (covers one rank || covers other rank)
@@ -163,7 +163,7 @@ meet-covers : (rank : ℕ) (one other : Interval) → Meet one other → one.fir
 meet-covers rank one other meets some also =
     let left = meets.0 in let right = meets.1 in grind (arith, nat_tests)
 
--- the members of a list and one more item
+-- The members of a list with one more item are those of the list and those of the item.
 members-push : (items : List Interval) (item : Interval) (rank : ℕ)
     → members (items ++ item ∷ []) rank ≡ (members items rank || covers item rank)
 members-push items item rank =
@@ -171,7 +171,7 @@ members-push items item rank =
     ∙ ap (λ test. members items rank || test)
     (members-cons item [] rank ∙ or-false (covers item rank))
 
--- a piece has the members of its span, where some first items of it have those of theirs
+-- A piece has the members of its span, if its first items have the members of their own span.
 members-along : (rest before : List Interval) (span whole : Interval) (rank : ℕ)
     → IsSpan before span → span.first ≤ span.last → members before rank ≡ covers span rank
     → All HasRanks rest → HoldsTogether (before ++ rest) → IsSpan (before ++ rest) whole
@@ -198,7 +198,7 @@ members-along (item ∷ rest) before span whole rank is some same fill together 
     (subst HoldsTogether (sym longer) together)
     (subst (λ each. IsSpan each whole) (sym longer) covered))
 
--- a piece has the members of its span
+-- A piece has the members of its span.
 pub piece-members : (items : List Interval) (span : Interval) (rank : ℕ) → IsSpan items span
     → HoldsTogether items → All HasRanks items → members items rank ≡ covers span rank
 piece-members [] span rank is together fill = absurd (span-some span is)

@@ -12,19 +12,19 @@ use Rattle.rsb_streams.proofs.unsorted.Pieces.{not_nil, piece-members, span-same
 
 -- ---- items that have a rank
 
--- an item that has none is left out
+-- An empty item is left out.
 pub non_empty-skip : (item : Interval) (items : List Interval) → HasNoRanks item
     → non_empty (item ∷ items) ≡ non_empty items
 non_empty-skip item items empty =
     let test : nat_le item.first item.last ≡ false = grind (arith, nat_tests) in rw test refl
 
--- one that has some stays
+-- A non-empty item is kept.
 pub non_empty-keep : (item : Interval) (items : List Interval) → HasRanks item
     → non_empty (item ∷ items) ≡ item ∷ non_empty items
 non_empty-keep item items some =
     let test : nat_le item.first item.last ≡ true = grind (arith, nat_tests) in rw test refl
 
--- each of these has a rank
+-- The items that are kept are non-empty.
 pub non_empty-fill : (items : List Interval) → All HasRanks (non_empty items)
 non_empty-fill [] = All-nil HasRanks
 non_empty-fill (item ∷ items) = elim (cases_lt item.last item.first) [
@@ -33,11 +33,11 @@ non_empty-fill (item ∷ items) = elim (cases_lt item.last item.first) [
       (All-cons HasRanks item (non_empty items) some (non_empty-fill items))
 ]
 
--- an empty interval covers nothing
+-- An empty interval covers nothing.
 covers-none : (item : Interval) (rank : ℕ) → HasNoRanks item → covers item rank ≡ false
 covers-none item rank empty = grind (arith, nat_tests)
 
--- they have the members of all
+-- The items that are kept have the members of all items.
 non_empty-members : (items : List Interval) (rank : ℕ)
     → members (non_empty items) rank ≡ members items rank
 non_empty-members [] rank = refl
@@ -56,12 +56,12 @@ non_empty-members (item ∷ items) rank = elim (cases_lt item.last item.first) [
 
 -- ---- their members
 
--- what holds of each item of two lists put together holds of each of the second
+-- What holds of each item of two lists put together holds of each item of the second.
 All-back : {X : Type 0} (P : X → Type 0) (xs ys : List X) → All P (xs ++ ys) → All P ys
 All-back P [] ys all = all
 All-back P (x ∷ xs) ys all = All-back P xs ys (All-tail P x (xs ++ ys) all)
 
--- the spans of pieces have the members of their items
+-- The spans of pieces have the members of their items.
 pieces-members : (pieces : List (List Interval)) (spans : List Interval) (rank : ℕ)
     → AllZip IsSpan pieces spans → All HoldsTogether pieces → All HasRanks (items_of pieces)
     → members spans rank ≡ members (items_of pieces) rank
@@ -78,7 +78,7 @@ pieces-members (piece ∷ pieces) (span ∷ spans) rank spanned together fill =
     (All-back HasRanks piece (items_of pieces) fill))
     ∙ sym (members-append piece (items_of pieces) rank)
 
--- the spans have the same members as the items
+-- The spans have the same members as the items.
 pub spans-members : (items spans : List Interval) (rank : ℕ) → AreSpans (non_empty items) spans
     → members spans rank ≡ members items rank
 spans-members items spans rank are =
@@ -89,7 +89,7 @@ spans-members items spans rank are =
 
 -- ---- one more piece
 
--- no items have no spans
+-- An empty list of items has no spans.
 pub no-spans : AreSpans [] []
 no-spans = record {
   pieces = [];
@@ -104,7 +104,8 @@ module _ (piece : List Interval) (span : Interval) (items spans : List Interval)
     (are : AreSpans items spans)
     (begins : (item : Interval) (others : List Interval) → items ≡ item ∷ others
     → ¬ (Meet span item)) where
-  -- a piece comes before others where the first item of these is apart from it
+  -- If the first of the other items is apart from the piece, each piece is apart from the one
+  -- before it.
   first-apart : (before after : List (List Interval)) (one next : List Interval)
       → piece ∷ are.pieces ≡ before ++ one ∷ next ∷ after → IsApart one next
   first-apart [] after one next same = λ item others other starts covered meets.
@@ -118,7 +119,7 @@ module _ (piece : List Interval) (span : Interval) (items spans : List Interval)
       let rest : are.pieces ≡ before ++ one ∷ next ∷ after = cc in
       are.apart before after one next rest
 
-  -- a piece and the pieces after it
+  -- A piece followed by other items has the span of the piece, followed by their spans.
   pub more-spans : AreSpans (piece ++ items) (span ∷ spans)
   more-spans = record {
     pieces = piece ∷ are.pieces;

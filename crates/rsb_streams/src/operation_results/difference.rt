@@ -14,8 +14,7 @@ use rsb_integer::Integer;
 use std::iter::FusedIterator;
 use std::ops::RangeInclusive;
 
-/// The values in the left of two streams that are not in the right one. (`Difference` in
-/// range-set-blaze.)
+/// The values in the left stream that are not in the right one. (`Difference` in range-set-blaze.)
 #[derive(Clone, Debug, Drop)]
 pub struct Difference<T, L, R> {
     // The values that are neither outside the left stream nor in the right one.

@@ -14,7 +14,7 @@ use rsb_integer::Integer;
 use std::iter::FusedIterator;
 use std::ops::RangeInclusive;
 
-/// The values in both of two streams. (`Intersection` in range-set-blaze.)
+/// The values that are in both streams. (`Intersection` in range-set-blaze.)
 #[derive(Clone, Debug, Drop)]
 pub struct Intersection<T, L, R> {
     // The values that are outside neither stream.

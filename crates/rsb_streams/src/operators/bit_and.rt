@@ -57,7 +57,8 @@ impl<T: Integer, A: Draw<T>, B: Draw<T>, R: DrawDisjoint<T>> BitAnd<R> for Inter
 
     ghost can_bitand = { CanDrawBoth ⟦<Intersection<T, A, B> as Draw<T>>⟧ R.Draw };
 
-    ghost bitand_gives = { MakesIntersection T.Integer.own ⟦<Intersection<T, A, B> as Draw<T>>⟧ R.Draw
+    ghost bitand_gives = { MakesIntersection T.Integer.own
+        ⟦<Intersection<T, A, B> as Draw<T>>⟧ R.Draw
         ⟦<Intersection<T, Intersection<T, A, B>, R> as Draw<T>>⟧ };
 
     fn bitand(self, other: R) -> Self::Output {
@@ -83,7 +84,8 @@ impl<T: Integer, A: Draw<T>, B: Draw<T>, R: DrawDisjoint<T>> BitAnd<R> for SymDi
 
     ghost can_bitand = { CanDrawBoth ⟦<SymDiffIter<T, A, B> as Draw<T>>⟧ R.Draw };
 
-    ghost bitand_gives = { MakesIntersection T.Integer.own ⟦<SymDiffIter<T, A, B> as Draw<T>>⟧ R.Draw
+    ghost bitand_gives = { MakesIntersection T.Integer.own
+        ⟦<SymDiffIter<T, A, B> as Draw<T>>⟧ R.Draw
         ⟦<Intersection<T, SymDiffIter<T, A, B>, R> as Draw<T>>⟧ };
 
     fn bitand(self, other: R) -> Self::Output {
@@ -97,7 +99,8 @@ impl<T: Integer, I: Iterator<Item = RangeInclusive<T>>, R: DrawDisjoint<T>> BitA
 
     ghost can_bitand = { CanDrawBoth ⟦<CheckSortedDisjoint<T, I> as Draw<T>>⟧ R.Draw };
 
-    ghost bitand_gives = { MakesIntersection T.Integer.own ⟦<CheckSortedDisjoint<T, I> as Draw<T>>⟧ R.Draw
+    ghost bitand_gives = { MakesIntersection T.Integer.own
+        ⟦<CheckSortedDisjoint<T, I> as Draw<T>>⟧ R.Draw
         ⟦<Intersection<T, CheckSortedDisjoint<T, I>, R> as Draw<T>>⟧ };
 
     fn bitand(self, other: R) -> Self::Output {

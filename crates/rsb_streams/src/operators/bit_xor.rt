@@ -18,7 +18,8 @@ impl<T: Integer, I: Draw<T>, R: DrawDisjoint<T>> BitXor<R> for NotIter<T, I> {
 
     ghost can_bitxor = { CanDrawBoth ⟦<NotIter<T, I> as Draw<T>>⟧ R.Draw };
 
-    ghost bitxor_gives = { MakesSymmetricDifference T.Integer.own ⟦<NotIter<T, I> as Draw<T>>⟧ R.Draw
+    ghost bitxor_gives = { MakesSymmetricDifference T.Integer.own
+        ⟦<NotIter<T, I> as Draw<T>>⟧ R.Draw
         ⟦<SymmetricDifference<T, NotIter<T, I>, R> as Draw<T>>⟧ };
 
     fn bitxor(self, other: R) -> Self::Output {
@@ -31,7 +32,8 @@ impl<T: Integer, I: Draw<T>, R: DrawDisjoint<T>> BitXor<R> for UnionIter<T, I> {
 
     ghost can_bitxor = { CanDrawBoth ⟦<UnionIter<T, I> as Draw<T>>⟧ R.Draw };
 
-    ghost bitxor_gives = { MakesSymmetricDifference T.Integer.own ⟦<UnionIter<T, I> as Draw<T>>⟧ R.Draw
+    ghost bitxor_gives = { MakesSymmetricDifference T.Integer.own
+        ⟦<UnionIter<T, I> as Draw<T>>⟧ R.Draw
         ⟦<SymmetricDifference<T, UnionIter<T, I>, R> as Draw<T>>⟧ };
 
     fn bitxor(self, other: R) -> Self::Output {
@@ -44,7 +46,8 @@ impl<T: Integer, A: Draw<T>, B: Draw<T>, R: DrawDisjoint<T>> BitXor<R> for Union
 
     ghost can_bitxor = { CanDrawBoth ⟦<Union<T, A, B> as Draw<T>>⟧ R.Draw };
 
-    ghost bitxor_gives = { MakesSymmetricDifference T.Integer.own ⟦<Union<T, A, B> as Draw<T>>⟧ R.Draw
+    ghost bitxor_gives = { MakesSymmetricDifference T.Integer.own
+        ⟦<Union<T, A, B> as Draw<T>>⟧ R.Draw
         ⟦<SymmetricDifference<T, Union<T, A, B>, R> as Draw<T>>⟧ };
 
     fn bitxor(self, other: R) -> Self::Output {
@@ -57,7 +60,8 @@ impl<T: Integer, A: Draw<T>, B: Draw<T>, R: DrawDisjoint<T>> BitXor<R> for Inter
 
     ghost can_bitxor = { CanDrawBoth ⟦<Intersection<T, A, B> as Draw<T>>⟧ R.Draw };
 
-    ghost bitxor_gives = { MakesSymmetricDifference T.Integer.own ⟦<Intersection<T, A, B> as Draw<T>>⟧ R.Draw
+    ghost bitxor_gives = { MakesSymmetricDifference T.Integer.own
+        ⟦<Intersection<T, A, B> as Draw<T>>⟧ R.Draw
         ⟦<SymmetricDifference<T, Intersection<T, A, B>, R> as Draw<T>>⟧ };
 
     fn bitxor(self, other: R) -> Self::Output {
@@ -70,7 +74,8 @@ impl<T: Integer, A: Draw<T>, B: Draw<T>, R: DrawDisjoint<T>> BitXor<R> for Diffe
 
     ghost can_bitxor = { CanDrawBoth ⟦<Difference<T, A, B> as Draw<T>>⟧ R.Draw };
 
-    ghost bitxor_gives = { MakesSymmetricDifference T.Integer.own ⟦<Difference<T, A, B> as Draw<T>>⟧ R.Draw
+    ghost bitxor_gives = { MakesSymmetricDifference T.Integer.own
+        ⟦<Difference<T, A, B> as Draw<T>>⟧ R.Draw
         ⟦<SymmetricDifference<T, Difference<T, A, B>, R> as Draw<T>>⟧ };
 
     fn bitxor(self, other: R) -> Self::Output {
@@ -84,7 +89,8 @@ impl<T: Integer, I: Iterator<Item = RangeInclusive<T>>, R: DrawDisjoint<T>> BitX
 
     ghost can_bitxor = { CanDrawBoth ⟦<CheckSortedDisjoint<T, I> as Draw<T>>⟧ R.Draw };
 
-    ghost bitxor_gives = { MakesSymmetricDifference T.Integer.own ⟦<CheckSortedDisjoint<T, I> as Draw<T>>⟧ R.Draw
+    ghost bitxor_gives = { MakesSymmetricDifference T.Integer.own
+        ⟦<CheckSortedDisjoint<T, I> as Draw<T>>⟧ R.Draw
         ⟦<SymmetricDifference<T, CheckSortedDisjoint<T, I>, R> as Draw<T>>⟧ };
 
     fn bitxor(self, other: R) -> Self::Output {
@@ -110,7 +116,8 @@ impl<T: Integer, A: Draw<T>, B: Draw<T>, R: DrawDisjoint<T>> BitXor<R> for SymDi
 
     ghost can_bitxor = { CanDrawBoth ⟦<SymDiffIter<T, A, B> as Draw<T>>⟧ R.Draw };
 
-    ghost bitxor_gives = { MakesSymmetricDifference T.Integer.own ⟦<SymDiffIter<T, A, B> as Draw<T>>⟧ R.Draw
+    ghost bitxor_gives = { MakesSymmetricDifference T.Integer.own
+        ⟦<SymDiffIter<T, A, B> as Draw<T>>⟧ R.Draw
         ⟦<SymmetricDifference<T, SymDiffIter<T, A, B>, R> as Draw<T>>⟧ };
 
     fn bitxor(self, other: R) -> Self::Output {

@@ -97,7 +97,8 @@ impl<T: Integer, I: Iterator<Item = RangeInclusive<T>>, R: DrawDisjoint<T>> Sub<
 
     ghost can_sub = { CanDrawBoth ⟦<CheckSortedDisjoint<T, I> as Draw<T>>⟧ R.Draw };
 
-    ghost sub_gives = { MakesDifference T.Integer.own ⟦<CheckSortedDisjoint<T, I> as Draw<T>>⟧ R.Draw
+    ghost sub_gives = { MakesDifference T.Integer.own
+        ⟦<CheckSortedDisjoint<T, I> as Draw<T>>⟧ R.Draw
         ⟦<Difference<T, CheckSortedDisjoint<T, I>, R> as Draw<T>>⟧ };
 
     fn sub(self, other: R) -> Self::Output {

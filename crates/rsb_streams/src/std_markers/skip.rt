@@ -1,4 +1,4 @@
-//! `Skip` over a stream is a stream: it gives the ranges after the given number of first ones.
+//! `Skip` over a stream is a stream: it leaves out the given number of ranges and gives the rest.
 
 ghost use Rattle.std.specs.Iterator.Adapters.{skip_count, skip_source};
 ghost use Rattle.rsb_streams.specs.AdapterLaws.{skip-drawn, skip-sorted};
@@ -41,7 +41,8 @@ impl<T: Integer, I: SortedStarts<T>> SortedStarts<T> for Skip<I> {
 
 impl<T: Integer, I: Iterator<Item = RangeInclusive<T>> + DrawDisjoint<T>> DrawDisjoint<T>
     for Skip<I> {
-    ghost canonical = { λ s ready. part-canonical T.value_count (skip-is_part I.next_gives (skip_source s) (skip_count s))
+    ghost canonical = { λ s ready. part-canonical T.value_count
+        (skip-is_part I.next_gives (skip_source s) (skip_count s))
         (I.may_give (skip_source s)) (I.canonical (skip_source s) ready.source) };
 }
 

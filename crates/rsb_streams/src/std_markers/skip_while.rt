@@ -1,5 +1,5 @@
-//! `SkipWhile` over a stream is a stream: it gives the ranges starting at the first that fails a
-//! test.
+//! `SkipWhile` over a stream is a stream: it gives the first range that fails a test and all ranges
+//! after it.
 
 ghost use Rattle.std.specs.Iterator.Adapters.{skip_while_done_skipping, skip_while_source};
 ghost use Rattle.rsb_streams.specs.AdapterLaws.{skip_while-drawn, skip_while-sorted};
@@ -54,7 +54,8 @@ impl<
 > DrawDisjoint<T> for SkipWhile<I, P> {
     fn mark_disjoint(&self) {}
 
-    ghost canonical = { λ s ready. part-canonical T.value_count (rest-is_part (skip_while_done_skipping s))
+    ghost canonical = { λ s ready. part-canonical T.value_count
+        (rest-is_part (skip_while_done_skipping s))
         (I.may_give (skip_while_source s)) (I.canonical (skip_while_source s) ready.source) };
 }
 

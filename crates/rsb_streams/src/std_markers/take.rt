@@ -1,5 +1,4 @@
-//! `Take` over a stream is a stream: it gives the given number of first ranges, if there are as
-//! many.
+//! `Take` over a stream is a stream: it gives the first ranges, up to the given number.
 
 ghost use Rattle.std.specs.Iterator.Adapters.{take_count, take_source};
 ghost use Rattle.rsb_streams.specs.AdapterLaws.{take-drawn, take-sorted};

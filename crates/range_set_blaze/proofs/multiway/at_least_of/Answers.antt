@@ -4,7 +4,7 @@ use Rattle.rsb_many.specs.MultiwayAtLeast.{multiway_at_least, GivesRunsOfAllAtMo
 use Rattle.range_set_blaze.proofs.gathering.ManySets.{given-list, known-at_least}
 use Rattle.range_set_blaze.proofs.multiway.at_least_of.Goals as goal
 
--- the stream gives nothing but such runs, and at most as many as all streams together
+-- The stream gives only the runs of what is selected, and at most as many as all streams together.
 pub returns : goal.returns
 returns g c =
     let n = g.T.Integer.value_count in

@@ -4,7 +4,7 @@ use Rattle.rsb_many.specs.MultiwayIntersection.{multiway_intersection}
 use Rattle.rsb_many.specs.MultiwayResults.{MakesMultiwayIntersection}
 use Rattle.range_set_blaze.proofs.multiway.intersection_of.Goals as goal
 
--- the intersection gives nothing but such runs
+-- The intersection gives only the runs of what is selected.
 pub returns : goal.returns
 returns g c =
     let streams = c.in_ok-streams.streams.items in

@@ -4,7 +4,7 @@ use Rattle.std.proofs.lemmas.List.Elements.{All-push}
 use Rattle.rsb_many.proofs.inputs.HandedIn.{ended-run}
 use Rattle.range_set_blaze.proofs.multiway.streams_of.Goals as goal
 
--- the runs of one set more are given
+-- The new stream gives the runs of the next set.
 pub loop-set-preserved : goal.loop-set-preserved
 loop-set-preserved g c =
     let given = g.S.GivesRuns.given in
@@ -17,7 +17,7 @@ loop-set-preserved g c =
           ∙ sym (c.stream.ensures.one_more c.loop-set.yielded);
     })
 
--- they are those of all sets that came
+-- The sets are all that the calls gave.
 pub returns-clause-given : goal.returns-clause-given
 returns-clause-given g c =
     ended-run g.K.IntoIterator.into_iter_gives g.K.IntoIter.Iterator.next_gives c.args.sets

@@ -4,7 +4,7 @@ use Rattle.rsb_many.specs.MultiwayResults.{MakesMultiwaySymmetricDifference}
 use Rattle.rsb_many.specs.MultiwaySymmetricDifference.{multiway_symmetric_difference}
 use Rattle.range_set_blaze.proofs.multiway.symmetric_difference_of.Goals as goal
 
--- the difference gives nothing but such runs
+-- The difference gives only the runs of what is selected.
 pub returns : goal.returns
 returns g c =
     let streams = c.in_ok-streams.streams.items in

@@ -4,7 +4,7 @@ use Rattle.rsb_many.specs.MultiwayResults.{MakesMultiwayUnion}
 use Rattle.rsb_many.specs.MultiwayUnion.{multiway_union}
 use Rattle.range_set_blaze.proofs.multiway.union_of.Goals as goal
 
--- the union gives nothing but such runs
+-- The union gives only the runs of what is selected.
 pub returns : goal.returns
 returns g c =
     let streams = c.in_ok-streams.streams.items in

@@ -1,4 +1,4 @@
-//! What changes a set.
+//! Calls that change a set.
 
 use crate::set::calls::{Answer, Change, carry_out};
 use crate::set::cells::{Cell, Side, agree, mark_front, reckon, runs, spaced};
@@ -11,7 +11,7 @@ use std::test::*;
 /// The change that is tried first.
 const FIRST: Change = Change::Insert(6);
 
-/// The change that is tried after another, and none after the last.
+/// Returns the change that is tried after another, or `None` after the last.
 fn after(change: Change) -> Option<Change> {
     let next = match change {
         Change::Insert(_) => Change::Replace(6),
@@ -46,19 +46,19 @@ fn after(change: Change) -> Option<Change> {
     Some(next)
 }
 
-/// Whether a change wants memory at one place at least, of a set of so many runs, where it adds
-/// another of so many. A leaf of the map has room for fifteen runs, so no insertion beside one run
-/// or three and no removal from them wants more.
+/// Whether a change allocates at one of its places at least, if the set has `count` runs and the
+/// other set has `others`. A leaf of the map has room for fifteen runs. So an insertion beside one
+/// or three runs does not allocate, nor does a removal from them.
 fn wants(change: Change, count: i32, others: i32) -> bool {
     match change {
         Change::Insert(_) | Change::Replace(_) | Change::RangesInsert(4, _) => {
             count == 0 || count >= 15
         }
-        // A run reaches the start of the new one, and its end is moved.
+        // A run reaches the start of the new one, so only its end is moved.
         Change::RangesInsert(1, _) => count == 0,
         Change::RangesInsert(_, _) => count == 0 || count == 15,
         Change::Remove(_) | Change::Take(_) | Change::PopFirst => count >= 15,
-        // A value within a run, or the end of one and the start of the next.
+        // The call removes a value within a run, or the end of one run and the start of the next.
         Change::RangesRemove(1 | 2, _) => count >= 15,
         Change::RangesRemove(_, _) => false,
         Change::SplitOff(_) | Change::Retain(_, _) => count > 0,
@@ -66,11 +66,11 @@ fn wants(change: Change, count: i32, others: i32) -> bool {
         Change::ExtendValues(_, _)
         | Change::StdExtendValues(_, _)
         | Change::LentExtendValues(_, _) => true,
-        // The list of the ranges.
+        // The list of the ranges is allocated.
         Change::LentExtend => others > 0,
         Change::Extend | Change::StdExtend => grows(count, others),
         Change::Append | Change::BitorAssign => grows(count, others) || is_anew(count, others),
-        // The larger set goes on.
+        // The runs of the smaller set are added to the larger one.
         Change::BitorAssignOwned => {
             let (few, more) = (count.min(others), count.max(others));
             few > 0 && grows(more, few) || is_anew(count, others)
@@ -82,17 +82,18 @@ fn wants(change: Change, count: i32, others: i32) -> bool {
     }
 }
 
-/// Whether so many runs more need another leaf.
+/// Whether `others` more runs need another leaf of the map.
 fn grows(count: i32, others: i32) -> bool {
     others > 0 && (count == 0 || count == 15 || others == 100)
 }
 
-/// Whether runs are so many beside the others that both sets are made one anew.
+/// Whether the runs are so many, compared with the others, that one new set is made from both sets.
 fn is_anew(count: i32, others: i32) -> bool {
     count == 3 && others == 3
 }
 
-/// What a change returns if the heap grants the given number of allocations, or that it fails.
+/// Returns what a change returns if the heap grants the given number of allocations, or `None` if
+/// the change fails.
 pub(crate) fn tried<'a>(
     heap: &'a Heap,
     granted: usize,
@@ -106,8 +107,8 @@ pub(crate) fn tried<'a>(
     told.ok()
 }
 
-/// Whether two sets are what a refused change leaves: the first has a front of what was to be
-/// added, and the other is as it was. One that was given up is given anew.
+/// Whether two sets are what a failed change leaves. The first has a prefix of what was to be
+/// added, and the other is unchanged. A set that was passed by value is first made again.
 fn are_left<'a>(
     alloc: Global,
     heap: &'a Heap,
@@ -125,7 +126,7 @@ fn are_left<'a>(
     agree(alloc, set, other, cells)
 }
 
-/// Whether a change that passed answers as it is to, and leaves two sets as it is to.
+/// Whether a change that passed returned what it should, and left two sets as it should.
 fn is_passed<'a>(
     alloc: Global,
     change: Change,
@@ -143,9 +144,9 @@ fn leaves_bytes(change: Change) -> bool {
     !change.adds() && !matches!(change, Change::SplitOff(_))
 }
 
-/// How many tries of a change fail before one passes: each is granted one allocation more than the
-/// one before it. `None` if a failed one leaves what it must not, or keeps memory for nothing, or
-/// if the one that passes is wrong.
+/// Returns how many tries of a change fail before one passes. Each try is granted one allocation
+/// more than the one before it. Returns `None` if a failed try leaves anything wrong or keeps
+/// memory that it should not, or if the try that passes is wrong.
 fn refusals<'a>(
     alloc: Global,
     heap: &'a Heap,
@@ -170,8 +171,9 @@ fn refusals<'a>(
     Ok(None)
 }
 
-/// At how many places a change of so many runs is tried: at each run and past the last, but over
-/// all runs once, and a pop at each value.
+/// Returns at how many places a change of a set of `count` runs is tried. These are each run and
+/// one place past the last, but only one place for a change of all runs. A pop is tried at each
+/// value.
 fn places(change: Change, count: i32) -> i32 {
     match change {
         Change::PopFirst | Change::PopLast => count.saturating_mul(3).saturating_add(1),
@@ -181,8 +183,8 @@ fn places(change: Change, count: i32) -> i32 {
     }
 }
 
-/// Whether some tries of a change of two sets are refused, at so many places, eight apart, from the
-/// last on. `None` where one leaves what it must not.
+/// Returns whether some tries of a change of two sets fail, at the given number of places, eight
+/// apart, starting with the last. Returns `None` if a try leaves anything wrong.
 fn is_refused_somewhere<'a>(
     alloc: Global,
     heap: &'a Heap,
@@ -203,7 +205,7 @@ fn is_refused_somewhere<'a>(
     Ok(Some(is_refused))
 }
 
-/// The set of one side of these cells, in a heap.
+/// Returns the set of one side of these cells, in a heap.
 fn set_of_side<'a>(
     alloc: Global,
     heap: &'a Heap,
@@ -213,8 +215,8 @@ fn set_of_side<'a>(
     set_in(heap, &runs(alloc, cells, side)?)
 }
 
-/// Whether some tries of a change of the sets of these cells are refused. `None` where one leaves
-/// what it must not.
+/// Returns whether some tries of a change of the sets of these cells fail. Returns `None` if a try
+/// leaves anything wrong.
 fn is_refused(
     alloc: Global,
     heap: &Heap,
@@ -227,7 +229,7 @@ fn is_refused(
     is_refused_somewhere(alloc, heap, change, places, &mut set, &mut other, cells)
 }
 
-/// Whether a change is refused as it is to be, and no memory is kept once the sets are dropped.
+/// Whether a change fails as often as it should, and no memory is kept once the sets are dropped.
 fn is_right(alloc: Global, change: Change, count: i32, others: i32) -> Result<bool, AllocError> {
     let heap = Counting::new(alloc);
     let mut cells = spaced(alloc, count, others)?;
@@ -236,8 +238,8 @@ fn is_right(alloc: Global, change: Change, count: i32, others: i32) -> Result<bo
     Ok(refused == Some(wants(change, count, others)) && heap.bytes() == 0)
 }
 
-/// The place of the first change that is not refused as it is to be, if any is: of those that take
-/// another set, and of all else where that is empty.
+/// Returns the place of the first change that does not fail as it should, if there is one. It tries
+/// the changes that take another set, and also all others if that set is empty.
 fn first_wrong(alloc: Global, count: i32, others: i32) -> Option<u8> {
     let mut next = Some(FIRST);
     for place in 0..u8::MAX {

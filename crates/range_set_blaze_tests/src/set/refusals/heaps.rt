@@ -1,4 +1,4 @@
-//! The heap of these tests. It counts its calls, and fails from a given call on.
+//! The heap of these tests. It counts its calls, and fails starting at a given call.
 
 use range_set_blaze::RangeSetBlaze;
 use rsb_tables::Counting;

@@ -7,7 +7,7 @@ use Rattle.range_set_blaze.specs.Set.{IsSetOf}
 use Rattle.range_set_blaze.proofs.gathering.ManySets.{whole-items}
 use Rattle.rsb_commands.proofs.interpreter.most_of.Goals as goal
 
--- what was handed in are the three sets
+-- The items that are passed are the three sets.
 pub returns : goal.returns
 returns g c =
     rw (← c.set_at.ensures, ← c.set_at-2.ensures, ← c.set_at-3.ensures)

@@ -8,7 +8,7 @@ returns-clause-put g c = λ selected has.
     rw (← c.index.ensures.place)
     (sets_of-put c.args.sets.now.items c.index.result c.args.set selected (omega arith) has)
 
--- the runs of the set are those of each selection that it has
+-- The runs of the set are the runs of every selection with the same members.
 pub returns-clause-runs : goal.returns-clause-runs
 returns-clause-runs g c = λ selected has.
     let counted = c.ranges_len-runs.ensures in record {

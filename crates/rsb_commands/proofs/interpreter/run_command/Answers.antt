@@ -51,7 +51,7 @@ returns-in_ok-remove-in-Del-clause-after g c =
     (omega arith) (λ at. c.in_ok-remove-in-Del.ensures.members at
     ∙ ap (λ runs. members runs at && not (only value at)) is))
 
--- what the answer tells is the order of the two sets
+-- The value that `cmp` returns is the order of the two sets.
 pub returns-in-Compare-clause-reply : goal.returns-in-Compare-clause-reply
 returns-in-Compare-clause-reply g c =
     let left = c.set_at-in-Compare.result.now in
@@ -109,7 +109,7 @@ returns-in_ok-set-in-Complement-clause-reply g c =
     (complement_in g.T.Integer.value_count source)
     c.in_ok-set-in-Complement.ensures.members)
 
--- the set that is put is what lies in two of the old sets
+-- The set that is put has the members of at least two of the old sets.
 pub returns-in_ok-set-in-Most-clause-after : goal.returns-in_ok-set-in-Most-clause-after
 returns-in_ok-set-in-Most-clause-after g c =
     let sets = sets_of c.args.sets.now.items in

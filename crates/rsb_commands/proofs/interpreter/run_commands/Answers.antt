@@ -28,7 +28,7 @@ loop-at-preserved g c =
       le_trans c.loop-at.invariant.3 c.push.ensures.capacity,
     )
 
--- the replies that were found are the only ones
+-- The replies that were found are the only ones.
 pub returns-clause-only : goal.returns-clause-only
 returns-clause-only g c = λ others are.
     let laws = g.met.T.Integer in

@@ -4,7 +4,7 @@ use Rattle.rsb_commands.specs.Interpreter.{contents_of}
 use Rattle.rsb_commands.proofs.replying.InOrder.{HasRun}
 use Rattle.rsb_commands.proofs.interpreter.run_commands.Given as goal
 
--- the commands before this one have their replies, and there is room for the others
+-- The commands before this one have their replies, and there is room for the others.
 abbrev pub invariant-loop-at : goal.invariant-loop-at
 invariant-loop-at g l =
     HasRun g.T.Integer.rank g.T.Integer.value_count l.commands l.at

@@ -2,7 +2,7 @@ use Rattle.std.proofs.Common.{◌≡◌, vec_len}
 use Rattle.rsb_commands.proofs.writing.Replies.{HasReplied}
 use Rattle.rsb_commands.proofs.program.answer.Given as goal
 
--- the commands before this one have their replies, and those were laid
+-- The commands before this one have their replies, and these were laid.
 abbrev pub invariant-loop-command : goal.invariant-loop-command
 invariant-loop-command g l =
     HasReplied g.W.Write.contents l.commands l.command-index l.sets.items l.initial.page l.page

@@ -3,11 +3,11 @@ use Rattle.rsb_parser.proofs.reading.Consumed.{some_spelled}
 use Rattle.rsb_commands.proofs.writing.Replies.{cut_before_all}
 use Rattle.rsb_commands.proofs.program.run.Goals as goal
 
--- a read failed, and nothing was written
+-- A read failed, and nothing was written.
 pub returns-in_err-commands-clause-io : goal.returns-in_err-commands-clause-io
 returns-in_err-commands-clause-io g c = λ is. cut_before_all _ _
 
--- memory ran out once there were commands
+-- If allocation failed while commands ran, the input has a byte, because it spells a command.
 pub returns-clause-some_input : goal.returns-clause-some_input
 returns-clause-some_input g c = λ is.
     some_spelled _ c.in_ok-commands.commands.items c.in_ok-commands.ensures.commands

@@ -2,6 +2,6 @@ use Rattle.std.proofs.Common.{rules}
 use Rattle.rsb_commands.proofs.writing.FaultLine.{appended}
 use Rattle.rsb_commands.proofs.text.fault_text.Goals as goal
 
--- the calls of `write_str` append the whole line
+-- The calls of `write_str` append the whole line.
 pub returns : goal.returns
 returns c = search (rules, appended)

@@ -4,7 +4,7 @@ use Rattle.rsb_commands.specs.Text.{next_range_text}
 use Rattle.rsb_commands.proofs.writing.LaidText.{items_cut, items_push, lays-cut, lays-then}
 use Rattle.rsb_commands.proofs.text.write_others.Goals as goal
 
--- a range was cut short
+-- A range was cut short.
 pub returns-in_err-write_next_range : goal.returns-in_err-write_next_range
 returns-in_err-write_next_range g c =
     let ranges = c.args.ranges.now in
@@ -14,7 +14,7 @@ returns-in_err-write_next_range g c =
     (items_cut next_range_text ranges at _ c.loop-range-test.true) c.loop-range.invariant
     c.in_err-write_next_range.ensures
 
--- one range more was laid
+-- One more range was laid.
 pub loop-range-preserved : goal.loop-range-preserved
 loop-range-preserved g c =
     let ranges = c.args.ranges.now in

@@ -4,7 +4,7 @@ use Rattle.rsb_commands.specs.Page.{Lays}
 use Rattle.rsb_commands.specs.Text.{next_range_text}
 use Rattle.rsb_commands.proofs.text.write_others.Given as goal
 
--- the ranges before this one were laid
+-- The ranges before this one were laid.
 abbrev pub invariant-loop-range : goal.invariant-loop-range
 invariant-loop-range g l =
     Lays g.W.Write.contents l.initial.page l.page (Ok tt)

@@ -5,7 +5,7 @@ use Rattle.rsb_commands.specs.Text.{ends_text, flag_text, line_text}
 use Rattle.rsb_commands.proofs.writing.LaidText.{lays-cut, lays-nothing, lays-then}
 use Rattle.rsb_commands.proofs.text.write_piece.Goals as goal
 
--- the text of a run or a gap is that of its ends, and then that of which of the two it is
+-- The text of a run or a gap is that of its ends, then a flag that says which of the two it is.
 piece_text : (first last : ℤ) (present : Bool) → line_text (piece first last present)
     ≡ ends_text first last ++ (codes " " ++ line_text (flag present))
 piece_text first last present =
@@ -13,7 +13,7 @@ piece_text first last present =
     append_assoc (ends ++ codes " ") (flag_text present) (codes "\n")
     ∙ append_assoc ends (codes " ") (line_text (flag present))
 
--- the ends were cut short
+-- The ends were cut short.
 pub returns-in_err-write_ends : goal.returns-in_err-write_ends
 returns-in_err-write_ends g c =
     let ends = ends_text c.args.first.now c.args.last.now in
@@ -21,7 +21,7 @@ returns-in_err-write_ends g c =
     c.from_residual.ensures.1 (piece_text c.args.first.now c.args.last.now c.args.present)
     (lays-nothing _ _) c.in_err-write_ends.ensures
 
--- which of the two it is comes after them
+-- The flag comes after the ends.
 pub returns : goal.returns
 returns g c =
     let ends = ends_text c.args.first.now c.args.last.now in

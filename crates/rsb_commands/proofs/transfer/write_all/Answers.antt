@@ -2,7 +2,7 @@ use Rattle.std.proofs.lemmas.List.{take_rest}
 use Rattle.rsb_commands.proofs.writing.Appended.{has_written_more}
 use Rattle.rsb_commands.proofs.transfer.write_all.Goals as goal
 
--- what this call took follows what was written before it
+-- The bytes that this call took follow those that were written before it.
 pub loop-rest-preserved-in-Ok : goal.loop-rest-preserved-in-Ok
 loop-rest-preserved-in-Ok g c =
     let more = has_written_more _ _ _ c.args.text.now c.loop-rest.rest.now c.in-Ok.count

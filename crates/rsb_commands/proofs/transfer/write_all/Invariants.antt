@@ -6,6 +6,6 @@ abbrev pub invariant-loop-rest : goal.invariant-loop-rest
 invariant-loop-rest g l =
     HasWritten (g.W.Write.contents l.initial.output) (g.W.Write.contents l.output) l.text l.rest
 
--- each turn writes a byte or takes of the patience
+-- Each iteration writes at least one byte or uses up some of the patience.
 abbrev pub decreases-loop-rest : goal.decreases-loop-rest
 decreases-loop-rest g l = length l.rest + l.left

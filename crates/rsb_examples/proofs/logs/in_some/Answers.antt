@@ -4,7 +4,7 @@ use Rattle.range_set_blaze.specs.MultiwayUnion.{multiway_union}
 use Rattle.range_set_blaze.proofs.StreamLists.{given-streams}
 use Rattle.rsb_examples.proofs.logs.in_some.Goals as goal
 
--- the set is a list that the union of the streams may give
+-- The set is a list that the union of the streams may give.
 pub returns : goal.returns
 returns g c =
     let made = given-streams g.I.Draw.can_draw c.args.logs (λ streams. MakesMultiwayUnion

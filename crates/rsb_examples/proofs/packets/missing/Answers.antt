@@ -2,7 +2,7 @@ use Rattle.std.proofs.Common.{◌&&◌, ◌∙◌, ◌^◌, not, refl}
 use Rattle.range_set_blaze.proofs.gathering.SetOperations.{set-of_operation}
 use Rattle.rsb_examples.proofs.packets.missing.Goals as goal
 
--- the set is a list that the difference of two known lists may give
+-- The set is a list that the difference of two known lists may give.
 pub returns : goal.returns
 returns c =
     let sent = c.ranges-2.ensures in

@@ -10,7 +10,7 @@ loop-event-init g c = λ rest may.
     subst (λ items. sweep_may_give g.T.Integer g.I.Draw c.args.sweep
     (map (event_of g.T.Integer.rank) items ++ rest)) (sym c.new-told.ensures.items) may
 
--- one event more was told
+-- One more event was added to the list.
 pub loop-event-preserved : goal.loop-event-preserved
 loop-event-preserved g c = λ rest may.
     let f = event_of g.T.Integer.rank in
@@ -19,7 +19,7 @@ loop-event-preserved g c = λ rest may.
     c.in_ok-push.ensures.items))
     (c.loop-event.invariant (f c.in-Some.event ∷ rest) (c.in-Some.ensures.steps.answers rest may))
 
--- nothing more comes
+-- Nothing more comes.
 pub returns : goal.returns
 returns g c = subst (sweep_may_give g.T.Integer g.I.Draw c.args.sweep)
     (append-nil (map (event_of g.T.Integer.rank) c.loop-event.told.items))

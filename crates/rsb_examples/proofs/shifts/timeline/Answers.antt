@@ -5,7 +5,7 @@ use Rattle.range_set_blaze.specs.Sweep.{event_of}
 use Rattle.range_set_blaze.proofs.gathering.ManySets.{given-list}
 use Rattle.rsb_examples.proofs.shifts.timeline.Goals as goal
 
--- what comes of the sweep over a list are the events of what its streams give
+-- The events that the sweep returns are those of the ranges that its streams give.
 pub returns : goal.returns
 returns g c =
     let sweep = c.in_ok-new_touching.field-0 in

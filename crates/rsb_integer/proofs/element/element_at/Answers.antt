@@ -3,7 +3,7 @@ use Rattle.rsb_integer.specs.Enumerated.{place_in}
 use Rattle.rsb_integer.specs.EnumeratedLaws.{listed-ranks}
 use Rattle.rsb_integer.proofs.element.element_at.Goals as goal
 
--- the value at a place of the list has that place
+-- The value at a place of the list has that place as its rank.
 pub returns : goal.returns
 returns g c =
     let values = g.E.Enumerated.least ∷ g.E.Enumerated.others in

@@ -1,4 +1,4 @@
--- The theorem on lists of intervals, at the number of values of the type.
+-- The theorem on lists of intervals, for the number of values of the type.
 use Rattle.rsb_integer.proofs.RunsLemmas.{canonical-is_runs}
 use Rattle.rsb_integer.proofs.laws.canonical_lists_are_runs.Goals as goal
 

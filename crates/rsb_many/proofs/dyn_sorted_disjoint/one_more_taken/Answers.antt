@@ -5,7 +5,7 @@ use Rattle.rsb_integer.specs.Rank.{intervals_of}
 use Rattle.rsb_integer.specs.Runs.{IsCanonicalIn}
 use Rattle.rsb_many.proofs.dyn_sorted_disjoint.one_more_taken.Goals as goal
 
--- all of them may be drawn from
+-- All of the streams are ready.
 pub returns-clause-ready : goal.returns-clause-ready
 returns-clause-ready g c =
     let can : List (RangeInclusive g.row.T.Denot) → Type 0 = λ ranges. IsCanonicalIn g.T.Integer.value_count

@@ -6,7 +6,7 @@ use Rattle.rsb_many.proofs.inputs.HandedIn.{ended-run}
 use Rattle.rsb_many.proofs.merging.Operations.{AreComplements-more}
 use Rattle.rsb_many.proofs.multiway.complements.Goals as goal
 
--- with the complement of one more they are those of all that came
+-- With one more, the complements are those of all streams that came so far.
 pub loop-stream-preserved : goal.loop-stream-preserved
 loop-stream-preserved g c =
     let can = (not_iter g.T.Integer g.I.Draw).can_draw in
@@ -21,7 +21,7 @@ loop-stream-preserved g c =
           c.complement.ensures.made);
     }
 
--- they are those of what was handed in
+-- The complements are those of the streams that were passed.
 pub returns-clause-made : goal.returns-clause-made
 returns-clause-made g c = ended-run g.K.IntoIterator.into_iter_gives g.K.IntoIter.Iterator.next_gives
     c.args.streams (λ items. AreComplements g.T.Integer g.I.Draw items c.loop-stream.gaps.items)

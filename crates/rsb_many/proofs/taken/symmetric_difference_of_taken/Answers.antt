@@ -4,7 +4,7 @@ use Rattle.rsb_many.specs.MultiwaySymmetricDifference.{multiway_symmetric_differ
 use Rattle.rsb_many.proofs.inputs.GivenList.{given-list, taken_stream}
 use Rattle.rsb_many.proofs.taken.symmetric_difference_of_taken.Goals as goal
 
--- the symmetric difference is of the streams of the list
+-- The symmetric difference is of the streams of the list.
 pub returns-clause-made : goal.returns-clause-made
 returns-clause-made g c =
     let streams = c.in_ok-taken.field-0.items in

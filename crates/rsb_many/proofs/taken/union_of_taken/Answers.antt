@@ -4,7 +4,7 @@ use Rattle.rsb_many.specs.MultiwayUnion.{multiway_union}
 use Rattle.rsb_many.proofs.inputs.GivenList.{given-list, taken_stream}
 use Rattle.rsb_many.proofs.taken.union_of_taken.Goals as goal
 
--- the union is of the streams of the list
+-- The union is of the streams of the list.
 pub returns-clause-made : goal.returns-clause-made
 returns-clause-made g c =
     let streams = c.in_ok-taken.field-0.items in

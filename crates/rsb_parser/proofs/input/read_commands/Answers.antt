@@ -5,7 +5,7 @@ use Rattle.rsb_parser.proofs.reading.Consumed.{Consumes-end, Consumes-keeps, Con
 use Rattle.rsb_parser.proofs.input.read_commands.Goals as goal
 use Rattle.rsb_parser.proofs.input.read_commands.Goals.{in-Ok+in_ok-take-in-Ok, in-Err+else-ne}
 
--- the bytes of this call follow those of the calls before it
+-- The bytes of this call follow those of the calls before it.
 pub loop-preserved : goal.loop-preserved
 loop-preserved g c =
     let start = g.R.Read.remaining c.args.input.now in
@@ -28,7 +28,7 @@ loop-preserved g c =
       )
     ]
 
--- what was read is the whole input at its end
+-- At the end of the input, what was read is the whole input.
 pub returns-in-Ok-eq0-clause-only : goal.returns-in-Ok-eq0-clause-only
 returns-in-Ok-eq0-clause-only g c =
     let bytes = c.loop.invariant.0 in

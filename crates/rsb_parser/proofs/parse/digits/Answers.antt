@@ -3,7 +3,7 @@ use Rattle.std.specs.Str.Parse.{digits_value}
 use Rattle.rsb_parser.proofs.reading.Numbers.{has_digits_more, no_digits, too_large}
 use Rattle.rsb_parser.proofs.parse.digits.Goals as goal
 
--- a byte is no digit
+-- This byte is not a digit.
 pub returns-in_err-value_of : goal.returns-in_err-value_of
 returns-in_err-value_of c =
     let ds = c.args.digits.now in
@@ -11,7 +11,7 @@ returns-in_err-value_of c =
     rw c.from_residual.ensures (no_digits ds at (get_or ds at 0) (digits_value 10 ds < 2 ^ 32)
     c.loop-digit-test.true refl c.in_err-value_of.ensures)
 
--- one digit more
+-- There is one more digit.
 pub loop-digit-preserved : goal.loop-digit-preserved
 loop-digit-preserved c =
     let ds = c.args.digits.now in
@@ -22,7 +22,7 @@ loop-digit-preserved c =
       omega arith,
     )
 
--- one digit too many
+-- With this digit, the number is too large.
 pub returns-then-next-from : goal.returns-then-next-from
 returns-then-next-from c =
     let ds = c.args.digits.now in

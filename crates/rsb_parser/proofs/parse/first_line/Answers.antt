@@ -3,7 +3,7 @@ use Rattle.std.proofs.lemmas.List.{take_rest}
 use Rattle.rsb_parser.proofs.reading.Cuts.{lines-None, lines-Some}
 use Rattle.rsb_parser.proofs.parse.first_line.Goals as goal
 
--- with no line feed, all of the bytes are one line
+-- If there is no line feed, all of the bytes are one line.
 pub returns-in-None-clause-lines : goal.returns-in-None-clause-lines
 returns-in-None-clause-lines c =
     lines-None c.args.bytes.now c.requires (sym c.in-None.ensures.place)

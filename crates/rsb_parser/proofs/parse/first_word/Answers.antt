@@ -3,14 +3,14 @@ use Rattle.std.proofs.lemmas.List.{take_rest}
 use Rattle.rsb_parser.proofs.reading.Cuts.{some_before, words-None, words-after_word}
 use Rattle.rsb_parser.proofs.parse.first_word.Goals as goal
 
--- the line is one word
+-- The line is one word.
 pub returns-in-None : goal.returns-in-None
 returns-in-None c =
     let rest = c.without_blanks-rest.result.now in
     let some : 0 < length rest = search rules in
     sym c.without_blanks-rest.ensures.words ∙ words-None rest (sym c.in-None.ensures.place) some
 
--- a blank ends the first word
+-- A blank ends the first word.
 pub returns-in-Some : goal.returns-in-Some
 returns-in-Some c =
     let rest = c.without_blanks-rest.result.now in

@@ -4,7 +4,7 @@ use Rattle.std.specs.Int.RustNames.{FitsSigned}
 use Rattle.rsb_parser.proofs.reading.Numbers.{number_is_word}
 use Rattle.rsb_parser.proofs.parse.last_number.Goals as goal
 
--- the number ends the line
+-- The number is the last word of the line.
 pub returns-in-Some : goal.returns-in-Some
 returns-in-Some c =
     let fits : FitsSigned w32 c.in-Some.last = c.in-Some.ensures.fits in

@@ -5,7 +5,7 @@ use Rattle.memchr.specs.Find.{TakesFirst, is_byte}
 use Rattle.rsb_parser.proofs.reading.Cuts.{position-places, position-within}
 use Rattle.rsb_parser.proofs.parse.line_feed.Goals as goal
 
--- the first of all places of a line feed
+-- The place is the first of all places of a line feed.
 pub returns : goal.returns
 returns c =
     let bytes = c.args.bytes.now in

@@ -3,7 +3,7 @@ use Rattle.rsb_parser.specs.Spelling.{IsFirstBadLine, Spells, words}
 use Rattle.rsb_parser.proofs.reading.Lines.{has_read_silent, has_read_command, has_read_bad, has_read_count, has_read_some}
 use Rattle.rsb_parser.proofs.parse.parse_lines.Goals as goal
 
--- the line that was read last is the first bad one
+-- The line that was read last is the first bad one.
 pub returns-in_default-command_of-clause-bad_line :
     goal.returns-in_default-command_of-clause-bad_line
 returns-in_default-command_of-clause-bad_line g c = λ number is.
@@ -18,7 +18,7 @@ returns-in_default-command_of-clause-bad_line g c = λ number is.
     (subst (λ ws. (command : _) → Spells ws command → ⊥) (sym cut)
     c.in_default-command_of.ensures))
 
--- there was no room for one command more
+-- Allocation failed for one more command, so the input spells at least one.
 pub returns-in_err-push-clause-took_memory : goal.returns-in_err-push-clause-took_memory
 returns-in_err-push-clause-took_memory g c = λ is.
     let line = c.first_line.result.0.now in
@@ -31,7 +31,7 @@ returns-in_err-push-clause-took_memory g c = λ is.
     c.loop-rest.invariant.0 command some
     (subst (λ ws. Spells ws command) (sym cut) c.in-Some-command_of.ensures))
 
--- one line more was read, with a command
+-- One more line was read, which spells a command.
 pub loop-rest-preserved-in_ok-push : goal.loop-rest-preserved-in_ok-push
 loop-rest-preserved-in_ok-push g c =
     let line = c.first_line.result.0.now in
@@ -46,7 +46,7 @@ loop-rest-preserved-in_ok-push g c =
       omega arith,
     )
 
--- one line more was read, without words
+-- One more line was read, which has no words.
 pub loop-rest-preserved : goal.loop-rest-preserved
 loop-rest-preserved g c = (
   has_read_silent c.args.input.now c.loop-rest.rest.now c.first_line.result.0.now
@@ -55,7 +55,7 @@ loop-rest-preserved g c = (
   omega arith,
 )
 
--- the lines are counted
+-- All lines are counted.
 pub returns-clause-counted : goal.returns-clause-counted
 returns-clause-counted g c =
     has_read_count c.args.input.now c.loop-rest.rest.now c.loop-rest.number

@@ -2,7 +2,7 @@ use Rattle.std.proofs.Common.{◌+◌, ◌≤◌, length}
 use Rattle.rsb_parser.proofs.reading.Lines.{HasRead}
 use Rattle.rsb_parser.proofs.parse.parse_lines.Given as goal
 
--- each line has a byte, so their number fits
+-- The lines before `rest` were read. Each has a byte, so their number fits.
 abbrev pub invariant-loop-rest : goal.invariant-loop-rest
 invariant-loop-rest g l =
     HasRead l.input l.rest l.number l.commands.items × (l.number + length l.rest ≤ length l.input)

@@ -3,21 +3,21 @@ use Rattle.rsb_parser.specs.Spelling.{number, slot}
 use Rattle.rsb_parser.proofs.reading.OneCommand.{no_more, no_number_first, no_slot_first, no_words, past_first}
 use Rattle.rsb_parser.proofs.parse.slot_and_range.Goals as goal
 
--- there is no word
+-- There is no word.
 pub returns-in_err-word : goal.returns-in_err-word
 returns-in_err-word c =
     rw c.from_residual.ensures (λ x.
     no_words c.args.arguments.now (slot x.0) (number x.1 ∷ number x.2 ∷ [])
     c.in_err-word.ensures)
 
--- the first word is no slot
+-- The first word is not a slot.
 pub returns-in_err-slot : goal.returns-in_err-slot
 returns-in_err-slot c =
     rw c.from_residual-in_err-slot.ensures (λ x.
     no_slot_first c.args.arguments.now c.in_ok-word.rest.now c.in_ok-word.word.now x.0
     (number x.1 ∷ number x.2 ∷ []) c.in_ok-word.ensures c.in_err-slot.ensures)
 
--- the next word is no number
+-- The next word is not a number.
 pub returns-in_err-first : goal.returns-in_err-first
 returns-in_err-first c =
     rw c.from_residual-in_err-first.ensures (λ x are.
@@ -25,7 +25,7 @@ returns-in_err-first c =
     (past_first c.args.arguments.now c.in_ok-word.rest.now _ (slot x.0)
     (number x.1 ∷ number x.2 ∷ []) c.in_ok-word.ensures are))
 
--- nor is the one after it
+-- The word after that is not a number.
 pub returns-in_err-last : goal.returns-in_err-last
 returns-in_err-last c =
     rw c.from_residual-in_err-last.ensures (λ x are.
@@ -35,7 +35,7 @@ returns-in_err-last c =
     (past_first c.args.arguments.now c.in_ok-word.rest.now _ (slot x.0)
     (number x.1 ∷ number x.2 ∷ []) c.in_ok-word.ensures are)))
 
--- a word is left over
+-- A word is left over.
 pub returns-else-is_blank_line : goal.returns-else-is_blank_line
 returns-else-is_blank_line c = λ x are.
     let rest = c.in_ok-word.rest.now in

@@ -3,20 +3,20 @@ use Rattle.rsb_parser.specs.Spelling.{slot}
 use Rattle.rsb_parser.proofs.reading.OneCommand.{no_slot_first, no_words, past_first}
 use Rattle.rsb_parser.proofs.parse.two_slots.Goals as goal
 
--- there is no word
+-- There is no word.
 pub returns-in_err-word : goal.returns-in_err-word
 returns-in_err-word c =
     rw c.from_residual.ensures
     (λ x. no_words c.args.arguments.now (slot x.0) (slot x.1 ∷ []) c.in_err-word.ensures)
 
--- the first word is no slot
+-- The first word is not a slot.
 pub returns-in_err-left : goal.returns-in_err-left
 returns-in_err-left c =
     rw c.from_residual-in_err-left.ensures (λ x.
     no_slot_first c.args.arguments.now c.in_ok-word.rest.now c.in_ok-word.word.now x.0
     (slot x.1 ∷ []) c.in_ok-word.ensures c.in_err-left.ensures)
 
--- what comes after it is not one slot
+-- What comes after it is not one slot.
 pub returns-in_err-right : goal.returns-in_err-right
 returns-in_err-right c =
     rw c.from_residual-in_err-right.ensures (λ x are.

@@ -8,7 +8,7 @@ ranked : (g : Over) → IsRanked g.T.Integer.rank g.T.Integer.value_count g.T.Pa
     g.T.Ord.cmp
 ranked g = record { matches = g.met.T.Ord.matches_partial_cmp; in_order = g.met.T.Integer.in_order }
 
--- the first end is the lesser
+-- The first end is the lesser.
 pub add_one-requires : goal.add_one-requires
 add_one-requires g c =
     let less = less-rank (ranked g) c.args.end c.args.next_end c.requires.end c.requires.next_end
@@ -24,7 +24,7 @@ returns-then-lt-clause-passed g c =
     past-first g.T.Integer.rank c.args.end c.args.next_end c.add_one.result c.remove.new.self.items
     less left c.add_one.ensures
 
--- the second is the lesser
+-- The second end is the lesser.
 pub add_one-requires-then-lt-2 : goal.add_one-requires-then-lt-2
 add_one-requires-then-lt-2 g c =
     let less = less-rank (ranked g) c.args.next_end c.args.end c.requires.next_end c.requires.end
@@ -40,7 +40,7 @@ returns-then-lt-2-clause-passed g c =
     past-other g.T.Integer.rank c.args.end c.args.next_end c.add_one-then-lt-2.result
     c.pop.new.self.items less left c.add_one-then-lt-2.ensures
 
--- they are one
+-- Both ends have one rank.
 pub returns-else-lt-2-clause-passed : goal.returns-else-lt-2-clause-passed
 returns-else-lt-2-clause-passed g c =
     let most = not_less-rank (ranked g) c.args.end c.args.next_end c.requires.end c.requires.next_end

@@ -12,7 +12,7 @@ ranked : (g : Over) → IsRanked g.T.Integer.rank g.T.Integer.value_count g.T.Pa
     g.T.Ord.cmp
 ranked g = record { matches = g.met.T.Ord.matches_partial_cmp; in_order = g.met.T.Integer.in_order }
 
--- its ends are values
+-- The ends of the range are values of the type.
 left : (g : Over) (c : After-is_empty g)
     → g.T.Integer.rank (range_inclusive_start c.args.range.now) < g.T.Integer.value_count
 left g c = subst (λ each. g.T.Integer.rank each < g.T.Integer.value_count) c.start.ensures
@@ -23,7 +23,7 @@ right : (g : Over) (c : After-is_empty g)
 right g c = subst (λ each. g.T.Integer.rank each < g.T.Integer.value_count) c.end.ensures
     c.checked_add_one-2.ensures.value
 
--- whether it has a rank
+-- The range is non-empty exactly if `is_empty` returned false.
 tests : (g : Over) (c : After-is_empty g)
     → nat_le (interval_of g.T.Integer.rank c.args.range.now).first
     (interval_of g.T.Integer.rank c.args.range.now).last ≡ not c.is_empty.result

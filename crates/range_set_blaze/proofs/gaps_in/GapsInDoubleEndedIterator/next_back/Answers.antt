@@ -6,7 +6,7 @@ use Rattle.range_set_blaze.proofs.windows.GapRanges.{gap-last, left-canonical}
 use Rattle.range_set_blaze.proofs.windows.Ranges.{mapped-goes_last}
 use Rattle.range_set_blaze.proofs.gaps_in.GapsInDoubleEndedIterator.next_back.Goals as goal
 
--- the range of the last gap comes last
+-- The range of the last gap comes last.
 pub returns-clause-steps : goal.returns-clause-steps
 returns-clause-steps g c =
     let laws = g.met.T.Integer in
@@ -19,7 +19,7 @@ returns-clause-steps g c =
     (left-canonical rank n value_at c.self.inside.rest c.self.inside.entries c.self.invariant)
     c.new.ensures.start c.new.ensures.end c.new.ensures.exhausted c.in_ok-gap.ensures.gap
 
--- what is left of canonical ranges is canonical
+-- What is left of canonical ranges is canonical.
 pub returns-clause-goes : goal.returns-clause-goes
 returns-clause-goes g c = mapped-goes_last g.T.Integer.rank g.T.Integer.value_count
     (range_at g.T.Integer.value_at)

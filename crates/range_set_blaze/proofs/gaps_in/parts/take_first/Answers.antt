@@ -5,7 +5,7 @@ use Rattle.range_set_blaze.specs.Kept.{run_of, runs_of}
 use Rattle.range_set_blaze.proofs.windows.Gaps.{between-tail}
 use Rattle.range_set_blaze.proofs.gaps_in.parts.take_first.Goals as goal
 
--- the first run ends before the last value
+-- The first run ends before the last value.
 pub add_one-requires : goal.add_one-requires
 add_one-requires g c =
     let rank = g.T.Integer.rank in
@@ -15,7 +15,7 @@ add_one-requires g c =
     let known = lie.in_type in
     omega (arith, ends, known)
 
--- behind it the others lie between what is left
+-- After it, the other runs lie between the ends of what is left.
 pub returns-clause-rest : goal.returns-clause-rest
 returns-clause-rest g c =
     let rank = g.T.Integer.rank in

@@ -4,7 +4,7 @@ use Rattle.range_set_blaze.proofs.windows.Gaps.{between-front, between-last, gap
 use Rattle.range_set_blaze.proofs.windows.GapRanges.{last-runs}
 use Rattle.range_set_blaze.proofs.gaps_in.parts.take_last.Goals as goal
 
--- the last run starts after the first value
+-- The last run starts after the first value.
 pub sub_one-requires : goal.sub_one-requires
 sub_one-requires g c =
     let rank = g.T.Integer.rank in
@@ -16,7 +16,7 @@ sub_one-requires g c =
     at c.requires) in
     omega (arith, last.0)
 
--- and ends before the last one
+-- It ends before the last value.
 pub add_one-requires : goal.add_one-requires
 add_one-requires g c =
     let rank = g.T.Integer.rank in
@@ -29,7 +29,7 @@ add_one-requires g c =
     let known = lie.in_type in
     omega (arith, last.2, known)
 
--- the gap behind it comes last
+-- The gap after it comes last.
 pub returns-clause-gap : goal.returns-clause-gap
 returns-clause-gap g c =
     let rank = g.T.Integer.rank in
@@ -44,7 +44,7 @@ returns-clause-gap g c =
     (gaps-last (rank c.in_ok-whole.whole.start) (rank c.in_ok-whole.whole.end)
     (runs_of rank c.last_run.new.entries) (run_of rank c.in-Some.run'))
 
--- and before it the others lie between what is left
+-- Before it, the other runs lie between the ends of what is left.
 pub returns-clause-rest : goal.returns-clause-rest
 returns-clause-rest g c =
     let rank = g.T.Integer.rank in

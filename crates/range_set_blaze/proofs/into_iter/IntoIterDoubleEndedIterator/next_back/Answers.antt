@@ -1,7 +1,7 @@
 use Rattle.range_set_blaze.proofs.elements.Listed.{listed-takes, takes-goes}
 use Rattle.range_set_blaze.proofs.into_iter.IntoIterDoubleEndedIterator.next_back.Goals as goal
 
--- the greatest element of those that are left
+-- The element is the greatest of those that are left.
 pub returns-clause-steps : goal.returns-clause-steps
 returns-clause-steps g c =
     rw (← c.self.view_is)

@@ -1,7 +1,7 @@
 use Rattle.range_set_blaze.proofs.elements.Listed.{listed-takes, takes-goes}
 use Rattle.range_set_blaze.proofs.into_iter.IntoIterIterator.next.Goals as goal
 
--- the least element of those that are left
+-- The element is the least of those that are left.
 pub returns-clause-steps : goal.returns-clause-steps
 returns-clause-steps g c =
     rw (← c.self.view_is)

@@ -4,24 +4,24 @@ use Rattle.range_set_blaze.specs.BothEnds.{is_ready}
 use Rattle.range_set_blaze.proofs.elements.Ends.{least, turned-drawn, turned-far, turned-held}
 use Rattle.range_set_blaze.proofs.iter.IterIterator.next.Goals as goal
 
--- the stream may be drawn from
+-- The stream is ready.
 pub draw-requires : goal.draw-requires
 draw-requires g c =
     (is_ready g.T.Integer.rank g.T.Integer.value_count g.I.Draw.can_draw g.I.Draw.may_give
     c.args.self.now c.requires).callable c.if-self.false
 
--- the first of what is held from the front
+-- If something is held at the front, its first element is taken.
 pub returns-in-Some : goal.returns-in-Some
 returns-in-Some g c = turned-held g.I.Draw (least _ g.T.Integer.rank g.T.Integer.value_count)
     c.requires (λ ready. ready) refl refl refl (λ lacks. absurd (cc)) c.in-Some.ensures
 
--- the first of what is held from the back, where the stream had ended before
+-- If the stream had ended before, the first element held at the back is taken.
 pub returns-then-self : goal.returns-then-self
 returns-then-self g c = turned-far g.I.Draw (least _ g.T.Integer.rank g.T.Integer.value_count)
     c.requires (λ ready. ready) c.if-self.true (rw c.if-self.true refl) (λ finite. finite)
     c.in_default.ensures c.range_next-then-self.ensures
 
--- and where it ends
+-- The same holds if the stream ends now.
 pub returns-in_default-draw : goal.returns-in_default-draw
 returns-in_default-draw g c =
     turned-far g.I.Draw (least _ g.T.Integer.rank g.T.Integer.value_count) c.requires
@@ -29,7 +29,7 @@ returns-in_default-draw g c =
     (rw c.if-self.false (g.met.I.Draw.answers _ _ None c.in_default-draw.ensures.steps))
     c.in_default-draw.ensures.goes.rests c.in_default.ensures c.range_next-in_default-draw.ensures
 
--- the first of the next range of the stream
+-- Otherwise the first element of the next range of the stream is taken.
 pub returns : goal.returns
 returns g c = turned-drawn g.I.Draw (least _ g.T.Integer.rank g.T.Integer.value_count) c.requires
     (λ ready. ready) c.in-Some-draw.range c.if-self.false refl refl c.in_default.ensures

@@ -3,7 +3,7 @@ use Rattle.std.proofs.lemmas.Nat.{mul-le}
 use Rattle.std.specs.Iterator.{size}
 use Rattle.range_set_blaze.proofs.iter.IterIterator.size_hint.Goals as goal
 
--- each range has an element
+-- Each range has at least one element.
 pub returns : goal.returns
 returns g c =
     let left = size (g.I.Draw.draws_left c.args.self.now.ranges) in

@@ -4,7 +4,7 @@ use Rattle.range_set_blaze.specs.Windows.{range_up_to, with_held}
 use Rattle.range_set_blaze.proofs.windows.Ranges.{mapped-goes_last, window-last}
 use Rattle.range_set_blaze.proofs.ranges_in.RangesInDoubleEndedIterator.next_back.Goals as goal
 
--- the range of the last run comes last
+-- The range of the last run comes last.
 pub returns-clause-steps : goal.returns-clause-steps
 returns-clause-steps g c =
     sym c.self.view_is ∙ window-last g.T.Integer.rank c.self.inside.last
@@ -12,7 +12,7 @@ returns-clause-steps g c =
     c.new.ensures.start (c.new.ensures.end ∙ c.lesser.ensures) c.new.ensures.exhausted
     c.in_ok-run.ensures
 
--- what is left of canonical ranges is canonical
+-- What is left of canonical ranges is canonical.
 pub returns-clause-goes : goal.returns-clause-goes
 returns-clause-goes g c = mapped-goes_last g.T.Integer.rank g.T.Integer.value_count
     (range_up_to g.T.Integer.rank c.self.inside.last)

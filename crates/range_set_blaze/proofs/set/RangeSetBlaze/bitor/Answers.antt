@@ -1,7 +1,7 @@
 use Rattle.std.proofs.Common.{◌∙◌}
 use Rattle.range_set_blaze.proofs.set.RangeSetBlaze.bitor.Goals as goal
 
--- the streams give the runs of the sets
+-- The streams give the runs of the sets.
 pub returns : goal.returns
 returns g c = record {
   members = c.union_of.ensures.members c.args.self.now c.args.other.now

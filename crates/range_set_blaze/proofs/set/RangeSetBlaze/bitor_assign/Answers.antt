@@ -9,7 +9,7 @@ use Rattle.rsb_streams.proofs.sources.Listed.{itself, listed-yields}
 use Rattle.range_set_blaze.specs.Algebra.{AddsPrefixOf, AddsItems}
 use Rattle.range_set_blaze.proofs.set.RangeSetBlaze.bitor_assign.Goals as goal
 
--- a list of ranges, of which some could not be added, extends a set by a front of it
+-- If adding the ranges of a list to a set fails, the set gains a prefix of them.
 extended-front : {T E : Type 0} (rank : T → ℕ) (n : ℕ) (given : List (RangeInclusive T))
     (runs old new : List Interval) (result : Result (Unit {0}) E) → intervals_of rank given ≡ runs
     → ExtendsWithItems (λ (s iter : List (RangeInclusive T)). iter ≡ s)
@@ -28,7 +28,7 @@ extended-front rank n given runs old new (Err error) is extends = record {
   adds = extends.3.adds;
 }
 
--- the runs that were added are the first of the other
+-- If an allocation fails, the runs that were added are a prefix of those of the other set.
 pub returns-then-is_few-clause-err : goal.returns-then-is_few-clause-err
 returns-then-is_few-clause-err g c =
     extended-front g.T.Integer.rank g.T.Integer.value_count _ _ c.args.self.now c.extend.new.self

@@ -1,7 +1,7 @@
 use Rattle.range_set_blaze.proofs.order.EndRuns.{kept-nil}
 use Rattle.range_set_blaze.proofs.set.RangeSetBlaze.clear.Goals as goal
 
--- no run is kept, and the length is 0
+-- No run is left, and the length is 0.
 pub invariant_of-self : goal.invariant_of-self
 invariant_of-self g c =
     rw (c.clear.ensures.empty, c.zero-self-inside.ensures) (kept-nil g.T.Integer.rank g.T.Integer.value_count _

@@ -1,6 +1,6 @@
 use Rattle.range_set_blaze.proofs.set.RangeSetBlaze.clone.Goals as goal
 
--- the stream gives the runs of the set alone
+-- The only list that the stream may give is that of the runs of the set.
 pub returns : goal.returns
 returns g c = record {
   same = rw (← c.ranges-2.ensures.ranges) c.from_sorted_disjoint.ensures.runs;

@@ -7,7 +7,7 @@ use Rattle.range_set_blaze.specs.Algebra.{AddsItems}
 use Rattle.rsb_many.proofs.inputs.HandedIn.{ended-run}
 use Rattle.range_set_blaze.proofs.set.RangeSetBlaze.extend.Goals as goal
 
--- the range is added with those before it
+-- The ranges added so far are those before this one, and this one.
 pub loop-range-preserved : goal.loop-range-preserved
 loop-range-preserved g c = record {
   adds = λ point.
@@ -21,7 +21,7 @@ loop-range-preserved g c = record {
       (grind (arith, nat_tests, before, added, both, one));
 }
 
--- what was added is what the calls gave
+-- The ranges that were added are those that the calls gave.
 pub returns-clause-runs : goal.returns-clause-runs
 returns-clause-runs g c =
     ended-run g.J.IntoIterator.into_iter_gives g.J.IntoIter.Iterator.next_gives c.args.ranges

@@ -6,7 +6,7 @@ use Rattle.range_set_blaze.specs.Set.{only}
 use Rattle.rsb_many.proofs.inputs.HandedIn.{ended-run}
 use Rattle.range_set_blaze.proofs.set.RangeSetBlaze.extend_values.Goals as goal
 
--- the value is added with those before it
+-- The values added so far are those before this one, and this one.
 pub loop-value-preserved : goal.loop-value-preserved
 loop-value-preserved g c = record {
   adds = λ point.
@@ -17,7 +17,7 @@ loop-value-preserved g c = record {
       grind (arith, nat_tests, before, added, one_more);
 }
 
--- what was added is what the calls gave
+-- The values that were added are those that the calls gave.
 pub returns-clause-runs : goal.returns-clause-runs
 returns-clause-runs g c =
     ended-run g.J.IntoIterator.into_iter_gives g.J.IntoIter.Iterator.next_gives c.args.values

@@ -2,7 +2,7 @@ use Rattle.std.proofs.Common.{arith}
 use Rattle.std.proofs.lemmas.Option.{IfSome_then}
 use Rattle.range_set_blaze.proofs.set.RangeSetBlaze.first_gap.Goals as goal
 
--- every block starts at the least value or past it
+-- Every block starts at the least value or past it.
 pub returns-clause-lowest : goal.returns-clause-lowest
 returns-clause-lowest g c =
     IfSome_then c.first_gap_from.result c.first_gap_from.ensures.lowest

@@ -2,13 +2,13 @@ use Rattle.range_set_blaze.specs.Kept.{run_of}
 use Rattle.range_set_blaze.proofs.fitting.FirstFits.{fit-from, none-anywhere, none-lower}
 use Rattle.range_set_blaze.proofs.set.RangeSetBlaze.first_gap_from.Goals as goal
 
--- where every gap is shorter, no block fits
+-- If every gap is shorter, no block fits.
 pub returns-in_err-gap-clause-nowhere : goal.returns-in_err-gap-clause-nowhere
 returns-in_err-gap-clause-nowhere g c = λ none start from some block.
     none-anywhere _ c.args.self.now (g.T.Integer.rank c.args.value) _ start from some block
     (rw (c.known.ensures.same, c.self.view_is) at c.in_err-gap.ensures)
 
--- none fits below the first gap that is long enough
+-- No block fits below the first gap that is long enough.
 pub returns-clause-lowest : goal.returns-clause-lowest
 returns-clause-lowest g c = λ start from less some block.
     none-lower _ c.args.self.now (g.T.Integer.rank c.args.value) _ start from some block
@@ -16,7 +16,7 @@ returns-clause-lowest g c = λ start from less some block.
     (rw (c.known.ensures.same, c.self.view_is) at c.in_ok-gap.ensures).first
     (rw c.new.ensures.start at less)
 
--- that is no earlier than the value
+-- That gap starts at the value or past it.
 pub returns-clause-from : goal.returns-clause-from
 returns-clause-from g c =
     rw c.new.ensures.start

@@ -3,7 +3,7 @@ use Rattle.rsb_integer.specs.Rank.{interval_of}
 use Rattle.range_set_blaze.proofs.gathering.OneByOne.{members-run_if_any}
 use Rattle.range_set_blaze.proofs.set.RangeSetBlaze.from.Goals as goal
 
--- the set is the one list that the stream of the range gives
+-- The set is the only list that the stream of the range may give.
 pub returns : goal.returns
 returns g c = record {
   members = IfOk-weaker c.from_sorted_disjoint.result _ _ (λ set may point.

@@ -6,7 +6,7 @@ use Rattle.rsb_many.proofs.inputs.HandedIn.{gave-run}
 use Rattle.range_set_blaze.proofs.gathering.SetOperations.{set-of_runs}
 use Rattle.range_set_blaze.proofs.set.RangeSetBlaze.from_iter.Goals as goal
 
--- the union of the ranges gives the runs of their members
+-- The union of the ranges gives the runs of their members.
 pub returns-clause-members : goal.returns-clause-members
 returns-clause-members g c =
     let gave = c.in_ok-union.ensures.gives in
@@ -21,7 +21,7 @@ returns-clause-members g c =
     ))
     c.from_sorted_disjoint.ensures.runs
 
--- and they are a run of calls
+-- The same, stated by `GaveRun`.
 pub returns-clause-runs : goal.returns-clause-runs
 returns-clause-runs g c = IfOk-weaker c.from_sorted_disjoint.result _ _
     (λ set gave. gave-run g.J.IntoIterator.into_iter_gives g.J.IntoIter.Iterator.next_gives

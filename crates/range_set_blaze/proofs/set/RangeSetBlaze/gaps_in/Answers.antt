@@ -6,7 +6,7 @@ use Rattle.rsb_integer.proofs.RunsLemmas.{runs-from_canonical}
 use Rattle.range_set_blaze.specs.Kept.{runs_of}
 use Rattle.range_set_blaze.proofs.set.RangeSetBlaze.gaps_in.Goals as goal
 
--- canonical ranges with these members are the runs of them
+-- Canonical ranges with these members are the runs of them.
 pub returns-in-Some-clause-runs : goal.returns-in-Some-clause-runs
 returns-in-Some-clause-runs g c = λ has.
     let gaps = c.gaps_between.ensures in
@@ -16,7 +16,7 @@ returns-in-Some-clause-runs g c = λ has.
     ∙ ap (λ test. test && not (members runs point))
     (grind (arith, nat_tests, c.in-Some.ensures.start has, c.in-Some.ensures.end has))))
 
--- and no ranges those of nothing
+-- If no value is between the bounds, there are no runs.
 pub returns-clause-runs : goal.returns-clause-runs
 returns-clause-runs g c = λ has.
     let below = c.in-None.ensures.none has refl in

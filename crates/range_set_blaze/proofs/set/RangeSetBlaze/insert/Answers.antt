@@ -2,7 +2,7 @@ use Rattle.std.proofs.lemmas.Result.{on_ok_weaker}
 use Rattle.range_set_blaze.proofs.insertion.Bounds.{adds-only}
 use Rattle.range_set_blaze.proofs.set.RangeSetBlaze.insert.Goals as goal
 
--- the ranks from the value to itself are its own
+-- The range from a value to itself has only that value.
 pub returns-clause-members : goal.returns-clause-members
 returns-clause-members g c =
     on_ok_weaker c.ranges_insert.result

@@ -2,7 +2,7 @@ use Rattle.range_set_blaze.specs.Kept.{run_of, runs_of}
 use Rattle.range_set_blaze.proofs.runs.Counts.{run_count-added}
 use Rattle.range_set_blaze.proofs.set.RangeSetBlaze.insert_run.Goals as goal
 
--- one run was added to those that are kept
+-- One run is added to the runs of the set.
 pub returns-clause-run_count : goal.returns-clause-run_count
 returns-clause-run_count g c =
     let rank = g.T.Integer.rank in

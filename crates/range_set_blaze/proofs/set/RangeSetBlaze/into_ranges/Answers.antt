@@ -1,7 +1,7 @@
 use Rattle.range_set_blaze.proofs.elements.Ranges.{intervals_of-ranges}
 use Rattle.range_set_blaze.proofs.set.RangeSetBlaze.into_ranges.Goals as goal
 
--- the ranges have the intervals of the runs, which are canonical
+-- The ranges have the intervals of the runs, which are canonical.
 pub returns : goal.returns
 returns g c =
     let are = intervals_of-ranges g.T.Integer.rank c.self.inside.map.entries in

@@ -2,7 +2,7 @@ use Rattle.std.proofs.Common.{arith}
 use Rattle.range_set_blaze.proofs.order.EndRuns.{nothing-kept}
 use Rattle.range_set_blaze.proofs.set.RangeSetBlaze.is_empty.Goals as goal
 
--- a run that is kept has a member
+-- Every run has a member, so a set without members has no runs.
 pub returns : goal.returns
 returns g c =
     let nothing = nothing-kept g.T.Integer.rank g.T.Integer.value_count c.self.inside.map.entries

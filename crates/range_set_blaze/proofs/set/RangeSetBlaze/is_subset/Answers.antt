@@ -2,7 +2,7 @@ use Rattle.std.proofs.Common.{true}
 use Rattle.range_set_blaze.proofs.order.KnownTests.{known-test}
 use Rattle.range_set_blaze.proofs.set.RangeSetBlaze.is_subset.Goals as goal
 
--- the streams give the runs of the sets
+-- The streams give the runs of the sets.
 pub returns : goal.returns
 returns g c =
     rw (← c.ranges-2.ensures.ranges, ← c.ranges-3.ensures.ranges)

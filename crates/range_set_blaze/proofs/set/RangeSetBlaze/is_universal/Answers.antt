@@ -2,7 +2,7 @@ use Rattle.std.proofs.Common.{arith}
 use Rattle.range_set_blaze.proofs.order.EndRuns.{count-everything}
 use Rattle.range_set_blaze.proofs.set.RangeSetBlaze.is_universal.Goals as goal
 
--- the length is that of the whole type exactly where every value is a member
+-- The length is the number of values of the type exactly if every value is a member.
 pub returns : goal.returns
 returns g c =
     let all = count-everything g.T.Integer.value_count in

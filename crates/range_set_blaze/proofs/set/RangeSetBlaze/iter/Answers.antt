@@ -1,7 +1,7 @@
 use Rattle.range_set_blaze.proofs.elements.Listed.{whole-over}
 use Rattle.range_set_blaze.proofs.set.RangeSetBlaze.iter.Goals as goal
 
--- nothing is taken of the runs yet
+-- Nothing has been taken from the runs yet.
 pub returns : goal.returns
 returns g c =
     let over = whole-over g.T.Integer.rank g.T.Integer.value_count c.over.result c.over.ensures

@@ -3,7 +3,7 @@ use Rattle.rsb_integer.specs.Runs.{members}
 use Rattle.rsb_integer.proofs.CountLemmas.{count-agree}
 use Rattle.range_set_blaze.proofs.set.RangeSetBlaze.len_in.Goals as goal
 
--- what was counted are the runs between the bounds
+-- The runs that are counted are those between the bounds.
 pub returns : goal.returns
 returns g c = λ has.
     let counted = c.members_len.ensures in

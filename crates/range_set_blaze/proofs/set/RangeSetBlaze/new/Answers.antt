@@ -1,7 +1,7 @@
 use Rattle.range_set_blaze.proofs.order.EndRuns.{kept-nil}
 use Rattle.range_set_blaze.proofs.set.RangeSetBlaze.new.Goals as goal
 
--- no run is kept, and the length is 0
+-- The set has no run, and the length is 0.
 pub invariant_of-result : goal.invariant_of-result
 invariant_of-result g c =
     rw (c.new.ensures.empty, c.zero.ensures) (kept-nil g.T.Integer.rank g.T.Integer.value_count _

@@ -2,7 +2,7 @@ use Rattle.std.proofs.Common.{◌∙◌}
 use Rattle.range_set_blaze.proofs.gathering.SetOperations.{set-of_complement}
 use Rattle.range_set_blaze.proofs.set.RangeSetBlaze.not.Goals as goal
 
--- the stream gives the runs of the gaps
+-- The stream gives the gaps of the set.
 pub returns : goal.returns
 returns g c =
     let made = set-of_complement g.T.Integer.value_count c.from_sorted_disjoint.result _

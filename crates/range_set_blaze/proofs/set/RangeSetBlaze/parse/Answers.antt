@@ -9,7 +9,7 @@ use Rattle.range_set_blaze.proofs.texts.Read.{unexpected-none}
 use Rattle.range_set_blaze.proofs.texts.Reread.{ranges_of_runs, runs-spelled, set-reread}
 use Rattle.range_set_blaze.proofs.set.RangeSetBlaze.parse.Goals as goal
 
--- a text that spells ranges has no unexpected byte
+-- A text that spells ranges has no unexpected byte.
 pub returns-in_err-ranges-clause-refused : goal.returns-in_err-ranges-clause-refused
 returns-in_err-ranges-clause-refused g c = λ ranges place h is.
     let found : (at : ℕ) → c.from_residual.result ≡ Err (Unexpected at)
@@ -32,7 +32,7 @@ returns-clause-only g c = λ ranges h.
     IsSetOf c.in_ok-set.set (members (intervals_of g.T.Integer.rank items))) (sym same)
     c.in_ok-set.ensures.members
 
--- what `Display` writes of runs spells them, and is read as them
+-- What `Display` writes for runs spells these runs, and is read as the set of them.
 pub returns-clause-written : goal.returns-clause-written
 returns-clause-written g c = λ runs canonical is.
     let laws = g.met.T.Integer in

@@ -7,7 +7,7 @@ use Rattle.rsb_integer.proofs.RunsLemmas.{canonical-runs}
 use Rattle.rsb_streams.proofs.checking.Fresh.{one-canonical}
 use Rattle.range_set_blaze.proofs.set.RangeSetBlaze.range.Goals as goal
 
--- the set and the run between the bounds have these members in common
+-- The result has the members that the set and the run between the bounds have in common.
 pub returns : goal.returns
 returns g c =
     let n = g.T.Integer.value_count in

@@ -7,17 +7,17 @@ use Rattle.range_set_blaze.proofs.runs.Starts.{canonical-rises}
 use Rattle.range_set_blaze.proofs.set.RangeSetBlaze.range_or_gap_at.Goals as goal
 use Rattle.range_set_blaze.proofs.set.RangeSetBlaze.range_or_gap_at.Goals.{in-None, in-Some+else-not-is_below}
 
--- the starts of a set ascend
+-- The starts of the runs ascend.
 pub run_up_to-requires-clause-ascending : goal.run_up_to-requires-clause-ascending
 run_up_to-requires-clause-ascending g c =
     canonical-rises _ _ _ c.self.invariant.canonical.0 c.self.invariant.canonical.1
 
--- the last run up to the value
+-- The last run that starts at or before the value ends within the type.
 pub is_below-requires-clause-left : goal.is_below-requires-clause-left
 is_below-requires-clause-left g c =
     (contained-maximal _ _ c.self.invariant.canonical _ c.in-Some.ensures.among).in_type
 
--- has it
+-- If that run does not end before the value, it has the value.
 pub returns-then-not-is_below-clause-found : goal.returns-then-not-is_below-clause-found
 returns-then-not-is_below-clause-found g c =
     let starts = c.in-Some.ensures.starts in
@@ -40,7 +40,7 @@ returns-then-not-is_below-clause-run g c present =
     c.in-Some.ensures.among (omega (arith, starts))
     (lt-fails c.is_below.result _ _ c.is_below.ensures c.if-not-is_below.true))
 
--- or ends before it, or there is none
+-- Otherwise the value is in a gap: that run ends before it, or there is no such run.
 pub gap_end-end-requires-clause-gap : goal.gap_end-end-requires-clause-gap
 gap_end-end-requires-clause-gap g c = elim c.match-run_up_to.branch [
   | in-Some+else-not-is_below w ↦ last-gap _ _ c.self.invariant.canonical _

@@ -2,7 +2,7 @@ use Rattle.rsb_integer.proofs.RunsLemmas.{canonical-runs}
 use Rattle.range_set_blaze.proofs.elements.Ranges.{intervals_of-ranges}
 use Rattle.range_set_blaze.proofs.set.RangeSetBlaze.ranges.Goals as goal
 
--- the ranges have the intervals of the runs, which are canonical
+-- The ranges have the intervals of the runs, which are canonical.
 pub returns : goal.returns
 returns g c =
     let canonical = c.self.invariant.canonical in

@@ -6,7 +6,7 @@ use Rattle.rsb_integer.proofs.RunsLemmas.{runs-from_canonical}
 use Rattle.range_set_blaze.specs.Kept.{runs_of}
 use Rattle.range_set_blaze.proofs.set.RangeSetBlaze.ranges_in.Goals as goal
 
--- canonical ranges with these members are the runs of them
+-- Canonical ranges with these members are the runs of them.
 pub returns-in-Some-clause-runs : goal.returns-in-Some-clause-runs
 returns-in-Some-clause-runs g c = λ has.
     let window = c.runs_between.ensures in
@@ -15,7 +15,7 @@ returns-in-Some-clause-runs g c = λ has.
     window.canonical.1 (λ point below. window.members point ∙ ap (λ test. members runs point && test)
     (grind (arith, nat_tests, c.in-Some.ensures.start has, c.in-Some.ensures.end has))))
 
--- and no ranges those of nothing
+-- If no value is between the bounds, there are no runs.
 pub returns-clause-runs : goal.returns-clause-runs
 returns-clause-runs g c = λ has.
     let below = c.in-None.ensures.none has refl in

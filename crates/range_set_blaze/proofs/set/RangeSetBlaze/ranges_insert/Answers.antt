@@ -2,7 +2,7 @@ use Rattle.std.proofs.Common.{arith}
 use Rattle.std.proofs.lemmas.Bool.Decides.{nat_tests}
 use Rattle.range_set_blaze.proofs.set.RangeSetBlaze.ranges_insert.Goals as goal
 
--- the start of the run lies between the bounds
+-- The start of the run is between the bounds, so there is a value to insert.
 pub returns-clause-nothing : goal.returns-clause-nothing
 returns-clause-nothing g c has nothing =
     let run = c.in-Some.run' in

@@ -1,7 +1,7 @@
 use Rattle.rsb_integer.proofs.RunsLemmas.{canonical-runs}
 use Rattle.range_set_blaze.proofs.set.RangeSetBlaze.ranges_len.Goals as goal
 
--- the kept list is canonical
+-- The list of runs is canonical.
 pub returns-clause-runs : goal.returns-clause-runs
 returns-clause-runs g c =
     let canonical = c.self.invariant.canonical in

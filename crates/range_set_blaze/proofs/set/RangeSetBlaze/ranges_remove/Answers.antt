@@ -6,7 +6,7 @@ use Rattle.range_set_blaze.specs.Set.{Removes}
 use Rattle.range_set_blaze.proofs.removal.Between.{covers-between}
 use Rattle.range_set_blaze.proofs.set.RangeSetBlaze.ranges_remove.Goals as goal
 
--- the ranks between the bounds are those of the run
+-- The ranks between the bounds are those of the run.
 pub returns-clause-members : goal.returns-clause-members
 returns-clause-members g c has =
     subst (λ ranks. OnOk c.remove_run.result

@@ -3,7 +3,7 @@ use Rattle.range_set_blaze.specs.Kept.{runs_of}
 use Rattle.range_set_blaze.proofs.runs.Counts.{run_count-removed}
 use Rattle.range_set_blaze.proofs.set.RangeSetBlaze.remove.Goals as goal
 
--- one value was taken out of the runs that are kept
+-- One value is removed from the runs of the set.
 pub returns-clause-run_count : goal.returns-clause-run_count
 returns-clause-run_count g c =
     let rank = g.T.Integer.rank in

@@ -3,7 +3,7 @@ use Rattle.range_set_blaze.specs.Kept.{run_of, runs_of}
 use Rattle.range_set_blaze.proofs.runs.Counts.{run_count-without}
 use Rattle.range_set_blaze.proofs.set.RangeSetBlaze.remove_run.Goals as goal
 
--- the values of a run were taken out of the runs that are kept
+-- The values of one run are removed from the runs of the set.
 pub returns-clause-run_count : goal.returns-clause-run_count
 returns-clause-run_count g c =
     let rank = g.T.Integer.rank in

@@ -3,13 +3,13 @@ use Rattle.rsb_integer.specs.Selection.{exclusive_or}
 use Rattle.range_set_blaze.proofs.gathering.SetOperations.{set-of_operation}
 use Rattle.range_set_blaze.proofs.set.algebra.symmetric_difference_of.Goals as goal
 
--- it is the set of what the operation selects
+-- The result has the ranks that the operation selects.
 pub returns-clause-members : goal.returns-clause-members
 returns-clause-members g c these those is also one other =
     (set-of_operation g.T.Integer.value_count c.from_sorted_disjoint.result _ c.from_sorted_disjoint.ensures.runs
     these those is also one other exclusive_or refl c.symmetric_difference.ensures.made.gives).0
 
--- with so many runs at most
+-- The number of its runs is at most what the operation allows.
 pub returns-clause-run_count : goal.returns-clause-run_count
 returns-clause-run_count g c these those is also one other =
     (set-of_operation g.T.Integer.value_count c.from_sorted_disjoint.result _ c.from_sorted_disjoint.ensures.runs

@@ -1,7 +1,7 @@
 use Rattle.range_set_blaze.proofs.elements.Listed.{listed-takes}
 use Rattle.range_set_blaze.proofs.set.elements.elements_stand_for_sets.Goals as goal
 
--- what a call takes is taken of what was left
+-- A call takes its element from what was left before it.
 pub returns : goal.returns
 returns g c = record {
   next = λ s t item. listed-takes g.T.Integer.rank g.T.Integer.value_count;

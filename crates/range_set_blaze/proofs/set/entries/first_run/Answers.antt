@@ -5,7 +5,8 @@ use Rattle.range_set_blaze.specs.Kept.{entry_of, run_of, runs_of}
 use Rattle.range_set_blaze.specs.Starts.{StartsWith}
 use Rattle.range_set_blaze.proofs.set.entries.first_run.Goals as goal
 
--- the first entry is that of the first run
+-- If the entries start with the entry of a run, their runs start with that run. If there are no
+-- entries, there are no runs.
 first-entry : {T : Type 0} (rank : T → ℕ) (entries later : List (T × T)) (first : Option (Run T))
     → MatchOption first (entries ≡ []) (λ run. entries ≡ entry_of run ∷ later)
     → MatchOption first (runs_of rank entries ≡ [])

@@ -3,7 +3,7 @@ use Rattle.range_set_blaze.specs.Kept.{runs_of}
 use Rattle.range_set_blaze.proofs.runs.Maps.{lookup-none, runs-insert_entry}
 use Rattle.range_set_blaze.proofs.set.entries.put_entry.Goals as goal
 
--- only a new start can want memory
+-- Only a new start may need an allocation.
 pub returns-in_err-insert-clause-succeeds : goal.returns-in_err-insert-clause-succeeds
 returns-in_err-insert-clause-succeeds g c other found starts =
     let laws = g.met.T.Integer in
@@ -11,7 +11,7 @@ returns-in_err-insert-clause-succeeds g c other found starts =
     c.args.run.start c.requires.value 0 c.args.map.now.entries c.requires.ascending
     c.in_err-insert.ensures.absent other found starts)
 
--- the entry goes to its place
+-- The entry is inserted at its place.
 pub returns-clause-runs : goal.returns-clause-runs
 returns-clause-runs g c =
     let laws = g.met.T.Integer in

@@ -3,7 +3,7 @@ use Rattle.range_set_blaze.specs.Kept.{runs_of}
 use Rattle.range_set_blaze.proofs.runs.Maps.{runs-after}
 use Rattle.range_set_blaze.proofs.set.entries.run_after.Goals as goal
 
--- the range has the entries past the value
+-- The range has the entries past the value.
 pub returns-in_err-start : goal.returns-in_err-start
 returns-in_err-start g c =
     let laws = g.met.T.Integer in

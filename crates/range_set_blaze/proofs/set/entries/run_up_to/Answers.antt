@@ -4,7 +4,7 @@ use Rattle.range_set_blaze.proofs.runs.Found.{found-last}
 use Rattle.range_set_blaze.proofs.runs.Maps.{runs-up_to}
 use Rattle.range_set_blaze.proofs.set.entries.run_up_to.Goals as goal
 
--- the last of the range is the last up to the value
+-- The last entry of the range is that of the last run that starts at or before the value.
 pub returns : goal.returns
 returns g c =
     let rank = g.T.Integer.rank in

@@ -3,7 +3,7 @@ use Rattle.range_set_blaze.specs.Kept.{runs_of}
 use Rattle.range_set_blaze.proofs.runs.Maps.{runs-below, runs-from}
 use Rattle.range_set_blaze.proofs.set.entries.split_entries.Goals as goal
 
--- the low part stays
+-- The map keeps the entries below the key.
 pub returns-clause-low : goal.returns-clause-low
 returns-clause-low g c =
     let laws = g.met.T.Integer in
@@ -11,7 +11,7 @@ returns-clause-low g c =
     ∙ runs-below g.T.Ord.cmp g.T.Integer.rank g.T.Integer.value_count laws.in_order c.args.key
     c.requires.value c.args.map.now.entries c.requires.ascending
 
--- and the high one is given
+-- The others are returned.
 pub returns-clause-high : goal.returns-clause-high
 returns-clause-high g c =
     let laws = g.met.T.Integer in

@@ -3,7 +3,7 @@ use Rattle.range_set_blaze.specs.Kept.{runs_of}
 use Rattle.range_set_blaze.proofs.runs.Maps.{runs-remove_entry}
 use Rattle.range_set_blaze.proofs.set.entries.take_entry.Goals as goal
 
--- the entry goes out
+-- The entry with this start is removed.
 pub returns : goal.returns
 returns g c =
     let laws = g.met.T.Integer in

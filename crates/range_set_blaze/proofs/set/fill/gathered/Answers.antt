@@ -8,7 +8,7 @@ use Rattle.range_set_blaze.proofs.gathering.OneByOne.{runs_of-taken, taken-canon
 use Rattle.range_set_blaze.proofs.runs.Kept.{sum_by-canonical}
 use Rattle.range_set_blaze.proofs.set.fill.gathered.Goals as goal
 
--- what may come after the range lies in order, after what was taken
+-- The ranges taken so far, this one and those to come are canonical, so this one is non-empty.
 pub safe_len-requires : goal.safe_len-requires
 safe_len-requires g c =
     let s = c.loop-range.iter in
@@ -22,7 +22,7 @@ safe_len-requires g c =
     (g.met.I.Draw.answers s t (Some c.in-Some.range) c.in-Some.ensures.steps rest may))
     (g.met.I.Draw.sorted t c.in-Some.ensures.goes.keeps).some
 
--- and in the type
+-- The lengths of those taken so far and of this one add up to at most the size of the type.
 pub add_assign-requires : goal.add_assign-requires
 add_assign-requires g c =
     let laws = g.met.T.Integer in
@@ -77,7 +77,7 @@ loop-range-preserved g c =
       ));
     }
 
--- where the stream ends, what was taken is one of the lists that might come
+-- If the stream ends, what was taken is one of the lists that it might give at first.
 pub returns : goal.returns
 returns g c =
     let n = g.T.Integer.value_count in

@@ -1,4 +1,5 @@
--- What was taken, followed by what may still come, might come of the stream at first.
+-- What was taken, followed by what the stream may still give, is a list that it might give at
+-- first.
 use Rattle.std.proofs.Common.{◌≡◌, List, ◌++◌}
 use Rattle.std.specs.Iterator.{IsFinite, size}
 use Rattle.std.specs.List.{sum_by}

@@ -6,7 +6,7 @@ use Rattle.range_set_blaze.specs.Kept.{runs_of}
 use Rattle.range_set_blaze.proofs.runs.Starts.{canonical-rises}
 use Rattle.range_set_blaze.proofs.set.fill.map_of.Goals as goal
 
--- the entries came in order, so the map has these
+-- The entries come in order, so the map has exactly these.
 pub returns : goal.returns
 returns g c =
     let laws = g.met.T.Integer in

@@ -5,7 +5,7 @@ use Rattle.range_set_blaze.proofs.fitting.FirstFits.{gaps-done, gaps-fit, gaps-n
 use Rattle.range_set_blaze.proofs.runs.Kept.{le-fails}
 use Rattle.range_set_blaze.proofs.set.first_fit.first_between.Goals as goal
 
--- the gap before the next run is long enough
+-- If the gap before the next run is long enough, it is the first such gap.
 pub returns-then-is_long : goal.returns-then-is_long
 returns-then-is_long g c =
     let rank = g.T.Integer.rank in
@@ -13,7 +13,7 @@ returns-then-is_long g c =
     (runs_of rank c.next_in_range.new.entries) (rw c.in-Some.ensures.run at c.loop-run.invariant)
     (rank c.sub_one-end.result) c.sub_one-end.ensures (c.is_long.ensures.0 c.if-is_long.true)
 
--- or the type ends with that run
+-- Otherwise, if that run ends with the type, every gap is too short.
 pub returns-in_err-start : goal.returns-in_err-start
 returns-in_err-start g c =
     let rank = g.T.Integer.rank in
@@ -24,7 +24,7 @@ returns-in_err-start g c =
     (le-fails c.is_long.result _ _ c.is_long.ensures c.if-is_long.false)
     (c.in_err-start.ensures.none.0 refl))
 
--- or the next gap starts after it
+-- Otherwise the next gap starts right past that run.
 pub loop-run-preserved : goal.loop-run-preserved
 loop-run-preserved g c =
     let rank = g.T.Integer.rank in

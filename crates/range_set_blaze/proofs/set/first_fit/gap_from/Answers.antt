@@ -7,12 +7,12 @@ use Rattle.range_set_blaze.proofs.fitting.FirstFits.{none-free, past-free, past-
 use Rattle.range_set_blaze.proofs.runs.Starts.{canonical-rises}
 use Rattle.range_set_blaze.proofs.set.first_fit.gap_from.Goals as goal
 
--- the starts ascend
+-- The starts of the runs ascend.
 pub runs_after-requires-clause-ascending : goal.runs_after-requires-clause-ascending
 runs_after-requires-clause-ascending g c =
     canonical-rises _ _ _ c.requires.canonical.0 c.requires.canonical.1
 
--- no run reaches a free value
+-- The runs past a free value start after it.
 pub first_between-requires-clause-later : goal.first_between-requires-clause-later
 first_between-requires-clause-later g c =
     rw c.runs_after.ensures
@@ -25,14 +25,14 @@ first_between-requires-clause-within g c =
     (past-within _ (runs_of g.T.Integer.rank c.args.map.now.entries) c.requires.canonical _
     c.in_ok-start.ensures.free)
 
--- nothing is free from the value on
+-- If no value from the given one on is free, no gap is long enough.
 pub returns-in_err-start : goal.returns-in_err-start
 returns-in_err-start g c =
     rw c.from_residual.ensures
     (none-free _ (runs_of g.T.Integer.rank c.args.map.now.entries) c.requires.canonical _ _
     c.in_err-start.ensures)
 
--- or the later runs leave free what all do
+-- From the first free value on, the runs past it leave the same values free as all runs do.
 pub returns : goal.returns
 returns g c =
     let rank = g.T.Integer.rank in

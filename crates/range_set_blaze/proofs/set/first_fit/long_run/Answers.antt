@@ -3,7 +3,7 @@ use Rattle.range_set_blaze.proofs.fitting.FirstFits.{passed-all, passed-fit, pas
 use Rattle.range_set_blaze.proofs.runs.Kept.{le-fails}
 use Rattle.range_set_blaze.proofs.set.first_fit.long_run.Goals as goal
 
--- the run is long enough
+-- If the next run is long enough, it is the first such run.
 pub returns-then-is_long : goal.returns-then-is_long
 returns-then-is_long g c =
     let rank = g.T.Integer.rank in
@@ -11,7 +11,7 @@ returns-then-is_long g c =
     (runs_of rank c.next_run.new.entries) (rw c.in-Some.ensures at c.loop-run.invariant)
     (c.is_long.ensures.0 c.if-is_long.true)
 
--- or it is passed
+-- Otherwise it is passed.
 pub loop-run-preserved : goal.loop-run-preserved
 loop-run-preserved g c =
     let rank = g.T.Integer.rank in
@@ -19,7 +19,7 @@ loop-run-preserved g c =
     (runs_of rank c.next_run.new.entries) (rw c.in-Some.ensures at c.loop-run.invariant)
     (le-fails c.is_long.result _ _ c.is_long.ensures c.if-is_long.false)
 
--- or none is left
+-- If no run is left, every run is too short.
 pub returns : goal.returns
 returns g c =
     passed-all _ _ (runs_of g.T.Integer.rank c.args.map.now.entries) c.requires

@@ -3,7 +3,7 @@ use Rattle.range_set_blaze.specs.Kept.{runs_of}
 use Rattle.range_set_blaze.proofs.runs.Maps as maps
 use Rattle.range_set_blaze.proofs.set.first_fit.runs_after.Goals as goal
 
--- the range has the entries past the value
+-- The range has the entries past the value.
 pub returns : goal.returns
 returns g c =
     let laws = g.met.T.Integer in

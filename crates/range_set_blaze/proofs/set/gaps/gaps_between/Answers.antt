@@ -4,7 +4,7 @@ use Rattle.range_set_blaze.proofs.windows.FreeParts.{free-members, within-betwee
 use Rattle.range_set_blaze.proofs.windows.GapRanges.{left-canonical, ranges-canonical, ranges-members}
 use Rattle.range_set_blaze.proofs.set.gaps.gaps_between.Goals as goal
 
--- the runs that start in the part lie between its ends
+-- The runs that start in the free part lie between its ends.
 pub invariant_of-result : goal.invariant_of-result
 invariant_of-result g c =
     let rank = g.T.Integer.rank in
@@ -12,7 +12,7 @@ invariant_of-result g c =
     (within-between _ (runs_of rank c.args.map.now.entries) c.requires.canonical
     (run_of rank c.args.window) (run_of rank c.in-Some.part) c.requires.value c.in-Some.ensures)
 
--- so the gaps that they leave are canonical
+-- So the gaps that they leave are canonical.
 pub returns-in-Some-clause-canonical : goal.returns-in-Some-clause-canonical
 returns-in-Some-clause-canonical g c =
     let laws = g.met.T.Integer in
@@ -20,7 +20,7 @@ returns-in-Some-clause-canonical g c =
     (left-canonical g.T.Integer.rank _ g.T.Integer.value_at (Some c.in-Some.part)
     c.starting_in.result (invariant_of-result g c))
 
--- and the set of what is free in the window
+-- The gaps have the values of the window that are not members.
 pub returns-in-Some-clause-members : goal.returns-in-Some-clause-members
 returns-in-Some-clause-members g c =
     let laws = g.met.T.Integer in

@@ -1,4 +1,4 @@
--- What is still to be fed leads to what all entries feed.
+-- Feeding the entries that are left leads to the same state as feeding all entries at first.
 use Rattle.std.proofs.Common.{◌≡◌, ◌++◌, flat_map, fold, length}
 use Rattle.range_set_blaze.proofs.set.hash.feed_runs.Given as goal
 

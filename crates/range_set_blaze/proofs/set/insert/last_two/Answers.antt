@@ -4,7 +4,7 @@ use Rattle.range_set_blaze.proofs.runs.Found.{found-last, found-two}
 use Rattle.range_set_blaze.proofs.runs.Maps.{runs-up_to}
 use Rattle.range_set_blaze.proofs.set.insert.last_two.Goals as goal
 
--- no run is in the range
+-- If the range has no entry, no run starts at or before the value.
 pub returns-in_default-clause-two : goal.returns-in_default-clause-two
 returns-in_default-clause-two g c =
     let rank = g.T.Integer.rank in
@@ -17,7 +17,8 @@ returns-in_default-clause-two g c =
     c.args.map.now.entries c.requires.ascending)
     c.in_default.ensures.run
 
--- the last two of the range are the last two up to the value
+-- The last two entries of the range are those of the last two runs that start at or before the
+-- value.
 pub returns-clause-two : goal.returns-clause-two
 returns-clause-two g c =
     let rank = g.T.Integer.rank in

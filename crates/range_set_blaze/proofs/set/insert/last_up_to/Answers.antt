@@ -4,20 +4,20 @@ use Rattle.range_set_blaze.proofs.runs.Kept.{lt-fails}
 use Rattle.range_set_blaze.proofs.runs.Starts.{canonical-rises}
 use Rattle.range_set_blaze.proofs.set.insert.last_up_to.Goals as goal
 
--- the last run is of values
+-- The last run starts within the type.
 pub is_below-requires-clause-right : goal.is_below-requires-clause-right
 is_below-requires-clause-right g c =
     let two = two-last g.T.Integer.rank _ _ _ _ c.requires.two.2 c.in_ok-last.last c.in_ok-last.was in
     (last-value g.T.Integer.rank _ _ c.requires.canonical _ c.in_ok-last.last two.0).0
 
--- it starts up to the value
+-- If it starts at or before the value, it is the run to find.
 pub returns-then-not-is_below : goal.returns-then-not-is_below
 returns-then-not-is_below g c =
     let two = two-last g.T.Integer.rank _ _ _ _ c.requires.two.2 c.in_ok-last.last c.in_ok-last.was in
     let starts = lt-fails c.is_below.result _ _ c.is_below.ensures c.if-not-is_below.true in
     last-lower _ _ _ _ (omega (arith, c.requires.two.1)) (omega (arith, starts)) two.0
 
--- it starts past the value, and none comes before it
+-- If it starts past the value and no run is before it, there is no run to find.
 pub returns-in_err-before : goal.returns-in_err-before
 returns-in_err-before g c =
     let none = two-none g.T.Integer.rank _ _ _ _ c.requires.two.2 c.in_ok-last.last c.in_ok-last.was
@@ -26,14 +26,14 @@ returns-in_err-before g c =
     rw c.from_residual-in_err-before.ensures
     (none-lower _ _ _ (omega (arith, later)) none)
 
--- the one before it is of values
+-- The run before it starts within the type.
 pub is_below-requires-2-clause-right : goal.is_below-requires-2-clause-right
 is_below-requires-2-clause-right g c =
     (last-value g.T.Integer.rank _ _ c.requires.canonical _ c.in_ok-before.before
     (two-before g.T.Integer.rank _ _ _ _ c.requires.two.2 c.in_ok-last.last c.in_ok-before.before
     c.in_ok-last.was c.in_ok-before.was)).0
 
--- it starts up to the value
+-- If that run starts at or before the value, it is the run to find.
 pub returns-then-not-is_below-2 : goal.returns-then-not-is_below-2
 returns-then-not-is_below-2 g c =
     let found = two-before g.T.Integer.rank _ _ _ _ c.requires.two.2 c.in_ok-last.last c.in_ok-before.before
@@ -42,7 +42,7 @@ returns-then-not-is_below-2 g c =
     let starts = lt-fails c.is_below-2.result _ _ c.is_below-2.ensures c.if-not-is_below-2.true in
     last-lower _ _ _ _ (omega (arith, later)) (omega (arith, starts)) found
 
--- the starts ascend
+-- The starts of the runs ascend.
 pub run_up_to-requires-clause-ascending : goal.run_up_to-requires-clause-ascending
 run_up_to-requires-clause-ascending g c =
     canonical-rises _ _ _ c.requires.canonical.0 c.requires.canonical.1

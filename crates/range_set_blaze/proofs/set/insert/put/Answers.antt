@@ -7,12 +7,12 @@ use Rattle.range_set_blaze.proofs.insertion.Placing.{first-counted, first-some, 
 use Rattle.range_set_blaze.proofs.runs.Starts.{canonical-rises}
 use Rattle.range_set_blaze.proofs.set.insert.put.Goals as goal
 
--- the starts ascend
+-- The starts of the runs ascend.
 pub put_entry-requires-clause-ascending : goal.put_entry-requires-clause-ascending
 put_entry-requires-clause-ascending g c =
     canonical-rises _ _ _ c.requires.kept.canonical.0 c.requires.kept.canonical.1
 
--- the first of what is taken in has values, and no more than are counted
+-- The first run that is replaced is non-empty, and its members are counted.
 pub without-others-requires-clause-some : goal.without-others-requires-clause-some
 without-others-requires-clause-some g c =
     first-some _ _ _ c.requires.kept.canonical c.args.joining c.requires.joining
@@ -28,13 +28,13 @@ without-others-requires-clause-counted g c =
     first-within _ _ _ c.requires.kept.canonical c.args.joining c.requires.joining _
     c.requires.kept.length
 
--- a first run has the start
+-- If there is such a run, an entry has the start already, so the insertion does not fail.
 pub returns-in_err-put_entry-clause-succeeds : goal.returns-in_err-put_entry-clause-succeeds
 returns-in_err-put_entry-clause-succeeds g c some =
     let there = first-there _ _ _ c.requires.kept.canonical c.args.joining c.requires.joining some in
     let fails = c.in_err-put_entry.ensures.succeeds there.0 there.1 there.2 in absurd (cc)
 
--- the joined run stands over the others
+-- After the insertion, the joined run is over the others, as `IsOver` states.
 pub take_in-length-requires-clause-over : goal.take_in-length-requires-clause-over
 take_in-length-requires-clause-over g c =
     subst (λ (runs : List Interval). IsOver g.T.Integer.value_count runs
@@ -51,7 +51,7 @@ take_in-length-requires-clause-inside g c =
     (sym c.in_ok-put_entry.ensures.runs)
     (joining-inside _ _ _ c.requires.kept.canonical c.args.joining c.requires.joining)
 
--- and what is left makes the set with it
+-- The runs that are left form the set together with the joined run.
 pub add_length-requires-clause-fits : goal.add_length-requires-clause-fits
 add_length-requires-clause-fits g c =
     let within = count-within g.T.Integer.value_count

@@ -3,14 +3,14 @@ use Rattle.range_set_blaze.proofs.runs.Apart.{last-gap, none-gap}
 use Rattle.range_set_blaze.proofs.runs.Kept.{le-fails}
 use Rattle.range_set_blaze.proofs.set.insert.reached_at.Goals as goal
 
--- none starts up to the value
+-- If no run starts at or before the value, it is unreached.
 pub returns-in_err-first : goal.returns-in_err-first
 returns-in_err-first g c =
     rw c.from_residual.ensures
     (λ other less more. none-gap _ _ c.requires.canonical _ c.in_err-first.ensures other
     (omega (arith, less)))
 
--- the last of them reaches it
+-- If the last of those runs contains or touches the value, it is the run to find.
 pub returns-then-reaches : goal.returns-then-reaches
 returns-then-reaches g c =
     let starts = c.in_ok-first.ensures.starts in
@@ -20,7 +20,7 @@ returns-then-reaches g c =
       reaches = c.reaches.ensures.0 c.if-reaches.true;
     }
 
--- or ends before it
+-- Otherwise that run ends too far before the value, and no other reaches it.
 pub returns-else-reaches : goal.returns-else-reaches
 returns-else-reaches g c =
     let far = le-fails c.reaches.result _ _ c.reaches.ensures c.if-reaches.false in

@@ -4,7 +4,7 @@ use Rattle.range_set_blaze.specs.Set.{first_rank, past_rank}
 use Rattle.range_set_blaze.proofs.runs.Kept.{lt-fails}
 use Rattle.range_set_blaze.proofs.set.insert.run_between.Goals as goal
 
--- there are no values up to the upper bound
+-- The upper bound allows no values.
 pub returns-in_err-end : goal.returns-in_err-end
 returns-in_err-end g c =
     rw c.from_residual.ensures (record {
@@ -19,7 +19,7 @@ returns-in_err-end g c =
       value = tt;
     })
 
--- nor from the lower bound on
+-- The lower bound allows no values.
 pub returns-in_err-start-clause-none : goal.returns-in_err-start-clause-none
 returns-in_err-start-clause-none g c = λ has is.
     omega (
@@ -31,7 +31,7 @@ returns-in_err-start-clause-none g c = λ has is.
       ap (first_rank g.T.Integer.rank) (c.start_bound.ensures has),
     )
 
--- the bounds are the wrong way round
+-- The lower bound is past the upper one.
 pub returns-then-is_below-clause-none : goal.returns-then-is_below-clause-none
 returns-then-is_below-clause-none g c = λ has is.
     omega (
@@ -43,7 +43,7 @@ returns-then-is_below-clause-none g c = λ has is.
       ap (first_rank g.T.Integer.rank) (c.start_bound.ensures has),
     )
 
--- there are some between
+-- There are values between the bounds.
 pub returns : goal.returns
 returns g c = record {
   none = λ has is. absurd (true≢false is);

@@ -4,12 +4,12 @@ use Rattle.range_set_blaze.proofs.insertion.Joining.{joined-hull, joined-joining
 use Rattle.range_set_blaze.proofs.runs.Starts.{canonical-rises}
 use Rattle.range_set_blaze.proofs.set.insert.touched.Goals as goal
 
--- the starts ascend
+-- The starts of the runs ascend.
 pub last_two-requires-clause-ascending : goal.last_two-requires-clause-ascending
 last_two-requires-clause-ascending g c =
     canonical-rises _ _ _ c.requires.canonical.0 c.requires.canonical.1
 
--- the first has all values of the run
+-- If the first run that the new one reaches ends at or past its end, all of its values are members.
 pub returns-then-ends_in-clause-within : goal.returns-then-ends_in-clause-within
 returns-then-ends_in-clause-within g c none =
     reached-has g.T.Integer.rank g.T.Integer.value_count (runs_of g.T.Integer.rank
@@ -17,7 +17,7 @@ returns-then-ends_in-clause-within g c none =
     c.requires.value _ refl c.reached_at-first.result c.reached_at-first.ensures c.ends_in.result
     c.ends_in.ensures c.if-ends_in.true
 
--- or lacks some
+-- Otherwise some of its values are not.
 pub returns-clause-lacks : goal.returns-clause-lacks
 returns-clause-lacks g c =
     (reached-lacks g.T.Integer.rank g.T.Integer.value_count (runs_of g.T.Integer.rank
@@ -25,7 +25,7 @@ returns-clause-lacks g c =
     c.requires.value _ refl c.reached_at-first.result c.reached_at-first.ensures c.ends_in.result
     c.ends_in.ensures c.if-ends_in.false).1
 
--- the joined run
+-- The joined run is the hull of the new run and those that it touches.
 pub returns-clause-hull : goal.returns-clause-hull
 returns-clause-hull g c =
     joined-hull g.T.Integer.rank g.T.Integer.value_count (runs_of g.T.Integer.rank
@@ -36,7 +36,7 @@ returns-clause-hull g c =
     c.last_two.result.0 c.last_two.result.1 c.reached_at-first.ensures c.start_of-start.ensures
     c.last_two.ensures.two c.end_of-end.ensures
 
--- and what it touches
+-- The result names the runs that the joined run covers.
 pub returns-clause-joining : goal.returns-clause-joining
 returns-clause-joining g c =
     let short = (reached-lacks g.T.Integer.rank g.T.Integer.value_count (runs_of g.T.Integer.rank

@@ -6,13 +6,13 @@ use Rattle.range_set_blaze.specs.Set.{only}
 use Rattle.range_set_blaze.proofs.retaining.Grown.{covers-longer, covers-one}
 use Rattle.range_set_blaze.proofs.set.keep.grow.Goals as goal
 
--- there is no piece, so the value is one
+-- If there is no piece, the value becomes one.
 pub returns-in_default-clause-added : goal.returns-in_default-clause-added
 returns-in_default-clause-added g c = rw c.in_default.is (λ rank.
     ap (λ here. members c.args.kept.now rank || here)
     (covers-one (g.T.Integer.rank c.args.value) rank))
 
--- the piece is longer
+-- If the value touches the piece, it is added to the piece.
 pub returns-then-reaches-clause-added : goal.returns-then-reaches-clause-added
 returns-then-reaches-clause-added g c = rw c.in-Some.is (λ rank.
     ap (λ here. members c.args.kept.now rank || here)
@@ -22,7 +22,7 @@ returns-then-reaches-clause-added g c = rw c.in-Some.is (λ rank.
     ∙ sym (or_assoc (members c.args.kept.now rank) (covers (run_of g.T.Integer.rank c.in-Some.run') rank)
     _))
 
--- the piece goes to the set, and the value is the next one
+-- Otherwise the piece is inserted into the set, and the value becomes the next piece.
 pub returns-clause-added : goal.returns-clause-added
 returns-clause-added g c = rw c.in-Some.is (λ rank.
     ap (λ here. members c.insert_run.new.self rank || here)

@@ -5,7 +5,7 @@ use Rattle.range_set_blaze.proofs.gathering.AskedValues.{answered-all, answered-
 use Rattle.range_set_blaze.proofs.set.keep.kept_values.Goals as goal
 use Rattle.range_set_blaze.proofs.set.keep.kept_values.Goals.{then-f+in_ok-grown, else-f}
 
--- all members are left at first
+-- At first all members are left.
 pub loop-left-init : goal.loop-left-init
 loop-left-init g c =
     let rank = g.T.Integer.rank in
@@ -29,7 +29,7 @@ loop-left-init g c =
       listed = refl;
     })
 
--- the test may be called on the first of what is left
+-- The closure may be called on the first member that is left.
 pub f-requires : goal.f-requires
 f-requires g c =
     let rank = g.T.Integer.rank in
@@ -39,7 +39,7 @@ f-requires g c =
     (runs_of rank c.args.map.now.entries) c.in-Some.run'.start _ _ before.answered
     (rw c.in-Some.is at before.listed) refl canonical.1 canonical.2)
 
--- it is asked about
+-- The closure has been called on one member more.
 pub loop-left-preserved : goal.loop-left-preserved
 loop-left-preserved g c =
     let rank = g.T.Integer.rank in
@@ -79,7 +79,7 @@ loop-left-preserved g c =
       })
     ]
 
--- all members were asked about
+-- The closure has been called on all members.
 pub returns : goal.returns
 returns g c =
     let listed = rw c.in_default.is at c.loop-left.invariant.listed in

@@ -1,4 +1,5 @@
--- Some first members were asked about, and those with true are kept or in the piece.
+-- The closure was called on a prefix of the members. Those for which it returned true are kept or
+-- in the piece.
 use Rattle.std.proofs.Common.{◌≡◌, ◌≤◌, IfSome, List, [], None, ◌++◌, length, map}
 use Rattle.range_set_blaze.specs.Kept.{runs_of}
 use Rattle.range_set_blaze.specs.Retain.{left_runs, past_piece, ascending_ranks, with_piece, IsCanonicalBelow}

@@ -5,7 +5,7 @@ use Rattle.range_set_blaze.specs.Retain.{ascending_ranks, ranks_from}
 use Rattle.range_set_blaze.proofs.gathering.AskedValues.{below-lower, left_runs-next, ranks_from-first}
 use Rattle.range_set_blaze.proofs.set.keep.next_left.Goals as goal
 
--- the rest of the run
+-- If the run has more values, they are left.
 pub returns-then-is_below : goal.returns-then-is_below
 returns-then-is_below g c =
     let rank = g.T.Integer.rank in
@@ -18,7 +18,7 @@ returns-then-is_below g c =
           (ranks_from-first (rank c.args.run.start) (rank c.args.run.end) c.requires.order));
     }
 
--- or the next one
+-- Otherwise the next run is left.
 pub returns : goal.returns
 unfolding ranks_from
 returns g c =

@@ -5,7 +5,7 @@ use Rattle.rsb_streams.proofs.checking.Comparisons.{empty-ranks}
 use Rattle.range_set_blaze.proofs.gathering.LentItems.{same-nothing}
 use Rattle.range_set_blaze.proofs.set.lent_ranges.range_like.Goals as goal
 
--- a range that is told to be empty has no rank, as the other one
+-- A range for which `is_empty` returns true has no ranks, and neither has the returned one.
 pub returns-then-is_empty : goal.returns-then-is_empty
 returns-then-is_empty g c =
     let rank = g.T.Integer.rank in

@@ -3,23 +3,23 @@ use Rattle.range_set_blaze.proofs.look_up.Gaps.{gap-last, gap-next, past-first}
 use Rattle.range_set_blaze.proofs.runs.Starts.{canonical-rises}
 use Rattle.range_set_blaze.proofs.set.look_up.gap_end.Goals as goal
 
--- the starts ascend
+-- The starts of the runs ascend.
 pub run_after-requires-clause-ascending : goal.run_after-requires-clause-ascending
 run_after-requires-clause-ascending g c =
     canonical-rises _ _ _ c.requires.canonical.0 c.requires.canonical.1
 
--- the next run starts past the value
+-- The next run starts past the value.
 pub sub_one-requires : goal.sub_one-requires
 sub_one-requires g c =
     let later = (past-first _ _ c.requires.canonical _ _ c.in-Some.ensures).1 in
     omega (arith, later)
 
--- the gap ends right before it
+-- The gap ends right before that run.
 pub returns-in-Some : goal.returns-in-Some
 returns-in-Some g c =
     gap-next _ _ c.requires.canonical _ c.requires.gap _ _ c.in-Some.ensures c.sub_one.ensures
 
--- or with the type
+-- If there is no next run, the gap ends with the type.
 pub returns-in-None : goal.returns-in-None
 returns-in-None g c =
     gap-last _ _ c.requires.canonical _ c.requires.gap _ c.requires.value c.in-None.ensures

@@ -8,12 +8,12 @@ use Rattle.range_set_blaze.proofs.look_up.Gaps.{contained-around}
 use Rattle.range_set_blaze.proofs.runs.Starts.{canonical-rises}
 use Rattle.range_set_blaze.proofs.set.look_up.run_at.Goals as goal
 
--- the starts ascend
+-- The starts of the runs ascend.
 pub run_up_to-requires-clause-ascending : goal.run_up_to-requires-clause-ascending
 run_up_to-requires-clause-ascending g c =
     canonical-rises _ _ _ c.requires.canonical.0 c.requires.canonical.1
 
--- no run starts up to the value
+-- If no run starts at or before the value, it is not a member.
 pub returns-in_err-run-clause-none : goal.returns-in_err-run-clause-none
 returns-in_err-run-clause-none g c =
     rw c.from_residual.ensures (
@@ -21,7 +21,7 @@ returns-in_err-run-clause-none g c =
       (λ absent. refl),
     )
 
--- or the last one ends below it
+-- If the last of those runs ends below the value, it is not a member.
 pub returns-then-is_below-clause-none : goal.returns-then-is_below-clause-none
 returns-then-is_below-clause-none g c = (
   (λ none. last-gap _ _ c.requires.canonical _ _ c.in_ok-run.ensures _
@@ -29,7 +29,7 @@ returns-then-is_below-clause-none g c = (
   (λ absent. refl),
 )
 
--- or has it
+-- Otherwise that run has the value.
 pub returns-clause-run : goal.returns-clause-run
 returns-clause-run g c =
     let starts = c.in_ok-run.ensures.starts in

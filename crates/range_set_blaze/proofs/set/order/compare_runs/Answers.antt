@@ -3,7 +3,7 @@ use Rattle.range_set_blaze.proofs.order.CommonFronts.{ends-compared, passing-non
 use Rattle.range_set_blaze.proofs.order.EndRuns.{length-runs_of}
 use Rattle.range_set_blaze.proofs.set.order.compare_runs.Goals as goal
 
--- at first nothing was passed
+-- At first no runs were compared.
 pub loop-ends-init : goal.loop-ends-init
 loop-ends-init g c =
     rw (c.iter-left.ensures.rest, c.iter-right.ensures.rest)
@@ -12,7 +12,7 @@ loop-ends-init g c =
       tells = passing-none g.T.Integer.value_count _ _ c.requires.left c.requires.right;
     })
 
--- there are at most as many iterations as runs, and one more
+-- There is at most one iteration more than there are runs.
 pub overflow_add-turns : goal.overflow_add-turns
 overflow_add-turns g c =
     let few = length-runs_of g.T.Integer.rank c.args.left.now.entries in
@@ -20,46 +20,46 @@ overflow_add-turns g c =
     let fits = c.iter-left.ensures.fits in
     search (rules, counted, fits)
 
--- the last run of the left list ended first
+-- If the last run of the left list ends first, the runs left in that list determine the order.
 pub returns-in-Less : goal.returns-in-Less
 returns-in-Less g c =
     rw c.order_by_rest.ensures (rw c.in-Less.is at c.loop-ends.invariant).tells
 
--- or that of the right list
+-- If that of the right list ends first, those left in the right list do.
 pub returns-in-Greater : goal.returns-in-Greater
 returns-in-Greater g c =
     rw (c.reverse.ensures, c.order_by_rest-in-Greater.ensures)
     (rw c.in-Greater.is at c.loop-ends.invariant).tells
 
--- both lists have ended
+-- If both lists have ended, the sets are equal.
 pub returns-in_default-next_run : goal.returns-in_default-next_run
 returns-in_default-next_run g c =
     passing-tells c.requires.left c.requires.right
     (rw (c.in-Equal.is, c.in_default.ensures, c.in_default-next_run.ensures) at c.loop-ends.invariant).tells
     tt refl refl
 
--- the left one alone has
+-- If only the left list has ended, the left set is less.
 pub returns-in_default : goal.returns-in_default
 returns-in_default g c =
     passing-tells c.requires.left c.requires.right
     (rw (c.in-Equal.is, c.in_default.ensures, c.in-Some-next_run.ensures) at c.loop-ends.invariant).tells
     tt refl refl
 
--- or the right one
+-- If only the right list has ended, the left set is greater.
 pub returns-in_default-next_run-2 : goal.returns-in_default-next_run-2
 returns-in_default-next_run-2 g c =
     passing-tells c.requires.left c.requires.right
     (rw (c.in-Equal.is, c.in-Some.ensures, c.in_default-next_run-2.ensures) at c.loop-ends.invariant).tells
     tt refl refl
 
--- the runs start apart
+-- If the next runs have different starts, these determine the order.
 pub returns-then-is_ne : goal.returns-then-is_ne
 returns-then-is_ne g c =
     starts-tell g.met.T.Integer.in_order c.requires.left c.requires.right _ _
     (rw (c.in-Equal.is, c.in-Some.ensures, c.in-Some-next_run-2.ensures) at c.loop-ends.invariant).tells
     c.cmp-starts.ensures c.if-is_ne.ensures
 
--- or alike, and their ends tell
+-- Otherwise their ends are compared in the next iteration.
 pub loop-ends-preserved : goal.loop-ends-preserved
 loop-ends-preserved g c =
     ends-compared g.met.T.Integer.in_order c.requires.left c.requires.right _ _

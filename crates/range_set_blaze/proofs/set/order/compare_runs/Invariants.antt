@@ -1,4 +1,5 @@
--- Each iteration passed a run of each list, and the ends of the last two tell.
+-- Each iteration takes a run of each list. How the last two compare by their ends, and what is
+-- left, determine the order.
 use Rattle.std.proofs.Common.{length}
 use Rattle.range_set_blaze.specs.Kept.{runs_of}
 use Rattle.range_set_blaze.proofs.order.CommonFronts.{HasCompared}

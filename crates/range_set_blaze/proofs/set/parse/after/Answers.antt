@@ -3,7 +3,7 @@ use Rattle.range_set_blaze.specs.declared.set.parse.Place.TheVariants.{Before, S
 use Rattle.range_set_blaze.proofs.texts.Places.{leads-back, start-full}
 use Rattle.range_set_blaze.proofs.set.parse.after.Goals as goal
 
--- at the start of the text a byte leads where it leads before a number
+-- At the start of a text, a byte that is not blank leads where it would lead before a number.
 pub returns-else-is_blank : goal.returns-else-is_blank
 returns-else-is_blank g c = rw c.in-Start.is (leads-back g.T.ParseInteger.number g.T.ParseInteger.fits Start (Before None) c.args.byte c.after_blanks.result
     (start-full g.T.ParseInteger.number g.T.ParseInteger.fits c.args.byte (sym c.is_blank.ensures ∙ c.if-is_blank.false))

@@ -9,7 +9,7 @@ returns-then-byte-eq43 g c = before-plus g.T.ParseInteger.number g.T.ParseIntege
 pub returns-then-byte-eq45 : goal.returns-then-byte-eq45
 returns-then-byte-eq45 g c = before-minus g.T.ParseInteger.number g.T.ParseInteger.fits c.args.start c.args.byte c.if-byte-eq45.true
 
--- a byte that is no sign begins the digits
+-- A byte that is not a sign starts the digits.
 pub returns : goal.returns
 returns g c = leads-back g.T.ParseInteger.number g.T.ParseInteger.fits (Before c.args.start) (Signed c.args.start false) c.args.byte
     c.after_sign.result (before-bare g.T.ParseInteger.number g.T.ParseInteger.fits c.args.start c.args.byte c.requires c.if-byte-eq43.false

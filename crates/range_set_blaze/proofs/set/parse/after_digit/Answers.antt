@@ -3,21 +3,21 @@ use Rattle.range_set_blaze.proofs.texts.Places.{digits-ended, digits-found, digi
 use Rattle.range_set_blaze.specs.declared.set.parse.Place.TheVariants.{Behind, Digits}
 use Rattle.range_set_blaze.proofs.set.parse.after_digit.Goals as goal
 
--- no digit
+-- A byte that is not a digit leads where it would lead after a blank that follows the number.
 pub returns-in_default : goal.returns-in_default
 returns-in_default g c = leads-back g.T.ParseInteger.number g.T.ParseInteger.fits (Digits c.args.start c.args.negative c.args.value)
     (Behind c.args.start c.args.value) c.args.byte c.after_number.result
     (digits-ended g.T.ParseInteger.number g.T.ParseInteger.fits c.args.start c.args.negative c.args.value c.args.byte c.in_default.ensures)
     c.after_number.ensures
 
--- one digit too many
+-- A digit is unexpected if the number with that digit is not of the type.
 pub returns-in_err-value : goal.returns-in_err-value
 returns-in_err-value g c =
     let digit = c.in-Some.ensures in
     rw c.from_residual.ensures (digits-lacking g.T.ParseInteger.number g.T.ParseInteger.fits c.args.start c.args.negative c.args.value c.args.byte
     c.in-Some.digit c.requires digit.0 digit.1 (c.in_err-value.ensures.none refl))
 
--- one digit more
+-- Any other digit leads to the number with that digit.
 pub returns : goal.returns
 returns g c =
     let digit = c.in-Some.ensures in

@@ -1,7 +1,7 @@
 use Rattle.range_set_blaze.proofs.texts.Places.{signed-found}
 use Rattle.range_set_blaze.proofs.set.parse.after_sign.Goals as goal
 
--- the digit leads to the number
+-- The first digit leads to its number.
 pub returns : goal.returns
 returns g c =
     let digit = c.in_ok-digit.ensures in

@@ -23,7 +23,7 @@ loop-at-preserved g c =
           w.in-Some-after.ensures)
     ]
 
--- a comma fits nothing
+-- If no range may end at the place, a comma is unexpected.
 pub returns-in_default-clause-unexpected : goal.returns-in_default-clause-unexpected
 returns-in_default-clause-unexpected g c = λ place is.
     let text = c.args.text.now in
@@ -35,7 +35,7 @@ returns-in_default-clause-unexpected g c = λ place is.
     subst (λ (byte : ℕ). ¬ Follows g.T.ParseInteger.number g.T.ParseInteger.fits c.loop-at.place more (byte ∷ rest)) (sym c.if-byte-eq44.true)
     (c.in_default.ensures.comma more rest)))
 
--- another byte fits nothing
+-- If a byte leads to no place, it is unexpected.
 pub returns-in_default-after-clause-unexpected : goal.returns-in_default-after-clause-unexpected
 returns-in_default-after-clause-unexpected g c = λ place is.
     let text = c.args.text.now in
@@ -45,7 +45,7 @@ returns-in_default-after-clause-unexpected g c = λ place is.
     (unexpected_byte g.T.ParseInteger.number g.T.ParseInteger.fits zero.0 zero.1 zero.2 text c.loop-at.at c.loop-at.ranges.items c.loop-at.place
     c.loop-at-test.true c.loop-at.invariant (λ more rest. c.in_default-after.ensures more rest))
 
--- no range
+-- If the place is still the start, the text spells no ranges.
 pub returns-in-Start-clause-spelled : goal.returns-in-Start-clause-spelled
 returns-in-Start-clause-spelled g c =
     let had = has_read-all g.T.ParseInteger.number g.T.ParseInteger.fits c.args.text.now c.loop-at.at c.loop-at.ranges.items c.loop-at.place
@@ -58,7 +58,7 @@ returns-in-Start-clause-only g c = λ others h.
     c.loop-at-test.false c.loop-at.auto.at-end c.loop-at.invariant in
     only-none g.T.ParseInteger.number g.T.ParseInteger.fits c.args.text.now c.loop-at.ranges.items others (rw c.in-Start.is at had) h
 
--- the text ends too early
+-- If no range may end at the place, the text ends too early.
 pub returns-in_default-finished : goal.returns-in_default-finished
 returns-in_default-finished g c = record {
   spelled = tt;
@@ -74,7 +74,7 @@ returns-in_default-finished g c = record {
       (λ more. c.in_default-finished.ensures.end more c.in_default-place.not-Start));
 }
 
--- the last range
+-- Otherwise the last range ends with the text.
 pub returns-clause-spelled : goal.returns-clause-spelled
 returns-clause-spelled g c =
     let had = has_read-all g.T.ParseInteger.number g.T.ParseInteger.fits c.args.text.now c.loop-at.at c.loop-at.ranges.items c.loop-at.place

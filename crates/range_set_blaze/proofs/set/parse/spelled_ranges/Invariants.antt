@@ -2,7 +2,7 @@ use Rattle.std.proofs.Common.{take}
 use Rattle.range_set_blaze.specs.Reading.{HasRead}
 use Rattle.range_set_blaze.proofs.set.parse.spelled_ranges.Given as goal
 
--- what was read leads to the place
+-- The bytes read so far spell the ranges and lead to the place.
 abbrev pub invariant-loop-at : goal.invariant-loop-at
 invariant-loop-at g l = HasRead g.T.ParseInteger.number g.T.ParseInteger.fits (take l.at l.text)
     l.ranges.items l.place

@@ -5,7 +5,7 @@ use Rattle.range_set_blaze.specs.Kept.{run_of, runs_of}
 use Rattle.range_set_blaze.proofs.ranking.Counted.{counted-all, counted-fits, counted-next, counted-past}
 use Rattle.range_set_blaze.proofs.set.ranked.count_below.Goals as goal
 
--- the next run is of the type
+-- The next run ends within the type.
 pub part_below-requires-clause-run : goal.part_below-requires-clause-run
 part_below-requires-clause-run g c =
     let rank = g.T.Integer.rank in
@@ -13,7 +13,7 @@ part_below-requires-clause-run g c =
     (run_of rank c.in-Some.run') (runs_of rank c.next_run.new.entries)
     (rw c.in-Some.ensures at c.loop-run.invariant).canonical.1
 
--- all of it is past the value
+-- If none of it is below the value, all members below the value are counted.
 pub returns-in_default-part_below : goal.returns-in_default-part_below
 returns-in_default-part_below g c =
     let rank = g.T.Integer.rank in
@@ -21,7 +21,7 @@ returns-in_default-part_below g c =
     (run_of rank c.in-Some.run') _ _ (rw c.in-Some.ensures at c.loop-run.invariant)
     c.in_default-part_below.ensures
 
--- or a part of it is counted
+-- Otherwise the part of it below the value is counted too.
 pub add_length-requires-clause-fits : goal.add_length-requires-clause-fits
 add_length-requires-clause-fits g c =
     let rank = g.T.Integer.rank in
@@ -37,7 +37,7 @@ loop-run-preserved g c =
     (run_of rank c.in-Some.run') _ _ (rw c.in-Some.ensures at c.loop-run.invariant)
     (run_of rank c.in-Some-part_below.part) c.in-Some-part_below.ensures)
 
--- or none is left
+-- If no run is left, all members below the value are counted.
 pub returns : goal.returns
 returns g c =
     counted-all _ (runs_of g.T.Integer.rank c.args.map.now.entries) _ _

@@ -5,7 +5,7 @@ use Rattle.range_set_blaze.specs.Kept.{run_of, runs_of}
 use Rattle.range_set_blaze.proofs.ranking.Counted.{left-below, left-member, left-more, left-next, left-none}
 use Rattle.range_set_blaze.proofs.set.ranked.nth_of.Goals as goal
 
--- the next run is of the type
+-- The next run ends within the type.
 pub value_at-requires-clause-value : goal.value_at-requires-clause-value
 value_at-requires-clause-value g c =
     let rank = g.T.Integer.rank in
@@ -13,7 +13,7 @@ value_at-requires-clause-value g c =
     (run_of rank c.in-Some.run') (runs_of rank c.next_run.new.entries)
     (rw c.in-Some.ensures at c.loop-run.invariant).within
 
--- and has the member
+-- If the run has more values than are left to pass, the n-th member is in it.
 pub returns-then-is_less-clause-none : goal.returns-then-is_less-clause-none
 returns-then-is_less-clause-none g c =
     let rank = g.T.Integer.rank in
@@ -42,7 +42,7 @@ returns-then-is_less-clause-below g c =
     (rw c.in-Some.ensures at c.loop-run.invariant) _
     (omega (arith, fewer, c.length_of_run-length.ensures)) c.value_at.ensures
 
--- or is passed
+-- Otherwise the run is passed.
 pub loop-run-preserved : goal.loop-run-preserved
 loop-run-preserved g c =
     let rank = g.T.Integer.rank in
@@ -51,7 +51,7 @@ loop-run-preserved g c =
     (rw c.in-Some.ensures at c.loop-run.invariant) _
     (omega (arith, c.take_off.ensures, c.length_of_run-length.ensures))
 
--- or none is left
+-- If no run is left, the set has at most n members.
 pub returns-clause-none : goal.returns-clause-none
 returns-clause-none g c = (
   (λ none. left-none _ (runs_of g.T.Integer.rank c.args.map.now.entries) _ _

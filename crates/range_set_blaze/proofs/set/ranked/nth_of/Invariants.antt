@@ -1,4 +1,4 @@
--- The runs that were passed lie below the wanted member.
+-- The runs that were passed lie below the n-th member.
 use Rattle.std.proofs.Common.{length}
 use Rattle.range_set_blaze.specs.Kept.{runs_of}
 use Rattle.range_set_blaze.proofs.ranking.Counted.{AreLeft}

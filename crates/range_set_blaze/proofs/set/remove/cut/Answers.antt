@@ -6,13 +6,13 @@ use Rattle.range_set_blaze.proofs.removal.Cuts.{cut-low, cut-none}
 use Rattle.range_set_blaze.proofs.runs.Kept.{lt-fails}
 use Rattle.range_set_blaze.proofs.set.remove.cut.Goals as goal
 
--- the run's start is there
+-- An entry has the start of the run, so the insertion does not fail.
 pub unwrap-requires : goal.unwrap-requires
 unwrap-requires g c =
     let there = c.in_ok-put_above.ensures.above.there in
     c.put_entry.ensures.succeeds there.0 there.1 there.2
 
--- what lies below the piece takes its place
+-- The part of the run below the piece replaces the run.
 pub returns-then-is_below-clause-removed : goal.returns-then-is_below-clause-removed
 returns-then-is_below-clause-removed g c =
     let rank = g.T.Integer.rank in
@@ -28,7 +28,7 @@ returns-then-is_below-clause-removed g c =
     c.requires.order _ c.in_ok-put_above.ensures.above low refl c.sub_one-end.ensures
     (c.is_below.ensures.0 c.if-is_below.true))
 
--- or nothing lies there
+-- If there is no such part, the entry is removed.
 pub returns-else-is_below-clause-removed : goal.returns-else-is_below-clause-removed
 returns-else-is_below-clause-removed g c =
     let rank = g.T.Integer.rank in

@@ -6,12 +6,12 @@ use Rattle.range_set_blaze.proofs.runs.Kept.{lt-fails}
 use Rattle.range_set_blaze.proofs.runs.Starts.{canonical-rises}
 use Rattle.range_set_blaze.proofs.set.remove.put_above.Goals as goal
 
--- the starts ascend
+-- The starts of the runs ascend.
 pub put_entry-requires-clause-ascending : goal.put_entry-requires-clause-ascending
 put_entry-requires-clause-ascending g c =
     canonical-rises _ _ _ c.requires.canonical.0 c.requires.canonical.1
 
--- what lies above is put in
+-- The part of the run above the value is inserted.
 pub returns-in_ok-put_entry-clause-above : goal.returns-in_ok-put_entry-clause-above
 returns-in_ok-put_entry-clause-above g c =
     subst (IsCutAbove _ _ (run_of g.T.Integer.rank c.args.run) (g.T.Integer.rank c.args.value))
@@ -19,7 +19,7 @@ returns-in_ok-put_entry-clause-above g c =
     (cut-above _ _ c.requires.canonical _ c.requires.among _ c.requires.from c.requires.to _
     c.add_one-start.ensures refl (c.is_below.ensures.0 c.if-is_below.true))
 
--- or nothing lies there
+-- If there is no such part, the runs are unchanged.
 pub returns-else-is_below-clause-above : goal.returns-else-is_below-clause-above
 returns-else-is_below-clause-above g c =
     cut-last _ _ c.requires.canonical _ c.requires.among _ c.requires.from c.requires.to

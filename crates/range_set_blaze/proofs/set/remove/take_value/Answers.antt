@@ -10,30 +10,30 @@ use Rattle.range_set_blaze.proofs.runs.Kept.{lt-fails}
 use Rattle.range_set_blaze.proofs.runs.Starts.{canonical-rises}
 use Rattle.range_set_blaze.proofs.set.remove.take_value.Goals as goal
 
--- the starts ascend
+-- The starts of the runs ascend.
 pub run_up_to-requires-clause-ascending : goal.run_up_to-requires-clause-ascending
 run_up_to-requires-clause-ascending g c =
     canonical-rises _ _ _ c.requires.kept.canonical.0 c.requires.kept.canonical.1
 
--- no run starts up to the value
+-- If no run starts at or before the value, it is not a member.
 pub returns-in_default-clause-none : goal.returns-in_default-clause-none
 returns-in_default-clause-none g c none =
     none-gap _ _ c.requires.kept.canonical _ c.in_default.ensures _ (omega arith)
 
--- or the last one ends below it
+-- If the last of those runs ends below the value, it is not a member.
 pub returns-then-is_below-clause-none : goal.returns-then-is_below-clause-none
 returns-then-is_below-clause-none g c none =
     last-gap _ _ c.requires.kept.canonical _ _ c.in-Some.ensures _
     (c.is_below.ensures.0 c.if-is_below.true) (omega arith)
 
--- or has it
+-- Otherwise that run has the value.
 pub returns-clause-some : goal.returns-clause-some
 returns-clause-some g c some =
     let starts = c.in-Some.ensures.starts in
     contained-members _ _ c.requires.kept.canonical _ _ c.in-Some.ensures.among
     (omega (arith, starts)) (lt-fails c.is_below.result _ _ c.is_below.ensures c.if-is_below.false)
 
--- memory is wanted of a member that is not the last of its run
+-- If an allocation fails, the value is a member.
 pub returns-in_err-cut-clause-absent : goal.returns-in_err-cut-clause-absent
 returns-in_err-cut-clause-absent g c absent =
     let starts = c.in-Some.ensures.starts in
@@ -55,14 +55,14 @@ returns-in_err-cut-clause-succeeds g c last =
       | inr less ↦ let fails = c.in_err-cut.ensures.succeeds less in absurd (cc)
     ]
 
--- what is counted is within the type
+-- The number of members is at most the size of the type.
 pub take_off_length-requires-clause-fits : goal.take_off_length-requires-clause-fits
 take_off_length-requires-clause-fits g c =
     let within = count-within g.T.Integer.value_count
     (members (runs_of g.T.Integer.rank c.args.map.now.entries)) in
     omega (arith, within, c.requires.kept.length)
 
--- the value alone is out
+-- Only the value is removed.
 pub returns-clause-removed : goal.returns-clause-removed
 returns-clause-removed g c some =
     removes-only _ _ (g.T.Integer.rank c.args.value) c.in_ok-cut.ensures.removed.removes

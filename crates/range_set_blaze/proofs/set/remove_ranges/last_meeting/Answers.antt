@@ -4,24 +4,24 @@ use Rattle.range_set_blaze.proofs.runs.Kept.{lt-fails}
 use Rattle.range_set_blaze.proofs.runs.Starts.{canonical-rises}
 use Rattle.range_set_blaze.proofs.set.remove_ranges.last_meeting.Goals as goal
 
--- the starts ascend
+-- The starts of the runs ascend.
 pub run_up_to-requires-clause-ascending : goal.run_up_to-requires-clause-ascending
 run_up_to-requires-clause-ascending g c =
     canonical-rises _ _ _ c.requires.canonical.0 c.requires.canonical.1
 
--- no run starts up to the end of the range
+-- If no run starts at or before the end of the range, none meets it.
 pub returns-in_err-run : goal.returns-in_err-run
 returns-in_err-run g c =
     rw c.from_residual.ensures (none-meets _ _ c.requires.canonical
     (run_of g.T.Integer.rank c.args.range) c.in_err-run.ensures)
 
--- or the last one ends before the range
+-- If the last of those runs ends before the range, none meets it.
 pub returns-then-is_below : goal.returns-then-is_below
 returns-then-is_below g c =
     last-before _ _ c.requires.canonical (run_of g.T.Integer.rank c.args.range) _
     c.in_ok-run.ensures (c.is_below.ensures.0 c.if-is_below.true)
 
--- or has a value of it
+-- Otherwise that run has a value of the range.
 pub returns : goal.returns
 returns g c = record {
   last = c.in_ok-run.ensures;

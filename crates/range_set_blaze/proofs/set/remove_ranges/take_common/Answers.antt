@@ -5,13 +5,13 @@ use Rattle.range_set_blaze.specs.Kept.{runs_of}
 use Rattle.range_set_blaze.proofs.removal.Meeting.{meeting-value, piece-ends, piece-from, piece-order, piece-to, taken-counted, taken-ends, taken-outside}
 use Rattle.range_set_blaze.proofs.set.remove_ranges.take_common.Goals as goal
 
--- the run is of values
+-- The run starts and ends within the type.
 pub common-piece-requires-clause-run : goal.common-piece-requires-clause-run
 common-piece-requires-clause-run g c =
     let value = meeting-value _ _ c.requires.kept.canonical _ _ c.requires.order c.requires.meets in
     (omega (arith, value.0, value.1), value.1)
 
--- it has the piece
+-- The piece lies in the run.
 pub cut-requires-clause-from : goal.cut-requires-clause-from
 cut-requires-clause-from g c =
     piece-from _ _ c.requires.kept.canonical _ _ c.requires.order c.requires.meets _
@@ -27,7 +27,7 @@ cut-requires-clause-to g c =
     piece-to _ _ c.requires.kept.canonical _ _ c.requires.order c.requires.meets _
     c.common-piece.ensures
 
--- which takes memory only where the run goes on past the range
+-- Removing the piece allocates only if the run extends past the range.
 pub returns-in_err-cut-clause-succeeds : goal.returns-in_err-cut-clause-succeeds
 returns-in_err-cut-clause-succeeds g c within =
     let fails = c.in_err-cut.ensures.succeeds
@@ -35,7 +35,7 @@ returns-in_err-cut-clause-succeeds g c within =
     c.common-piece.ensures within) in
     absurd (cc)
 
--- the piece is counted
+-- The piece is non-empty, and its members are counted.
 pub take_off_length-requires-clause-some : goal.take_off_length-requires-clause-some
 take_off_length-requires-clause-some g c =
     piece-order _ _ c.requires.kept.canonical _ _ c.requires.order c.requires.meets _
@@ -53,7 +53,7 @@ take_off_length-requires-clause-counted g c =
     c.common-piece.ensures _ c.in_ok-cut.ensures.removed in
     omega (arith, counted, c.requires.kept.length)
 
--- it is out
+-- The piece is removed.
 pub returns-clause-narrowed : goal.returns-clause-narrowed
 returns-clause-narrowed g c =
     let removed = c.in_ok-cut.ensures.removed in

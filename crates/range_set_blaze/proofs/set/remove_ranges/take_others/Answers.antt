@@ -4,7 +4,7 @@ use Rattle.range_set_blaze.specs.RemoveRanges.{IsNarrowed}
 use Rattle.range_set_blaze.proofs.removal.Meeting.{meeting-ends, outside-then}
 use Rattle.range_set_blaze.proofs.set.remove_ranges.take_others.Goals as goal
 
--- nothing was taken out at first
+-- At first nothing is removed.
 pub loop-run-init : goal.loop-run-init
 loop-run-init g c = record {
   kept = c.requires.kept;
@@ -12,7 +12,7 @@ loop-run-init g c = record {
   ends = c.requires.ends;
 }
 
--- no run goes on past the range
+-- No run extends past the range, so this does not allocate.
 pub unwrap-requires : goal.unwrap-requires
 unwrap-requires g c =
     let before = c.loop-run.invariant in
@@ -20,7 +20,7 @@ unwrap-requires g c =
     (meeting-ends _ _ before.kept.canonical (run_of g.T.Integer.rank c.args.range) _
     c.requires.order c.in-Some.ensures before.ends)
 
--- what the next one has in common with it is out
+-- What the next run and the range have in common is removed.
 pub loop-run-preserved : goal.loop-run-preserved
 loop-run-preserved g c =
     let rank = g.T.Integer.rank in

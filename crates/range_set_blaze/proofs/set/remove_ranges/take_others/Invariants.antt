@@ -1,4 +1,4 @@
--- Runs were taken out, of which none went on past the range.
+-- Only values of the range have been removed, and no run extends past the range.
 use Rattle.range_set_blaze.specs.Kept.{run_of}
 use Rattle.range_set_blaze.specs.RemoveRanges.{IsNarrowed}
 use Rattle.range_set_blaze.proofs.set.remove_ranges.take_others.Given as goal

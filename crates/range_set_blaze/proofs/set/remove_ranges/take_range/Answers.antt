@@ -2,7 +2,7 @@ use Rattle.range_set_blaze.specs.Kept.{run_of}
 use Rattle.range_set_blaze.proofs.removal.Meeting.{meeting-some, meeting-within, outside-removes, outside-then, some-common}
 use Rattle.range_set_blaze.proofs.set.remove_ranges.take_range.Goals as goal
 
--- memory is wanted where the last run that meets the range goes on past it
+-- An allocation can fail only if some run meets the range.
 pub returns-in_err-take_common-clause-nothing : goal.returns-in_err-take_common-clause-nothing
 returns-in_err-take_common-clause-nothing g c nothing =
     absurd (some-common _ (run_of g.T.Integer.rank c.args.range) nothing
@@ -14,12 +14,12 @@ returns-in_err-take_common-clause-succeeds g c lacks =
     (meeting-within _ _ c.requires.kept.canonical _ _ c.requires.order c.in-Some.ensures lacks) in
     absurd (cc)
 
--- that run has a value of the range
+-- That run has a value of the range.
 pub returns-clause-some : goal.returns-clause-some
 returns-clause-some g c some =
     meeting-some _ _ c.requires.kept.canonical _ _ c.requires.order c.in-Some.ensures
 
--- all of them are out
+-- All values of the range are removed.
 pub returns-clause-removed : goal.returns-clause-removed
 returns-clause-removed g c some =
     let range = run_of g.T.Integer.rank c.args.range in

@@ -7,7 +7,7 @@ use Rattle.range_set_blaze.proofs.runs.Starts.{canonical-rises}
 use Rattle.range_set_blaze.proofs.set.retain.retain_runs.Goals as goal
 use Rattle.range_set_blaze.proofs.set.retain.retain_runs.Goals.{then-not-f, else-not-f}
 
--- none was asked about at first
+-- At first the closure was called on no run.
 pub loop-next-init : goal.loop-next-init
 loop-next-init g c = record {
   done = [];
@@ -26,14 +26,14 @@ loop-next-init g c = record {
   exact = λ keeps answers. (answers, refl);
 }
 
--- the test may be called on the next one
+-- The closure may be called on the next run.
 pub f-requires : goal.f-requires
 f-requires g c =
     let range = c.new.ensures in
     c.requires.callable.at _ _ (next-asked _ _ _ _ _ c.in-Some.is c.loop-next.invariant _
     c.requires.kept.canonical range.start range.end range.exhausted)
 
--- it is a run of those that are there
+-- The next run is still one of the runs of the map.
 pub take_off_length-requires : goal.take_off_length-requires
 take_off_length-requires g c =
     let counted = c.loop-next.invariant.counted in
@@ -67,7 +67,7 @@ run_after-next-requires g c =
       value = (next-maximal _ _ _ _ _ c.in-Some.is c.loop-next.invariant).in_type;
     }
 
--- it was asked about
+-- The closure has been called on one run more.
 pub loop-next-preserved : goal.loop-next-preserved
 loop-next-preserved g c =
     let range = c.new.ensures in

@@ -1,4 +1,4 @@
--- Some runs were asked about, and those that are kept among them are still there.
+-- The closure was called on a prefix of the runs. Of these, the map still has those that are kept.
 use Rattle.range_set_blaze.specs.Kept.{runs_of}
 use Rattle.range_set_blaze.proofs.retaining.Retained.{to_come, IsRetaining}
 use Rattle.range_set_blaze.proofs.set.retain.retain_runs.Given as goal

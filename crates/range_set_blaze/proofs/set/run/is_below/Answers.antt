@@ -3,7 +3,7 @@ use Rattle.std.proofs.lemmas.Bool.{lt-ltb, ltb-true}
 use Rattle.rsb_streams.proofs.checking.Comparisons.{less-by}
 use Rattle.range_set_blaze.proofs.set.run.is_below.Goals as goal
 
--- values are ordered as their ranks are
+-- Values are ordered as their ranks are.
 pub returns : goal.returns
 returns g c =
     let rank = g.T.Integer.rank in

@@ -4,7 +4,7 @@ use Rattle.std.specs.Option.{unwrap_or}
 use Rattle.rsb_streams.proofs.checking.Comparisons.{next-value}
 use Rattle.range_set_blaze.proofs.set.run.next_or_greatest.Goals as goal
 
--- the rank of what comes next, or else of the last value
+-- A next value has the next rank. If there is none, the value itself has the last rank of the type.
 next-rank : {T : Type 0} (rank : T → ℕ) (n : ℕ) (value : T) (next : Option T) → rank value < n
     → (IsNone next ↔ (rank value + 1 ≡ n)) → IfSome next (λ next. rank next ≡ rank value + 1)
     → rank (unwrap_or next value) ≡ min (rank value + 1) (n - 1)

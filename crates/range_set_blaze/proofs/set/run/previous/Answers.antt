@@ -3,7 +3,7 @@ use Rattle.std.proofs.lemmas.Bool.{true≢false}
 use Rattle.range_set_blaze.proofs.runs.Kept.{lt-fails}
 use Rattle.range_set_blaze.proofs.set.run.previous.Goals as goal
 
--- the value has one before it
+-- A value that is not the least one has a value before it.
 pub sub_one-requires : goal.sub_one-requires
 sub_one-requires g c =
     omega (arith, c.is_below.ensures.0 c.if-is_below.true, c.min_value.ensures)
@@ -14,7 +14,7 @@ returns-then-is_below g c = record {
   some = c.sub_one.ensures;
 }
 
--- or it is the least
+-- Otherwise the value is the least one.
 pub returns-else-is_below : goal.returns-else-is_below
 returns-else-is_below g c = record {
   none = λ is. omega (

@@ -5,7 +5,7 @@ use Rattle.range_set_blaze.proofs.runs.Kept.{sum_by-canonical}
 use Rattle.range_set_blaze.proofs.splitting.Parting.{counted-next}
 use Rattle.range_set_blaze.proofs.set.split.length_of_runs.Goals as goal
 
--- the runs that are left are canonical
+-- The runs that are left are canonical.
 pub add_length-requires-clause-some : goal.add_length-requires-clause-some
 add_length-requires-clause-some g c =
     (rw c.in-Some.ensures at c.loop-run.invariant.canonical).0.1
@@ -31,7 +31,7 @@ loop-run-preserved g c =
       counted = omega (arith, counted, c.add_length.ensures);
     }
 
--- where none is left, all are counted
+-- If no run is left, all members are counted.
 pub returns : goal.returns
 returns g c =
     let rank = g.T.Integer.rank in

@@ -1,4 +1,4 @@
--- The runs that are counted, and those to come, are all runs.
+-- The length so far and the lengths of the runs to come add up to those of all runs.
 use Rattle.std.proofs.Common.{◌≡◌, ◌+◌, length}
 use Rattle.std.specs.List.{sum_by}
 use Rattle.rsb_integer.specs.Runs.{length_of, IsCanonicalIn}

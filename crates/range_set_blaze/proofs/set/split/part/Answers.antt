@@ -2,12 +2,12 @@ use Rattle.range_set_blaze.proofs.splitting.Parting.{over-parting}
 use Rattle.range_set_blaze.proofs.runs.Starts.{canonical-rises}
 use Rattle.range_set_blaze.proofs.set.split.part.Goals as goal
 
--- the starts ascend
+-- The starts of the runs ascend.
 pub split_entries-requires-clause-ascending : goal.split_entries-requires-clause-ascending
 split_entries-requires-clause-ascending g c =
     canonical-rises _ _ _ c.requires.canonical.0 c.requires.canonical.1
 
--- no run goes on over the value
+-- No run starts below the key and contains it.
 pub returns-clause-parting : goal.returns-clause-parting
 returns-clause-parting g c =
     rw (c.in_ok-high.ensures.low, c.in_ok-high.ensures.high)

@@ -6,19 +6,19 @@ use Rattle.range_set_blaze.proofs.splitting.Parting.{within-ascending, within-pa
 use Rattle.range_set_blaze.proofs.runs.Starts.{canonical-rises, starting-ascending}
 use Rattle.range_set_blaze.proofs.set.split.part_within.Goals as goal
 
--- the starts ascend
+-- The starts of the runs ascend.
 pub put_entry-requires-clause-ascending : goal.put_entry-requires-clause-ascending
 put_entry-requires-clause-ascending g c =
     canonical-rises _ _ _ c.requires.canonical.0 c.requires.canonical.1
 
--- with the high part
+-- They still ascend once the high part of the run is inserted.
 pub split_entries-requires-clause-ascending : goal.split_entries-requires-clause-ascending
 split_entries-requires-clause-ascending g c =
     subst (StartsAscendFrom g.T.Integer.value_count 0) (sym c.in_ok-put_entry.ensures.runs)
     (within-ascending _ _ c.requires.canonical _ (run_of g.T.Integer.rank c.args.run)
     c.requires.among c.requires.above c.requires.within _ refl)
 
--- below the value
+-- So do those of the runs below the key.
 pub put_entry-requires-in-Ok-clause-ascending : goal.put_entry-requires-in-Ok-clause-ascending
 put_entry-requires-in-Ok-clause-ascending g c =
     let low = c.in-Ok.ensures.low
@@ -28,7 +28,7 @@ put_entry-requires-in-Ok-clause-ascending g c =
     (within-ascending _ _ c.requires.canonical _ (run_of g.T.Integer.rank c.args.run)
     c.requires.among c.requires.above c.requires.within _ refl))
 
--- the run's start is there
+-- One of those has the start of the run, so the insertion does not fail.
 pub unwrap-requires : goal.unwrap-requires
 unwrap-requires g c =
     let low = c.in-Ok.ensures.low
@@ -38,7 +38,7 @@ unwrap-requires g c =
     (within-there _ _ c.requires.canonical _ (run_of g.T.Integer.rank c.args.run)
     c.requires.among c.requires.above c.requires.within _ refl)) refl
 
--- the parts
+-- The runs are split at the key.
 pub returns-in-Ok-clause-parting : goal.returns-in-Ok-clause-parting
 returns-in-Ok-clause-parting g c =
     let rank = g.T.Integer.rank in
@@ -57,7 +57,7 @@ returns-in-Ok-clause-parting g c =
     (within-parting n old c.requires.canonical (rank c.args.key) (run_of rank c.args.run)
     c.requires.among c.requires.above c.requires.within low high refl c.sub_one-end.ensures refl refl)
 
--- without memory the high part goes out again
+-- If an allocation fails, the high part is removed again.
 pub take_entry-requires-clause-ascending : goal.take_entry-requires-clause-ascending
 take_entry-requires-clause-ascending g c =
     subst (StartsAscendFrom g.T.Integer.value_count 0)

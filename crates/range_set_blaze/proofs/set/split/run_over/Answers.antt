@@ -5,19 +5,19 @@ use Rattle.range_set_blaze.proofs.splitting.Parting.{last-over}
 use Rattle.range_set_blaze.proofs.runs.Starts.{canonical-rises}
 use Rattle.range_set_blaze.proofs.set.split.run_over.Goals as goal
 
--- the starts ascend
+-- The starts of the runs ascend.
 pub run_up_to-requires-clause-ascending : goal.run_up_to-requires-clause-ascending
 run_up_to-requires-clause-ascending g c =
     canonical-rises _ _ _ c.requires.canonical.0 c.requires.canonical.1
 
--- no run starts below the value
+-- If no run starts below the key, none extends over it.
 pub returns-in_err-run : goal.returns-in_err-run
 returns-in_err-run g c =
     rw c.from_residual-in_err-run.ensures
     (λ run found starts reaches. subst (NoneBelow (runs_of g.T.Integer.rank c.args.map.now.entries))
     c.in_ok-before.ensures.some c.in_err-run.ensures run found starts)
 
--- or the last one ends below it
+-- If the last of those runs ends below the key, none extends over it.
 pub returns-then-is_below : goal.returns-then-is_below
 returns-then-is_below g c =
     last-over _ _ c.requires.canonical _ _

@@ -2,12 +2,12 @@ use Rattle.std.proofs.Common.{arith}
 use Rattle.range_set_blaze.proofs.runs.Kept.{lt-fails}
 use Rattle.range_set_blaze.proofs.set.take_in.last_inside.Goals as goal
 
--- no run starts up to the end
+-- If no run starts at or before the end, none starts inside.
 pub returns-in_err-last : goal.returns-in_err-last
 returns-in_err-last g c = rw c.from_residual.ensures (λ other inside.
     c.in_err-last.ensures other inside.among (omega (arith, inside.within)))
 
--- the last one starts inside
+-- If the last of those runs starts past the start, it starts inside.
 pub returns-then-is_below : goal.returns-then-is_below
 returns-then-is_below g c = record {
   among = c.in_ok-last.ensures.among;
@@ -15,7 +15,7 @@ returns-then-is_below g c = record {
   within = omega (arith, c.in_ok-last.ensures.starts);
 }
 
--- or none does
+-- Otherwise none starts inside.
 pub returns-else-is_below : goal.returns-else-is_below
 returns-else-is_below g c other inside =
     let up_to = c.in_ok-last.ensures.last other inside.among (omega (arith, inside.within)) in

@@ -6,7 +6,7 @@ use Rattle.range_set_blaze.specs.declared.set.run.Run.{Run}
 use Rattle.range_set_blaze.proofs.insertion.TakingIn.{over-ascending, over-joined, without-inside}
 use Rattle.range_set_blaze.proofs.set.take_in.take_in.Goals as goal
 
--- none starts inside the run
+-- If no run starts inside the joined one, the runs are canonical.
 pub returns-in_default-clause-canonical : goal.returns-in_default-clause-canonical
 returns-in_default-clause-canonical g c =
     (over-joined _ _ _ _ c.requires.over (subst (λ (last : Option (Run g.row.T.Denot)).
@@ -20,7 +20,7 @@ returns-in_default-clause-counted g c =
     (run_of g.T.Integer.rank c.args.run) last c.args.before) c.in_default.is c.requires.inside)).counted
     in omega (arith, number, c.requires.over.counted)
 
--- the last is out, and the one before it is next
+-- The last of the runs inside is removed, and the one before it is next.
 pub loop-next-init : goal.loop-next-init
 loop-next-init g c =
     let rank = g.T.Integer.rank in
@@ -35,12 +35,12 @@ loop-next-init g c =
           c.in-Some.is c.requires.inside)),
     )
 
--- those that are left ascend
+-- The starts of the runs that are left ascend.
 pub last_inside-next-requires-clause-ascending : goal.last_inside-next-requires-clause-ascending
 last_inside-next-requires-clause-ascending g c =
     over-ascending _ _ _ _ c.take_inside-in-Some-next.ensures.over
 
--- no more start inside it
+-- If no more runs start inside the joined one, the runs are canonical.
 pub returns-clause-canonical : goal.returns-clause-canonical
 returns-clause-canonical g c =
     let rank = g.T.Integer.rank in

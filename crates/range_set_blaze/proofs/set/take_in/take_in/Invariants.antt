@@ -1,4 +1,5 @@
--- The run stands over those that are left, and one that starts inside it is known, if there is one.
+-- The joined run is over the runs that are left. If some run starts inside it, `next` is one that
+-- does.
 use Rattle.std.proofs.Common.{◌≡◌, ℕ, MatchOption}
 use Rattle.rsb_integer.specs.Runs.{members}
 use Rattle.range_set_blaze.specs.Joining.{IsInside, IsOver, NoneInside}

@@ -5,7 +5,7 @@ use Rattle.range_set_blaze.specs.Kept.{run_of}
 use Rattle.range_set_blaze.proofs.insertion.TakingIn.{inside-counted, inside-some, over-ascending, over-within, over-without, without-members}
 use Rattle.range_set_blaze.proofs.set.take_in.take_inside.Goals as goal
 
--- the run has a member, and all of its own are counted
+-- The run is non-empty, and all of its members are counted.
 pub take_off_length-requires-clause-some : goal.take_off_length-requires-clause-some
 take_off_length-requires-clause-some g c =
     inside-some _ _ _ _ c.requires.over (run_of g.T.Integer.rank c.args.taken) c.requires.inside
@@ -17,7 +17,7 @@ pub take_off_length-requires-clause-counted : goal.take_off_length-requires-clau
 take_off_length-requires-clause-counted g c =
     inside-counted _ _ _ _ c.requires.over (run_of g.T.Integer.rank c.args.taken) c.requires.inside
 
--- it goes out
+-- The starts of the runs ascend.
 pub take_entry-requires-clause-ascending : goal.take_entry-requires-clause-ascending
 take_entry-requires-clause-ascending g c = over-ascending _ _ _ _ c.requires.over
 

@@ -5,8 +5,8 @@ use Rattle.range_set_blaze.proofs.set.text.write_runs.Given as goal
 use denote.Shadow.{shadow}
 use denote.Text.{Utf8}
 
--- what was written leads, with the entries that are left, to the text of all; what comes before an
--- entry is text
+-- What was written, followed by the texts of the entries that are left, is the text of all. The
+-- separator before an entry is UTF-8.
 abbrev pub invariant-loop-run : goal.invariant-loop-run
 invariant-loop-run g l = shadow (Utf8 l.separator) × WritesOn g.W.Write.write_str_gives
     (λ entry. ends_text (g.T.Debug.debug_output entry.0) (g.T.Debug.debug_output entry.1))

@@ -3,7 +3,7 @@ use Rattle.std.specs.Ordering.{is_le}
 use Rattle.range_set_blaze.proofs.windows.Ranges.{filter-neither, order-forward}
 use Rattle.range_set_blaze.proofs.set.windows.no_entries.Goals as goal
 
--- a value is not past itself
+-- A value is not past itself.
 pub range-requires : goal.range-requires
 range-requires g c =
     let laws = g.met.T.Integer in
@@ -13,7 +13,7 @@ range-requires g c =
     order-forward g.T.Ord.cmp rank g.T.Integer.value_count laws.in_order c.known-start.result
     c.known-start.result value value (omega arith)
 
--- no entry is from it on and before it
+-- No entry starts both at or past a value and before it.
 pub returns : goal.returns
 returns g c =
     c.range.ensures.between tt

@@ -2,7 +2,7 @@ use Rattle.std.proofs.Common.{refl}
 use Rattle.range_set_blaze.specs.Kept.{run_of}
 use Rattle.range_set_blaze.proofs.set.windows.reaching_in.Goals as goal
 
--- a run that goes on to the value reaches in
+-- A run that starts before the value and contains it reaches into the window.
 pub returns : goal.returns
 returns g c =
     let over = c.in_ok-run.ensures in

@@ -2,7 +2,7 @@ use Rattle.range_set_blaze.specs.Kept.{runs_of}
 use Rattle.range_set_blaze.proofs.windows.Kept.{held-canonical, held-members}
 use Rattle.range_set_blaze.proofs.set.windows.runs_between.Goals as goal
 
--- what reaches in and what starts there are the window
+-- The part that reaches in and the runs that start in the window have the members of the window.
 pub returns : goal.returns
 returns g c =
     let rank = g.T.Integer.rank in

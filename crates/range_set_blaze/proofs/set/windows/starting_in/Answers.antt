@@ -6,7 +6,7 @@ use Rattle.range_set_blaze.proofs.runs.Starts.{canonical-rises}
 use Rattle.range_set_blaze.proofs.windows.Ranges.{order-forward, runs-within}
 use Rattle.range_set_blaze.proofs.set.windows.starting_in.Goals as goal
 
--- the bounds are in order
+-- The bounds are in order.
 pub range-requires : goal.range-requires
 range-requires g c =
     let laws = g.met.T.Integer in
@@ -15,7 +15,7 @@ range-requires g c =
     c.args.window.start c.args.window.end (omega (arith, c.requires.order, c.requires.value))
     c.requires.value c.requires.order)
 
--- the entries between them are those that start there
+-- The entries between them are those of the runs that start there.
 pub returns : goal.returns
 returns g c =
     let laws = g.met.T.Integer in

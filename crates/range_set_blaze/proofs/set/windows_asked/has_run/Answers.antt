@@ -3,18 +3,18 @@ use Rattle.range_set_blaze.proofs.removal.Meeting.{has-told, none-has}
 use Rattle.range_set_blaze.proofs.runs.Starts.{canonical-rises}
 use Rattle.range_set_blaze.proofs.set.windows_asked.has_run.Goals as goal
 
--- the starts ascend
+-- The starts of the runs ascend.
 pub run_up_to-requires-clause-ascending : goal.run_up_to-requires-clause-ascending
 run_up_to-requires-clause-ascending g c =
     canonical-rises _ _ _ c.requires.canonical.0 c.requires.canonical.1
 
--- the last run up to the start has all, or not
+-- The set has all of the range exactly if the last run that starts at or before its start does.
 pub returns-in-Some : goal.returns-in-Some
 returns-in-Some g c =
     has-told _ _ c.requires.canonical (run_of g.T.Integer.rank c.args.range) c.requires.order _
     c.in-Some.ensures c.is_below.result c.is_below.ensures
 
--- or there is none, and the start is no member
+-- If there is no such run, the start of the range is not a member.
 pub returns-in-None : goal.returns-in-None
 returns-in-None g c = (
   λ is. absurd (cc),

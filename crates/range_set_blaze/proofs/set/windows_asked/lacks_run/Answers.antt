@@ -9,7 +9,7 @@ use Rattle.range_set_blaze.specs.declared.set.run.Run.{Run}
 use Rattle.range_set_blaze.proofs.removal.Meeting.{meeting-some, some-common}
 use Rattle.range_set_blaze.proofs.set.windows_asked.lacks_run.Goals as goal
 
--- a run that meets the range has a value of it
+-- A test that is true if no run meets the range is true exactly if none of its ranks is a member.
 none-told : {T : Type 0} (rank : T → ℕ) (n : ℕ) (runs : List Interval) → IsCanonicalIn n runs
     → (range : Interval) → range.first ≤ range.last → (found : Option (Run T)) (result : Bool)
     → is_some found ≡ not result

@@ -1,7 +1,7 @@
 use Rattle.range_set_blaze_tests.proofs.set.elements.gives.Goals as goal
 use Rattle.range_set_blaze_tests.proofs.set.elements.gives.Goals.{in-Front, in-Back}
 
--- a call from either end leaves elements that may be asked for from both
+-- A call at either end leaves elements that are ready at both ends.
 pub loop-end-preserved : goal.loop-end-preserved
 loop-end-preserved c = record {
   both_ends = c.loop-end.invariant.both_ends;

@@ -3,6 +3,6 @@ use Rattle.rsb_integer.specs.Rank.{signed_rank}
 use Rattle.range_set_blaze.specs.BothEnds.{ListedReadyBack}
 use Rattle.range_set_blaze_tests.proofs.set.elements.gives.Given as goal
 
--- the elements that are left may be asked for from both ends
+-- The elements that are left are ready at both ends.
 abbrev pub invariant-loop-end : goal.invariant-loop-end
 invariant-loop-end l = ListedReadyBack (signed_rank w32) 4294967296 l.elements

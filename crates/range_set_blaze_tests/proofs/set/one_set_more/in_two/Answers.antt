@@ -5,21 +5,21 @@ use Rattle.rsb_integer.specs.Selection.{how_many}
 use Rattle.range_set_blaze.proofs.HowManyLemmas.{at_least-next}
 use Rattle.range_set_blaze_tests.proofs.set.one_set_more.in_two.Goals as goal
 
--- at least none have it
+-- Every number is at least 0.
 none-wanted : (many : ℕ) → nat_le 0 many ≡ true
 none-wanted many = grind (arith, nat_tests)
 
--- what some have, with one set more
+-- With one more set, `once` has the members of at least 1 of the sets.
 once-more : (new old item so_far none all same : Bool) → new ≡ (old || item) → old ≡ so_far
     → all ≡ (so_far || (none && same)) → none ≡ true → item ≡ same → new ≡ all
 once-more new old item so_far none all same adds is next wanted one = cc
 
--- what two have, with one set more
+-- With one more set, `twice` has the members of at least 2 of the sets.
 twice-more : (new old before item so_far some all same : Bool) → new ≡ (old || (before && item))
     → old ≡ so_far → before ≡ some → all ≡ (so_far || (some && same)) → item ≡ same → new ≡ all
 twice-more new old before item so_far some all same adds is first next one = cc
 
--- with one set more
+-- Both still hold with one more set.
 pub loop-set-preserved : goal.loop-set-preserved
 loop-set-preserved c = (
   λ rank. once-more _ _ _ _ _ _ _ (c.in_ok-take_up.ensures.once rank) (c.loop-set.invariant.0 rank)

@@ -4,12 +4,12 @@ use Rattle.std.specs.Ordering.{is_eq}
 use Rattle.range_set_blaze.specs.OrderLaws.{sets_ties}
 use Rattle.range_set_blaze_tests.proofs.set.order.is_equal_both_ways.Goals as goal
 
--- an answer is equal to itself
+-- Every flag is equal to itself.
 itself : (answer : Bool) → beq answer answer ≡ true
 itself true = refl
 itself false = refl
 
--- `==` is what `cmp` tells
+-- `==` returns true if and only if `cmp` returns `Equal`.
 pub returns : goal.returns
 returns g c =
     let ties = sets_ties g.T.Integer.value_count c.args.one.now c.args.other.now in

@@ -3,6 +3,6 @@ use Rattle.rsb_integer.specs.Rank.{signed_rank}
 use Rattle.range_set_blaze.specs.BothEnds.{IsListReady}
 use Rattle.range_set_blaze_tests.proofs.set.ranges.owned_come.Given as goal
 
--- the runs that are left may be asked for from both ends
+-- The runs that are left are ready at both ends.
 abbrev pub invariant-loop-end : goal.invariant-loop-end
 invariant-loop-end l = IsListReady (signed_rank w32) 4294967296 l.ranges

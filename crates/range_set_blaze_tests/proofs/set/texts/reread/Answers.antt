@@ -3,7 +3,7 @@ use Rattle.range_set_blaze.specs.Runs.{IsCanonicalIn}
 use Rattle.range_set_blaze.proofs.texts.Rewritten.{text-is}
 use Rattle.range_set_blaze_tests.proofs.set.texts.reread.Goals as goal
 
--- what was written is the text of the runs
+-- The text that was written is the text of the runs.
 pub returns : goal.returns
 returns g c =
     let n = g.T.Integer.value_count in

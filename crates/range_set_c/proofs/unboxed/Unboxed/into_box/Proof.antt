@@ -1,5 +1,5 @@
--- `into_box` has a pointer and the right to free what lies there, which is what `from_raw` asks
--- for.
+-- `into_box` has a pointer and the right to free the memory there, which is what `from_raw`
+-- requires.
 use mathlib.Core.Path.{◌≡◌, refl, sym, subst, ap}
 use mathlib.Core.List.{List, [], ◌∷◌, ◌++◌}
 use lib.Dec.{T}
@@ -54,7 +54,7 @@ into_box_spec 𝓤 𝓛 𝓜 𝓡 wired X Z LX LZ g d dd allocator drops =
     let w = word E hv b o in let typed = box_typed E hv b o fits in
     let asked : Made.Ghost = ((κs, qs, tt, (a, (block_ptr b o, tt)), (hv ∷ [], (vptr b o ∷ [], tt))), x) in
     suffices ! (Run (w ∷ [])) (subst (λ (us : List Val). ent 𝓤 (Run (w ∷ [])) (Run us)) (sym (λ i. are_words i ++ [])) (id⊢ 𝓤 (Run (w ∷ [])))) $
-    -- [the box's memory; the allocator; true; the tokens; what is alive]
+    -- The context is: the box's memory; the allocator; true; the tokens; what is alive.
     enter ! 𝓣.C 𝓣.Λ fn (w ∷ []) Post $ alloc_all ! (λ l. pass_all ! refl (typed, tt) $
     sets ! (of_opd ! (get_in ! (fld ! refl (stop !)) (sub ! 0 refl (whole !)))) refl (tt, tt) $
     sets ! (of_opd ! (get_in ! (fld ! refl (stop !)) (sub ! 1 refl (whole !)))) refl fits $

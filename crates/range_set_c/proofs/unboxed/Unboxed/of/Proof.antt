@@ -1,4 +1,4 @@
--- `of` asks `into_raw_with_allocator` for what the box owns, and the parts own that.
+-- `of` gets what the box owns from `into_raw_with_allocator`, and the parts own it from then on.
 use mathlib.Core.Path.{◌≡◌, refl, sym, subst, ap, ◌∙◌}
 use mathlib.Core.List.{List, [], ◌∷◌, ◌++◌}
 use mir.Syntax.{Args, a_type, dcons, dnil}
@@ -58,7 +58,7 @@ of_spec 𝓤 𝓛 𝓜 𝓡 wired X Z LX LZ g d dd dx allocator drops glue =
     let w = word E hv b o in let typed = box_typed E hv b o fits in
     let asked : Parted.Ghost = ((κs, qs, tt, (boxed, tt), (w ∷ [], tt)), tt) in
     suffices ! (Run (w ∷ [])) (subst (λ (us : List Val). ent 𝓤 (Run (w ∷ [])) (Run us)) (sym (λ i. are_words i ++ [])) (id⊢ 𝓤 (Run (w ∷ [])))) $
-    -- [the box; true; the tokens; what is alive]
+    -- The context is: the box; true; the tokens; what is alive.
     enter ! 𝓣.C 𝓣.Λ fn (w ∷ []) Post $ alloc_all ! (λ l. pass_all ! refl (typed, tt) $ sets ! (of_opd ! (get ! refl)) refl typed $
     fjoin ! $ move ! (1 ∷ 0 ∷ []) $ join ! $ join ! $ use1 𝓛 (raw (Parted.pre asked)) (id⊢ 𝓤 _) $
     calls_at ! (framed 𝓤 H 𝓜 𝓣) Parted known asked (and_then ! (get ! refl) (no_more !)) (λ u.
@@ -73,7 +73,7 @@ of_spec 𝓤 𝓛 𝓜 𝓡 wired X Z LX LZ g d dd dx allocator drops glue =
     sets ! (of_opd ! (get_in ! (fld ! refl (stop !)) (sub ! 0 refl (whole !)))) refl (tt, tt) $
     sets ! (of_opd ! (get_in ! (fld ! refl (stop !)) (sub ! 1 refl (whole !)))) refl fits' $ sets ! (of_opd ! (get ! refl)) refl fits' $
     sets ! (agg ! (and_then ! (get ! refl) (and_then ! (get ! refl) (no_more !)))) refl typed' $ returns ! (look_at ! 0 refl) $ free_all ! refl $
-    -- [the allocator; true; the tokens; the box's memory]
+    -- The context is: the allocator; true; the tokens; the box's memory.
     move ! (3 ∷ []) $ fsplit ! $ box_in E ! again b' o' x refl refl $ use1 𝓛 (‵ ((Row E).own_val (parts_of E again) (w' ∷ []))) (id⊢ 𝓤 _) $ move ! (1 ∷ []) $ drop ! $
     suffices ! _ (ends_at 𝓛 ended stayed c z w' (parts_of E again) ((tt, (tt, tt)), tt) (tt, tt)) $ says ! refl $
     nothing ! $ nothing ! $ fjoin ! $ join ! $ move ! (1 ∷ 0 ∷ []) $ join ! $ done !))))))))))))

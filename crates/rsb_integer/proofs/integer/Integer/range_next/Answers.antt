@@ -6,7 +6,7 @@ use Rattle.rsb_integer.proofs.RangeLemmas.{interval_of-ends}
 use Rattle.rsb_integer.proofs.integer.Integer.range_next.Goals as goal
 use Rattle.rsb_integer.proofs.integer.Integer.range_next.Goals.{then-lt, else-lt}
 
--- one rank less from the front, or none where there was one
+-- The rest is the range without its first rank, or is empty if there was only one.
 pub returns-clause-rest : goal.returns-clause-rest
 returns-clause-rest g c =
     let rank = g.Self.Integer.rank in

@@ -6,7 +6,7 @@ use Rattle.rsb_integer.proofs.RangeLemmas.{interval_of-ends}
 use Rattle.rsb_integer.proofs.integer.Integer.range_next_back.Goals as goal
 use Rattle.rsb_integer.proofs.integer.Integer.range_next_back.Goals.{then-lt, else-lt}
 
--- the end lies past the start, so one rank lower is a value
+-- The end lies past the start, so there is a value one rank lower.
 pub sub_one-requires : goal.sub_one-requires
 sub_one-requires g c =
     let order = g.met.Self.Integer.in_order c.start.result.now c.end.result.now
@@ -14,7 +14,7 @@ sub_one-requires g c =
     let matches = g.met.Self.Ord.matches_partial_cmp c.start.result.now c.end.result.now in
     grind (arith, nat_tests, order, matches, c.lt.ensures, c.if-lt.true)
 
--- one rank less from the back, or none where there was one
+-- The rest is the range without its last rank, or is empty if there was only one.
 pub returns-clause-rest : goal.returns-clause-rest
 returns-clause-rest g c =
     let rank = g.Self.Integer.rank in

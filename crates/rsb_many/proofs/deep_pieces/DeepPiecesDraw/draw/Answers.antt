@@ -2,7 +2,7 @@ use Rattle.std.proofs.Common.{refl, sym, Some, None}
 use Rattle.rsb_many.proofs.pieces.Deep.{deep-can, deep-ends, deep-event_in, deep-goes, deep-known, deep-last, deep-more, deep-nothing, deep-told}
 use Rattle.rsb_many.proofs.deep_pieces.DeepPiecesDraw.draw.Goals as goal
 
--- all was told
+-- The stream is done, so nothing is left.
 pub returns-then-self-clause-steps : goal.returns-then-self-clause-steps
 returns-then-self-clause-steps g c = deep-told g.T.Integer g.I.Draw c.args.self.now c.if-self.true
 
@@ -10,19 +10,19 @@ pub loop-event-init : goal.loop-event-init
 loop-event-init g c =
     deep-nothing g.T.Integer g.I.Draw c.args.self.now c.if-self.false c.requires
 
--- the event can be counted
+-- The event can be counted.
 pub pass-requires-clause-depth : goal.pass-requires-clause-depth
 pass-requires-clause-depth g c = deep-can g.T.Integer g.I.Draw c.args.self.now c.loop-event.self
     c.loop-event.invariant c.next.new.self c.in-Some.event c.in-Some.ensures.steps
     c.in-Some.ensures.goes
 
--- and lies in the type
+-- It lies in the type.
 pub pass-requires-clause-event : goal.pass-requires-clause-event
 pass-requires-clause-event g c = deep-event_in g.T.Integer g.I.Draw c.args.self.now
     c.loop-event.self c.loop-event.invariant c.next.new.self c.in-Some.event
     c.in-Some.ensures.steps c.in-Some.ensures.goes
 
--- a piece ends there
+-- A piece ends at the event.
 pub returns-in-Some-pass-clause-steps : goal.returns-in-Some-pass-clause-steps
 returns-in-Some-pass-clause-steps g c = deep-known g.T.Integer g.I.Draw c.args.self.now
     c.loop-event.self c.loop-event.invariant c.next.new.self c.in-Some.event
@@ -35,20 +35,20 @@ returns-in-Some-pass-clause-goes g c = deep-goes g.T.Integer g.I.Draw c.args.sel
     c.in-Some.ensures.steps c.in-Some.ensures.goes (Some c.in-Some-pass.piece) c.pass.new.depth
     c.pass.new.start c.in-Some-pass.ensures c.in-Some-pass.piece refl c.if-self.false
 
--- no piece ends there
+-- No piece ends at the event.
 pub loop-event-preserved : goal.loop-event-preserved
 loop-event-preserved g c = deep-more g.T.Integer g.I.Draw c.args.self.now c.loop-event.self
     c.loop-event.invariant c.next.new.self c.in-Some.event c.in-Some.ensures.steps
     c.in-Some.ensures.goes None c.pass.new.depth c.pass.new.start c.in_default-pass.ensures refl
 
--- the sweep has ended, and no piece has begun
+-- The sweep has ended, and no piece has begun.
 pub returns-in_err-start-clause-steps : goal.returns-in_err-start-clause-steps
 returns-in_err-start-clause-steps g c = rw c.from_residual.ensures
     (deep-ends g.T.Integer g.I.Draw c.args.self.now c.loop-event.self c.loop-event.invariant
     c.next.new.self c.in_default.ensures.steps c.if-self.false c.take.new.self
     (sym c.in_err-start.ensures.value))
 
--- one has begun, which goes on to the greatest value
+-- A piece has begun, and it extends to the greatest value.
 pub returns-clause-steps : goal.returns-clause-steps
 returns-clause-steps g c = deep-last g.T.Integer g.I.Draw c.args.self.now c.loop-event.self
     c.loop-event.invariant c.next.new.self c.in_default.ensures.steps c.if-self.false

@@ -2,7 +2,7 @@ use Rattle.std.proofs.Common.{◌-◌, length}
 use Rattle.rsb_many.specs.Drawn.{IsBegunTo}
 use Rattle.rsb_many.proofs.drawn.Drawn.begin.Given as goal
 
--- of the streams before `place` the first range is drawn
+-- The first range is drawn from each stream before `place`.
 abbrev pub invariant-loop-place : goal.invariant-loop-place
 invariant-loop-place g l =
     IsBegunTo g.T.Integer g.I.Draw l.fn.self.streams.items l.place l.self

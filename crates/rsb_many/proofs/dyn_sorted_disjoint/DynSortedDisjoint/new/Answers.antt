@@ -4,7 +4,7 @@ use Rattle.std.specs.Prelude.{Some}
 use Rattle.rsb_integer.specs.Rank.{interval_of, intervals_of}
 use Rattle.rsb_many.proofs.dyn_sorted_disjoint.DynSortedDisjoint.new.Goals as goal
 
--- what was taken with one more is what might come before
+-- What was collected, with one more range, followed by what may still come, might come at first.
 pub loop-range-preserved : goal.loop-range-preserved
 loop-range-preserved g c =
     let rank = g.T.Integer.rank in

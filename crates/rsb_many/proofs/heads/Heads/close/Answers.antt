@@ -6,7 +6,7 @@ use Rattle.rsb_many.proofs.heap.Heads.{agreed-heap, closed-kept}
 use Rattle.rsb_many.proofs.heads.Heads.close.Given.{Over}
 use Rattle.rsb_many.proofs.heads.Heads.close.Goals as goal
 
--- the heads behind the first have values
+-- The heads behind the first have values.
 pub sift_down-requires-clause-values : goal.sift_down-requires-clause-values
 sift_down-requires-clause-values g c =
     let Fact = HasValues g.T.Integer.rank g.T.Integer.value_count in
@@ -16,7 +16,7 @@ sift_down-requires-clause-values g c =
     (closed-kept g.T.Integer.rank old less less c.swap_remove.result c.swap_remove.ensures.items
     (IsPermutation-refl less)) (All-drop Fact 1 old c.self.invariant.values)
 
--- the last head stands first, and the others where they did
+-- The last head is now the first, and the others are where they were.
 pub sift_down-requires-clause-order : goal.sift_down-requires-clause-order
 sift_down-requires-clause-order g c =
     let old = c.self.inside.list.heads.items in
@@ -28,14 +28,14 @@ sift_down-requires-clause-order g c =
     (λ place other some within. c.swap_remove.ensures.by_index.1 place other some
     (omega (arith, within, short, c.self.inside.list.heads.ok.0)))
 
--- the heads behind the first are moved about
+-- The heads behind the first are kept, in another order.
 moved : (g : Over) (c : goal.After-sift_down g)
     → IsPermutation (drop 1 c.self.inside.list.heads.items) c.sift_down.new.self.heads.items
 moved g c = closed-kept g.T.Integer.rank c.self.inside.list.heads.items c.swap_remove.new.self.items
     c.sift_down.new.self.heads.items c.swap_remove.result c.swap_remove.ensures.items
     c.sift_down.ensures.kept
 
--- they have values, and the sift puts them in order
+-- They have values, and the sift puts them in order.
 pub invariant_of-self : goal.invariant_of-self
 invariant_of-self g c =
     let Fact = HasValues g.T.Integer.rank g.T.Integer.value_count in
@@ -47,14 +47,14 @@ invariant_of-self g c =
       some = λ yes. absurd (cc);
     }
 
--- they are those that stood there
+-- They are the heads that counted before.
 pub returns-then-self-clause-kept : goal.returns-then-self-clause-kept
 returns-then-self-clause-kept g c =
     subst (λ before. IsPermutation before.heads c.sift_down.new.self.heads.items) c.self.view_is
     (subst (λ is_open. IsPermutation (standing is_open c.self.inside.list.heads.items)
     c.sift_down.new.self.heads.items) (sym c.if-self.true) (moved g c))
 
--- as many are compared
+-- The only comparisons are those of the sift.
 pub returns-then-self-clause-compared : goal.returns-then-self-clause-compared
 returns-then-self-clause-compared g c =
     let old = c.self.inside.list.heads.items in

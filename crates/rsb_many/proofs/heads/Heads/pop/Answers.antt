@@ -9,7 +9,7 @@ use Rattle.rsb_many.proofs.heap.Heads.{fact-at, first-drop, first-least_of}
 use Rattle.rsb_many.proofs.heads.Heads.pop.Given.{Over}
 use Rattle.rsb_many.proofs.heads.Heads.pop.Goals as goal
 
--- no head was there
+-- There is no head.
 pub returns-then-is_empty-clause-taken : goal.returns-then-is_empty-clause-taken
 returns-then-is_empty-clause-taken g c =
     let items = c.self.inside.list.heads.items in
@@ -24,20 +24,20 @@ returns-then-is_empty-clause-taken g c =
     let same = ap (λ heads. length heads) now in
     (nil_from_length c.args.self.now.heads (omega (arith, long, same)), now)
 
--- a head is there
+-- There is a head.
 some-there : (g : Over) (c : goal.After-result-1 g) → 0 < length c.self.inside.list.heads.items
 some-there g c =
     let none = eqb-false (vec_len c.self.inside.list.heads) 0
     (sym c.is_empty.ensures ∙ c.if-is_empty.false) in
     omega (arith, none, c.self.inside.list.heads.ok.0)
 
--- it stands before the others
+-- It comes before the others in the list.
 first-there : (g : Over) (c : goal.After-result-1 g)
     → c.self.inside.list.heads.items ≡ c.index.result.now ∷ drop 1 c.self.inside.list.heads.items
 first-there g c = first-drop g.T.Integer.rank c.self.inside.list.heads.items c.index.result.now
     (some-there g c) c.index.ensures
 
--- it stays where it is
+-- The list is unchanged, and it is not empty.
 pub invariant_of-self : goal.invariant_of-self
 invariant_of-self g c = record {
   values = c.self.invariant.values;
@@ -45,7 +45,7 @@ invariant_of-self g c = record {
   some = λ yes. some-there g c;
 }
 
--- the first head of a heap came out
+-- The head that comes out is the first of a heap.
 pub returns-clause-taken : goal.returns-clause-taken
 returns-clause-taken g c =
     let rank = g.T.Integer.rank in
@@ -63,7 +63,7 @@ returns-clause-taken g c =
           (subst (IsPermutation items) (first-there g c) (IsPermutation-refl items));
     }
 
--- it has values
+-- It has values.
 pub returns-clause-values : goal.returns-clause-values
 returns-clause-values g c =
     let items = c.self.inside.list.heads.items in
@@ -71,7 +71,7 @@ returns-clause-values g c =
     c.self.invariant.values (IsPermutation-refl items) 0 c.index.result.now (some-there g c)
     c.index.ensures
 
--- nothing was compared but to close the place
+-- The only comparisons are those that close the place.
 pub returns-clause-compared : goal.returns-clause-compared
 returns-clause-compared g c =
     subst (λ kept. kept.comparisons ≤ c.args.self.now.comparisons + closing c.args.self.now)

@@ -26,7 +26,7 @@ sift_down-requires-clause-order g c =
     filled-heap g.T.Integer.rank old (set old 0 c.args.head) c.args.head refl
     c.self.invariant.order
 
--- the new head and those behind it are moved about
+-- The new head and those behind the first are kept, in another order.
 filled : (g : Over) (c : goal.After-sift_down g)
     → IsPermutation (c.args.head ∷ drop 1 c.self.inside.list.heads.items) c.sift_down.new.self.heads.items
 filled g c =
@@ -61,9 +61,9 @@ returns-then-self-clause-compared g c =
     ≤ before.comparisons + 2 * binary_digits (length new.heads.items)) c.self.view_is
     c.sift_down.ensures.compared
 
--- ---- it is not
+-- ---- the place at the top is not open
 
--- the head and all others are moved about
+-- The new head and all others are kept, in another order.
 added : (g : Over) (c : goal.After-sift_up g)
     → IsPermutation (c.args.head ∷ c.self.inside.list.heads.items) c.sift_up.new.self.heads.items
 added g c = pushed-kept g.T.Integer.rank c.self.inside.list.heads.items c.push_reserved.new.self.items
@@ -79,7 +79,7 @@ sift_up-requires-clause-values g c =
     (IsPermutation-refl more)) (All-cons Fact c.args.head old c.requires.values
     c.self.invariant.values)
 
--- the head stands last, and the others where they did
+-- The new head is last, and the others are where they were.
 pub sift_up-requires-clause-order : goal.sift_up-requires-clause-order
 sift_up-requires-clause-order g c =
     subst (IsHeapButLast g.T.Integer.rank) (sym c.push_reserved.ensures.items)

@@ -4,7 +4,7 @@ use Rattle.rsb_many.proofs.inputs.HandedIn.{collected-each, collected-run}
 use Rattle.rsb_many.specs.KMerge.{MakesKMerge}
 use Rattle.rsb_many.proofs.kmerge.KMerge.new.Goals as goal
 
--- what holds of all that is handed in holds of the list
+-- A fact about all streams that were passed holds of the streams of the list.
 pub over-requires : goal.over-requires
 over-requires g c =
     let ran = c.in_ok-streams.ensures.ran in
@@ -12,7 +12,7 @@ over-requires g c =
     (collected-each g.K.IntoIterator.into_iter_gives g.K.IntoIter.Iterator.next_gives c.args.inputs
     ran.0 ran.1 ran.2 ran.3 (All g.I.Draw.can_draw) c.requires.can)
 
--- the merge is of what was handed in
+-- The merge is of the streams that were passed.
 pub returns : goal.returns
 returns g c =
     let ran = c.in_ok-streams.ensures.ran in

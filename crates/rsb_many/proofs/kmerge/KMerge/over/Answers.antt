@@ -1,7 +1,7 @@
 use Rattle.rsb_many.proofs.merging.OneAnswer.{begun-made}
 use Rattle.rsb_many.proofs.kmerge.KMerge.over.Goals as goal
 
--- of each stream the first range is drawn
+-- The first range is drawn from each stream.
 pub returns-clause-made : goal.returns-clause-made
 returns-clause-made g c = begun-made g.T.Integer g.I.Draw c.args.streams.items
     (record { inputs = c.in_ok-over.field-0 }) c.in_ok-over.ensures

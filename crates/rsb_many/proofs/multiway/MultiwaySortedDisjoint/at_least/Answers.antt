@@ -3,13 +3,13 @@ use Rattle.rsb_many.specs.MultiwayAtLeast.{multiway_at_least, GivesRunsOfAllAtMo
 use Rattle.rsb_many.specs.MultiwaySweep.{SweepsOver}
 use Rattle.rsb_many.proofs.multiway.MultiwaySortedDisjoint.at_least.Goals as goal
 
--- the sweep is over the streams that were handed in
+-- The sweep is over the streams that were passed.
 pub of-requires : goal.of-requires
 of-requires g c =
     let gave = c.in_ok-sweep.ensures.made in
     (gave.2.0.items, gave.2.3)
 
--- what it gives lies in at least so many of these
+-- What it gives lies in at least `k` of these.
 pub returns-clause-made : goal.returns-clause-made
 returns-clause-made g c = gave-each g.Self.IntoIterator.into_iter_gives
     g.Self.IntoIter.Iterator.next_gives c.args.self
@@ -18,7 +18,7 @@ returns-clause-made g c = gave-each g.Self.IntoIterator.into_iter_gives
     (multiway_at_least g.T.Integer g.I.Draw) streams c.of.result)
     c.of.ensures.made c.in_ok-sweep.ensures.made
 
--- in at most as many runs as they give together
+-- It gives at most as many runs as they give together.
 pub returns-clause-run_count : goal.returns-clause-run_count
 returns-clause-run_count g c positive = gave-each g.Self.IntoIterator.into_iter_gives
     g.Self.IntoIter.Iterator.next_gives c.args.self

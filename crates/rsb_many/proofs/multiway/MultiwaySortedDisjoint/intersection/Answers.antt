@@ -3,7 +3,7 @@ use Rattle.rsb_many.specs.MultiwayIntersection.{multiway_intersection}
 use Rattle.rsb_many.specs.MultiwayResults.{AreComplements, MakesMultiwayIntersection}
 use Rattle.rsb_many.proofs.multiway.MultiwaySortedDisjoint.intersection.Goals as goal
 
--- the intersection is of the streams whose complements were merged
+-- The intersection is of the streams whose complements were merged.
 pub returns-clause-made : goal.returns-clause-made
 returns-clause-made g c = gave-each g.Self.IntoIterator.into_iter_gives
     g.Self.IntoIter.Iterator.next_gives c.args.self

@@ -4,13 +4,13 @@ use Rattle.rsb_many.specs.MultiwaySweep.{SweepsOver}
 use Rattle.rsb_many.specs.MultiwaySymmetricDifference.{multiway_symmetric_difference}
 use Rattle.rsb_many.proofs.multiway.MultiwaySortedDisjoint.symmetric_difference.Goals as goal
 
--- the sweep is over the streams that were handed in
+-- The sweep is over the streams that were passed.
 pub of-requires : goal.of-requires
 of-requires g c =
     let gave = c.in_ok-sweep.ensures.made in
     (gave.2.0.items, gave.2.3)
 
--- what it gives lies in an odd number of these
+-- What it gives lies in an odd number of these.
 pub returns-clause-made : goal.returns-clause-made
 returns-clause-made g c = gave-each g.Self.IntoIterator.into_iter_gives
     g.Self.IntoIter.Iterator.next_gives c.args.self

@@ -4,7 +4,7 @@ use Rattle.rsb_many.specs.MultiwayResults.{MakesMultiwayUnion}
 use Rattle.rsb_many.specs.MultiwayUnion.{multiway_union}
 use Rattle.rsb_many.proofs.multiway.MultiwaySortedDisjoint.union.Goals as goal
 
--- the union is of the streams of the merge
+-- The union is of the streams of the merge.
 pub returns-clause-made : goal.returns-clause-made
 returns-clause-made g c = gave-each g.Self.IntoIterator.into_iter_gives
     g.Self.IntoIter.Iterator.next_gives c.args.self

@@ -5,8 +5,8 @@ use Rattle.rsb_many.proofs.events.OneEvent.{canonical-touching}
 use Rattle.rsb_many.specs.MultiwaySweep.{SweepsOver}
 use Rattle.rsb_many.proofs.multiway_sweep.MultiwaySweep.new.Goals as goal
 
--- what holds of all that is handed in holds of the list, whose ranges may touch, since they
--- are canonical
+-- A fact about all streams that were passed holds of the streams of the list. Their lists are
+-- touching, because they are canonical.
 pub over-requires : goal.over-requires
 over-requires g c =
     let ran = c.in_ok-streams.ensures.ran in
@@ -19,7 +19,7 @@ over-requires g c =
           c.in_ok-streams.streams.items g.met.I.DrawDisjoint.canonical can;
     }
 
--- the sweep is over what was handed in
+-- The sweep is over the streams that were passed.
 pub returns : goal.returns
 returns g c =
     let ran = c.in_ok-streams.ensures.ran in

@@ -9,7 +9,7 @@ laws g = record {
   sorted = g.met.I.Draw.sorted;
 }
 
--- the ranges of each stream may touch
+-- The list of each stream is touching.
 pub returns : goal.returns
 returns g c = sweeps-over g.T.Integer g.I.Draw (laws g) c.args.streams.items
     (record { inputs = c.in_ok-over.field-0 }) c.in_ok-over.ensures c.requires.touching

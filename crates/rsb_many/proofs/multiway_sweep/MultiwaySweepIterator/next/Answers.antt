@@ -12,7 +12,7 @@ laws g = record {
   sorted = g.met.I.Draw.sorted;
 }
 
--- no head was there
+-- There is no head.
 pub returns-in_err-head-clause-steps : goal.returns-in_err-head-clause-steps
 returns-in_err-head-clause-steps g c =
     subst (λ item. Sweeps g.T.Integer g.I.Draw c.args.self.now item
@@ -21,7 +21,7 @@ returns-in_err-head-clause-steps g c =
     (record { inputs = c.take.new.self }) c.refill.new.self c.requires c.refill.ensures
     c.in_err-head.ensures.taken c.in_err-head.ensures.compared c.in_err-head.ensures.counted)
 
--- its range ends
+-- The range of the head ends.
 pub returns-then-is_started-clause-steps : goal.returns-then-is_started-clause-steps
 returns-then-is_started-clause-steps g c =
     rw (c.end.ensures, c.input.ensures)
@@ -37,7 +37,7 @@ returns-then-is_started-clause-goes g c =
     (record { inputs = c.take.new.self }) c.refill.new.self c.requires c.refill.ensures
     c.in_ok-head.head c.in_ok-head.ensures.taken (sym c.is_started.ensures ∙ c.if-is_started.true))
 
--- there is room for the head that left
+-- There is room for the head that was taken out.
 pub put_back-requires-clause-room : goal.put_back-requires-clause-room
 put_back-requires-clause-room g c =
     let ready = c.refill.ensures.ready in
@@ -45,7 +45,7 @@ put_back-requires-clause-room g c =
     c.take.new.self c.in_ok-head.head c.in_ok-head.ensures.taken in
     omega (arith, fewer, ready.room.few, ready.room.room, c.in_ok-head.ensures.taken.room)
 
--- its range starts
+-- The range of the head starts.
 pub returns-clause-steps : goal.returns-clause-steps
 returns-clause-steps g c =
     rw c.input-2.ensures

@@ -5,13 +5,13 @@ use Rattle.rsb_many.proofs.sweep_pieces.SweepPiecesDraw.draw.Goals as goal
 pub loop-event-init : goal.loop-event-init
 loop-event-init g c = so_far-nothing g.T.Integer g.I.Draw c.args.self.now c.requires
 
--- the event lies in the type
+-- The event lies in the type.
 pub pass-requires-clause-event : goal.pass-requires-clause-event
 pass-requires-clause-event g c = event-in g.T.Integer g.I.Draw c.args.self.now c.loop-event.self
     c.loop-event.invariant c.next.new.self c.in-Some.event c.in-Some.ensures.steps
     c.in-Some.ensures.goes
 
--- a piece ends there
+-- A piece ends at the event.
 pub returns-in-Some-pass-clause-steps : goal.returns-in-Some-pass-clause-steps
 returns-in-Some-pass-clause-steps g c = piece-known g.T.Integer g.I.Draw c.args.self.now
     c.loop-event.self c.loop-event.invariant c.next.new.self c.in-Some.event
@@ -24,13 +24,13 @@ returns-in-Some-pass-clause-goes g c = piece-goes g.T.Integer g.I.Draw c.args.se
     c.in-Some.ensures.steps c.in-Some.ensures.goes (Some c.in-Some-pass.piece) c.pass.new.start
     c.in-Some-pass.ensures c.in-Some-pass.piece refl
 
--- no piece ends there
+-- No piece ends at the event.
 pub loop-event-preserved : goal.loop-event-preserved
 loop-event-preserved g c = so_far-more g.T.Integer g.I.Draw c.args.self.now c.loop-event.self
     c.loop-event.invariant c.next.new.self c.in-Some.event c.in-Some.ensures.steps
     c.in-Some.ensures.goes None c.pass.new.start c.in_default-pass.ensures refl
 
--- the sweep has ended
+-- The sweep has ended.
 pub returns-clause-steps : goal.returns-clause-steps
 returns-clause-steps g c = end-known g.T.Integer g.I.Draw c.args.self.now c.loop-event.self
     c.loop-event.invariant c.next.new.self c.in_default.ensures.steps

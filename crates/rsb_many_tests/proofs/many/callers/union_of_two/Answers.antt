@@ -5,7 +5,7 @@ use Rattle.rsb_integer.specs.Selection.{any_of}
 use Rattle.rsb_many.proofs.calling.Taken.{made-known, more-known, none-known}
 use Rattle.rsb_many_tests.proofs.many.callers.union_of_two.Goals as goal
 
--- the union of two known lists
+-- The result is the union of two known lists.
 pub returns-clause-gives : goal.returns-clause-gives
 returns-clause-gives g c = λ these those left right.
     let first = more-known _ (Ok c.new.result) c.with_one_more-first.result _ [] these

@@ -7,7 +7,7 @@ use Rattle.rsb_many.specs.MultiwayUnion.{multiway_union}
 use Rattle.rsb_many.proofs.inputs.GivenList.{given-list}
 use Rattle.rsb_many_tests.proofs.many.nested.none_of.Goals as goal
 
--- the complement of what the union may give
+-- The result is the complement of what the union may give.
 pub returns-clause-gives : goal.returns-clause-gives
 returns-clause-gives g c =
     let n = g.T.Integer.value_count in

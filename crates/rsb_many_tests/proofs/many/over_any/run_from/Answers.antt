@@ -3,7 +3,7 @@ use Rattle.rsb_integer.specs.Rank.{intervals_of}
 use Rattle.range_set_blaze.proofs.elements.GivenRuns.{given-run}
 use Rattle.rsb_many_tests.proofs.many.over_any.run_from.Goals as goal
 
--- each range that the loop meets is a run of the set
+-- Each range that the loop meets is a run of the set.
 pub returns-then-eq : goal.returns-then-eq
 returns-then-eq g c =
     let runs = c.ranges-range-items.ensures in

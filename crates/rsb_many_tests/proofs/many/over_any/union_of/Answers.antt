@@ -4,7 +4,7 @@ use Rattle.rsb_many.specs.MultiwayUnion.{multiway_union}
 use Rattle.rsb_many.proofs.calling.StreamLists.{given-streams}
 use Rattle.rsb_many_tests.proofs.many.over_any.union_of.Goals as goal
 
--- the union was made of the streams of the list
+-- The union is built from the streams of the list.
 pub returns-clause-gives : goal.returns-clause-gives
 returns-clause-gives g c = IfOk-weaker c.union.result _ _ (λ union made.
     (given-streams g.I.Draw.can_draw c.args.streams (λ streams.

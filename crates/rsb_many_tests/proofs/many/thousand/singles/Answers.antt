@@ -4,13 +4,14 @@ use Rattle.rsb_integer.specs.Rank.{intervals_of}
 use Rattle.rsb_integer.specs.Runs.{IsCanonicalIn}
 use Rattle.rsb_many_tests.proofs.many.thousand.singles.Goals as goal
 
--- what all of a list have, all have after one more that has it
+-- If a fact holds for all items of a list and for one more item, it holds for all after that item
+-- is added.
 all-after : {X : Type 0} (can : X → Type 0) (before after : List X) (item : X)
     → after ≡ before ++ item ∷ [] → All can before → can item → All can after
 all-after can before after item is all one = subst (All can) (sym is)
     (All-push can before item all one)
 
--- one more may be drawn from
+-- One more stream is ready.
 pub loop-start-preserved : goal.loop-start-preserved
 loop-start-preserved g c = all-after
     (λ ranges. IsCanonicalIn g.T.Integer.value_count (intervals_of g.T.Integer.rank ranges))

@@ -3,14 +3,14 @@ use Rattle.rsb_parser.specs.Spelling.{AreCommands, IsFirstBadLine}
 use Rattle.rsb_parser.proofs.reading.Parts.{AreCommands-rest, IsFirstBadLine-bytes, IsFirstBadLine-rest, none_is, taken-bad, taken-lines}
 use Rattle.rsb_parser.proofs.input.Reading.finish.Goals as goal
 
--- a bad line was found before
+-- A bad line was found before.
 pub returns-in-Some-clause-bad_line : goal.returns-in-Some-clause-bad_line
 returns-in-Some-clause-bad_line g c = λ bytes number taken is.
     let same : c.in-Some.number ≡ number = cc is in
     subst (IsFirstBadLine bytes) same (IsFirstBadLine-bytes bytes c.in-Some.number
     (taken-bad bytes c.args.self.bad_line c.in-Some.number _ c.in-Some.is taken))
 
--- the rest has commands
+-- The rest spells commands, which come after the others.
 pub returns-in-Ok-clause-commands : goal.returns-in-Ok-clause-commands
 returns-in-Ok-clause-commands g c = λ bytes taken.
     let self = c.args.self in
@@ -21,7 +21,7 @@ returns-in-Ok-clause-commands g c = λ bytes taken.
     (AreCommands-rest bytes self.rest.items self.commands.items c.in-Ok.last.items self.count has
     spelled)
 
--- or it is the bad line
+-- The rest is the first bad line.
 pub returns-in-Err-BadLine-clause-bad_line : goal.returns-in-Err-BadLine-clause-bad_line
 returns-in-Err-BadLine-clause-bad_line g c = λ bytes number taken is.
     let self = c.args.self in

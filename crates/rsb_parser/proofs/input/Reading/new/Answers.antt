@@ -1,6 +1,6 @@
 use Rattle.rsb_parser.proofs.reading.Parts.{HasLines-nil}
 use Rattle.rsb_parser.proofs.input.Reading.new.Goals as goal
 
--- nothing was read
+-- Nothing was read yet.
 pub returns : goal.returns
 returns g c = rw (c.new.ensures.items, c.new-2.ensures.items) HasLines-nil

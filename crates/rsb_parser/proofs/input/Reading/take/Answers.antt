@@ -2,7 +2,7 @@ use Rattle.std.proofs.Common.{◌≡◌, length, rules}
 use Rattle.rsb_parser.proofs.reading.Parts.{IsClosed-take-append}
 use Rattle.rsb_parser.proofs.input.Reading.take.Goals as goal
 
--- the bytes up to a line feed are whole lines
+-- The bytes up to a line feed are whole lines.
 pub take_lines-requires-clause-closed : goal.take_lines-requires-clause-closed
 take_lines-requires-clause-closed g c =
     let rest = c.args.self.now.rest.items in

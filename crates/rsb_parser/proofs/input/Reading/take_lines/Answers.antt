@@ -5,7 +5,7 @@ use Rattle.rsb_parser.specs.Spelling.{AreCommands, IsFirstBadLine}
 use Rattle.rsb_parser.proofs.reading.Parts.{HasBadLine-lines, HasLines-lines, lines-taken, taken-lines}
 use Rattle.rsb_parser.proofs.input.Reading.take_lines.Goals as goal
 
--- the lines have commands
+-- The lines spell commands.
 pub returns-in_ok-extend_from_slice-in-Ok-clause-taken :
     goal.returns-in_ok-extend_from_slice-in-Ok-clause-taken
 returns-in_ok-extend_from_slice-in-Ok-clause-taken g c = λ before taken.
@@ -26,7 +26,7 @@ returns-in_ok-extend_from_slice-in-Ok-clause-taken g c = λ before taken.
     lines-taken before self.bad_line _ c.requires.good
     (rw (c.in_ok-append-in-Ok.ensures.items, c.in_ok-self-in-Ok.ensures.sum, is) lines)
 
--- one of the lines is bad
+-- One of the lines is bad.
 pub returns-in_ok-sum-in-Err-BadLine-clause-taken :
     goal.returns-in_ok-sum-in-Err-BadLine-clause-taken
 returns-in_ok-sum-in-Err-BadLine-clause-taken g c = λ before taken.

@@ -6,7 +6,7 @@ use Rattle.rsb_streams.proofs.checking.Placed.{placed-touching}
 use Rattle.rsb_streams.proofs.sources.Vectors.{vec-calls, vec-touching}
 use Rattle.rsb_streams.proofs.check_sorted_touching.CheckSortedTouching+T+IntoIter+RangeInclusive+T+A.try_new.Goals as goal
 
--- a position is bad, so the list is not one that may touch
+-- There is a faulty position, so the list is not touching.
 pub returns-in-Some-clause-ok : goal.returns-in-Some-clause-ok
 returns-in-Some-clause-ok g c = (
   (λ no. absurd (cc)),
@@ -34,7 +34,7 @@ returns-in-Some-clause-value g c =
     (take (c.in-Some.position + 1) (intervals_of g.T.Integer.rank items)))
     c.deref.ensures.value c.in-Some.ensures.value
 
--- the list is one that may touch, since no position is bad
+-- There is no faulty position, so the list is touching.
 pub new-requires : goal.new-requires
 new-requires g c = λ source becomes.
     let rank = g.T.Integer.rank in
@@ -58,7 +58,7 @@ returns-clause-ok g c = (
 pub returns-clause-ready : goal.returns-clause-ready
 returns-clause-ready g c = c.new.ensures.ready
 
--- the stream gives the items of the list
+-- The stream gives the items of the list.
 pub returns-clause-runs : goal.returns-clause-runs
 returns-clause-runs g c = λ runs may.
     let given = c.new.ensures.gives runs may in

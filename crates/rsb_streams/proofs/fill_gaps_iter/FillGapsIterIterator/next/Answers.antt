@@ -12,7 +12,7 @@ ranked : (g : Over) → IsRanked g.T.Integer.rank g.T.Integer.value_count g.T.Pa
     g.T.Ord.cmp
 ranked g = record { matches = g.met.T.Ord.matches_partial_cmp; in_order = g.met.T.Integer.in_order }
 
--- the gap to the greatest value
+-- At the end, the call returns the gap to the greatest value.
 pub returns-in_default-clause-steps : goal.returns-in_default-clause-steps
 returns-in_default-clause-steps g c =
     last-gap g.T.Integer g.I.Draw (laws g) c.args.self.now.iter
@@ -25,7 +25,7 @@ returns-in_default-clause-goes g c =
     last-goes g.T.Integer g.I.Draw (laws g) c.args.self.now.iter
     c.draw.new.self c.args.self.now.start c.in_ok-start.start c.requires c.in_ok-start.was _
 
--- the gap before a range
+-- There is a gap before the range, which the call returns.
 pub returns-then-lt-clause-steps : goal.returns-then-lt-clause-steps
 returns-then-lt-clause-steps g c =
     let rank = g.T.Integer.rank in
@@ -60,7 +60,7 @@ returns-then-lt-clause-goes g c =
     c.in-Some.range c.in-Some.ensures.steps c.in-Some.ensures.goes c.put_back.new.self
     c.put_back.ensures next c.start.ensures less c.new-then-lt.result
 
--- a range that starts where a gap might
+-- The range starts where a gap might, so the call returns it as a run.
 pub returns-clause-steps : goal.returns-clause-steps
 returns-clause-steps g c =
     let rank = g.T.Integer.rank in

@@ -2,7 +2,7 @@ use Rattle.rsb_streams.proofs.lookahead.Ahead.{merges-undrawn}
 use Rattle.rsb_streams.proofs.sources.Known.{fresh-may, fresh-ready}
 use Rattle.rsb_streams.proofs.merge.Merge.new.Goals as goal
 
--- both may be called
+-- Both streams are ready.
 pub returns-clause-ready : goal.returns-clause-ready
 returns-clause-ready g c =
     record {
@@ -13,7 +13,7 @@ returns-clause-ready g c =
           (g.met.R.Draw.sorted c.args.right c.requires.right).all;
     }
 
--- nothing is drawn of either
+-- Nothing has been drawn from either stream.
 pub returns-clause-gives : goal.returns-clause-gives
 returns-clause-gives g c = λ runs may nothing.
     may (λ first second at also all.

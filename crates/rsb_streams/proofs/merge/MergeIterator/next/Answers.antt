@@ -36,7 +36,7 @@ returns-in_default-draw-clause-steps g c =
     c.args.self.now _ c.in-Some.first c.requires c.in-Some.ensures.steps
     c.in_default-draw.ensures.steps
 
--- the right range starts first
+-- The right range starts first.
 less : (g : Over) (c : goal.After-put_back g)
     → g.T.Integer.rank (range_inclusive_start c.in-Some-draw.second)
     < g.T.Integer.rank (range_inclusive_start c.in-Some.first)
@@ -71,7 +71,7 @@ returns-then-lt-clause-goes g c =
     c.in-Some.ensures.steps c.in-Some-draw.ensures.steps c.in-Some.ensures.goes
     c.in-Some-draw.ensures.goes c.put_back.new.self c.put_back.ensures (less g c)
 
--- the left range starts no later
+-- The left range starts no later.
 most : (g : Over) (c : goal.After-put_back-2 g)
     → g.T.Integer.rank (range_inclusive_start c.in-Some.first)
     ≤ g.T.Integer.rank (range_inclusive_start c.in-Some-draw.second)

@@ -12,7 +12,7 @@ ranked : (g : Over) → IsRanked g.T.Integer.rank g.T.Integer.value_count g.T.Pa
     g.T.Ord.cmp
 ranked g = record { matches = g.met.T.Ord.matches_partial_cmp; in_order = g.met.T.Integer.in_order }
 
--- the gap to the greatest value
+-- At the end, the draw returns the gap to the greatest value.
 pub returns-in_default-draw-clause-steps : goal.returns-in_default-draw-clause-steps
 returns-in_default-draw-clause-steps g c =
     last-gap g.T.Integer g.I.Draw (laws g)
@@ -26,7 +26,7 @@ returns-in_default-draw-clause-goes g c =
     last-goes g.T.Integer g.I.Draw c.args.self.now
     c.loop-self.self c.draw.new.self c.in-Some.start c.new.result c.loop-self.invariant c.in-Some.is
 
--- a gap lies before a range
+-- There is a gap before the range.
 pub sub_one-requires : goal.sub_one-requires
 sub_one-requires g c =
     let less = gap-less g.T.Integer g.I.Draw (laws g)
@@ -71,7 +71,7 @@ returns-then-lt-clause-goes g c =
     c.checked_add_one-self.ensures.none c.checked_add_one-self.ensures.next
     c.new-then-lt.result
 
--- no gap before the range
+-- There is no gap before the range.
 pub loop-self-preserved : goal.loop-self-preserved
 loop-self-preserved g c =
     so-next g.T.Integer g.I.Draw (laws g)
@@ -90,7 +90,7 @@ loop-self-preserved g c =
     c.checked_add_one-self.ensures.none c.checked_add_one-self.ensures.next
     (ranked g) c.if-lt.ensures)
 
--- no gap is left
+-- No gap is left.
 pub returns-clause-steps : goal.returns-clause-steps
 returns-clause-steps g c =
     rests g.T.Integer g.I.Draw c.args.self.now c.loop-self.self

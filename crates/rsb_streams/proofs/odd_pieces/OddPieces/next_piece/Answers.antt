@@ -1,12 +1,13 @@
-use Rattle.std.proofs.Common.{◌<◌, refl}
+use Rattle.std.proofs.Common.{◌<◌, ap, arith, refl}
 use Rattle.std.specs.Iterator.{size}
 use Rattle.std.specs.Prelude.{Some, None}
 use Rattle.rsb_integer.specs.Room.{fits_memory}
 use Rattle.rsb_streams.specs.OddPieces.{first_end, holding}
 use Rattle.rsb_streams.proofs.checking.Comparisons.{IsRanked}
+use Rattle.rsb_streams.proofs.odd.Drawn.{drew-none}
 use Rattle.rsb_streams.proofs.odd.Ends.{last-answers, last-goes, rests}
 use Rattle.rsb_streams.proofs.odd.States.{passed-by, popped-end, popped-left, pushed-none, pushed-some, removed-first}
-use Rattle.rsb_streams.proofs.odd.OneMore.{apart-answers, apart-goes, both-values, gap-answers, gap-goes, next-above, so-begins, so-passed}
+use Rattle.rsb_streams.proofs.odd.OneMore.{apart-answers, apart-goes, both-values, drew-begins, drew-passed, gap-answers, gap-goes, next-above, so-begins, so-passed}
 use Rattle.rsb_streams.proofs.sources.Known.{IsLawful}
 use Rattle.rsb_streams.proofs.odd_pieces.OddPieces.next_piece.Given.{Over}
 use Rattle.rsb_streams.proofs.odd_pieces.OddPieces.next_piece.Goals as goal
@@ -19,7 +20,20 @@ ranked : (g : Over) → IsRanked g.T.Integer.rank g.T.Integer.value_count g.T.Pa
     g.T.Ord.cmp
 ranked g = record { matches = g.met.T.Ord.matches_partial_cmp; in_order = g.met.T.Integer.in_order }
 
--- fewer are left to draw
+-- At the entry, nothing was drawn.
+pub loop-range-init : goal.loop-range-init
+loop-range-init g c = record {
+  one = c.requires.one;
+  so = record {
+    undone = c.requires.undone;
+    going = c.requires.ready c.requires.undone;
+    same = λ pieces at. at;
+    nearer = omega arith;
+  };
+  drew = drew-none g.T.Integer g.I.Draw (holding c.args.self.now c.args.ends.now.items);
+}
+
+-- Fewer ranges are left to draw.
 nearer : (g : Over) (c : In-Some g) → size (g.I.Draw.draws_left c.draw.new.self)
     < size (g.I.Draw.draws_left c.loop-range.self.iter)
 nearer g c =
@@ -32,7 +46,7 @@ loop-range-smaller-in_default-pending g c = nearer g (goal.at.loop-range-smaller
 pub loop-range-smaller : goal.loop-range-smaller
 loop-range-smaller g c = nearer g (goal.at.loop-range-smaller g c).In-Some
 
--- a range begins where none is pending
+-- A range begins, and none is pending.
 pub loop-range-preserved-in_default-pending : goal.loop-range-preserved-in_default-pending
 loop-range-preserved-in_default-pending g c =
     let ends = pushed-none c.loop-range.ends.items c.loop-range.invariant.one c.push.new.self.items
@@ -45,9 +59,16 @@ loop-range-preserved-in_default-pending g c =
           c.draw.new.self c.into_inner-next.result.0 c.into_inner-next.result.1 c.in-Some.range
           c.loop-range.invariant.so c.in-Some.ensures.steps c.in-Some.ensures.goes
           c.into_inner-next.ensures.start c.into_inner-next.ensures.end c.in_default-pending.ensures);
+      drew = rw ends (drew-begins g.T.Integer g.I.Draw (laws g)
+          (ranked g) (holding c.args.self.now c.args.ends.now.items)
+          (holding c.loop-range.self c.loop-range.ends.items)
+          c.draw.new.self c.into_inner-next.result.0 c.into_inner-next.result.1 c.in-Some.range
+          c.loop-range.invariant.so c.in-Some.ensures.steps c.in-Some.ensures.goes
+          c.into_inner-next.ensures.start c.into_inner-next.ensures.end c.loop-range.invariant.drew
+          c.in_default-pending.ensures);
     }
 
--- a range is pending, and the next one starts past it
+-- A range is pending, and the next one starts past it.
 pub returns-then-lt-clause-steps : goal.returns-then-lt-clause-steps
 returns-then-lt-clause-steps g c =
     let left = removed-first c.loop-range.ends.items c.loop-range.invariant.one
@@ -60,7 +81,7 @@ returns-then-lt-clause-steps g c =
     c.draw.new.self c.into_inner-next.result.0 c.into_inner-next.result.1 c.in-Some.range
     c.loop-range.invariant.so c.in-Some.ensures.steps c.in-Some.ensures.goes
     c.into_inner-next.ensures.start c.into_inner-next.ensures.end c.in-Some-pending.end
-    c.in-Some-pending.ensures c.if-lt.ensures c.new.result
+    c.in-Some-pending.ensures c.loop-range.invariant.drew c.if-lt.ensures c.new.result
     c.new.ensures.exhausted c.new.ensures.start c.new.ensures.end)
 
 pub returns-then-lt-clause-goes : goal.returns-then-lt-clause-goes
@@ -77,7 +98,7 @@ returns-then-lt-clause-goes g c =
     c.into_inner-next.ensures.start c.into_inner-next.ensures.end c.in-Some-pending.end
     c.in-Some-pending.ensures c.new.result)
 
--- both have begun, and their ends are values
+-- Both ranges have begun, and their ends are values of the type.
 pub pass_lesser-requires : goal.pass_lesser-requires
 pass_lesser-requires g c =
     let values = both-values g.T.Integer g.I.Draw (laws g)
@@ -99,7 +120,7 @@ pass_lesser-requires g c =
       ),
     )
 
--- what lies before the second is told
+-- The draw returns what is before the second range.
 pub sub_one-requires : goal.sub_one-requires
 sub_one-requires g c =
     next-above g.T.Integer g.I.Draw (laws g)
@@ -122,7 +143,7 @@ returns-then-lt-2-clause-steps g c =
     c.draw.new.self c.into_inner-next.result.0 c.into_inner-next.result.1 c.in-Some.range
     c.loop-range.invariant.so c.in-Some.ensures.steps c.in-Some.ensures.goes
     c.into_inner-next.ensures.start c.into_inner-next.ensures.end c.in-Some-pending.end
-    c.in-Some-pending.ensures c.if-lt.ensures _ passed
+    c.in-Some-pending.ensures c.if-lt.ensures _ passed c.loop-range.invariant.drew
     c.if-lt-2.ensures c.sub_one.result c.new-then-lt-2.result
     c.sub_one.ensures c.new-then-lt-2.ensures.exhausted c.new-then-lt-2.ensures.start
     c.new-then-lt-2.ensures.end
@@ -141,7 +162,7 @@ returns-then-lt-2-clause-goes g c =
     c.into_inner-next.ensures.start c.into_inner-next.ensures.end c.in-Some-pending.end
     c.in-Some-pending.ensures c.if-lt.ensures _ passed c.new-then-lt-2.result
 
--- nothing lies before it
+-- Nothing is before the second range.
 pub loop-range-preserved : goal.loop-range-preserved
 loop-range-preserved g c =
     let passed = passed-by g.T.Integer.rank c.draw.new.self c.in-Some-pending.end
@@ -157,9 +178,17 @@ loop-range-preserved g c =
           c.loop-range.invariant.so c.in-Some.ensures.steps c.in-Some.ensures.goes
           c.into_inner-next.ensures.start c.into_inner-next.ensures.end c.in-Some-pending.end
           c.in-Some-pending.ensures c.if-lt.ensures _ passed c.if-lt-2.ensures;
+      drew = drew-passed g.T.Integer g.I.Draw (laws g)
+          (ranked g) (holding c.args.self.now c.args.ends.now.items)
+          (holding c.loop-range.self c.loop-range.ends.items)
+          c.draw.new.self c.into_inner-next.result.0 c.into_inner-next.result.1 c.in-Some.range
+          c.loop-range.invariant.so c.in-Some.ensures.steps c.in-Some.ensures.goes
+          c.into_inner-next.ensures.start c.into_inner-next.ensures.end c.in-Some-pending.end
+          c.in-Some-pending.ensures c.if-lt.ensures _ passed c.loop-range.invariant.drew
+          c.if-lt-2.ensures;
     }
 
--- none is pending at the end, and nothing comes
+-- At the end, no range is pending, and nothing more comes.
 pub returns-in_err-end-clause-steps : goal.returns-in_err-end-clause-steps
 returns-in_err-end-clause-steps g c =
     let none = popped-end c.loop-range.ends.items c.loop-range.invariant.one c.pop.result None
@@ -167,8 +196,10 @@ returns-in_err-end-clause-steps g c =
     rw c.from_residual.ensures (rests g.T.Integer g.I.Draw (laws g)
     (holding c.args.self.now c.args.ends.now.items)
     (holding c.loop-range.self c.loop-range.ends.items)
-    c.draw.new.self c.loop-range.invariant.so c.in_default.ensures.steps none
-    (first_end c.pop.new.self.items))
+    c.draw.new.self c.loop-range.invariant.so c.loop-range.invariant.drew
+    c.in_default.ensures.steps none (first_end c.pop.new.self.items)
+    (ap first_end (popped-left c.loop-range.ends.items c.loop-range.invariant.one
+    c.pop.new.self.items c.pop.ensures.rest)))
 
 pub returns-in_err-end-clause-one : goal.returns-in_err-end-clause-one
 returns-in_err-end-clause-one g c =
@@ -184,7 +215,7 @@ pub returns-in_err-end-clause-goes : goal.returns-in_err-end-clause-goes
 returns-in_err-end-clause-goes g c =
     rw c.from_residual.ensures (record { on = λ finite. tt; keeps = tt; rests = λ finite. tt })
 
--- what is pending comes last
+-- The pending range comes last.
 pub returns-clause-one : goal.returns-clause-one
 returns-clause-one g c =
     rw (popped-left c.loop-range.ends.items c.loop-range.invariant.one c.pop.new.self.items
@@ -197,10 +228,12 @@ returns-clause-steps g c =
     last-answers g.T.Integer g.I.Draw (laws g)
     (holding c.args.self.now c.args.ends.now.items)
     (holding c.loop-range.self c.loop-range.ends.items)
-    c.draw.new.self c.loop-range.invariant.so c.in_default.ensures.steps
-    c.in_ok-end.end c.new-2.result last
+    c.draw.new.self c.loop-range.invariant.so c.loop-range.invariant.drew
+    c.in_default.ensures.steps c.in_ok-end.end c.new-2.result last
     c.new-2.ensures.exhausted c.new-2.ensures.start c.new-2.ensures.end
     (first_end c.pop.new.self.items)
+    (ap first_end (popped-left c.loop-range.ends.items c.loop-range.invariant.one
+    c.pop.new.self.items c.pop.ensures.rest))
 
 pub returns-clause-goes : goal.returns-clause-goes
 returns-clause-goes g c =

@@ -3,7 +3,7 @@ use Rattle.std.specs.Prelude.{Some, None, is_none}
 use Rattle.rsb_streams.proofs.merging.PutBack.{drawn-goes, held-goes, told}
 use Rattle.rsb_streams.proofs.put_back.PutBackDraw.draw.Goals as goal
 
--- a range was held
+-- A range was held.
 pub returns-in-Some-clause-steps : goal.returns-in-Some-clause-steps
 returns-in-Some-clause-steps g c =
     let held : c.args.self.now.held ≡ Some c.in-Some.range = cc (c.take.ensures.value, c.in-Some.is) in
@@ -15,7 +15,7 @@ returns-in-Some-clause-goes g c =
     held-goes g.T.Integer g.I.Draw g.met.I.Draw.sorted c.args.self.now c.take.new.self c.in-Some.range held
     c.take.ensures.after c.requires
 
--- the source had ended
+-- The source had ended.
 pub returns-then-self-clause-steps : goal.returns-then-self-clause-steps
 returns-then-self-clause-steps g c =
     let none : c.args.self.now.held ≡ None = cc (c.take.ensures.value, c.in_default.is) in
@@ -25,7 +25,7 @@ pub returns-then-self-clause-goes : goal.returns-then-self-clause-goes
 returns-then-self-clause-goes g c =
     record { on = λ finite. tt; keeps = tt; rests = λ finite. finite }
 
--- nothing was held, and the source had not ended
+-- Nothing was held, and the source had not ended.
 pub draw-range-requires : goal.draw-range-requires
 draw-range-requires g c = c.requires.callable c.if-self.false
 
@@ -38,7 +38,7 @@ returns-clause-steps g c =
       call = rw (none, c.if-self.false) (c.draw-range.ensures.steps, told c.draw-range.result c.is_none-self.result end);
     }
 
--- nothing was held, and the source had not ended
+-- Nothing was held, and the source had not ended.
 pub returns-clause-goes : goal.returns-clause-goes
 returns-clause-goes g c =
     let none : c.args.self.now.held ≡ None = cc (c.take.ensures.value, c.in_default.is) in

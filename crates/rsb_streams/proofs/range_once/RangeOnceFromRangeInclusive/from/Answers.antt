@@ -11,7 +11,7 @@ ranked : (g : Over) → IsRanked g.T.Integer.rank g.T.Integer.value_count g.T.Pa
     g.T.Ord.cmp
 ranked g = record { matches = g.met.T.Ord.matches_partial_cmp; in_order = g.met.T.Integer.in_order }
 
--- a range with no rank gives nothing
+-- An empty range gives nothing.
 pub returns-then-is_empty : goal.returns-then-is_empty
 returns-then-is_empty g c =
     let rank = g.T.Integer.rank in
@@ -25,7 +25,7 @@ returns-then-is_empty g c =
       gives = λ runs at. at ∙ sym (none-if_empty (interval_of rank c.args.range) empty);
     }
 
--- and another gives its run
+-- A non-empty range gives its run.
 pub returns : goal.returns
 returns g c =
     let rank = g.T.Integer.rank in

@@ -1,7 +1,7 @@
 use Rattle.rsb_streams.proofs.calling.RunCounts.{run_count-complement}
 use Rattle.rsb_streams.proofs.sorted_disjoint.DrawDisjoint.complement.Goals as goal
 
--- a gap ends before each run, or after the last one
+-- Each gap ends before a run or after the last one, so there is at most one gap more.
 pub returns : goal.returns
 returns g c =
     let made = c.new.ensures in

@@ -2,7 +2,7 @@ use Rattle.std.proofs.Common.{◌&&◌, not, refl}
 use Rattle.rsb_streams.proofs.calling.RunCounts.{run_count-of_one}
 use Rattle.rsb_streams.proofs.sorted_disjoint.DrawDisjoint.difference.Goals as goal
 
--- what is in neither is not in the difference
+-- A rank that is in neither stream is not in the difference.
 pub returns : goal.returns
 returns g c =
     let made = c.from.ensures c.requires.left c.requires.right in

@@ -18,7 +18,7 @@ ranked g =
     let integer = g.met.T.Integer in
     record { matches = order.matches_partial_cmp; in_order = integer.in_order }
 
--- the right stream alone has ended
+-- Only the right stream has ended.
 pub returns-in_default-draw : goal.returns-in_default-draw
 returns-in_default-draw g c =
     right-ends g.T.Integer g.Self.Draw g.R.Draw c.args.self c.args.other
@@ -28,7 +28,7 @@ returns-in_default-draw g c =
     c.in-Some.range c.draw.new.self c.draw-in-Some.new.self
     c.in-Some.ensures.steps c.in-Some.ensures.goes.keeps c.in_default-draw.ensures.steps
 
--- the ranges are not equal
+-- The ranges are not equal.
 pub returns-then-ne : goal.returns-then-ne
 returns-then-ne g c =
     let rank = g.T.Integer.rank in
@@ -51,7 +51,7 @@ returns-then-ne g c =
     g.T.PartialEq.eq order.laws c.in-Some.range c.in-Some-draw.counterpart one.0 one.1 two.0 two.1
     c.if-ne.ensures)
 
--- they are
+-- The ranges are equal.
 pub loop-range-preserved : goal.loop-range-preserved
 loop-range-preserved g c =
     let rank = g.T.Integer.rank in
@@ -72,7 +72,7 @@ loop-range-preserved g c =
     g.T.PartialEq.eq order.laws c.in-Some.range c.in-Some-draw.counterpart one.0 one.1 two.0 two.1
     c.if-ne.ensures)
 
--- the left stream has ended
+-- The left stream has ended.
 pub returns : goal.returns
 returns g c =
     left-ends g.T.Integer g.Self.Draw g.R.Draw c.args.self c.args.other

@@ -1,7 +1,7 @@
 use Rattle.rsb_streams.proofs.calling.RunCounts.{run_count-intersection}
 use Rattle.rsb_streams.proofs.sorted_disjoint.DrawDisjoint.intersection.Goals as goal
 
--- where both have runs, those of the union are some
+-- If both streams have runs, the intersection has fewer than both together.
 pub returns : goal.returns
 returns g c =
     let made = c.from.ensures c.requires.left c.requires.right in

@@ -20,13 +20,13 @@ ranked g =
     let integer = g.met.T.Integer in
     record { matches = order.matches_partial_cmp; in_order = integer.in_order }
 
--- nothing comes
+-- Nothing comes.
 pub returns-in_default : goal.returns-in_default
 returns-in_default g c =
     none-lacks g.T.Integer g.Self.Draw (laws g) c.args.self
     c.draw.new.self c.requires c.in_default.ensures.steps (omega (arith, g.met.T.Integer.some_values))
 
--- the first range starts past the least value
+-- The first range starts past the least value.
 pub returns-then-lt : goal.returns-then-lt
 returns-then-lt g c =
     let rank = g.T.Integer.rank in
@@ -48,7 +48,7 @@ returns-then-lt g c =
     (λ rest canonical. late-lacks n run rest canonical
     (omega (arith, less, start, c.min_value.ensures)))
 
--- the first range starts at the least value
+-- The first range starts at the least value.
 pub returns : goal.returns
 returns g c =
     let rank = g.T.Integer.rank in

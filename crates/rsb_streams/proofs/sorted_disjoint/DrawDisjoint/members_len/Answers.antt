@@ -4,7 +4,7 @@ use Rattle.rsb_integer.specs.Rank.{interval_of}
 use Rattle.rsb_streams.proofs.questions.Counting.{counted-all, counted-more, counted-ordered, counted-within}
 use Rattle.rsb_streams.proofs.sorted_disjoint.DrawDisjoint.members_len.Goals as goal
 
--- the range lies in order
+-- The range is in order.
 pub safe_len-requires : goal.safe_len-requires
 safe_len-requires g c =
     let s = c.loop-range.stream in
@@ -17,7 +17,7 @@ safe_len-requires g c =
     (g.met.Self.Draw.answers s t (Some c.in-Some.range) c.in-Some.ensures.steps)
     (g.met.Self.Draw.sorted t c.in-Some.ensures.goes.keeps).some
 
--- and in the type with all before it
+-- The range, with all before it, is within the type.
 pub add_assign-requires : goal.add_assign-requires
 add_assign-requires g c =
     let s = c.loop-range.stream in
@@ -54,7 +54,7 @@ loop-range-preserved g c =
           (g.T.SafeLen.SafeLength.number c.add_assign.new.self) (omega (arith, exact, length));
     }
 
--- at the end all was counted
+-- At the end, all members were counted.
 pub returns : goal.returns
 returns g c =
     counted-all g.T.Integer.value_count (g.Self.Draw.may_give c.args.self)

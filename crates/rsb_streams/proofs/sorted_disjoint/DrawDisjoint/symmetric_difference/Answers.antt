@@ -3,7 +3,7 @@ use Rattle.rsb_integer.specs.Selection.{exclusive_or}
 use Rattle.rsb_streams.proofs.calling.RunCounts.{run_count-of_one}
 use Rattle.rsb_streams.proofs.sorted_disjoint.DrawDisjoint.symmetric_difference.Goals as goal
 
--- what is in neither is not in one of them alone
+-- A rank that is in neither stream is not in the symmetric difference.
 pub returns : goal.returns
 returns g c =
     let made = c.from.ensures c.requires.left c.requires.right in

@@ -9,20 +9,20 @@ use Rattle.rsb_streams.proofs.sources.Vectors.{vec-calls, vec-sorted}
 use Rattle.rsb_streams.proofs.sorted_starts_in_vec.UnionIter+T+SortedStartsInVec+T+A.from_iter.Given.{Over}
 use Rattle.rsb_streams.proofs.sorted_starts_in_vec.UnionIter+T+SortedStartsInVec+T+A.from_iter.Goals as goal
 
--- values are ordered as their ranks are
+-- Values are ordered as their ranks are.
 in_order : (g : Over) → IsInOrder g.T.Integer.rank g.T.Integer.value_count g.T.Ord.cmp
 in_order g =
     let laws = g.met.T.Integer in
     laws.in_order
 
--- the sort leaves the starts in order
+-- The sort leaves the ranges sorted by start.
 ascend : (g : Over) (c : goal.After-sort_unstable_by_key g) → StartsAscend g.T.Integer.rank
     g.T.Integer.value_count g.T.Ord.cmp (in_order g) c.sort_unstable_by_key.new.self.items
 ascend g c =
     c.sort_unstable_by_key.ensures.sorted range_inclusive_start
     (always_returns_same _ _ _ (λ a r f' k. search rules))
 
--- the list has sorted starts
+-- The list is sorted by start.
 pub new-requires : goal.new-requires
 new-requires g c = λ source becomes.
     let rank = g.T.Integer.rank in
@@ -36,7 +36,7 @@ new-requires g c = λ source becomes.
     (collects-sorted rank n came.items c.in_ok-kept.kept.items c.sort_unstable_by_key.new.self.items
     came.collects c.sort_unstable_by_key.ensures.permutation g.T.Ord.cmp (in_order g) (ascend g c)))
 
--- and its union the runs of what came
+-- The union of the list has the runs of what came.
 pub returns-clause-gives : goal.returns-clause-gives
 returns-clause-gives g c =
     let rank = g.T.Integer.rank in

@@ -9,7 +9,7 @@ use Rattle.rsb_streams.proofs.sources.Known.{fresh-may, fresh-ready}
 use Rattle.rsb_streams.proofs.odd.SymmetricDifference.{merges-twofold, symmetric-of_merge}
 use Rattle.rsb_streams.proofs.sym_diff_iter.SymDiffIterFromTuple2.from.Goals as goal
 
--- the union of the pieces of the merge of the two
+-- The symmetric difference is the union of the pieces of the merge of the two streams.
 pub returns : goal.returns
 returns g c = λ left_can right_can.
     let merged = merge g.T.Integer g.L.Draw g.R.Draw in

@@ -15,7 +15,7 @@ ranked : (g : Over) → IsRanked g.T.Integer.rank g.T.Integer.value_count g.T.Pa
     g.T.Ord.cmp
 ranked g = record { matches = g.met.T.Ord.matches_partial_cmp; in_order = g.met.T.Integer.in_order }
 
--- the next range starts past the run, with a gap between
+-- The next range starts past the run, with a gap between.
 apart : (g : Over) (c : goal.After-new g)
     → g.T.Integer.rank c.loop-range.end + 1 < g.T.Integer.rank
     (range_inclusive_start c.in-Some.range)
@@ -66,7 +66,7 @@ returns-then-lt-clause-goes g c =
     c.loop-range.end c.in-Some.range c.new.result c.loop-range.invariant c.in-Some.ensures.steps
     c.in-Some.ensures.goes c.put_back.ensures (apart g c)
 
--- the next range overlaps or touches
+-- The next range overlaps or touches the run.
 pub loop-range-preserved : goal.loop-range-preserved
 loop-range-preserved g c =
     let rank = g.T.Integer.rank in

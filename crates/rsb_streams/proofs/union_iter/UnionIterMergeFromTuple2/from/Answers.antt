@@ -5,7 +5,7 @@ use Rattle.rsb_streams.proofs.calling.Operations.{union-of_merge}
 use Rattle.rsb_streams.proofs.sources.Known.{fresh-may, fresh-ready}
 use Rattle.rsb_streams.proofs.union_iter.UnionIterMergeFromTuple2.from.Goals as goal
 
--- a union of the merge of the two
+-- The union of two streams is the union of their merge.
 pub returns : goal.returns
 returns g c = λ left_can right_can.
     let merged = merge g.T.Integer g.L.Draw g.R.Draw in

@@ -17,7 +17,7 @@ pub loop-range-init : goal.loop-range-init
 loop-range-init g c =
     so_far-none g.T.Integer g.I.Iterator c.args.self.now c.requires
 
--- an empty range is passed over
+-- An empty range is passed over.
 pub loop-range-preserved-then-is_empty : goal.loop-range-preserved-then-is_empty
 loop-range-preserved-then-is_empty g c =
     let rank = g.T.Integer.rank in
@@ -30,7 +30,7 @@ loop-range-preserved-then-is_empty g c =
     (subst (λ value. rank value < n) c.end.ensures c.checked_add_one-after.ensures.value)
     c.is_empty.result c.is_empty.ensures (sym c.if-is_empty.true))
 
--- the first range is gathered
+-- The first range is gathered.
 pub loop-range-preserved-in_default-take : goal.loop-range-preserved-in_default-take
 loop-range-preserved-in_default-take g c =
     let rank = g.T.Integer.rank in
@@ -44,7 +44,7 @@ loop-range-preserved-in_default-take g c =
     c.is_empty.result c.is_empty.ensures (sym c.if-is_empty.false))
     (sym c.in_default-take.ensures.value)
 
--- a range that is apart begins a new piece
+-- A range that is apart begins a new piece.
 pub returns-then-past-clause-steps : goal.returns-then-past-clause-steps
 returns-then-past-clause-steps g c =
     let rank = g.T.Integer.rank in
@@ -92,7 +92,7 @@ returns-then-past-clause-goes g c =
     c.is_empty.result c.is_empty.ensures (sym c.if-is_empty.false))
     c.in-Some-take.gathered (sym c.in-Some-take.ensures.value)
 
--- a range that overlaps or touches goes on the piece
+-- A range that overlaps or touches joins the piece.
 pub loop-range-preserved : goal.loop-range-preserved
 loop-range-preserved g c =
     let rank = g.T.Integer.rank in
@@ -129,7 +129,7 @@ loop-range-preserved g c =
     (joined-last (ranked g) c.in-Some-take.gathered c.in-Some.range held
     proper c.joined.result c.joined.ensures.start c.joined.ensures.end c.joined.ensures.exhausted)
 
--- at the end what is gathered is answered
+-- At the end, the call returns what is gathered.
 pub returns-clause-steps : goal.returns-clause-steps
 returns-clause-steps g c =
     subst (λ answer. (unsorted_disjoint g.T.Integer g.I.Iterator).next_gives c.args.self.now answer

@@ -1,5 +1,5 @@
 use Rattle.rsb_streams_tests.proofs.streams.lookahead.draws.Given as goal
 
--- the stream may be drawn from
+-- The stream is ready.
 abbrev pub invariant-loop-start : goal.invariant-loop-start
 invariant-loop-start g l = g.I.Draw.can_draw l.stream

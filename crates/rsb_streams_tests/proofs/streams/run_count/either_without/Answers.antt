@@ -3,7 +3,8 @@ use Rattle.rsb_integer.specs.Selection.{difference, union}
 use Rattle.rsb_streams.proofs.calling.Results.{operation-at_most}
 use Rattle.rsb_streams_tests.proofs.streams.run_count.either_without.Goals as goal
 
--- as many at most as the third and the union have, and that as many as the first two
+-- The result has at most as many runs as the union and the third stream together. The union has at
+-- most as many as the first two streams together.
 pub returns-clause-run_count : goal.returns-clause-run_count
 returns-clause-run_count g c = λ ones twos threes first second third.
     operation-at_most g.T.Integer _ g.C.Draw _ c.union-either.result c.args.third _ (ones + twos)

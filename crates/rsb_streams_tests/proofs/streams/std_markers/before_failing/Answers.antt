@@ -1,7 +1,7 @@
 use Rattle.std.proofs.Common.{rules, subst, sym}
 use Rattle.rsb_streams_tests.proofs.streams.std_markers.before_failing.Goals as goal
 
--- `next` of the stream inside is `draw`
+-- `next` of the inner stream is its `draw`.
 pub returns : goal.returns
 returns g c = record {
   source = subst g.I.Draw.can_draw (sym c.take_while.ensures.source) c.requires.stream;

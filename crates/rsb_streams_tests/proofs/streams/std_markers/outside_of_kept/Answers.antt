@@ -1,7 +1,7 @@
 use Rattle.std.proofs.Common.{rules, subst, sym}
 use Rattle.rsb_streams_tests.proofs.streams.std_markers.outside_of_kept.Goals as goal
 
--- the filter may be drawn from: `next` of its stream is `draw`
+-- The filter is ready, because `next` of its stream is `draw`.
 pub complement-requires : goal.complement-requires
 complement-requires g c = record {
   source = subst g.I.Draw.can_draw (sym c.filter.ensures.source) c.requires.stream;

@@ -2,7 +2,7 @@ use Rattle.rsb_integer.specs.Selection.{symmetric_difference}
 use Rattle.rsb_streams.proofs.calling.Nested.{both-of}
 use Rattle.rsb_streams_tests.proofs.streams.symmetric_algebra.alone_is_the_same.Goals as goal
 
--- both are the same operation on the lists
+-- Both streams are built by the same operation on the lists.
 pub returns : goal.returns
 returns g c = λ these those one other some more again other_again.
     let n = g.T.Integer.value_count in

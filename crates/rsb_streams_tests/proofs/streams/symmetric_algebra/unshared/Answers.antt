@@ -3,7 +3,7 @@ use Rattle.rsb_streams.proofs.calling.Nested.{both-of, difference-respects, runs
 use Rattle.rsb_streams.specs.Stream.{just}
 use Rattle.rsb_streams_tests.proofs.streams.symmetric_algebra.unshared.Goals as goal
 
--- a difference of two results is one operation on the lists
+-- The difference of the two results is one operation on the lists.
 pub returns-clause-gives : goal.returns-clause-gives
 returns-clause-gives g c = λ these those some other again other_again runs at.
     let n = g.T.Integer.value_count in

@@ -1,4 +1,4 @@
--- It counts the call. It fails, or returns what the inner allocator returns.
+-- `allocate` counts the call. It fails, or returns what the inner allocator returns.
 use Rattle.std.proofs.Common.{Bool, ◌≡◌, ℕ, ◌+◌, ◌^◌, ◌<◌, true, false, List, [], ◌∷◌, Ok, Err, refl, w64, Bor}
 use seplogic.Ra.Ura.{Ura}
 use mir.Syntax.{Ty, Args, Fn, a_type, dnil, dcons}

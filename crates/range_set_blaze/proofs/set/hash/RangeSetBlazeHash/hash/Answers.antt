@@ -8,7 +8,7 @@ use Rattle.range_set_blaze.specs.Kept.{runs_of}
 use Rattle.range_set_blaze.proofs.order.FedRuns.{entries-fed, run_bounds-canonical}
 use Rattle.range_set_blaze.proofs.set.hash.RangeSetBlazeHash.hash.Goals as goal
 
--- the length and the entries feed what the list of runs does
+-- The length and the entries feed the hasher what the list of runs does.
 pub returns : goal.returns
 returns g c =
     let rank = g.T.Integer.rank in

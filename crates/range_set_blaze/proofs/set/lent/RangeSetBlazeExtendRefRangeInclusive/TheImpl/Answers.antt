@@ -1,6 +1,6 @@
 use Rattle.std.proofs.Common.{rules}
 use Rattle.range_set_blaze.proofs.set.lent.RangeSetBlazeExtendRefRangeInclusive.TheImpl.Goals as goal
 
--- what the trait asks of an iterator is that it ends
+-- The trait requires that the iterator ends.
 pub extend-asks : goal.extend-asks
 extend-asks g c = search (rules, c.requires)

@@ -10,7 +10,7 @@ use Rattle.range_set_blaze.specs.Lent.{pointed_to}
 use Rattle.rsb_many.proofs.inputs.HandedIn.{ended-run}
 use Rattle.range_set_blaze.proofs.set.lent.RangeSetBlazeExtendRefRangeInclusive.extend.Goals as goal
 
--- the range is added with those before it
+-- The ranges added so far are those before this one, and this one.
 pub loop-range-preserved : goal.loop-range-preserved
 loop-range-preserved g c = record {
   adds = λ point.
@@ -31,7 +31,7 @@ loop-range-preserved g c = record {
       (grind (arith, nat_tests, before, added, same, both, one));
 }
 
--- what was added is what the calls lent
+-- The ranges that were added are those that the calls gave by reference.
 pub returns-clause-runs : goal.returns-clause-runs
 returns-clause-runs g c =
     ended-run g.J.IntoIterator.into_iter_gives g.J.IntoIter.Iterator.next_gives c.args.ranges

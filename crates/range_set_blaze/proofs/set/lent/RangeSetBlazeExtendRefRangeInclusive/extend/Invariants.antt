@@ -2,7 +2,7 @@ use Rattle.range_set_blaze.specs.Algebra.{AddsItems}
 use Rattle.range_set_blaze.specs.Lent.{pointed_to}
 use Rattle.range_set_blaze.proofs.set.lent.RangeSetBlazeExtendRefRangeInclusive.extend.Given as goal
 
--- the ranges so far were added
+-- The ranges so far are added.
 abbrev pub invariant-loop-range : goal.invariant-loop-range
 invariant-loop-range g l =
     AddsItems g.T.Integer.rank l.fn.self (pointed_to l.yielded) l.self

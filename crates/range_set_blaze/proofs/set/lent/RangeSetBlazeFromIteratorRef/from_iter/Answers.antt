@@ -4,7 +4,7 @@ use Rattle.range_set_blaze.specs.Set.{IsSetOf}
 use Rattle.range_set_blaze.proofs.gathering.LentItems.{copied-gave}
 use Rattle.range_set_blaze.proofs.set.lent.RangeSetBlazeFromIteratorRef.from_iter.Goals as goal
 
--- the values are what the references point to
+-- The values are those that the references point to.
 pub returns : goal.returns
 returns g c = record {
   ran = IfOk-weaker c.from_iter_values.result _ _

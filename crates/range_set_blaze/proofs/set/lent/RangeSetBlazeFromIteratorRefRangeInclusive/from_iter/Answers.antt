@@ -2,7 +2,7 @@ use Rattle.std.proofs.lemmas.Result.{IfOk-weaker}
 use Rattle.range_set_blaze.proofs.gathering.LentItems.{lent-gave}
 use Rattle.range_set_blaze.proofs.set.lent.RangeSetBlazeFromIteratorRefRangeInclusive.from_iter.Goals as goal
 
--- the ranges have the members of those that were lent
+-- The ranges have the members of those that were given by reference.
 pub returns : goal.returns
 returns g c = record {
   ran = IfOk-weaker c.from_iter.result _ _

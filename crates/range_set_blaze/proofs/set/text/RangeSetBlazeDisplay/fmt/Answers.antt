@@ -6,7 +6,7 @@ use Rattle.range_set_blaze.specs.Kept.{runs_of}
 use Rattle.range_set_blaze.proofs.texts.Pieces.{items-runs}
 use Rattle.range_set_blaze.proofs.set.text.RangeSetBlazeDisplay.fmt.Goals as goal
 
--- the entries are the runs
+-- The entries are those of the runs.
 pub returns-clause-writes : goal.returns-clause-writes
 returns-clause-writes g c =
     let rank = g.T.Integer.rank in

@@ -1,6 +1,6 @@
 -- Written by tools/c/narrow from proofs/u64_sets/handle/Handle/into_parts/Proof.antt.
--- `into_parts` asks whether the handle is null. Where it is not, two fields are moved, and what
--- they own goes with them.
+-- `into_parts` tests whether the handle is null. If it is not, two fields are moved, and what they
+-- own moves with them.
 use mathlib.Core.Path.{◌≡◌, refl, sym, subst, ◌∙◌}
 use mathlib.Core.List.{List, [], ◌∷◌, ◌++◌}
 use lib.Dec.{lit<}

@@ -1,5 +1,5 @@
 -- Written by tools/c/narrow from proofs/u64_sets/handle/Handle/of_parts/Proof.antt.
--- `of_parts` moves two fields, and what they own goes with them.
+-- `of_parts` moves two fields, and what they own moves with them.
 use mathlib.Core.Path.{refl, sym, subst}
 use mathlib.Core.List.{List, [], ◌∷◌, ◌++◌}
 use seplogic.Ra.Ura.{Ura}

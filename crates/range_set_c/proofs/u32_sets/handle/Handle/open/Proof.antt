@@ -1,5 +1,5 @@
 -- Written by tools/c/narrow from proofs/u64_sets/handle/Handle/open/Proof.antt.
--- `open` asks whether the handle is null. Where it is not, the boxed set is lent, and the handle
+-- `open` tests whether the handle is null. If it is not, the boxed set is borrowed, and the handle
 -- ends with the last value behind the borrow.
 use mathlib.Core.Path.{◌≡◌, refl, sym, ap, ◌∙◌}
 use mathlib.Core.List.{List, [], ◌∷◌, ◌++◌}
@@ -80,7 +80,7 @@ module _ {M : Type 1} {𝓤 : Ura M} (𝓛 : Logic 𝓤) (𝓜 : Model 𝓤 𝓛
   Run ws = WpFn 𝓤 𝓛.H (tables 𝓤 𝓛.H 𝓜 𝓡 𝓡.env).C (tables 𝓤 𝓛.H 𝓜 𝓡 𝓡.env).Λ code.function ws Post
 
   module _ (b' o' : ℕ) (hv : Val) where
-    -- all of a handle but the set
+    -- All of a handle except the set.
     abbrev Rest : Fml
     Rest = fsep (fsep (token E.al h.alloc (bare (τ E)) (block_ptr b' o')) (handle E h.alloc hv)) (cell_at full_share R.mir (both (ptr_val h.at) hv ∷ []) b o)
 
@@ -107,7 +107,7 @@ module _ {M : Type 1} {𝓤 : Ura M} (𝓛 : Logic 𝓤) (𝓜 : Model 𝓤 𝓛
       move ! (1 ∷ []) $ drop ! $ move ! (1 ∷ []) $ use1 𝓛 (‵ (handle_owns h.alloc h.at h.kept)) (id⊢ 𝓤 _) $
       rewrite ! 0 (λ (p : Ptr). ‵ (handle_owns h.alloc p h.kept)) e refl $ feq_l ! (λ none.
       rewrite ! 1 (λ (ws : List Val). ‵ (cell_at full_share R.mir ws b o)) is_w refl $
-      -- [the allocator; the handle's cell; the open borrow, in three entries]
+      -- The context is: the allocator; the handle's cell; the open borrow, in three entries.
       sets ! (is ! (of_opd ! (load ! (through ! refl (fld ! refl (stop !))) (look_in ! 1 (sub ! 0 refl (whole !))))) (ap ptr_val e)) refl (tt, record { fits = lit< tt }) $
       sets ! (bin ! (get ! refl) (lit ! tt) tt) refl (tt, tt) $ first ! $ branches ! (get ! refl)
       (λ _. sets ! (agg ! (and_then ! (lit ! tt) (no_more !))) refl (tt, (record { fits = lit< tt }, tt)) $
@@ -117,7 +117,7 @@ module _ {M : Type 1} {𝓤 : Ura M} (𝓛 : Logic 𝓤) (𝓜 : Model 𝓤 𝓛
       move ! (1 ∷ 0 ∷ []) $ closes ! tt R h (w ∷ []) b o $
       use1 𝓛 (‵ (fres z.0.3.0.ghost_name (R.coded.code h))) (𝓛.names.obs-res z.0.3.0.ghost_name (R.coded.code h)) $ move ! (1 ∷ []) $ drop ! $
       use0 𝓛 (‵ ((OP.the_row Lent).own_val None (live 0 vnil ∷ []))) (none_of 𝓛 Lent) $
-      -- [the result; the handle's last value; the token]
+      -- The context is: the result; the handle's last value; the token.
       returns_within ! Post refl (look_at ! 0 refl) $ free_all ! refl $ keep ! (0 ∷ 2 ∷ 1 ∷ []) $
       suffices ! _ (ends_at 𝓛 F.ended stayed (F.clauses 𝓛 𝓜.mem 𝓡.returns) z (live 0 vnil) None (tt, tt) (tt, tt)) $
       nothing ! $ nothing ! $ fjoin ! $ join ! $ nothing ! $ move ! (2 ∷ 0 ∷ []) $ join ! $ join ! $ frame ! $ says ! none $ done !)
@@ -133,8 +133,8 @@ module _ {M : Type 1} {𝓤 : Ura M} (𝓛 : Logic 𝓤) (𝓜 : Model 𝓤 𝓛
       rewrite ! 0 (λ (r : Ptr). ‵ (handle_owns h.alloc r h.kept)) e refl $ fsplit ! $ move ! (1 ∷ []) $
       use1 𝓛 (given (Testable p) (‵ (token E.al h.alloc (bare (τ E)) p))) (fact_use 𝓤 _ (dealloc_token-Testable 𝓛 h.alloc (bare (τ E)) p) (guard_i 𝓤 (Testable p) (sem 𝓛 (token E.al h.alloc (bare (τ E)) p)))) $ learn ! (λ test.
       rewrite ! 3 (λ (ws : List Val). ‵ (cell_at full_share R.mir ws b o)) is_w refl $
-      -- [the right to free; the set; the allocator; the handle's cell; the open borrow, in three
-      -- entries]
+      -- The context is: the right to free; the set; the allocator; the handle's cell; the open
+      -- borrow, in three entries.
       sets ! (is ! (of_opd ! (load ! (through ! refl (fld ! refl (stop !))) (look_in ! 3 (sub ! 0 refl (whole !))))) (ap ptr_val e)) refl (tt, tt) $
       sets ! (bin ! (get ! refl) (lit ! tt) (tests_null p test)) refl (tt, tt) $ first ! $ branches ! (get ! refl) (λ wrong. absurd wrong)
       (λ _. skips ! $ exec ! 𝓣.C 𝓣.Λ (env code.function.locals l) (after 3 code.function.body) (at_ret (env code.function.locals l) Post) $
@@ -145,7 +145,7 @@ module _ {M : Type 1} {𝓤 : Ura M} (𝓛 : Logic 𝓤) (𝓜 : Model 𝓤 𝓛
       exec ! 𝓣.C 𝓣.Λ (env code.function.locals l) (after 4 code.function.body) (at_ret (env code.function.locals l) Post) $
       sets ! (of_opd ! (get ! refl)) refl (tt, (record { fits = lit< tt }, (tt, tt))) $
       move ! (0 ∷ 2 ∷ []) $ fjoin ! $ move ! (0 ∷ 2 ∷ []) $ fjoin ! $
-      -- [all but the set; the set; the open borrow, in three entries]
+      -- The context is: all except the set; the set; the open borrow, in three entries.
       move ! (2 ∷ 3 ∷ 4 ∷ 1 ∷ 0 ∷ []) $ group ! 5 $
       use1 𝓛 (later (some (λ (γ' : GName). ‵ (Lent.own_val (record { ref_ptr = (b', o'); ghost_name = γ'; now = h.kept }) (vptr b' o' ∷ [])) ⊛ ‵ (flft κ q) ⊛ ‵ (follows R Kept.the_row γ γ' (with_kept h)))))
       (lends_Part 𝓛 R Kept.the_row (with_kept h) (named 0) κ q b o b' o' γ (sem 𝓛 (Rest b' o' hv)) (back b' o' hv e) (R.coded.code h) (R.coded.code h) h.kept) $ await ! tt $ pick ! (λ γ'.

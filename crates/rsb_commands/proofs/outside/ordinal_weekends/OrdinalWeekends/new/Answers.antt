@@ -1,4 +1,4 @@
--- The calls from the first day of the year on give all weekends.
+-- The calls starting at the first day of the year return all weekends.
 use Rattle.rsb_commands.proofs.streaming.Weekends.{gives-weekends}
 use Rattle.rsb_commands.proofs.outside.ordinal_weekends.OrdinalWeekends.new.Goals as goal
 

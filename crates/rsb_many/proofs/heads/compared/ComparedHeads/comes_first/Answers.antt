@@ -8,7 +8,7 @@ use Rattle.rsb_many.proofs.heap.Heads.{fact-at, key_at-is}
 use Rattle.rsb_many.proofs.heap.Keys.{comes_before-parts}
 use Rattle.rsb_many.proofs.heads.compared.ComparedHeads.comes_first.Goals as goal
 
--- the values compare as their ranks do
+-- Values compare as their ranks do.
 pub returns-clause-first : goal.returns-clause-first
 returns-clause-first g c = λ none.
     let rank = g.T.Integer.rank in

@@ -12,7 +12,7 @@ use Rattle.rsb_many.proofs.heap.Heads.{fact-at, sunk-answer, sunk-keys, sunk-kep
 use Rattle.rsb_many.proofs.heap.Places.{sunk, sunk-bridged, sunk-here, sunk-last}
 use Rattle.rsb_many.proofs.heads.compared.ComparedHeads.sift_down.Goals as goal
 
--- the first head stands first, and nothing lies above it
+-- The head that sinks is at the first place, which has no parent.
 pub loop-place-init : goal.loop-place-init
 loop-place-init g c =
     let rank = g.T.Integer.rank in
@@ -47,7 +47,7 @@ comes_first-requires-clause-other g c =
     c.requires.values (IsPermutation-refl items) 0 c.index.result.now
     (omega (arith, none, c.args.self.now.heads.ok.0)) c.index.ensures
 
--- the lesser of the heads under it does not come before it, so all are in order
+-- The lesser child does not come before the head, so all heads are in order.
 pub returns-then-not-comes_first-clause-order : goal.returns-then-not-comes_first-clause-order
 returns-then-not-comes_first-clause-order g c = λ other.
     let rank = g.T.Integer.rank in
@@ -67,7 +67,7 @@ returns-then-not-comes_first-clause-order g c = λ other.
     (sunk-answer rank old head one place next c.loop-place.invariant.within child is
     c.comes_first.result false answered c.if-not-comes_first.true other)))
 
--- the last two comparisons are paid by the place itself
+-- The invariant leaves two comparisons for the last place.
 pub returns-then-not-comes_first-clause-compared : goal.returns-then-not-comes_first-clause-compared
 returns-then-not-comes_first-clause-compared g c =
     let old = c.loop-place.self.heads.items in
@@ -84,7 +84,7 @@ returns-then-not-comes_first-clause-compared g c =
       long,
     ))
 
--- it does, and takes its place
+-- The lesser child comes before the head and takes its place.
 pub loop-place-preserved : goal.loop-place-preserved
 loop-place-preserved g c =
     let rank = g.T.Integer.rank in
@@ -142,7 +142,7 @@ loop-place-preserved g c =
       );
     })
 
--- no head lies under it
+-- The place has no children.
 pub returns-clause-order : goal.returns-clause-order
 returns-clause-order g c = λ other.
     let old = c.loop-place.self.heads.items in
@@ -154,7 +154,7 @@ returns-clause-order g c = λ other.
     (omega (arith, c.loop-place-test.false, c.len.ensures, c.loop-place.self.heads.ok.0))
     (c.loop-place.invariant.order other))
 
--- no place was left that does not pay
+-- The number of a place has at most one digit more than the number of heads.
 pub returns-clause-compared : goal.returns-clause-compared
 returns-clause-compared g c =
     let old = c.loop-place.self.heads.items in

@@ -4,8 +4,8 @@ use Rattle.rsb_many.specs.Heads.{binary_digits, HasValues}
 use Rattle.rsb_many.specs.HeapOrder.{key_at, IsBridged, IsHeapButUnder}
 use Rattle.rsb_many.proofs.heads.compared.ComparedHeads.sift_down.Given as goal
 
--- the heads, with the one that sinks at `place`, are a heap but for those under it, and each place
--- that it left cost two comparisons
+-- The heads, with the one that sinks at `place`, are a heap except for the children of `place`.
+-- Each place that the head left cost two comparisons.
 abbrev pub invariant-loop-place : goal.invariant-loop-place
 invariant-loop-place g l =
     let rank = g.T.Integer.rank in

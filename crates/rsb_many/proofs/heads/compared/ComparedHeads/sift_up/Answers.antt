@@ -21,7 +21,7 @@ comes_first-requires-clause-other g c =
     c.loop-place.invariant.kept (parent c.loop-place.place) c.index.result.now
     (omega (arith, within)) c.index.ensures
 
--- it does not, so all are in order
+-- The head does not come before its parent, so all heads are in order.
 pub returns-then-not-comes_first-clause-order : goal.returns-then-not-comes_first-clause-order
 returns-then-not-comes_first-clause-order g c = λ other.
     let items = c.loop-place.self.heads.items in
@@ -33,7 +33,7 @@ returns-then-not-comes_first-clause-order g c = λ other.
     c.index.result.now c.comes_first.result false (omega (arith, within)) c.index.ensures
     c.comes_first.ensures.first c.if-not-comes_first.true other))
 
--- the last comparison is paid by the place itself
+-- The number of the place has at least one digit, which allows the last comparison.
 pub returns-then-not-comes_first-clause-compared : goal.returns-then-not-comes_first-clause-compared
 returns-then-not-comes_first-clause-compared g c =
     let before = c.loop-place.invariant.compared in
@@ -41,7 +41,7 @@ returns-then-not-comes_first-clause-compared g c =
     let some = binary_digits-some c.loop-place.place in
     rw c.comes_first.ensures.heads (omega (arith, before, more, some))
 
--- it does, and takes that one's place
+-- The head comes before its parent and takes its place.
 pub loop-place-preserved : goal.loop-place-preserved
 loop-place-preserved g c =
     let rank = g.T.Integer.rank in

@@ -4,7 +4,7 @@ use Rattle.rsb_many.specs.Heads.{binary_digits}
 use Rattle.rsb_many.specs.HeapOrder.{key_at, IsBridged, IsHeapBut}
 use Rattle.rsb_many.proofs.heads.compared.ComparedHeads.sift_up.Given as goal
 
--- the heads are a heap but for the one at `place`, and each place that it left cost a comparison
+-- The heads are a heap except for the one at `place`. Each place that it left cost one comparison.
 abbrev pub invariant-loop-place : goal.invariant-loop-place
 invariant-loop-place g l =
     let count = length l.self.heads.items in

@@ -1,4 +1,4 @@
--- `and_one` makes a value of no bytes, of which the proof says the count: one more than before.
+-- `and_one` makes a value without bytes. The proof states its count: one more than before.
 use mathlib.Core.Path.{refl}
 use mathlib.Core.List.{[], ◌∷◌}
 use Prim.Native.Nat.{◌+◌}
@@ -34,7 +34,7 @@ use Rattle.rsb_many.specs.contracts.heads.compared.Comparisons.and_one.Key.{name
 use Rattle.rsb_many.proofs.heads.compared.Comparisons.and_one.Statement as stated
 use Rattle.rsb_many.proofs.heads.compared.Comparisons.and_one.Code as code
 
--- `self` is a reference, and nothing is written through it
+-- `self` is a reference, and nothing is written through it.
 abbrev stayed : Stays (call.ended).signature.params (call.ended).kept
 stayed = (stay_none_ref (0 ∷ []) tt (plain (λ _. comparisons.the_row)) yes, tt)
 
@@ -43,23 +43,23 @@ module _ {M : Type 1} {𝓤 : Ura M} (𝓛 : Logic 𝓤) (memory : Memory → SP
   open 𝓛 use {H}
 
   module _ (κs : Lfts 1) (qs : Shares 1) (a : Args call.signature κs) where
-    -- where `self` points
+    -- Where `self` points.
     abbrev pointer : Val
     pointer = vptr a.0.ref_ptr.0 a.0.ref_ptr.1
 
-    -- the ghosts of the call
+    -- The ghosts of the call.
     abbrev bound : (walk_of 𝓛 call.ended stayed (call.clauses 𝓛 memory run)).Ghost
     bound = ((κs, qs, tt, a, (pointer ∷ [], tt)), tt)
 
-    -- what the call is passed
+    -- What is passed to the call.
     abbrev passed : Fml
     passed = owns (types_at call.signature.params κs) a (pointer ∷ [], tt)
 
-    -- what is made: one comparison more
+    -- The result: one comparison more.
     abbrev result : comparisons.the_row.Denot
     result = record { made = a.0.now.made + 1 }
 
-    -- the body, statement by statement
+    -- The body, statement by statement.
     walk : ent 𝓤 (on_entry 𝓛 call.signature κs qs a (pointer ∷ [], tt))
         (WpFn 𝓤 H C Λ code.function (pointer ∷ [])
         ((walk_of 𝓛 call.ended stayed (call.clauses 𝓛 memory run)).post bound))
@@ -75,7 +75,7 @@ module _ {M : Type 1} {𝓤 : Ura M} (𝓛 : Logic 𝓤) (memory : Memory → SP
         ((tt, (refl, tt)), tt) $
         move ! (1 ∷ 2 ∷ 0 ∷ []) $ done !)
 
-  -- the body meets its clauses
+  -- The body satisfies its clauses.
   walks : Walks 𝓛 call.ended stayed (WpFn 𝓤 H C Λ code.function) (call.clauses 𝓛 memory run)
   walks =
       walked 𝓛 call.ended stayed (call.clauses 𝓛 memory run) (WpFn 𝓤 H C Λ code.function)
@@ -83,7 +83,7 @@ module _ {M : Type 1} {𝓤 : Ura M} (𝓛 : Logic 𝓤) (memory : Memory → SP
       (λ κs. (shr_Tells (named 0) κs.0 comparisons.the_row, tt))
       (λ κs qs bounds a g are. via 𝓤 _ (fst∗ 𝓤 _ (emp 𝓤)) (walk κs qs a))
 
--- so a call meets them
+-- So a call satisfies them.
 meets : {M : Type 1} {𝓤 : Ura M} (𝓛 : Logic 𝓤) (memory : Memory → SProp 𝓤) (run : Routine → Fun 𝓤)
     (𝓣 : Tables 𝓤 𝓛.H)
     → Meets 𝓛 call.signature (WpFn 𝓤 𝓛.H 𝓣.C 𝓣.Λ code.function) (call.spec 𝓛 memory run)

@@ -1,4 +1,4 @@
--- `none` makes a value of no bytes, of which the proof says the count.
+-- `none` makes a value without bytes. The proof states its count: no comparison.
 use mathlib.Core.Path.{refl}
 use mathlib.Core.List.{[], ◌∷◌}
 use seplogic.Ra.Ura.{Ura}
@@ -27,11 +27,11 @@ use Rattle.rsb_many.specs.contracts.heads.compared.Comparisons.none.Key.{name as
 use Rattle.rsb_many.proofs.heads.compared.Comparisons.none.Statement as stated
 use Rattle.rsb_many.proofs.heads.compared.Comparisons.none.Code as code
 
--- there is no parameter
+-- There is no parameter.
 abbrev stayed : Stays (call.ended).signature.params (call.ended).kept
 stayed = tt
 
--- what is made: no comparison
+-- The result: no comparison.
 abbrev result : comparisons.the_row.Denot
 result = record { made = 0 }
 
@@ -39,11 +39,11 @@ module _ {M : Type 1} {𝓤 : Ura M} (𝓛 : Logic 𝓤) (memory : Memory → SP
     (run : Routine → Fun 𝓤) (C : Calls 𝓤 𝓛.H) (Λ : Loops 𝓤 𝓛.H) where
   open 𝓛 use {H}
 
-  -- the ghosts of the call
+  -- The ghosts of the call.
   abbrev bound : (walk_of 𝓛 call.ended stayed (call.clauses 𝓛 memory run)).Ghost
   bound = ((tt, tt, tt, tt, tt), tt)
 
-  -- the body, statement by statement
+  -- The body, statement by statement.
   walk : ent 𝓤 (on_entry 𝓛 call.signature tt tt tt tt)
       (WpFn 𝓤 H C Λ code.function []
       ((walk_of 𝓛 call.ended stayed (call.clauses 𝓛 memory run)).post bound))
@@ -58,14 +58,14 @@ module _ {M : Type 1} {𝓤 : Ura M} (𝓛 : Logic 𝓤) (memory : Memory → SP
       ((tt, (refl, tt)), tt) $
       move ! (1 ∷ 2 ∷ 0 ∷ []) $ done !)
 
-  -- the body meets its clauses
+  -- The body satisfies its clauses.
   walks : Walks 𝓛 call.ended stayed (WpFn 𝓤 H C Λ code.function) (call.clauses 𝓛 memory run)
   walks =
       walked 𝓛 call.ended stayed (call.clauses 𝓛 memory run) (WpFn 𝓤 H C Λ code.function) (λ κs. tt)
       (λ κs. tt)
       (λ κs qs bounds a g are. via 𝓤 _ (fst∗ 𝓤 _ (emp 𝓤)) walk)
 
--- so a call meets them
+-- So a call satisfies them.
 meets : {M : Type 1} {𝓤 : Ura M} (𝓛 : Logic 𝓤) (memory : Memory → SProp 𝓤) (run : Routine → Fun 𝓤)
     (𝓣 : Tables 𝓤 𝓛.H)
     → Meets 𝓛 call.signature (WpFn 𝓤 𝓛.H 𝓣.C 𝓣.Λ code.function) (call.spec 𝓛 memory run)

@@ -5,7 +5,7 @@ use Rattle.rsb_many.specs.MultiwayUnion.{multiway_union, multiway_union_inputs}
 use Rattle.rsb_many.proofs.merging.Operations.{complements-give}
 use Rattle.rsb_many.proofs.operation_results.multiway_intersection.MultiwayIntersection.of.Goals as goal
 
--- the gaps of what some of the streams leave out
+-- The gaps of the union of the complements are what lies in all of the streams.
 pub returns-clause-made : goal.returns-clause-made
 returns-clause-made g c = λ streams complements all begins.
     let outside = c.of-left_out.ensures.made complements begins in

@@ -2,8 +2,8 @@ use Rattle.rsb_streams.specs.NotIter.{not_iter}
 use Rattle.rsb_many.proofs.merging.Operations.{passes-use}
 use Rattle.rsb_many.proofs.operation_results.multiway_intersection.MultiwayIntersectionIterator.next.Goals as goal
 
--- the draws of the union that the complement makes use ranges of each of its inputs that lie within
--- its answers
+-- One draw of the complement makes draws of the union. These use only ranges of each input that lie
+-- within the returned ranges.
 pub returns-clause-steps : goal.returns-clause-steps
 returns-clause-steps g c = record {
   answers = c.next.ensures.steps.answers;

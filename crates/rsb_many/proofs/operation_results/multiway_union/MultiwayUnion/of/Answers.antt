@@ -4,7 +4,7 @@ use Rattle.rsb_many.specs.MultiwayUnion.{same_place}
 use Rattle.rsb_many.proofs.merging.Operations.{begins-gives, joins-begun}
 use Rattle.rsb_many.proofs.operation_results.multiway_union.MultiwayUnion.of.Goals as goal
 
--- the runs of the merge are those of what lies in some of the streams
+-- The runs of the merge are those of what lies in some of the streams.
 pub returns-clause-made : goal.returns-clause-made
 returns-clause-made g c = λ streams begins. record {
   ready = c.new.ensures.ready;

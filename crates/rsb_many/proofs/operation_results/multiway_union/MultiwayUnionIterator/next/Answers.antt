@@ -3,7 +3,7 @@ use Rattle.rsb_many.specs.KMerge.{kmerge, kmerge_inputs}
 use Rattle.rsb_many.specs.MultiwayUnion.{same_place}
 use Rattle.rsb_many.proofs.operation_results.multiway_union.MultiwayUnionIterator.next.Goals as goal
 
--- a union of the merge looks ahead of its inputs
+-- A union of the merge looks ahead in its inputs.
 pub returns-clause-steps : goal.returns-clause-steps
 returns-clause-steps g c = record {
   answers = c.next.ensures.steps.answers;

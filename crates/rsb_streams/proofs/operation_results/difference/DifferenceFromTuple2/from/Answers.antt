@@ -1,7 +1,7 @@
 use Rattle.rsb_streams.proofs.calling.Results.{difference-by_complements}
 use Rattle.rsb_streams.proofs.operation_results.difference.DifferenceFromTuple2.from.Goals as goal
 
--- the gaps of what lies outside the left or in the right
+-- The difference is the gaps of what is outside of the left stream or in the right one.
 pub returns : goal.returns
 returns g c = λ left_can right_can.
     let gaps = c.from-gaps.ensures left_can in

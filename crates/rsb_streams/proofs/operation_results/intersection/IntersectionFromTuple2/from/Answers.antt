@@ -1,7 +1,7 @@
 use Rattle.rsb_streams.proofs.calling.Results.{intersection-by_complements}
 use Rattle.rsb_streams.proofs.operation_results.intersection.IntersectionFromTuple2.from.Goals as goal
 
--- the gaps of what either leaves out
+-- The intersection is the gaps of what is outside of one of the streams.
 pub returns : goal.returns
 returns g c = λ left_can right_can.
     let gaps = c.from-gaps.ensures left_can in

@@ -3,7 +3,7 @@ use Rattle.rsb_streams.specs.Merge.{merge, merge_inputs}
 use Rattle.rsb_streams.proofs.lookahead.Ahead.{asks-ahead}
 use Rattle.rsb_streams.proofs.operation_results.union.UnionIterator.next.Goals as goal
 
--- a union of the merge looks ahead of its inputs
+-- A union of the merge looks ahead of its inputs.
 pub returns-clause-steps : goal.returns-clause-steps
 returns-clause-steps g c =
     let merged = merge g.T.Integer g.L.Draw g.R.Draw in

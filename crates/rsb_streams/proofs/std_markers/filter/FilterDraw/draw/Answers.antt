@@ -2,12 +2,12 @@ use Rattle.rsb_streams.specs.AdapterLaws.{filter-drawn}
 use Rattle.rsb_streams.proofs.sources.Known.{drawn-call, goes-drawn}
 use Rattle.rsb_streams.proofs.std_markers.filter.FilterDraw.draw.Goals as goal
 
--- it may be called
+-- The adapter may be called.
 pub next-requires : goal.next-requires
 next-requires g c = (filter-drawn g.T.Integer g.I.Draw g.I.Iterator g.met.I.Draw.answers
     g.met.I.Draw.sorted c.requires.drawn g.P.FnMut).callable c.args.self.now c.requires
 
--- a call of its `next` is a draw
+-- A call of `next` is a draw.
 pub returns-clause-steps : goal.returns-clause-steps
 returns-clause-steps g c =
     drawn-call (filter-drawn g.T.Integer g.I.Draw g.I.Iterator g.met.I.Draw.answers

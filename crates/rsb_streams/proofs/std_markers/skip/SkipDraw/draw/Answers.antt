@@ -2,7 +2,7 @@ use Rattle.rsb_streams.specs.AdapterLaws.{skip-drawn}
 use Rattle.rsb_streams.proofs.sources.Known.{drawn-call}
 use Rattle.rsb_streams.proofs.std_markers.skip.SkipDraw.draw.Goals as goal
 
--- a call of its `next` is a draw
+-- A call of `next` is a draw.
 pub returns-clause-steps : goal.returns-clause-steps
 returns-clause-steps g c =
     drawn-call (skip-drawn g.T.Integer g.I.Draw g.I.Iterator g.met.I.Draw.answers
