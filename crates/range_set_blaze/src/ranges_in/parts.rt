@@ -36,7 +36,7 @@ pub(crate) fn take_last<T: Integer>(
     ensures { MatchOption result
         ((with_held held.old entries.old ≡ []) × (with_held held.new entries.new ≡ []))
         (λ run. with_held held.old entries.old
-            ≡ with_held held.new entries.new ++ entry_of run ∷ []) }
+        ≡ with_held held.new entries.new ++ entry_of run ∷ []) }
 {
     let Some(run) = last_run(entries) else {
         return held.take();
