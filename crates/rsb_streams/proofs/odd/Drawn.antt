@@ -110,16 +110,16 @@ past-odd run next past low meets ordered from to at before =
 -- ---- which of two facts a flag picks
 
 -- If the flag is set, the first fact is enough.
-pick-first : {First Second : Type 0} (done : Bool) → done ≡ true → First
+pick-first : (First Second : Type 0) (done : Bool) → done ≡ true → First
     → MatchBool done First Second
-pick-first true is fact = fact
-pick-first false is fact = absurd (cc)
+pick-first First Second true is fact = fact
+pick-first First Second false is fact = absurd (cc)
 
 -- If the flag is not set, the second fact is enough.
-pick-second : {First Second : Type 0} (done : Bool) → done ≡ false → Second
+pick-second : (First Second : Type 0) (done : Bool) → done ≡ false → Second
     → MatchBool done First Second
-pick-second true is fact = absurd (cc)
-pick-second false is fact = fact
+pick-second First Second true is fact = absurd (cc)
+pick-second First Second false is fact = fact
 
 -- ---- calls of the source
 
@@ -128,7 +128,7 @@ module _ {T N I : Type 0} (integer : Elements T N) (source : Stream I T N) where
 
   -- After the source has ended, a draw does nothing.
   pub takes-nothing : (s : OddPieces T I) → s.done ≡ true → TakesForPiece integer source s None s
-  takes-nothing s ended = pick-first s.done ended (refl, refl)
+  takes-nothing s ended = pick-first _ _ s.done ended (refl, refl)
 
   -- The ranges drawn since the entry, if no piece was returned. What is pending now is what an odd
   -- number of them, and of the range pending at the entry, covers.
@@ -185,9 +185,9 @@ module _ {T N I : Type 0} (integer : Elements T N) (source : Stream I T N) where
           → ((at : ℕ) → rank_after rank (Some piece) ≤ at → members (pending rank now) at
           ≡ exclusive_or (members (pending rank was) at) (covers (interval_of rank range) at))
           → TakesForPiece integer source entry (Some piece) now
-      takes-more goes_on piece one same = pick-second entry.done drew.begun (record {
+      takes-more goes_on piece one same = pick-second _ _ entry.done drew.begun (record {
         drawn = with_one range;
-        draws = pick-second now.done goes_on draws-more;
+        draws = pick-second _ _ now.done goes_on draws-more;
         ended = tt;
         none = λ done. absurd (cc);
         left = record { one = one; same = λ at from. same at from ∙ sym (odd-now at) };
@@ -209,9 +209,9 @@ module _ {T N I : Type 0} (integer : Elements T N) (source : Stream I T N) where
 
       -- If nothing was pending, nothing is left.
       pub takes-none : was.end ≡ None → TakesForPiece integer source entry None now
-      takes-none is = pick-second entry.done drew.begun (record {
+      takes-none is = pick-second _ _ entry.done drew.begun (record {
         drawn = drew.drawn;
-        draws = pick-first now.done ended (was.iter, drew.draws, call);
+        draws = pick-first _ _ now.done ended (was.iter, drew.draws, call);
         ended = ended;
         none = λ done. none;
         left = left-none 0
@@ -222,9 +222,9 @@ module _ {T N I : Type 0} (integer : Elements T N) (source : Stream I T N) where
       pub takes-last : (end : T) (piece : RangeInclusive T) → was.end ≡ Some end
           → interval_of rank piece ≡ from_to (rank was.start) (rank end)
           → TakesForPiece integer source entry (Some piece) now
-      takes-last end piece is run = pick-second entry.done drew.begun (record {
+      takes-last end piece is run = pick-second _ _ entry.done drew.begun (record {
         drawn = drew.drawn;
-        draws = pick-first now.done ended (was.iter, drew.draws, call);
+        draws = pick-first _ _ now.done ended (was.iter, drew.draws, call);
         ended = tt;
         none = λ done. none;
         left = left-none (rank_after rank (Some piece)) (λ at most.
