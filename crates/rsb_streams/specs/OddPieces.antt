@@ -34,8 +34,8 @@ pub record ArePieces (n : ℕ) (selected : Selection) (pieces : List Interval) :
   pub sorted : HasSortedStarts n pieces
   pub same : Agree n (members pieces) selected
 
--- The pieces of the ranks in an odd number of the intervals: those before, and those that may be
--- given.
+-- The pieces of the ranks in an odd number of the intervals, counting both those in `before` and
+-- those that may be given.
 abbrev pub pieces_of : ℕ → List Interval → Outcomes → Outcomes
 pieces_of n before P pieces =
     SomeOutcome P (λ given. ArePieces n (oddly_covered (before ++ given)) pieces)

@@ -1,4 +1,5 @@
-//! Takes runs off both ends of a `RangesIn`, which may hold one run and has entries of a map.
+//! Takes runs off both ends of a `RangesIn`, which consists of an optional held run, followed by
+//! entries of a map.
 
 ghost use Rattle.std.specs.Prelude.{◌≡◌, [], ◌∷◌, ◌++◌, MatchOption};
 ghost use Rattle.range_set_blaze.specs.Kept.{entry_of};
