@@ -8,8 +8,8 @@ use Rattle.range_set_blaze.specs.Set.{only, Adds, IsSetOf}
 use Rattle.std.specs.declared.ops.RangeInclusive.{RangeInclusive}
 
 -- Whether the members of the set are exactly the ranks of the items. This definition, `AddsItems`
--- and `AddsValues` are records. The search for a caller's clause follows items into a record, but
--- not into an equation for each rank.
+-- and `AddsValues` are records. The proof search for a caller's clause follows items into a record,
+-- but not into an equation for each rank.
 pub record IsSetOfItems {T : Type 0} (rank : T → ℕ) (items : List (RangeInclusive T))
     (set : List Interval) : Type 0 where
   pub has : IsSetOf set (members (intervals_of rank items))

@@ -63,8 +63,8 @@ abbrev pub left_between : {T I : Type 0} → (T → ℕ) → (I → Outcomes) �
 left_between rank may_give s runs = (rest : List Interval)
     × fused_may_give may_give (stream_of s) rest × (runs ≡ between_ends rank s rest)
 
--- The greatest number of elements that may be left: those that are held, plus, for each range to
--- come, as many as the type has values.
+-- An upper bound on the number of elements left: those that are held, plus, for each range to come,
+-- as many as the type has values.
 abbrev pub elements_left : {T I : Type 0} → (T → ℕ) → ℕ → (I → Count) → Iter T I → Count
 elements_left rank n left s = record {
   bounded = (left s.ranges).bounded;
@@ -86,8 +86,8 @@ module _ {T I : Type 0} (rank : T → ℕ) (n : ℕ) (can_draw : I → Type 0)
     pub callable : fused_can can_draw (stream_of s)
     pub canonical : left_between rank may_give s ⊆ IsCanonicalIn n
 
-  -- Whether the iterator may be called. No search unfolds this word: `rev` requires it of the
-  -- iterator that it holds.
+  -- Whether the iterator may be called. No proof search unfolds this definition: `rev` requires it
+  -- of the iterator that it holds.
   unfoldable pub ElementsReady : Iter T I → Type 0
   ElementsReady s = IsReady s
 

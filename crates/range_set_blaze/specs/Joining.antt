@@ -30,7 +30,7 @@ KnowsInside rank runs joined last before = MatchOption last (NoneInside runs joi
     (λ other. IsInside runs joined (run_of rank other) × (rank other.start < rank run.start)))
 
 -- Whether the joined run is among others that are canonical without it. Some of those may start
--- inside it, but apart from them it touches none. `others` is the number of their members.
+-- inside it, but apart from them it touches none. `others` is the number of members of all others.
 pub record IsOver (n : ℕ) (now : List Interval) (joined : Interval) (others : ℕ) : Type 0 where
   pub rest : List Interval
   pub parts : now ≡ with_run joined rest
@@ -54,8 +54,8 @@ pub record IsReaching (runs : List Interval) (start : ℕ) (run : Interval) : Ty
 abbrev pub IsUnreached : List Interval → ℕ → Type 0
 IsUnreached runs start = (rank : ℕ) → rank ≤ start → start ≤ rank + 1 → members runs rank ≡ false
 
--- Whether the joined run has the run and otherwise only members, and no member is right before or
--- after it.
+-- Whether the joined run contains the run, all its other ranks are members, and no member is right
+-- before or after it.
 pub record IsHull (runs : List Interval) (run joined : Interval) : Type 0 where
   pub first : joined.first ≤ run.first
   pub last : run.last ≤ joined.last

@@ -79,8 +79,8 @@ start_alike (run ∷ runs) [] = false
 start_alike (run ∷ runs) (other ∷ others) = run.first == other.first
 
 -- Whether `turns` is the number of iterations that finding the order of two lists of runs takes. It
--- is one for each run of their longest common prefix, and one more. If both go on with runs of the
--- same start, it is one more again.
+-- is one for each run of their longest common prefix, and one more, or two more if both lists go on
+-- with runs of the same start.
 pub record AreTurns (left right : List Interval) (turns : ℕ) : Type 0 where
   pub front : List Interval
   pub left_rest : List Interval

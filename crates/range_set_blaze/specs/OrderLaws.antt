@@ -187,7 +187,7 @@ pub order-holds : (n : ℕ) (left right : Selection) → HasOrder n left right (
 order-holds n left right =
     order-from n 0 n left right (omega arith) (λ rank below. absurd (omega arith))
 
--- ---- both
+-- ---- `==` and `cmp` together
 
 -- Sets that differ at a least rank do not agree.
 differs-not : (n rank : ℕ) (left right : Selection) → DiffersAt n left right rank

@@ -25,7 +25,7 @@ ascending_ranks (run ∷ runs) = ranks_from run.first (length_of run) ++ ascendi
 module _ {F T : Type 0} (rank : T → ℕ) (n : ℕ) (g : Mut F (Bor T × Unit {0}) Bool) where
   -- Whether each call, starting with the closure `f`, returns what `keeps` gives for the rank of
   -- its argument. This covers only arguments whose rank is below n. (For a signed number that does
-  -- not fit, a test need not depend on the rank.)
+  -- not fit the type, a test need not depend on the rank.)
   abbrev pub AnswersByRank : Selection → F → Type 0
   AnswersByRank keeps = AlwaysReturns g (λ a r. rank a.0.now < n → r ≡ keeps (rank a.0.now))
 
@@ -94,8 +94,8 @@ module _ {F T : Type 0} (rank : T → ℕ) (g : Mut F (Bor T × Unit {0}) Bool) 
   AsksAll f set = (values : List T) × (last : F) × IsAsked g f values last
       × (map rank values ≡ ascending_ranks set)
 
-  -- Whether the closure `f` was called once on each of some prefix of the members, in ascending
-  -- order.
+  -- Whether the closure `f` was called on the members in some prefix of them, once on each, in
+  -- ascending order.
   abbrev pub AsksFront : F → List Interval → Type 0
   AsksFront f set = (values : List T) × (last : F) × IsAsked g f values last
       × IsPrefix (map rank values) (ascending_ranks set)

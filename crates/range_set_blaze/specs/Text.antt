@@ -2,7 +2,7 @@
 --
 -- Text that is empty, or has only blanks, spells no ranges. Otherwise the ranges are separated by
 -- commas. A range is a number, or two numbers with `..=` between them. Blanks are allowed around
--- each number. A number is an optional sign followed by decimal digits, and is one of the type.
+-- each number. A number is an optional sign followed by decimal digits, and must fit the type.
 -- `-0` is 0 for every type. For `u8`:
 --
 --   "" and "  "            no ranges

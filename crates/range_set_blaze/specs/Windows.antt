@@ -48,7 +48,7 @@ pub record ReachesIn (runs : List Interval) (point : ℕ) (part : Interval) : Ty
   pub ends : part.last ≡ run.last
 
 -- Whether the parts are canonical and start at or below `last`. Up to `last`, their members must be
--- those of the runs that are at or above `first`.
+-- those members of the runs that are at or above `first`.
 pub record IsWindow (n : ℕ) (runs : List Interval) (first last : ℕ) (parts : List Interval) : Type 0
   where
     pub canonical : IsCanonicalIn n parts

@@ -1,6 +1,6 @@
 //! Laws that callers rely on. Each function does nothing, and its clauses state the law.
-//! `cmp_counted` is here too: it returns the order of two sets and the number of iterations it
-//! takes.
+//! `cmp_counted` is here too: it returns the order of two sets and the number of iterations that
+//! the comparison takes.
 
 pub use crate::set::elements::elements_stand_for_sets;
 pub use crate::set::hash::run_bounds_are_ends;

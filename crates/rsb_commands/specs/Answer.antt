@@ -51,12 +51,12 @@ abbrev pub WroteFirstReplies : Option (List ℕ) → Option (List ℕ) → Optio
 WroteFirstReplies known old new =
     IfAnswered known (λ commands replies. StopsForMemory commands replies old new)
 
--- Whether less than the text of the replies was written, or nothing if that text is empty.
+-- Whether only part of the text of the replies was written, or nothing if that text is empty.
 abbrev pub WrotePartOfReplies : Option (List ℕ) → Option (List ℕ) → Option (List ℕ) → Type 0
 WrotePartOfReplies known old new =
     IfAnswered known (λ commands replies. CutsShort old new (text replies))
 
--- Whether nothing was written, in case the known input does not spell a list of commands.
+-- Whether nothing was written if the known input does not spell a list of commands.
 abbrev pub KeepsWithoutCommands : Option (List ℕ) → Option (List ℕ) → Option (List ℕ) → Type 0
 KeepsWithoutCommands known old new = IfSome known (λ input.
     ((commands : List (Command ℤ)) → ¬ AreCommands input commands) → Keeps old new)

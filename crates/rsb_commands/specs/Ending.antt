@@ -9,7 +9,7 @@ use Rattle.rsb_parser.specs.Spelling.{IsFirstBadLine}
 use Rattle.rsb_commands.specs.Answer.{Answers, KeepsWithoutCommands, WroteFirstReplies, WrotePartOfReplies}
 use Rattle.rsb_commands.specs.Transfer.{AppendsPrefixOf}
 
--- What is left of the input, and what was written to the output and to the errors, if it is known.
+-- What is left of the input, and what was written to the output and to the error output, if known.
 pub record Channels : Type 0 where
   pub input : Option (List ℕ)
   pub output : Option (List ℕ)

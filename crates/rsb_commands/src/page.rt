@@ -26,7 +26,7 @@ pub(crate) struct Page<'a, W: Write> {
 
 impl<'a, W: Write> Page<'a, W> {
     /// Returns an empty page for a writer. The writer fails once it has been interrupted 2^64 - 1
-    /// times over all of its pages.
+    /// times in total, over all of its writes.
     pub(crate) fn new(output: &'a mut W) -> Page<'a, W>
         ensures output { result.output ≡ output.entry }
         ensures empty { waiting result ≡ [] }
@@ -38,7 +38,7 @@ impl<'a, W: Write> Page<'a, W> {
         }
     }
 
-    /// Adds text after the text that waits. There must be room for it.
+    /// Appends to the text that waits. There must be room for the new text.
     #[inline(always)]
     pub(crate) fn lay(&mut self, text: &[u8])
         requires { length (waiting self.old) + length text.now ≤ PAGE }

@@ -56,9 +56,10 @@ pub fn finish<W: Write>(errors: &mut W, outcome: Result<(), Fault>) -> ExitCode
 /// reply.
 ///
 /// After `BadLine`, nothing has been written. After `NoMemory`, exactly the replies before the
-/// command that failed have been written. After `Io`, a prefix of the text of the replies has been
-/// written, and not all of it unless the text is empty. `Io` is also returned for an input of 2^64
-/// lines or more. If a line is bad, nothing is written, whatever the fault is.
+/// command that failed have been written, or nothing if the input was still being read. After `Io`,
+/// a prefix of the text of the replies has been written. It is shorter than the text, unless the
+/// text is empty. `Io` is also returned for an input that is too long (`Fault::Io`). If a line is
+/// bad, nothing is written, whatever the fault is.
 pub fn run<A: Allocator + Copy, R: Read, W: Write>(
     alloc: A,
     input: &mut R,

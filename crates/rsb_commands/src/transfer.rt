@@ -5,9 +5,9 @@ ghost use Rattle.rsb_commands.specs.Transfer.{Writes};
 use rsb_parser::Fault;
 use std::io::{ErrorKind, Write};
 
-/// Writes all of the text and returns the patience that is left: how many more interruptions make
-/// the writer fail. Returns `Io` if a call fails or takes no byte. An interruption at a patience of
-/// 1 or 0 is a failure.
+/// Writes all of the text and returns the patience that is left: the number of further
+/// interruptions at which the writer fails. Returns `Io` if a call fails or takes no bytes. An
+/// interruption at a patience of 1 or 0 is a failure.
 pub(crate) fn write_all<W: Write>(output: &mut W, text: &[u8], patience: u64) -> Result<u64, Fault>
     ensures { Writes (W.contents output.old) (W.contents output.new) result text.now }
 {

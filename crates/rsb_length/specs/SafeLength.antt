@@ -9,7 +9,7 @@ use Rattle.std.proofs.lemmas.Bool.Decides.{Decides-eqb}
 pub unsigned-fits : (k n : ℕ) → FitsUnsignedBits k (pos n) ↔ (n ≤ 2 ^ k - 1)
 unsigned-fits k n = let some = pow_pos k in ((λ h. omega arith), (λ h. omega arith))
 
--- A sum of at most the greatest value fits.
+-- A sum that is at most the greatest value fits.
 pub unsigned-sum_fits : (k a b : ℕ) → a + b ≤ 2 ^ k - 1 → a + b < 2 ^ k
 unsigned-sum_fits k a b h = let some = pow_pos k in omega arith
 

@@ -58,7 +58,7 @@ pub stretched-not_past : (limit n : ℕ) → stretched limit n ≢ limit + 1
 stretched-not_past limit n e = grind (arith, nat_tests)
 
 -- `same` behaves as the derived `==`. It compares two `UInt`s by `equal`, which is true exactly for
--- equal numbers, and is false between a `UInt` and `MaxPlusOne`.
+-- equal numbers. Between a `UInt` and `MaxPlusOne`, `same` is false.
 module _ {T : Type 0} (number : T → ℕ) (limit : ℕ) (equal : T → T → Bool)
     (same : UIntPlusOne T → UIntPlusOne T → Bool)
     (by_number : (a b : T) → IsTrue (equal a b) ↔ (number a ≡ number b))
@@ -88,7 +88,7 @@ module _ {T : Type 0} (number : T → ℕ) (limit : ℕ) (equal : T → T → Bo
 stretched-limited : (limit n : ℕ) → stretched limit n ≤ limit + 1 → n ≤ limit
 stretched-limited limit n h = grind (arith, nat_tests)
 
--- The test `nat_le` passes each number within the limit, and fails the number after the limit.
+-- The test `nat_le` is true of each number within the limit, and false of the one after the limit.
 le-within : (n limit : ℕ) → n ≤ limit → nat_le n limit ≡ true
 le-within n limit h = grind (arith, nat_tests)
 

@@ -90,7 +90,7 @@ module _ {T N I A : Type 0} (integer : Elements T N) (stream : Stream I T N) whe
   })
 
   -- Whether the sweep is ready, a piece that has begun starts at a value, no edge to come lies
-  -- before that, and all ranges that have started end.
+  -- before that, and every range that has started will end.
   pub record DeepReady (s : DeepPieces T I A N) : Type 0 where
     pub sweep : SweepReady integer stream s.sweep
     pub start : IfSome s.start (λ value. rank value < n)

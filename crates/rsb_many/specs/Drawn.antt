@@ -35,8 +35,8 @@ pub record AddsUnstarted {T : Type 0} (old new : List (Head T)) : Type 0 where
   pub unstarted : All IsUnstarted came
   pub all : IsPermutation (came ++ old) new
 
--- Whether there is room for a head of each input. The heads, and the input used last if there is
--- one, are at most as many as the inputs.
+-- Whether there is room for a head of each input. There are at most as many heads as inputs, and
+-- fewer if there is an input that was used last.
 pub record HasRoomForAll {T I A N : Type 0} (s : Drawn T I A N) : Type 0 where
   pub used : IfSome s.used (λ place. place < length s.streams.items)
   pub few : length s.heads.heads + option_len s.used ≤ length s.streams.items

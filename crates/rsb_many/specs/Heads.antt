@@ -52,7 +52,7 @@ key_of rank head = record {
 }
 
 -- Whether both ends of a head's range are values of a type of `value_count` values, and the head is
--- at the one that its key gives.
+-- at whichever of the two ends its key gives.
 pub record HasValues {T : Type 0} (rank : T → ℕ) (value_count : ℕ) (head : Head T) : Type 0 where
   pub at : rank head.at < value_count
   pub stands : rank head.at ≡ (key_of rank head).at

@@ -17,7 +17,7 @@ use Rattle.rsb_many.specs.declared.deep_pieces.DeepPieces.{DeepPieces}
 use Rattle.rsb_many.specs.declared.multiway_at_least.MultiwayAtLeast.{MultiwayAtLeast}
 
 -- Whether only runs of what lies in at least `least` of the lists of the streams may come, and at
--- most as many as these lists have together. Proof search does not unfold this word.
+-- most as many as these lists have together. No proof search unfolds this definition.
 unfoldable pub GivesRunsOfAllAtMost : {S : Type 0} → ℕ → ℕ → (S → Outcomes) → List S → Outcomes
     → Type 0
 GivesRunsOfAllAtMost least n may_give streams given = given ⊆ (λ runs.

@@ -72,7 +72,7 @@ module _ {T N I A : Type 0} (integer : Elements T N) (stream : Stream I T N) whe
   sweep_inputs s place = input_at integer stream (inputs_of s.inputs) place
 
   -- The events of lists that the inputs may give. If the first range of an input has started, only
-  -- its end is still to come.
+  -- the end of that range is still to come, not its start.
   abbrev pub sweep_may_give : MultiwaySweep T I A N → EventOutcomes
   sweep_may_give s events = SomeOfEach (stream_count s) (λ place. gives_of (sweep_inputs s place))
       (λ lists. AreEventsOf (rests_by (has_begun s.inputs.heads.heads) lists) events)
@@ -112,7 +112,7 @@ module _ {T N I A : Type 0} (integer : Elements T N) (stream : Stream I T N) whe
     pub counted : s.inputs.heads.comparisons ≤ t.inputs.heads.comparisons
 
   -- Whether `s` is a sweep just built from these streams, whose ranges do not overlap within a
-  -- stream. It is ready, and only the events of lists that the streams may give may come. The first
+  -- stream. It is ready, and gives only the events of lists that the streams may give. The first
   -- range of each is drawn.
   pub record SweepsOver (streams : List I) (s : MultiwaySweep T I A N) : Type 0 where
     pub touching : (place : ℕ)

@@ -28,8 +28,8 @@ key_of_event (End at input) = record { at = at; is_end = true; input = input }
 abbrev pub Precedes : Event → Event → Type 0
 Precedes one other = IsTrue (comes_before (key_of_event one) (key_of_event other))
 
--- Whether `events` has the events of `unordered`, each equally often, and each comes before all
--- later ones.
+-- Whether `events` has the events of `unordered`, each the same number of times, and each comes
+-- before all later ones.
 pub record AreInOrder (unordered events : List Event) : Type 0 where
   pub all : IsPermutation unordered events
   pub ascending : AllPairs Precedes events

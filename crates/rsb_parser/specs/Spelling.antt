@@ -151,15 +151,15 @@ pub record BeginsWith (Holds : List ℕ → Type 0) (line rest : List ℕ) : Typ
   pub parts : words line ≡ word ∷ words rest
   pub holds : Holds word
 
--- Whether the fact holds of no value at the first word of the line. This is so for a line without
--- words.
+-- Whether the fact holds of no pair of the line's first word and a value. This is so for a line
+-- without words.
 abbrev pub LacksFirst : {X : Type 0} → (List ℕ → X → Type 0) → List ℕ → Type 0
 LacksFirst {X} Holds line =
     (word : List ℕ) (others : List (List ℕ)) → words line ≡ word ∷ others
     → (x : X) → ¬ Holds word x
 
--- Whether the result is a value that the fact holds of at the first word of the line, with the rest
--- of the line. It is `None` if there is no such value.
+-- Whether the result is a value such that the fact holds of the first word of the line and that
+-- value, with the rest of the line. It is `None` if there is no such value.
 abbrev pub ReadsFirst : {X : Type 0} → Option (X × Bor (List ℕ)) → (List ℕ → X → Type 0) → List ℕ
     → Type 0
 ReadsFirst result Holds line = MatchOption result (LacksFirst Holds line)

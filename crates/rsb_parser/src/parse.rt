@@ -34,7 +34,7 @@ pub fn parse_commands<A: Allocator + Copy>(
     Ok(commands)
 }
 
-/// Returns the same commands, and the number of lines.
+/// Does the same as `parse_commands`, and also returns the number of lines.
 pub(crate) fn parse_lines<A: Allocator + Copy>(
     alloc: A,
     input: &[u8],

@@ -29,8 +29,8 @@ module _ {S T : Type 0} (rank : T → ℕ) (P : S → Outcomes)
     (steps : S → Option (RangeInclusive T) → S → Type 0)
     (gives : (s t : S) (range : RangeInclusive T) → steps s (Some range) t
     → Answers rank P s (Some range) t) where
-  -- Before the calls, what they returned, followed by what may still come, was one of the lists
-  -- that might come.
+  -- What the calls returned, followed by what may still come after them, is one of the lists that
+  -- might come from the state before the calls.
   pub passed : (ranges : List (RangeInclusive T)) (s t : S) (rest : List Interval)
       → Yields steps s ranges t → P t rest → P s (intervals_of rank ranges ++ rest)
   passed [] s t rest all may = subst (λ each. P each rest) (sym all) may

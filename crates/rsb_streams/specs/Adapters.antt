@@ -80,8 +80,8 @@ pub record MayDraw (Source Closure Drawn : Type 0) : Type 0 where
   pub closure : Closure
   pub drawn : Drawn
 
--- Whether the `next` of a stream is its `draw`. This is a fact and not a bound: with a bound, what
--- the compiler passes would double at each level of nested adapters.
+-- Whether the `next` of a stream is its `draw`. This is a fact and not a trait bound: with a bound,
+-- the dictionaries that the compiler passes would double at each level of nested adapters.
 abbrev pub NextIsDraw : {S T N : Type 0} → Stream S T N → Iteration S (RangeInclusive T) → Type 0
 NextIsDraw stream next = IsDrawn stream.can_draw stream.draw_gives stream.draws_left
     next.can_next next.next_gives next.remaining

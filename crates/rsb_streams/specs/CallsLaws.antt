@@ -75,7 +75,7 @@ module _ {I T : Type 0} (rank : T → ℕ) (iterator : Iteration I (RangeInclusi
         (t, record { gives = call; nearer = λ finite. near }, all));
   }
 
-  -- Calls, without the number of ranges that are left.
+  -- Successive calls as `Call` describes them are successive calls of `next`.
   pub calls-steps : (ranges : List (RangeInclusive T)) (s t : I) → Yields (Call rank iterator) s ranges t
       → Yields iterator.next_gives s ranges t
   calls-steps [] s t all = all

@@ -1,4 +1,4 @@
--- Values that convert into iterators, described by the items that calls to these return.
+-- Values that convert into iterators, described by the items that calls to the iterators return.
 use Rattle.std.specs.Prelude.{List, Option}
 use Rattle.std.specs.Iterator.{Count, Drains, IsFinite}
 use Rattle.std.specs.Iterator.Runs.{WholeRun}

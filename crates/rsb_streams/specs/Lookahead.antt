@@ -19,8 +19,8 @@ pub record Input : Type 1 where
 abbrev pub Drew : Outcomes → List Interval → Outcomes → Type 0
 Drew before drawn now = (rest : List Interval) → now rest → before (drawn ++ rest)
 
--- Whether a call used the ranges of an input: what was held and then drawn is what was used,
--- followed by what is held now.
+-- Whether a call used the ranges of an input: what was held before, followed by what was drawn, is
+-- what was used, followed by what is held now.
 pub record Uses (before : Input) (used : List Interval) (now : Input) : Type 0 where
   pub drawn : List Interval
   pub drew : Drew before.undrawn drawn now.undrawn
@@ -108,7 +108,7 @@ left-not_right same = absurd (cc)
 pub right-not_left : ¬ (Right ≡ Left)
 right-not_left same = absurd (cc)
 
--- Such a test for two sides.
+-- A test of whether two sides are the same, with a proof of its answer.
 abbrev pub same_side : Sameness Side
 same_side Left Left = inl refl
 same_side Right Right = inl refl

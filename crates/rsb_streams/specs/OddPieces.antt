@@ -1,14 +1,12 @@
 -- The pieces that an odd number of ranges cover, if no rank is in more than two of the ranges.
-use Rattle.std.proofs.Common.{◌≡◌, ◌⊎◌, ℕ, ◌+◌, ◌≤◌, false, max, min, List, [], ◌∷◌, ◌++◌, length, map}
-use Rattle.std.specs.Prelude.{Option, Some, None}
+use Rattle.std.proofs.Common.{◌≡◌, ℕ, ◌+◌, ◌≤◌, false, true, max, min, List, [], ◌∷◌, ◌++◌, length, map}
+use Rattle.std.specs.Prelude.{Option, Some, None, IfNone, MatchBool}
 use Rattle.std.specs.Iterator.{Count, count_map, count_unless, Yields, YieldsThen}
 use Rattle.std.specs.declared.ops.RangeInclusive.{RangeInclusive}
 use Rattle.rsb_integer.specs.Rank.{interval_of, intervals_of}
-use Rattle.rsb_integer.specs.Runs.{Interval, cover, covers, members}
+use Rattle.rsb_integer.specs.Runs.{Interval, cover, covers, members, HasRanks}
 use Rattle.rsb_integer.specs.Selection.{Selection, Agree, odd_of}
 use Rattle.rsb_integer.specs.declared.integer.Integer.{Ghosts as Elements}
-use Rattle.rsb_streams.specs.Fused.{fused, Fused}
-use Rattle.rsb_streams.specs.Lookahead.{IsOneFrom}
 use Rattle.rsb_streams.specs.Rows.{asking}
 use Rattle.rsb_streams.specs.Stream.{Outcomes, HasSortedStarts, SomeOutcome, unless}
 use Rattle.rsb_streams.specs.declared.draw.Draw.{Ghosts as Stream}
@@ -36,8 +34,8 @@ pub record ArePieces (n : ℕ) (selected : Selection) (pieces : List Interval) :
   pub sorted : HasSortedStarts n pieces
   pub same : Agree n (members pieces) selected
 
--- The pieces of the ranks in an odd number of the intervals: those before, and those that may be
--- given.
+-- The pieces of the ranks in an odd number of the intervals, counting both those in `before` and
+-- those that may be given.
 abbrev pub pieces_of : ℕ → List Interval → Outcomes → Outcomes
 pieces_of n before P pieces =
     SomeOutcome P (λ given. ArePieces n (oddly_covered (before ++ given)) pieces)
@@ -89,15 +87,17 @@ abbrev pub rank_after : {T : Type 0} → (T → ℕ) → Option (RangeInclusive 
 rank_after rank None = 0
 rank_after rank (Some piece) = (interval_of rank piece).last + 1
 
--- Whether `left` is what the drawn ranges leave from a rank on: at most one interval, which has
--- exactly the ranks from there on that an odd number of them covers.
-pub record IsLeft (drawn : List Interval) (from : ℕ) (left : List Interval) : Type 0 where
-  pub one : IsOneFrom from left
-  pub same : (rank : ℕ) → from ≤ rank → members left rank ≡ oddly_covered drawn rank
+-- Whether there is at most one interval, and it is non-empty and starts at the rank or later.
+abbrev pub IsOneRunFrom : ℕ → List Interval → Type 0
+IsOneRunFrom first [] = Unit {0}
+IsOneRunFrom first (run ∷ []) = (first ≤ run.first) × HasRanks run
+IsOneRunFrom first (run ∷ other ∷ runs) = ⊥
 
--- The source, with the flag for its end.
-abbrev pub source_of : {T I : Type 0} → OddPieces T I → Fused I
-source_of s = record { iter = s.iter; done = s.done }
+-- Whether `left` is at most one non-empty interval, which has exactly the ranks from `from` on that
+-- are in an odd number of the intervals.
+pub record IsLeft (runs : List Interval) (from : ℕ) (left : List Interval) : Type 0 where
+  pub one : IsOneRunFrom from left
+  pub same : (rank : ℕ) → from ≤ rank → members left rank ≡ oddly_covered runs rank
 
 module _ {T N I : Type 0} (integer : Elements T N) (stream : Stream I T N) where
   -- Whether the source is ready, and no rank is in more than two of the ranges, pending and still
@@ -118,16 +118,23 @@ module _ {T N I : Type 0} (integer : Elements T N) (stream : Stream I T N) where
   odd_remaining s = count_unless s.done
       (count_map (λ left. left + length (ends_of s.end)) (stream.draws_left s.iter))
 
-  -- Which ranges a draw takes from the source, and that the range pending afterwards is what these
-  -- and the one pending before leave past the returned piece. So as many ends are pending, one or
-  -- none, as ranges have begun and not ended.
-  pub record TakesForPiece (s : OddPieces T I) (item : Option (RangeInclusive T))
-      (t : OddPieces T I) : Type 0 where
+  -- Whether a draw takes the ranges `drawn` from the source, and leaves what remains of them. What
+  -- these ranges and the one pending before leave past the returned piece is pending afterwards. So
+  -- one end is pending if a rank past the piece is in an odd number of these ranges, and none
+  -- otherwise. After the source has ended, none is pending.
+  pub record Takes (s : OddPieces T I) (item : Option (RangeInclusive T)) (t : OddPieces T I) : Type
+      0 where
     pub drawn : List (RangeInclusive T)
-    pub draws : Yields (fused stream).draw_gives (source_of s) drawn (source_of t)
-        ⊎ YieldsThen (fused stream).draw_gives (source_of s) drawn None (source_of t)
+    pub draws : MatchBool t.done (YieldsThen stream.draw_gives s.iter drawn None t.iter)
+        (Yields stream.draw_gives s.iter drawn t.iter)
+    pub ended : IfNone item (t.done ≡ true)
+    pub none : t.done ≡ true → t.end ≡ None
     pub left : IsLeft (pending integer.rank s ++ intervals_of integer.rank drawn)
         (rank_after integer.rank item) (pending integer.rank t)
+
+  -- Whether a draw takes such ranges, or does nothing because the source has ended.
+  abbrev pub TakesForPiece : OddPieces T I → Option (RangeInclusive T) → OddPieces T I → Type 0
+  TakesForPiece s item t = MatchBool s.done ((item ≡ None) × (t ≡ s)) (Takes s item t)
 
   -- The pieces of a source, as a stream. It is ready while it is going, and after all was given.
   abbrev pub odd_pieces : Stream (OddPieces T I) T N

@@ -1,6 +1,6 @@
 -- What operations on streams return: the result is ready, and gives only the runs of what the
 -- operation selects. Methods, operators and `From` cite the same definition, a record of two or
--- three facts, which the search takes apart quickly.
+-- three facts, which the proof search takes apart quickly.
 use Rattle.std.specs.Prelude.{◌≡◌}
 use Rattle.rsb_integer.specs.declared.integer.Integer.{Ghosts as Elements}
 use Rattle.rsb_streams.specs.Stream.{GivesComplement, GivesDifference, GivesIntersection, GivesSymmetricDifference, GivesUnion, IsMade, IsReadyAnd}

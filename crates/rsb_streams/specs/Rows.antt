@@ -1,5 +1,5 @@
--- Streams as rows, which are the members of `Draw`. A row states when a stream is ready, what a
--- draw returns and leaves, how many ranges are left, and what may still come
+-- Streams as rows. A row is a record of all ghost members of `Draw`: it states when a stream is
+-- ready, what a draw returns and leaves, how many ranges are left, and what may still come
 -- (docs/DECISIONS.md, rows).
 use Rattle.std.specs.Iterator.{Count}
 use Rattle.std.specs.Prelude.{List, Option}

@@ -53,7 +53,7 @@ HasOutcome P = ¬ ((runs : List Interval) → ¬ (P runs))
 abbrev pub SomeOutcome : Outcomes → (List Interval → Type 0) → Type 0
 SomeOutcome P Fact = ¬ ((runs : List Interval) → P runs → ¬ (Fact runs))
 
--- Whether the fact holds of some two lists, one that each stream may give.
+-- Whether the fact holds of some pair of lists, one from each stream, that the two may give.
 abbrev pub SomeOutcomes : Outcomes → Outcomes → (List Interval → List Interval → Type 0) → Type 0
 SomeOutcomes P Q Fact = ¬ ((left right : List Interval) → P left → Q right → ¬ (Fact left right))
 
@@ -110,14 +110,14 @@ abbrev pub Rests : {S T : Type 0} → (S → Type 0) → (S → Outcomes)
 Rests can_next may_give item t = MatchOption item (can_next t × (may_give t ⊆ just []))
     (λ _. Unit {0})
 
--- Both of these: all that is known about a call to a stream of this crate.
+-- Both of these.
 pub record AnswersAndRests {S T : Type 0} (rank : T → ℕ) (can_next : S → Type 0)
     (may_give : S → Outcomes)
     (s : S) (item : Option (RangeInclusive T)) (t : S) : Type 0 where
   pub answers : Answers rank may_give s item t
   pub rests : Rests can_next may_give item t
 
--- Both of these, and what the call asked of the streams that the stream is built from.
+-- The same, and what the call asked of the streams that the stream is built from.
 pub record AnswersAndAsks {S T : Type 0} (rank : T → ℕ) (can_next : S → Type 0)
     (may_give : S → Outcomes) (Asks : S → Option (RangeInclusive T) → S → Type 0)
     (s : S) (item : Option (RangeInclusive T)) (t : S) : Type 0 where

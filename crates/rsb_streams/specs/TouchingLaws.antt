@@ -14,7 +14,7 @@ touching-lower low lower [] less touching = tt
 touching-lower low lower (run ∷ runs) less touching =
     let starts = touching.0 in (omega arith, touching.1, touching.2)
 
--- A canonical list is one whose intervals may touch: none of them overlap.
+-- A canonical list is also a list whose intervals may touch, since none of them overlap.
 pub touching-canonical : (low : ℕ) (runs : List Interval) → IsCanonicalFrom low runs
     → IsTouchingFrom low runs
 touching-canonical low [] canonical = tt

@@ -16,8 +16,9 @@ use Rattle.rsb_streams.specs.declared.union_iter.UnionIter.{UnionIter}
 module _ {T N S : Type 0} (integer : Elements T N) (stream : Stream S T N) where
   open integer use {rank}
 
-  -- Whether all that was held before and then drawn lies within the returned range. One more draw
-  -- gave what is held now, which starts past the end of that range, with a gap between.
+  -- Whether all that was held before, and all that was then drawn, lies within the returned range.
+  -- One more draw gave what is held now, which starts past the end of that range, with a gap
+  -- between.
   pub record Joins (s : UnionIter T S) (answer : RangeInclusive T) (t : UnionIter T S) : Type 0
     where
       pub drawn : List (RangeInclusive T)
@@ -47,8 +48,8 @@ module _ {T N S : Type 0} (integer : Elements T N) (stream : Stream S T N) where
 
 -- ---- the union of a stream that has inputs itself
 
--- An input of a stream, or an ended one if the stream has ended, because that is not drawn from
--- again.
+-- An input of a stream, or an ended input if the stream has ended, because a stream that has ended
+-- is not drawn from again.
 abbrev pub unless_ended : Bool → Input → Input
 unless_ended true input = undrawn (just [])
 unless_ended false input = input

@@ -49,9 +49,9 @@ use std::ops::RangeInclusive;
 /// `None` again. No law says so for other streams, so the streams of this crate never call another
 /// stream again after its end.
 pub trait SortedStarts<T: Integer>: Iterator<Item = RangeInclusive<T>> + FusedIterator + Draw<T> {
-    /// Does nothing. If an implementation is for a type that contains a closure, it must define a
-    /// function of its own, or the bound on the closure is unknown. This function can serve for
-    /// that. Not in range-set-blaze.
+    /// Does nothing. In an implementation for a type that contains a closure, the bound on the
+    /// closure is known only if the implementation defines a function of its own. It can override
+    /// this one for that purpose. Not in range-set-blaze.
     fn mark_sorted(&self) {}
 
     // `next` does what `draw` does.
@@ -235,9 +235,9 @@ pub trait DrawDisjoint<T: Integer>: Draw<T> {
         right.draw().is_none()
     }
 
-    /// Returns whether each member of `self` is a member of `other`. Both must be ready. If some
-    /// members are not, it draws from each stream at most one range past the second run of such
-    /// members. Otherwise it draws both to their ends. Does not allocate.
+    /// Returns whether each member of `self` is a member of `other`. Both must be ready. If two or
+    /// more runs of members are not, it draws from each stream at most one range past the second
+    /// such run. Otherwise it draws both to their ends. Does not allocate.
     /// (`SortedDisjoint::is_subset`.)
     final fn is_subset<R: DrawDisjoint<T>>(self, other: R) -> bool
     where
@@ -263,9 +263,9 @@ pub trait DrawDisjoint<T: Integer>: Draw<T> {
         other.is_subset(self)
     }
 
-    /// Returns whether two ready streams have no member in common. If they do have some, it draws
-    /// from each stream at most one range past the second run of common members. Otherwise it draws
-    /// both to their ends. Does not allocate. (`SortedDisjoint::is_disjoint`.)
+    /// Returns whether two ready streams have no member in common. If they have two or more runs of
+    /// common members, it draws from each stream at most one range past the second. Otherwise it
+    /// draws both to their ends. Does not allocate. (`SortedDisjoint::is_disjoint`.)
     final fn is_disjoint<R: DrawDisjoint<T>>(self, other: R) -> bool
     where
         Self: Sized,
@@ -277,9 +277,9 @@ pub trait DrawDisjoint<T: Integer>: Draw<T> {
         self.intersection(other).is_empty()
     }
 
-    /// Does nothing. If an implementation is for a type that contains a closure, it must define a
-    /// function of its own, or the bound on the closure is unknown. This function can serve for
-    /// that. Not in range-set-blaze.
+    /// Does nothing. In an implementation for a type that contains a closure, the bound on the
+    /// closure is known only if the implementation defines a function of its own. It can override
+    /// this one for that purpose. Not in range-set-blaze.
     fn mark_disjoint(&self) {}
 
     // Whatever a ready stream may give is canonical.

@@ -29,9 +29,9 @@ pub trait SortedTouching<T: Integer>: SortedStarts<T> {
         UnionIter::new(self)
     }
 
-    /// Does nothing. If an implementation is for a type that contains a closure, it must define a
-    /// function of its own, or the bound on the closure is unknown. This function can serve for
-    /// that. Not in range-set-blaze.
+    /// Does nothing. In an implementation for a type that contains a closure, the bound on the
+    /// closure is known only if the implementation defines a function of its own. It can override
+    /// this one for that purpose. Not in range-set-blaze.
     fn mark_touching(&self) {}
 
     // Whatever a ready stream may give ascends, and no two ranges of it overlap.

@@ -20,9 +20,9 @@ use std::ops::RangeInclusive;
 
 /// The ranges of an iterator, in its order, with neighbors joined. A range that overlaps or touches
 /// the one gathered so far is joined to it. Otherwise the gathered range is returned, and the new
-/// one takes its place. So few ranges are left if they come nearly in order or in clusters. Empty
-/// ranges are skipped. It holds at most one range. (`UnsortedDisjoint` in range-set-blaze, where it
-/// is private.)
+/// one takes its place. As a result, few ranges are left if they come nearly in order or in
+/// clusters. Empty ranges are skipped. It holds at most one range. (`UnsortedDisjoint` in
+/// range-set-blaze, where it is private.)
 #[derive(Drop)]
 pub struct UnsortedDisjoint<T, I> {
     iter: Fuse<I>,

@@ -1,4 +1,5 @@
-//! Takes runs off both ends of a `RangesIn`, which may hold one run and has entries of a map.
+//! Takes runs off both ends of a `RangesIn`, which consists of an optional held run, followed by
+//! entries of a map.
 
 ghost use Rattle.std.specs.Prelude.{◌≡◌, [], ◌∷◌, ◌++◌, MatchOption};
 ghost use Rattle.range_set_blaze.specs.Kept.{entry_of};
@@ -36,7 +37,7 @@ pub(crate) fn take_last<T: Integer>(
     ensures { MatchOption result
         ((with_held held.old entries.old ≡ []) × (with_held held.new entries.new ≡ []))
         (λ run. with_held held.old entries.old
-            ≡ with_held held.new entries.new ++ entry_of run ∷ []) }
+        ≡ with_held held.new entries.new ++ entry_of run ∷ []) }
 {
     let Some(run) = last_run(entries) else {
         return held.take();

@@ -83,8 +83,8 @@ impl<T: Integer, A: Allocator + Copy> RangeSetBlaze<T, A> {
     /// owns them. If the bounds are empty or reversed, the iterator is empty. If allocation fails,
     /// no iterator is made. (`RangeSetBlaze::range`.)
     ///
-    /// The contract says nothing about a `RangeBounds` type that does not specify its bounds, or
-    /// about a `RangeInclusive` that was iterated to its end.
+    /// The contract says nothing about a `RangeBounds` type whose own contract does not specify its
+    /// bounds, or about a `RangeInclusive` that was iterated to its end.
     pub fn range<R: RangeBounds<T>>(&self, range: R) -> Result<IntoIter<T, A>, AllocError>
         ensures members { R.has_bounds range → IfOk result (λ elements. IsSetOf elements
             (intersection (members self.now)

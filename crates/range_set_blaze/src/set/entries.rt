@@ -12,7 +12,7 @@ use std::collections::BTreeMap;
 use std::collections::btree_map::{Iter, Range};
 use std::ops::Bound;
 
-/// Removes the last of some entries and returns its run, or returns `None` if there is none.
+/// Removes the last of the entries and returns its run, or returns `None` if there are no entries.
 pub(crate) fn last_run<T: Integer>(entries: &mut Range<'_, T, T>) -> Option<Run<T>>
     ensures run { MatchOption result (entries.old ≡ [])
         (λ run. entries.old ≡ entries.new ++ entry_of run ∷ []) }
@@ -25,7 +25,7 @@ pub(crate) fn last_run<T: Integer>(entries: &mut Range<'_, T, T>) -> Option<Run<
     })
 }
 
-/// Removes the first of some entries and returns its run, or returns `None` if there is none.
+/// Removes the first of the entries and returns its run, or returns `None` if there are no entries.
 pub(crate) fn next_run<T: Copy>(entries: &mut Iter<'_, T, T>) -> Option<Run<T>>
     ensures { MatchOption result (entries.old ≡ [])
         (λ run. entries.old ≡ entry_of run ∷ entries.new) }

@@ -70,7 +70,7 @@ impl<T: Integer, A: Allocator + Clone> RangeSetBlaze<T, A> {
 
 impl<T: Integer, A: Allocator + Copy> RangeSetBlaze<T, A> {
     /// Returns the set of the values of the given ranges, which may come in any order and may be
-    /// empty. Takes one sort and one pass. If allocation fails, no set is made. For values, write
+    /// empty. Sorts once and makes one pass. If allocation fails, no set is made. For values, write
     /// `from_iter_values` or `values.collect(alloc)?`. (`FromIterator<RangeInclusive<T>>` of
     /// `RangeSetBlaze`.)
     pub fn from_iter<J: IntoIterator<Item = RangeInclusive<T>>>(
@@ -90,7 +90,7 @@ impl<T: Integer, A: Allocator + Copy> RangeSetBlaze<T, A> {
         Self::from_sorted_disjoint(alloc, union)
     }
 
-    /// Returns the set of the given values, which may come in any order. Takes one sort and one
+    /// Returns the set of the given values, which may come in any order. Sorts once and makes one
     /// pass. If allocation fails, no set is made. (`FromIterator<T>` of `RangeSetBlaze`.)
     pub fn from_iter_values<J: IntoIterator<Item = T>>(
         alloc: A,

@@ -13,8 +13,8 @@ use std::collections::BTreeMap;
 use std::hash::{Hash, Hasher};
 
 /// A set feeds the hasher its length, and then the start and the end of each run in ascending
-/// order. It feeds neither its representation nor the number of its runs, so equal sets feed it the
-/// same input.
+/// order. It feeds neither its representation nor the number of its runs, so equal sets feed the
+/// hasher the same input.
 impl<T: Integer + Hash, A: Allocator> Hash for RangeSetBlaze<T, A> {
     ghost hash_input = { hashed_runs (λ n. T.SafeLen.hash_input (T.SafeLen.length_at n))
         (λ rank. T.hash_input (T.value_at rank)) T.value_count };

@@ -21,8 +21,8 @@ use std::collections::BTreeMap;
 use std::ops::{Bound, RangeBounds};
 
 /// A new run joined with all runs that it touches, and up to three of those runs. `first` starts
-/// where `joined` does. `last` is the last run that starts inside `joined`, past its start.
-/// `before` is the run before `last`, if it starts inside `joined` too.
+/// where `joined` does. `last` and `before` are two runs that start inside `joined`, past its start,
+/// `before` at the lower one.
 #[derive(Clone, Copy)]
 struct Joining<T> {
     joined: Run<T>,
@@ -36,8 +36,8 @@ impl<T: Integer, A: Allocator + Clone> RangeSetBlaze<T, A> {
     /// bounds are empty or reversed, nothing is inserted. The set gains at most one run. If
     /// allocation fails, the set is unchanged. (`RangeSetBlaze::ranges_insert`.)
     ///
-    /// The contract says nothing about a `RangeBounds` type that does not specify its bounds, or
-    /// about a `RangeInclusive` that was iterated to its end.
+    /// What is inserted is unspecified for a `RangeBounds` type whose own contract does not specify
+    /// its bounds, and for a `RangeInclusive` that was iterated to its end.
     pub fn ranges_insert<R: RangeBounds<T>>(&mut self, range: R) -> Result<bool, AllocError>
         ensures members { R.has_bounds range → OnOk result (Adds self.old self.new
             (ranks_in T.rank T.value_count R.start_bound R.end_bound range)) }

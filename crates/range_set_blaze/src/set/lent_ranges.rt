@@ -1,7 +1,7 @@
 //! An adapter that turns an iterator over references to ranges into one over ranges.
 //!
-//! The contract of `cloned` would require that each clone succeeds. The bound `T: Copy` guarantees
-//! neither that nor that a clone equals its original.
+//! The contract of `cloned` would require that each clone succeeds. The bound `T: Copy` does not
+//! guarantee this, nor does it guarantee that a clone equals its original.
 
 ghost use Rattle.std.specs.Prelude.{◌≡◌};
 ghost use Rattle.range_set_blaze.specs.Lent.{lent_steps, HaveSameRanks};

@@ -56,8 +56,8 @@ impl<T: Integer, A: Allocator> Ord for RangeSetBlaze<T, A> {
     }
 }
 
-/// Returns the order of two sets, as `cmp` does, and the number of iterations that it takes. An
-/// iteration takes at most one run from each set. Not in range-set-blaze.
+/// Returns the order of two sets, as `cmp` does, and the number of iterations that the comparison
+/// needs. An iteration takes at most one run from each set. Not in range-set-blaze.
 pub fn cmp_counted<T: Integer, A: Allocator, B: Allocator>(
     a: &RangeSetBlaze<T, A>,
     b: &RangeSetBlaze<T, B>,

@@ -26,8 +26,8 @@ impl<T: Integer, A: Allocator + Clone> RangeSetBlaze<T, A> {
     ///
     /// It takes O(log n) time on a set of n runs, and as much again for each run that it removes.
     ///
-    /// The contract says nothing about a `RangeBounds` type that does not specify its bounds, or
-    /// about a `RangeInclusive` that was iterated to its end. Not in range-set-blaze.
+    /// What is removed is unspecified for a `RangeBounds` type whose own contract does not specify
+    /// its bounds, and for a `RangeInclusive` that was iterated to its end. Not in range-set-blaze.
     pub fn ranges_remove<R: RangeBounds<T>>(&mut self, range: R) -> Result<bool, AllocError>
         ensures members { R.has_bounds range → OnOk result (Removes self.old self.new
             (ranks_in T.rank T.value_count R.start_bound R.end_bound range)) }

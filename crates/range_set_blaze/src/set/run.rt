@@ -1,6 +1,6 @@
-//! A run of values, and comparisons of values with contracts about their ranks.
+//! A run of values, and comparisons of values, whose contracts are about the ranks of the values.
 //!
-//! Code uses `Run` for a run, and pairs only for entries of the map. It does not use
+//! Internal code uses `Run` for a run, and pairs only for entries of the map. It does not use
 //! `RangeInclusive`, which has a flag that a run does not need, and is not `Copy`.
 
 ghost use Rattle.std.specs.Prelude.{◌≡◌, ◌↔◌, ◌+◌, ◌-◌, ◌<◌, ◌≤◌, max, min, IfSome, IsNone, IsTrue};

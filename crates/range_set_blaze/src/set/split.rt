@@ -17,8 +17,8 @@ use std::alloc::{AllocError, Allocator};
 use std::collections::BTreeMap;
 
 impl<T: Integer, A: Allocator + Copy> RangeSetBlaze<T, A> {
-    /// Removes the members at or above a value, and returns the set of them. If allocation fails,
-    /// the set is unchanged. (`RangeSetBlaze::split_off`.)
+    /// Removes the members at or above a value, and returns them as a set. If allocation fails, the
+    /// original set is unchanged. (`RangeSetBlaze::split_off`.)
     pub fn split_off(&mut self, key: T) -> Result<Self, AllocError>
         ensures below { OnOk result (Removes self.old self.new (from_on (T.rank key))) }
         ensures from { IfOk result (λ split.

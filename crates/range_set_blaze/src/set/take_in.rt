@@ -14,10 +14,10 @@ use rsb_integer::Integer;
 use std::alloc::Allocator;
 use std::collections::BTreeMap;
 
-/// Removes the runs that start inside `run`, past its start, and returns the number of members of
-/// the runs that are left, except `run`. `last` is one of the runs to remove, if there are any, and
-/// `before` is another one, which starts before `last`. `total` is the number of members of all
-/// runs except `run`.
+/// Removes the runs that start inside `run`, past its start. Returns the number of members of the
+/// remaining runs, not counting those of `run`. `last` is one of the runs to remove, if there are
+/// any, and `before` is another one, if there are more, and starts before `last`. `total` is the
+/// number of members of all runs except `run` before the call.
 pub(crate) fn take_in<T: Integer, A: Allocator>(
     map: &mut BTreeMap<T, T, A>,
     run: Run<T>,

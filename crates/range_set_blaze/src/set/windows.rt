@@ -29,8 +29,8 @@ impl<T: Integer, A: Allocator> RangeSetBlaze<T, A> {
     /// or reversed, there are no runs. Does not allocate. The call takes O(log n) time on a set of
     /// n runs.
     ///
-    /// The contract says nothing about a `RangeBounds` type that does not specify its bounds, or
-    /// about a `RangeInclusive` that was iterated to its end. Not in range-set-blaze.
+    /// What it yields is unspecified for a `RangeBounds` type whose own contract does not specify
+    /// its bounds, and for a `RangeInclusive` that was iterated to its end. Not in range-set-blaze.
     pub fn ranges_in<'a, R: RangeBounds<T>>(&'a self, range: R) -> RangesIn<'a, T>
         ensures members { R.has_bounds range → IsSetOf (intervals_of T.rank result)
             (intersection (members self.now)
@@ -50,8 +50,8 @@ impl<T: Integer, A: Allocator> RangeSetBlaze<T, A> {
     /// Returns the number of members between two bounds. Does not allocate. It takes O(log n) time
     /// on a set of n runs, plus a step for each run between the bounds.
     ///
-    /// The contract says nothing about a `RangeBounds` type that does not specify its bounds, or
-    /// about a `RangeInclusive` that was iterated to its end. Not in range-set-blaze.
+    /// The contract says nothing about a `RangeBounds` type whose own contract does not specify its
+    /// bounds, or about a `RangeInclusive` that was iterated to its end. Not in range-set-blaze.
     pub fn len_in<R: RangeBounds<T>>(&self, range: R) -> T::SafeLen
         ensures { R.has_bounds range → T.SafeLen.number result ≡ count T.value_count
             (intersection (members self.now)
@@ -60,13 +60,13 @@ impl<T: Integer, A: Allocator> RangeSetBlaze<T, A> {
         self.ranges_in(range).members_len()
     }
 
-    /// Returns the gaps between two bounds in ascending order, as a double-ended iterator. They
-    /// have the values between the bounds that are not members. If the bounds are empty or
+    /// Returns the gaps between two bounds in ascending order, as a double-ended iterator. Together
+    /// they contain the values between the bounds that are not members. If the bounds are empty or
     /// reversed, there are no gaps. Does not allocate. The call takes O(log n) time on a set of n
     /// runs.
     ///
-    /// The contract says nothing about a `RangeBounds` type that does not specify its bounds, or
-    /// about a `RangeInclusive` that was iterated to its end. Not in range-set-blaze.
+    /// What it yields is unspecified for a `RangeBounds` type whose own contract does not specify
+    /// its bounds, and for a `RangeInclusive` that was iterated to its end. Not in range-set-blaze.
     pub fn gaps_in<'a, R: RangeBounds<T>>(&'a self, range: R) -> GapsIn<'a, T>
         ensures members { R.has_bounds range → IsSetOf (intervals_of T.rank result) (difference
             (ranks_in T.rank T.value_count R.start_bound R.end_bound range) (members self.now)) }

@@ -22,8 +22,8 @@ impl<T: Integer, A: Allocator> RangeSetBlaze<T, A> {
     /// reversed, the result is `true`. Takes O(log n) time on a set of n runs, and does not
     /// allocate.
     ///
-    /// The contract says nothing about a `RangeBounds` type that does not specify its bounds, or
-    /// about a `RangeInclusive` that was iterated to its end. Not in range-set-blaze.
+    /// The contract says nothing about a `RangeBounds` type whose own contract does not specify its
+    /// bounds, or about a `RangeInclusive` that was iterated to its end. Not in range-set-blaze.
     pub fn contains_range<R: RangeBounds<T>>(&self, range: R) -> bool
         ensures { R.has_bounds range → (IsTrue result ↔ Has self.now
             (ranks_in T.rank T.value_count R.start_bound R.end_bound range)) }
@@ -38,8 +38,8 @@ impl<T: Integer, A: Allocator> RangeSetBlaze<T, A> {
     /// reversed, the result is `true`. Takes O(log n) time on a set of n runs, and does not
     /// allocate.
     ///
-    /// The contract says nothing about a `RangeBounds` type that does not specify its bounds, or
-    /// about a `RangeInclusive` that was iterated to its end. Not in range-set-blaze.
+    /// The contract says nothing about a `RangeBounds` type whose own contract does not specify its
+    /// bounds, or about a `RangeInclusive` that was iterated to its end. Not in range-set-blaze.
     pub fn is_disjoint_range<R: RangeBounds<T>>(&self, range: R) -> bool
         ensures { R.has_bounds range → (IsTrue result ↔ IsEmpty (intersection (members self.now)
             (ranks_in T.rank T.value_count R.start_bound R.end_bound range))) }

@@ -359,8 +359,14 @@ fn runs_combine(set: &RangeSetBlaze<i32>, other: &RangeSetBlaze<i32>) -> bool {
     gives(set.ranges_in(3..=12) | other.ranges(), &[(3, 4), (6, 12)])
         && gives(set.ranges_in(3..=12) & other.ranges(), &[(8, 9)])
         && gives(set.ranges_in(3..=12) - other.ranges(), &[(3, 4), (10, 12)])
-        && gives(set.ranges_in(3..=12) ^ other.ranges(), &[(3, 4), (6, 7), (10, 12)])
-        && gives(!set.ranges_in(3..=12), &[(i32::MIN, 2), (5, 7), (13, i32::MAX)])
+        && gives(
+            set.ranges_in(3..=12) ^ other.ranges(),
+            &[(3, 4), (6, 7), (10, 12)],
+        )
+        && gives(
+            !set.ranges_in(3..=12),
+            &[(i32::MIN, 2), (5, 7), (13, i32::MAX)],
+        )
 }
 
 /// Whether the five operators on the gaps between two values return these ranges.

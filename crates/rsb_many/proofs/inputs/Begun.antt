@@ -81,8 +81,8 @@ module _ {T N I : Type 0} (integer : Elements T N) (stream : Stream I T N)
   at-sorted None can runs is = rw is tt
   at-sorted (Some s) can runs may = (laws.sorted s can).all runs may
 
--- If nothing is held of an input, it gives only what its stream may give. A range must be due
--- unless there is no stream.
+  -- If nothing is held of an input, it gives only what its stream may give. A range must be due
+  -- unless there is no stream.
   gives-due : (due : Bool) (found : Option I) → (due ≡ false → found ≡ None)
       → (runs : List Interval)
       → gives_of (record {

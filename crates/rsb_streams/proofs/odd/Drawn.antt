@@ -2,7 +2,7 @@
 use Rattle.std.proofs.Common.{◌≡◌, ℕ, ◌+◌, ◌<◌, ◌≤◌, Bool, true, false, cond, max, min, nat_le, nat_lt, List, [], ◌∷◌, ◌++◌, refl, sym, ap, ◌∙◌, inl, inr, subst, arith}
 use Rattle.std.proofs.lemmas.Bool.Decides.{nat_tests}
 use Rattle.std.specs.Prelude.{Option, Some, None, MatchBool}
-use Rattle.std.specs.Iterator.{Yields, YieldsThen}
+use Rattle.std.specs.Iterator.{Yields}
 use Rattle.std.specs.declared.ops.RangeInclusive.{RangeInclusive}
 use Rattle.rsb_integer.specs.Rank.{interval_of, intervals_of}
 use Rattle.rsb_integer.specs.Runs.{Interval, covers, from_to, members}
@@ -10,9 +10,7 @@ use Rattle.rsb_integer.specs.Selection.{exclusive_or}
 use Rattle.rsb_integer.specs.declared.integer.Integer.{Ghosts as Elements}
 use Rattle.rsb_integer.proofs.ListLemmas.{true_or_false}
 use Rattle.rsb_integer.proofs.MembersLemmas.{covers-outside}
-use Rattle.rsb_streams.specs.Fused.{fused}
-use Rattle.rsb_streams.specs.Lookahead.{IsOneFrom}
-use Rattle.rsb_streams.specs.OddPieces.{begun_from, oddly_covered, pending, past_both, rank_after, source_of, IsLeft, TakesForPiece}
+use Rattle.rsb_streams.specs.OddPieces.{begun_from, oddly_covered, pending, rank_after, IsLeft, IsOneRunFrom, TakesForPiece}
 use Rattle.rsb_streams.specs.Stream.{run_if_any}
 use Rattle.rsb_streams.specs.declared.draw.Draw.{Ghosts as Stream}
 use Rattle.rsb_streams.specs.declared.odd_pieces.OddPieces.{OddPieces}
@@ -44,13 +42,14 @@ odd-more rank (run ∷ front) drawn range at =
     ∙ xor-assoc (covers run at) (oddly_covered (front ++ intervals_of rank drawn) at)
     (covers (interval_of rank range) at)
 
--- The members of a list of one interval are the ranks that the interval covers.
-members-by : (test : Bool) → nat_lt 0 (cond test 1 0 + 0) ≡ test
-members-by true = refl
-members-by false = refl
+-- A count of one test is positive if the test passes.
+count-one : (test : Bool) → nat_lt 0 (cond test 1 0 + 0) ≡ test
+count-one true = refl
+count-one false = refl
 
+-- The members of a list of one interval are the ranks that the interval covers.
 members-one : (run : Interval) (at : ℕ) → members (run ∷ []) at ≡ covers run at
-members-one run at = members-by (covers run at)
+members-one run at = count-one (covers run at)
 
 -- The same, if the list has the interval only if it is non-empty.
 pub members-if : (run : Interval) (at : ℕ) → members (run_if_any run) at ≡ covers run at
@@ -61,20 +60,19 @@ members-if run at = elim (true_or_false (nat_le run.first run.last)) [
       ap (λ test. members (cond test (run ∷ []) []) at) none ∙ sym outside
 ]
 
--- Such a list is at most one interval from a rank on, if the interval starts there or later.
-pub one-if : (first : ℕ) (run : Interval) (some : Bool) → first ≤ run.first
-    → IsOneFrom first (cond some (run ∷ []) [])
-one-if first run true most = most
-one-if first run false most = tt
+-- That list is at most one interval, which is non-empty and starts where the given one does.
+pub one-if : (first : ℕ) (run : Interval) → first ≤ run.first
+    → IsOneRunFrom first (run_if_any run)
+one-if first run most = elim (true_or_false (nat_le run.first run.last)) [
+  | inl some ↦
+      let ordered : run.first ≤ run.last = grind (arith, nat_tests) in
+      subst (λ test. IsOneRunFrom first (cond test (run ∷ []) [])) (sym some) (most, ordered)
+  | inr none ↦ subst (λ test. IsOneRunFrom first (cond test (run ∷ []) [])) (sym none) tt
+]
 
 -- ---- the range that has begun and not ended
 
 module _ {T : Type 0} (rank : T → ℕ) (start : T) where
-  -- It is at most one.
-  begun-one : (held : Option T) → IsOneFrom 0 (begun_from rank start held)
-  begun-one None = tt
-  begun-one (Some end) = omega arith
-
   -- Its members are the ranks that an odd number of its intervals covers.
   begun-odd : (held : Option T) (at : ℕ)
       → members (begun_from rank start held) at ≡ oddly_covered (begun_from rank start held ++ []) at
@@ -97,8 +95,8 @@ module _ {T : Type 0} (rank : T → ℕ) (start : T) where
       begun-some held end at is
       ∙ covers-outside (from_to (rank start) (rank end)) at (inr past)
 
--- If two ranges overlap, what is past the lesser end is in exactly one of them, from the rank on
--- where the second starts, or at every rank if the first starts no earlier.
+-- If two ranges overlap, the ranks past the lesser end, up to the greater, are those in exactly one
+-- of the two. This leaves out the ranks of the first before the second starts.
 pub past-odd : (run next past : Interval) → run.first ≤ next.first → next.first ≤ run.last
     → next.first ≤ next.last → past.first ≡ min run.last next.last + 1
     → past.last ≡ max run.last next.last → (at : ℕ)
@@ -109,63 +107,59 @@ past-odd run next past low meets ordered from to at before =
     ∙ odd-split run next past low meets ordered from to at false false before
     ∙ xor-false (covers past at))
 
+-- ---- which of two facts a flag picks
+
+-- If the flag is set, the first fact is enough.
+pick-first : (First Second : Type 0) (done : Bool) → done ≡ true → First
+    → MatchBool done First Second
+pick-first First Second true is fact = fact
+pick-first First Second false is fact = absurd (cc)
+
+-- If the flag is not set, the second fact is enough.
+pick-second : (First Second : Type 0) (done : Bool) → done ≡ false → Second
+    → MatchBool done First Second
+pick-second First Second true is fact = absurd (cc)
+pick-second First Second false is fact = fact
+
 -- ---- calls of the source
 
 module _ {T N I : Type 0} (integer : Elements T N) (source : Stream I T N) where
   open integer use {rank}
 
-  -- If the source has not ended, its draws are those of the source with a flag.
-  call-by : (done : Bool) (item : Option (RangeInclusive T)) (s t : I) → done ≡ false
-      → source.draw_gives s item t → MatchBool done (item ≡ None) (source.draw_gives s item t)
-  call-by true item s t undone call = absurd (cc)
-  call-by false item s t undone call = call
-
-  -- If the source has ended, it is not called.
-  call-ended : (done : Bool) (s t : I) → done ≡ true
-      → MatchBool done (◌≡◌ {A = Option (RangeInclusive T)} None None) (source.draw_gives s None t)
-  call-ended true s t ended = refl
-  call-ended false s t ended = absurd (cc)
-
-  -- After all was given, a draw takes nothing.
+  -- After the source has ended, a draw does nothing.
   pub takes-nothing : (s : OddPieces T I) → s.done ≡ true → TakesForPiece integer source s None s
-  takes-nothing s ended = record {
-    drawn = [];
-    draws = inr (source_of s, refl, (call-ended s.done s.iter s.iter ended, ended));
-    left = record {
-      one = begun-one rank s.start s.end;
-      same = λ at from. begun-odd rank s.start s.end at;
-    };
-  }
+  takes-nothing s ended = pick-first _ _ s.done ended (refl, refl)
 
   -- The ranges drawn since the entry, if no piece was returned. What is pending now is what an odd
-  -- number of them covers.
-  pub record Drew (entry now : OddPieces T I) : Type 0 where
+  -- number of them, and of the range pending at the entry, covers.
+  pub record DrawnSince (entry now : OddPieces T I) : Type 0 where
+    pub begun : entry.done ≡ false
     pub drawn : List (RangeInclusive T)
-    pub draws : Yields (fused source).draw_gives (source_of entry) drawn (source_of now)
+    pub draws : Yields source.draw_gives entry.iter drawn now.iter
     pub same : (at : ℕ) → members (pending rank now) at
         ≡ oddly_covered (pending rank entry ++ intervals_of rank drawn) at
 
   -- At the entry, nothing was drawn.
-  pub drew-none : (entry : OddPieces T I) → Drew entry entry
-  drew-none entry = record {
+  pub drawn-none : (entry : OddPieces T I) → entry.done ≡ false → DrawnSince entry entry
+  drawn-none entry begun = record {
+    begun = begun;
     drawn = [];
     draws = refl;
     same = begun-odd rank entry.start entry.end;
   }
 
-  module _ (entry was : OddPieces T I) (drew : Drew entry was) (undone : was.done ≡ false) where
+  module _ (entry was : OddPieces T I) (drew : DrawnSince entry was) where
     -- The ranges drawn so far, with one more.
     abbrev with_one : RangeInclusive T → List (RangeInclusive T)
     with_one range = drew.drawn ++ range ∷ []
 
     -- ---- the source gave one more range
-    module _ (range : RangeInclusive T) (now : OddPieces T I) (goes_on : now.done ≡ false)
+    module _ (range : RangeInclusive T) (now : OddPieces T I)
         (call : source.draw_gives was.iter (Some range) now.iter) where
       -- The calls of the source, with this one.
-      draws-more : Yields (fused source).draw_gives (source_of entry) (with_one range) (source_of now)
-      draws-more = yields-more (fused source).draw_gives drew.drawn range (source_of entry)
-          (source_of was) (source_of now) drew.draws
-          (call-by was.done (Some range) was.iter now.iter undone call, goes_on)
+      draws-more : Yields source.draw_gives entry.iter (with_one range) now.iter
+      draws-more = yields-more source.draw_gives drew.drawn range entry.iter was.iter now.iter
+          drew.draws call
 
       -- What an odd number of the ranges covers, by what was pending and the new one.
       odd-now : (at : ℕ) → oddly_covered (pending rank entry ++ intervals_of rank (with_one range)) at
@@ -175,39 +169,33 @@ module _ {T N I : Type 0} (integer : Elements T N) (source : Stream I T N) where
           ∙ ap (λ test. exclusive_or test (covers (interval_of rank range) at)) (sym (drew.same at))
 
       -- If no piece is returned, the new range is one of those drawn since the entry.
-      pub drew-more : ((at : ℕ) → members (pending rank now) at
+      pub drawn-more : ((at : ℕ) → members (pending rank now) at
           ≡ exclusive_or (members (pending rank was) at) (covers (interval_of rank range) at))
-          → Drew entry now
-      drew-more same = record {
+          → DrawnSince entry now
+      drawn-more same = record {
+        begun = drew.begun;
         drawn = with_one range;
         draws = draws-more;
         same = λ at. same at ∙ sym (odd-now at);
       }
 
       -- If a piece is returned, what is past it is pending.
-      pub takes-more : (piece : RangeInclusive T)
-          → IsOneFrom (rank_after rank (Some piece)) (pending rank now)
+      pub takes-more : now.done ≡ false → (piece : RangeInclusive T)
+          → IsOneRunFrom (rank_after rank (Some piece)) (pending rank now)
           → ((at : ℕ) → rank_after rank (Some piece) ≤ at → members (pending rank now) at
           ≡ exclusive_or (members (pending rank was) at) (covers (interval_of rank range) at))
           → TakesForPiece integer source entry (Some piece) now
-      takes-more piece one same = record {
+      takes-more goes_on piece one same = pick-second _ _ entry.done drew.begun (record {
         drawn = with_one range;
-        draws = inl draws-more;
+        draws = pick-second _ _ now.done goes_on draws-more;
+        ended = tt;
+        none = λ done. absurd (cc);
         left = record { one = one; same = λ at from. same at from ∙ sym (odd-now at) };
-      }
+      })
 
     -- ---- the source has ended
     module _ (now : OddPieces T I) (ended : now.done ≡ true) (none : now.end ≡ None)
         (call : source.draw_gives was.iter None now.iter) where
-      -- The calls of the source, the last of which gave nothing.
-      draws-all : YieldsThen (fused source).draw_gives (source_of entry) drew.drawn None
-          (source_of now)
-      draws-all = (
-        source_of was,
-        drew.draws,
-        (call-by was.done None was.iter now.iter undone call, ended),
-      )
-
       -- If what was pending has no rank from some rank on, nothing is left from there.
       left-none : (from : ℕ)
           → ((at : ℕ) → from ≤ at → members (pending rank was) at ≡ false)
@@ -221,21 +209,25 @@ module _ {T N I : Type 0} (integer : Elements T N) (source : Stream I T N) where
 
       -- If nothing was pending, nothing is left.
       pub takes-none : was.end ≡ None → TakesForPiece integer source entry None now
-      takes-none is = record {
+      takes-none is = pick-second _ _ entry.done drew.begun (record {
         drawn = drew.drawn;
-        draws = inr draws-all;
+        draws = pick-first _ _ now.done ended (was.iter, drew.draws, call);
+        ended = ended;
+        none = λ done. none;
         left = left-none 0
             (λ at most. ap (λ held. members (begun_from rank was.start held) at) is);
-      }
+      })
 
       -- If the pending range is returned, nothing is left.
       pub takes-last : (end : T) (piece : RangeInclusive T) → was.end ≡ Some end
           → interval_of rank piece ≡ from_to (rank was.start) (rank end)
           → TakesForPiece integer source entry (Some piece) now
-      takes-last end piece is run = record {
+      takes-last end piece is run = pick-second _ _ entry.done drew.begun (record {
         drawn = drew.drawn;
-        draws = inr draws-all;
+        draws = pick-first _ _ now.done ended (was.iter, drew.draws, call);
+        ended = tt;
+        none = λ done. none;
         left = left-none (rank_after rank (Some piece)) (λ at most.
             let last = ap (λ each. each.last) run in
             begun-past rank was.start was.end end at is (omega (arith, last, most)));
-      }
+      })

@@ -12,7 +12,7 @@ use Rattle.rsb_streams.specs.OddPieces.{odd_may_give, odd_pieces, oddly_covered,
 use Rattle.rsb_streams.specs.Stream.{Outcomes, ◌⊆◌, unless}
 use Rattle.rsb_streams.specs.declared.odd_pieces.OddPieces.{OddPieces}
 use Rattle.rsb_streams.proofs.gaps.Loop.{answered}
-use Rattle.rsb_streams.proofs.odd.Drawn.{takes-last, takes-none, Drew}
+use Rattle.rsb_streams.proofs.odd.Drawn.{takes-last, takes-none, DrawnSince}
 use Rattle.rsb_streams.proofs.odd.Ranks.{no-pieces, pieces-first}
 use Rattle.rsb_streams.proofs.sources.Known.{IsLawful}
 use Rattle.rsb_streams.proofs.odd.States.{OddSoFar, state}
@@ -83,7 +83,7 @@ module _ {I T N : Type 0} (integer : Elements T N) (source : Stream I T N) where
   module _ (laws : IsLawful integer source) where
     -- ---- the source has ended
     module _ (entry was : OddPieces T I) (j : I) (so_now : SoFar entry was)
-        (drew : Drew integer source entry was) (call : source.draw_gives was.iter None j) where
+        (drew : DrawnSince integer source entry was) (call : source.draw_gives was.iter None j) where
       -- The state at the end.
       abbrev final : Option T → OddPieces T I
       final left = record { iter = j; done = true; start = was.start; end = left }
@@ -97,7 +97,7 @@ module _ {I T N : Type 0} (integer : Elements T N) (source : Stream I T N) where
             answers = so.same [] (λ nothing.
                 nothing [] (laws.answers was.iter j None call) (no-pieces n));
             rests = (λ no. absurd (cc), λ pieces at. at);
-            asks = takes-none integer source entry was drew so_now.undone (final left) refl none
+            asks = takes-none integer source entry was drew (final left) refl none
                 call is;
           }
 
@@ -119,6 +119,6 @@ module _ {I T N : Type 0} (integer : Elements T N) (source : Stream I T N) where
                 (pieces-first n (from_to (rank was.start) (rank end)) [] rest sorted.1 sorted.2 tt
                 (subst (ArePieces n (oddly_covered [])) (sym at) (no-pieces n)))));
             rests = tt;
-            asks = takes-last integer source entry was drew so_now.undone (final left) refl none
+            asks = takes-last integer source entry was drew (final left) refl none
                 call end answer is gap;
           }

@@ -13,8 +13,7 @@ use Rattle.rsb_integer.specs.Rank.{interval_of}
 use Rattle.rsb_integer.specs.Runs.{Interval, covers, from_to, members}
 use Rattle.rsb_integer.specs.Selection.{exclusive_or}
 use Rattle.rsb_integer.proofs.MembersLemmas.{same_interval}
-use Rattle.rsb_streams.specs.OddPieces.{odd_may_give, odd_remaining, oddly_covered, past_both, pieces_of, pending, rank_after, ends_of, begun_from, ArePieces, IsGoing, IsTwofold, odd_pieces}
-use Rattle.rsb_streams.specs.Lookahead.{IsOneFrom}
+use Rattle.rsb_streams.specs.OddPieces.{odd_may_give, odd_remaining, oddly_covered, past_both, pieces_of, pending, rank_after, ends_of, begun_from, ArePieces, IsGoing, IsOneRunFrom, IsTwofold, odd_pieces}
 use Rattle.rsb_streams.specs.Stream.{Outcomes, ◌⊆◌, run_if_any, unless, HasOutcome}
 use Rattle.rsb_streams.specs.declared.odd_pieces.OddPieces.{OddPieces}
 use Rattle.rsb_streams.proofs.checking.Comparisons.{IsRanked, less-rank, not_less-rank}
@@ -22,7 +21,7 @@ use Rattle.rsb_streams.proofs.gaps.Loop.{answered}
 use Rattle.rsb_streams.proofs.odd.Ranks.{past-twofold, pieces-before, pieces-first, pieces-past, twofold-tail}
 use Rattle.rsb_streams.proofs.sources.Known.{IsLawful, range-start, range-end}
 use Rattle.rsb_streams.proofs.joining.Gathered.{head-sorted}
-use Rattle.rsb_streams.proofs.odd.Drawn.{begun-past, begun-some, drew-more, members-if, one-if, past-odd, takes-more, Drew}
+use Rattle.rsb_streams.proofs.odd.Drawn.{begun-past, begun-some, drawn-more, members-if, one-if, past-odd, takes-more, DrawnSince}
 use Rattle.rsb_streams.proofs.odd.Ends.{so-by}
 use Rattle.rsb_streams.proofs.odd.States.{OddSoFar, state, one-held, HasPassed}
 
@@ -102,6 +101,14 @@ module _ {I T N : Type 0} (integer : Elements T N) (source : Stream I T N) where
             let on = goes.on (laws.sorted was.iter so_now.going.callable).ends in
             (on.1, on.2)
 
+        -- The new range is non-empty.
+        in_order : rank next ≤ rank next_end
+        in_order =
+            let ordered = facts.1 in
+            let low = ap (λ run. run.first) is_run in
+            let high = ap (λ run. run.last) is_run in
+            omega (arith, ordered, low, high)
+
         -- Both ends of the range are values of the type.
         next-values : (rank next < n) × (rank next_end < n)
         next-values =
@@ -138,11 +145,11 @@ module _ {I T N : Type 0} (integer : Elements T N) (source : Stream I T N) where
             begun-some rank next (Some next_end) next_end at refl
             ∙ ap (λ run. covers run at) (sym is_run)
 
-        -- If no range is pending, the new one is the first that is drawn and not ended.
-        pub drew-begins : Drew integer source entry was → None ≡ was.end
-            → Drew integer source entry next_state
-        drew-begins drew is = drew-more integer source entry was drew so_now.undone range next_state
-            so_now.undone call (λ at. new-run at ∙ sym (ap (λ held.
+        -- If no range is pending, the new one is pending next, and is one of those drawn.
+        pub drawn-begins : DrawnSince integer source entry was → None ≡ was.end
+            → DrawnSince integer source entry next_state
+        drawn-begins drew is = drawn-more integer source entry was drew range next_state call
+            (λ at. new-run at ∙ sym (ap (λ held.
             exclusive_or (members (begun_from rank was.start held) at)
             (covers (interval_of rank range) at)) (sym is)))
 
@@ -197,7 +204,7 @@ module _ {I T N : Type 0} (integer : Elements T N) (source : Stream I T N) where
               omega (arith, less)
 
           -- If the new range starts past the pending end, the draw returns the pending range.
-          pub apart-answers : Drew integer source entry was
+          pub apart-answers : DrawnSince integer source entry was
               → true ≡ partial_lt partial_cmp end next → (answer : RangeInclusive T)
               → range_inclusive_exhausted answer ≡ false → range_inclusive_start answer ≡ was.start
               → range_inclusive_end answer ≡ end
@@ -220,8 +227,8 @@ module _ {I T N : Type 0} (integer : Elements T N) (source : Stream I T N) where
                 rests = tt;
                 asks =
                     let last = ap (λ run. run.last) gap in
-                    takes-more integer source entry was drew so_now.undone range
-                    (state j next (Some next_end)) refl call answer (omega (arith, last, apart))
+                    takes-more integer source entry was drew range (state j next (Some next_end)) call
+                    refl answer (omega (arith, last, apart), in_order)
                     (λ at from. new-run at ∙ sym (ap (λ test.
                     exclusive_or test (covers (interval_of rank range) at))
                     (begun-past rank was.start was.end end at (sym is) (omega (arith, last, from)))));
@@ -249,15 +256,7 @@ module _ {I T N : Type 0} (integer : Elements T N) (source : Stream I T N) where
             meets : rank next ≤ rank end
             meets = not_less-rank ranked end next both-values.1 both-values.2 test
 
-            -- The new range is non-empty.
-            in_order : rank next ≤ rank next_end
-            in_order =
-                let ordered = facts.1 in
-                let low = ap (λ run. run.first) is_run in
-                let high = ap (λ run. run.last) is_run in
-                omega (arith, ordered, low, high)
-
-            -- It starts no earlier than the pending range.
+            -- The new range starts no earlier than the pending one.
             later : rank was.start ≤ rank next
             later = (head-sorted n (rank was.start) (from_to (rank next) (rank next_end))
                 (source.may_give j) some (λ given at. (twofold given at).sorted.3)).0
@@ -283,14 +282,14 @@ module _ {I T N : Type 0} (integer : Elements T N) (source : Stream I T N) where
                 ∙ ap (λ run. exclusive_or (members (pending rank was) at) (covers run at))
                 (sym is_run)
 
-            -- If the pending range does not start before the new one, no piece is returned, and
-            -- both are drawn.
-            pub drew-passed : Drew integer source entry was
-                → false ≡ partial_lt partial_cmp was.start next → Drew integer source entry now
-            drew-passed drew not_before =
+            -- If the pending range does not start before the new one, no piece is returned, and the
+            -- new one is among those drawn since the entry.
+            pub drawn-passed : DrawnSince integer source entry was
+                → false ≡ partial_lt partial_cmp was.start next → DrawnSince integer source entry now
+            drawn-passed drew not_before =
                 let most = not_less-rank ranked was.start next both-values.0
                 both-values.2 not_before in
-                drew-more integer source entry was drew so_now.undone range now passed.undone call-now
+                drawn-more integer source entry was drew range now call-now
                 (λ at. odd-now at (none-between (rank was.start) (rank next) at most))
 
             -- What the source may give in the next state, it may give after the draw.
@@ -340,7 +339,7 @@ module _ {I T N : Type 0} (integer : Elements T N) (source : Stream I T N) where
 
             -- If the pending range starts before the new one, the draw returns what is before the
             -- new one.
-            pub gap-answers : Drew integer source entry was
+            pub gap-answers : DrawnSince integer source entry was
                 → true ≡ partial_lt partial_cmp was.start next → (last : T)
                 (answer : RangeInclusive T) → rank last + 1 ≡ rank next
                 → range_inclusive_exhausted answer ≡ false → range_inclusive_start answer ≡ was.start
@@ -362,11 +361,9 @@ module _ {I T N : Type 0} (integer : Elements T N) (source : Stream I T N) where
                   rests = tt;
                   asks =
                       let high = ap (λ run. run.last) gap in
-                      takes-more integer source entry was drew so_now.undone range now passed.undone
-                      call-now answer (subst (IsOneFrom (rank_after rank (Some answer)))
-                      (sym passed.left)
+                      takes-more integer source entry was drew range now call-now passed.undone answer
+                      (subst (IsOneRunFrom (rank_after rank (Some answer))) (sym passed.left)
                       (one-if (rank_after rank (Some answer)) (past_both rank end next_end)
-                      (nat_le (past_both rank end next_end).first (past_both rank end next_end).last)
                       (omega (arith, high, one, meets, in_order))))
                       (λ at from. odd-now at (none-from (rank was.start) (rank next) at
                       (omega (arith, high, one, from))));

@@ -11,7 +11,7 @@ use Rattle.rsb_streams.specs.Stream.{◌⊆◌, run_if_any}
 use Rattle.rsb_streams.specs.declared.draw.Draw.{Ghosts as Stream}
 use Rattle.rsb_streams.specs.declared.odd_pieces.OddPieces.{OddPieces}
 use Rattle.rsb_streams.proofs.checking.Fresh.{none-if_empty, one-if_some}
-use Rattle.rsb_streams.proofs.odd.Drawn.{Drew}
+use Rattle.rsb_streams.proofs.odd.Drawn.{DrawnSince}
 
 -- A state of the pieces that has not ended.
 abbrev pub state : {T I : Type 0} → I → T → Option T → OddPieces T I
@@ -158,4 +158,4 @@ module _ {T N I : Type 0} (integer : Elements T N) (stream : Stream I T N) where
   pub record OddHeld (entry now : OddPieces T I) (ends : List (Option T)) : Type 0 where
     pub one : HasOneEnd ends
     pub so : OddSoFar entry (holding now ends)
-    pub drew : Drew integer stream entry (holding now ends)
+    pub drew : DrawnSince integer stream entry (holding now ends)

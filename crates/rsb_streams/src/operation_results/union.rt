@@ -13,7 +13,7 @@ use rsb_integer::Integer;
 use std::iter::FusedIterator;
 use std::ops::RangeInclusive;
 
-/// The values in either of two streams. It looks ahead by at most one range in each stream. Each
+/// The values in either of two streams. It looks ahead by at most one range in each stream. Every
 /// other range that it has drawn lies within the ranges that it has returned. A range drawn ahead
 /// starts past the last returned range, with a gap between. (`Union` in range-set-blaze.)
 #[derive(Clone, Debug, Drop)]

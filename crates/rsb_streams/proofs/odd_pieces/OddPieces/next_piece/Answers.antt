@@ -4,10 +4,10 @@ use Rattle.std.specs.Prelude.{Some, None}
 use Rattle.rsb_integer.specs.Room.{fits_memory}
 use Rattle.rsb_streams.specs.OddPieces.{first_end, holding}
 use Rattle.rsb_streams.proofs.checking.Comparisons.{IsRanked}
-use Rattle.rsb_streams.proofs.odd.Drawn.{drew-none}
+use Rattle.rsb_streams.proofs.odd.Drawn.{drawn-none}
 use Rattle.rsb_streams.proofs.odd.Ends.{last-answers, last-goes, rests}
 use Rattle.rsb_streams.proofs.odd.States.{passed-by, popped-end, popped-left, pushed-none, pushed-some, removed-first}
-use Rattle.rsb_streams.proofs.odd.OneMore.{apart-answers, apart-goes, both-values, drew-begins, drew-passed, gap-answers, gap-goes, next-above, so-begins, so-passed}
+use Rattle.rsb_streams.proofs.odd.OneMore.{apart-answers, apart-goes, both-values, drawn-begins, drawn-passed, gap-answers, gap-goes, next-above, so-begins, so-passed}
 use Rattle.rsb_streams.proofs.sources.Known.{IsLawful}
 use Rattle.rsb_streams.proofs.odd_pieces.OddPieces.next_piece.Given.{Over}
 use Rattle.rsb_streams.proofs.odd_pieces.OddPieces.next_piece.Goals as goal
@@ -30,7 +30,8 @@ loop-range-init g c = record {
     same = λ pieces at. at;
     nearer = omega arith;
   };
-  drew = drew-none g.T.Integer g.I.Draw (holding c.args.self.now c.args.ends.now.items);
+  drew = drawn-none g.T.Integer g.I.Draw (holding c.args.self.now c.args.ends.now.items)
+      c.requires.undone;
 }
 
 -- Fewer ranges are left to draw.
@@ -59,7 +60,7 @@ loop-range-preserved-in_default-pending g c =
           c.draw.new.self c.into_inner-next.result.0 c.into_inner-next.result.1 c.in-Some.range
           c.loop-range.invariant.so c.in-Some.ensures.steps c.in-Some.ensures.goes
           c.into_inner-next.ensures.start c.into_inner-next.ensures.end c.in_default-pending.ensures);
-      drew = rw ends (drew-begins g.T.Integer g.I.Draw (laws g)
+      drew = rw ends (drawn-begins g.T.Integer g.I.Draw (laws g)
           (ranked g) (holding c.args.self.now c.args.ends.now.items)
           (holding c.loop-range.self c.loop-range.ends.items)
           c.draw.new.self c.into_inner-next.result.0 c.into_inner-next.result.1 c.in-Some.range
@@ -178,7 +179,7 @@ loop-range-preserved g c =
           c.loop-range.invariant.so c.in-Some.ensures.steps c.in-Some.ensures.goes
           c.into_inner-next.ensures.start c.into_inner-next.ensures.end c.in-Some-pending.end
           c.in-Some-pending.ensures c.if-lt.ensures _ passed c.if-lt-2.ensures;
-      drew = drew-passed g.T.Integer g.I.Draw (laws g)
+      drew = drawn-passed g.T.Integer g.I.Draw (laws g)
           (ranked g) (holding c.args.self.now c.args.ends.now.items)
           (holding c.loop-range.self c.loop-range.ends.items)
           c.draw.new.self c.into_inner-next.result.0 c.into_inner-next.result.1 c.in-Some.range
