@@ -10,7 +10,7 @@ use Rattle.range_set_c.specs.Walk.{IsFirstAfter, IsLastBefore, NoneAfter, NoneBe
 module _ (n : ℕ) (selected : Selection) where
   -- ---- maximal runs, and ranks that are not selected
 
-  -- a maximal run that does not start below free ranks starts past them
+  -- A maximal run that does not start below free ranks starts past them.
   starts-past : (from to : ℕ) → ((rank : ℕ) → from ≤ rank → rank < to → selected rank ≡ false)
       → (run : Interval) → IsMaximalRun n selected run → from ≤ run.first → to ≤ run.first
   starts-past from to free run maximal more = elim (cases_lt run.first to) [
@@ -22,7 +22,7 @@ module _ (n : ℕ) (selected : Selection) where
         (free run.first more less))
   ]
 
-  -- and one that does not end above them ends before them
+  -- One that does not end above them ends before them.
   ends-before : (from to : ℕ) → ((rank : ℕ) → from < rank → rank ≤ to → selected rank ≡ false)
       → (run : Interval) → IsMaximalRun n selected run → run.last ≤ to → run.last ≤ from
   ends-before from to free run maximal less = elim (cases_lt from run.last) [
@@ -36,7 +36,7 @@ module _ (n : ℕ) (selected : Selection) where
 
   module _ (run other : Interval) (maximal : IsMaximalRun n selected run)
       (also : IsMaximalRun n selected other) where
-    -- a maximal run that starts past the start of another starts past its end
+    -- A maximal run that starts past the start of another starts past its end.
     starts-apart : run.first < other.first → run.last < other.first
     starts-apart later = elim (cases_lt run.last other.first) [
       | inl past ↦ past
@@ -46,7 +46,7 @@ module _ (n : ℕ) (selected : Selection) where
           (also.begins_here (omega (arith, later))))
     ]
 
-    -- and one that ends before the end of another ends before its start
+    -- One that ends before the end of another ends before its start.
     ends-apart : other.last < run.last → other.last < run.first
     ends-apart earlier = elim (cases_lt other.last run.first) [
       | inl before ↦ before
@@ -60,13 +60,13 @@ module _ (n : ℕ) (selected : Selection) where
 
   -- ---- forward
 
-  -- the maximal runs that start past the value start at `next` or later
+  -- The maximal runs that start past the value start at `next` or later.
   abbrev pub Skips : ℕ → ℕ → Type 0
   Skips value next = (run : Interval) → IsMaximalRun n selected run → value < run.first
       → next ≤ run.first
 
   module _ (value next : ℕ) (skips : Skips value next) where
-    -- so the first from there on is the first
+    -- So the first one from there on is the first one past the value.
     pub first-after : (run : Interval) → IsMaximalRun n selected run → value < run.first
         → ((rank : ℕ) → next ≤ rank → rank < run.first → selected rank ≡ false)
         → IsFirstAfter n selected value run
@@ -77,7 +77,7 @@ module _ (n : ℕ) (selected : Selection) where
           starts-past next run.first free other also (skips other also past);
     }
 
-    -- and if there is none from there on, there is none
+    -- If there is none from there on, there is none past the value.
     pub none-after : ((rank : ℕ) → next ≤ rank → rank < n → selected rank ≡ false)
         → NoneAfter n selected value
     none-after free run maximal = elim (cases_lt value run.first) [
@@ -89,18 +89,18 @@ module _ (n : ℕ) (selected : Selection) where
           absurd (omega (arith, past, order, known))
     ]
 
-  -- right past the value
+  -- The rank right past the value is such a rank.
   pub skips-none : (value next : ℕ) → next ≡ value + 1 → Skips value next
   skips-none value next is run maximal later = omega (arith, is, later)
 
-  -- past a run that starts no later than the value
+  -- So is the rank right past a run that starts no later than the value.
   pub skips-run : (value : ℕ) (run : Interval) → IsMaximalRun n selected run → run.first ≤ value
       → (next : ℕ) → next ≡ run.last + 1 → Skips value next
   skips-run value run maximal starts next is other also later =
       let apart = starts-apart run other maximal also (omega (arith, starts, later)) in
       omega (arith, apart, is)
 
-  -- a run that reaches past the end of one that reaches the value starts past the value
+  -- A run that ends past the end of one that reaches the value starts past the value.
   pub later-run : (value : ℕ) (run other : Interval) → IsMaximalRun n selected run
       → IsMaximalRun n selected other → value ≤ run.last → run.last < other.last
       → value < other.first
@@ -110,13 +110,13 @@ module _ (n : ℕ) (selected : Selection) where
 
   -- ---- backward
 
-  -- the maximal runs that end before the value end at `last` or earlier
+  -- The maximal runs that end before the value end at `last` or earlier.
   abbrev pub SkipsBack : ℕ → ℕ → Type 0
   SkipsBack value last = (run : Interval) → IsMaximalRun n selected run → run.last < value
       → run.last ≤ last
 
   module _ (value last : ℕ) (skips : SkipsBack value last) where
-    -- so the last up to there is the last
+    -- So the last one up to there is the last one before the value.
     pub last-before : (run : Interval) → IsMaximalRun n selected run → run.last < value
         → ((rank : ℕ) → run.last < rank → rank ≤ last → selected rank ≡ false)
         → IsLastBefore n selected value run
@@ -127,7 +127,7 @@ module _ (n : ℕ) (selected : Selection) where
           ends-before run.last last free other also (skips other also before);
     }
 
-    -- and if there is none up to there, there is none
+    -- If there is none up to there, there is none before the value.
     pub none-before : ((rank : ℕ) → rank ≤ last → selected rank ≡ false)
         → NoneBefore n selected value
     none-before free run maximal = elim (cases_lt run.last value) [
@@ -139,18 +139,18 @@ module _ (n : ℕ) (selected : Selection) where
           (free run.last (skips run maximal earlier)))
     ]
 
-  -- right before the value
+  -- The rank right before the value is such a rank.
   pub skips-back_none : (value last : ℕ) → last + 1 ≡ value → SkipsBack value last
   skips-back_none value last is run maximal earlier = omega (arith, is, earlier)
 
-  -- before a run that ends no earlier than the value
+  -- So is the rank right before a run that ends no earlier than the value.
   pub skips-back_run : (value : ℕ) (run : Interval) → IsMaximalRun n selected run
       → value ≤ run.last → (last : ℕ) → last + 1 ≡ run.first → SkipsBack value last
   skips-back_run value run maximal ends last is other also earlier =
       let apart = ends-apart run other maximal also (omega (arith, ends, earlier)) in
       omega (arith, apart, is)
 
-  -- before such a run from rank 0 on there is none
+  -- If such a run starts at rank 0, no run ends before the value.
   pub none-below : (value : ℕ) (run : Interval) → IsMaximalRun n selected run
       → value ≤ run.last → run.first ≡ 0 → NoneBefore n selected value
   none-below value run maximal ends starts other also = elim (cases_lt other.last value) [
@@ -160,8 +160,8 @@ module _ (n : ℕ) (selected : Selection) where
         absurd (omega (arith, apart, starts))
   ]
 
-  -- a run that starts before the start of one that starts at or before the value ends before the
-  -- value
+  -- A run that starts before the start of one that starts at or before the value ends before the
+  -- value.
   pub earlier-run : (value : ℕ) (run other : Interval) → IsMaximalRun n selected run
       → IsMaximalRun n selected other → run.first ≤ value → other.first < run.first
       → other.last < value

@@ -9,11 +9,11 @@ use Rattle.std.specs.declared.cmp.Ordering.TheVariants.{Less, Equal, Greater}
 abbrev pub IsStatus : ℕ → Type 0
 IsStatus status = status ≤ 2
 
--- Whether the set was already as asked.
+-- Whether the set was already as requested.
 abbrev pub IsUnchanged : ℕ → Type 0
 IsUnchanged status = status ≡ 0
 
--- Whether the set is now as asked, and was not before, or whether it was made.
+-- Whether the set is only now as requested, or whether the requested set was made.
 abbrev pub IsChanged : ℕ → Type 0
 IsChanged status = status ≡ 1
 
@@ -21,7 +21,7 @@ IsChanged status = status ≡ 1
 abbrev pub IsRefused : ℕ → Type 0
 IsRefused status = status ≡ 2
 
--- Whether the set is now as asked.
+-- Whether the set is now as requested.
 abbrev pub Succeeds : ℕ → Type 0
 Succeeds status = status < 2
 

@@ -1,4 +1,4 @@
-//! Intersection, difference and symmetric difference with another set, in place
+//! Intersection, difference and symmetric difference with another set, which replace the set
 //! (docs/DECISIONS.md, assigned-anew).
 
 ghost use Rattle.std.specs.Prelude.{◌≡◌, IsOk, OnErr, OnOk};

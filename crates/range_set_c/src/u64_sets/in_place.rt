@@ -1,8 +1,8 @@
-//! Changes of one set by another, which is unchanged.
+//! Changes to one set by another, which is unchanged.
 //!
-//! A call returns `UNCHANGED` if the set was already as asked, and then does not allocate. It
-//! returns `CHANGED` if the set is now as asked. It returns `NO_MEMORY` if an allocation fails, and
-//! the set is then unchanged.
+//! A call returns `UNCHANGED` if the set was already as requested, and then does not allocate. It
+//! returns `CHANGED` if it is only now. It returns `NO_MEMORY` if an allocation fails, and the set
+//! is then unchanged.
 
 ghost use Rattle.std.specs.Prelude.{◌≡◌, ◌^◌};
 ghost use Rattle.rsb_integer.specs.Runs.{members};

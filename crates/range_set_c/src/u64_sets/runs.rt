@@ -218,12 +218,14 @@ fn run_past(set: &RangeSetBlaze<u64, Global>, value: u64) -> Option<Run>
     ensures run { IfSome result (λ run.
         IsFirstAfter (2 ^ 64) (members set.now) value (from_to run.first run.last)) }
 {
-    let run = run_from(set, value.checked_add(1)?)?;
+    let next = value.checked_add(1)?;
+    let run = run_from(set, next)?;
     if value < run.first {
         return Some(run);
     }
-    let next = run.last.checked_add(1)?;
-    run_from(set, next)
+    // The run has the value too.
+    let past = run.last.checked_add(1)?;
+    run_from(set, past)
 }
 
 // Returns the last run that ends before a value.
@@ -232,10 +234,12 @@ fn run_short_of(set: &RangeSetBlaze<u64, Global>, value: u64) -> Option<Run>
     ensures run { IfSome result (λ run.
         IsLastBefore (2 ^ 64) (members set.now) value (from_to run.first run.last)) }
 {
-    let run = run_up_to(set, value.checked_sub(1)?)?;
+    let before = value.checked_sub(1)?;
+    let run = run_up_to(set, before)?;
     if run.last < value {
         return Some(run);
     }
-    let before = run.first.checked_sub(1)?;
-    run_up_to(set, before)
+    // The run has the value too.
+    let short = run.first.checked_sub(1)?;
+    run_up_to(set, short)
 }
