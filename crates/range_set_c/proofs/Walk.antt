@@ -1,5 +1,6 @@
 -- The steps of a walk over the runs of a set.
 use Rattle.std.proofs.Common.{◌≡◌, ℕ, true, false, ◌+◌, ◌-◌, ◌<◌, ◌≤◌, inl, inr, arith}
+use Rattle.std.specs.Prelude.{Option, Some, None, IfSome}
 use Rattle.std.proofs.lemmas.Bool.{cases_lt}
 use Rattle.rsb_integer.specs.Runs.{Interval, covers, IsMaximalRun}
 use Rattle.rsb_integer.specs.Selection.{Selection}
@@ -100,13 +101,26 @@ module _ (n : ℕ) (selected : Selection) where
       let apart = starts-apart run other maximal also (omega (arith, starts, later)) in
       omega (arith, apart, is)
 
-  -- A run that ends past the end of one that reaches the value starts past the value.
-  pub later-run : (value : ℕ) (run other : Interval) → IsMaximalRun n selected run
-      → IsMaximalRun n selected other → value ≤ run.last → run.last < other.last
-      → value < other.first
-  later-run value run other maximal also reaches more =
-      let apart = ends-apart other run also maximal more in
-      omega (arith, apart, reaches)
+  module _ (value : ℕ) (run : Interval) (maximal : IsMaximalRun n selected run)
+      (starts : run.first ≤ value) (reaches : value ≤ run.last) (next : ℕ)
+      (is : next ≡ run.last + 1) where
+    -- So the next run after one that has the value is the first one past the value.
+    next-after : (other : Interval) → IsMaximalRun n selected other → next ≤ other.last
+        → ((rank : ℕ) → next ≤ rank → rank < other.first → selected rank ≡ false)
+        → IsFirstAfter n selected value other
+    next-after other also ends =
+        let apart = ends-apart other run also maximal (omega (arith, ends, is)) in
+        first-after value next (skips-run value run maximal starts next is) other also
+        (omega (arith, apart, reaches))
+
+    pub found-after : {X : Type 0} (interval : X → Interval) (found : Option X)
+        → IfSome found (λ x. IsMaximalRun n selected (interval x))
+        → IfSome found (λ x. next ≤ (interval x).last)
+        → IfSome found (λ x. (rank : ℕ) → next ≤ rank → rank < (interval x).first
+        → selected rank ≡ false)
+        → IfSome found (λ x. IsFirstAfter n selected value (interval x))
+    found-after interval None also ends free = tt
+    found-after interval (Some other) also ends free = next-after (interval other) also ends free
 
   -- ---- backward
 
@@ -160,11 +174,23 @@ module _ (n : ℕ) (selected : Selection) where
         absurd (omega (arith, apart, starts))
   ]
 
-  -- A run that starts before the start of one that starts at or before the value ends before the
-  -- value.
-  pub earlier-run : (value : ℕ) (run other : Interval) → IsMaximalRun n selected run
-      → IsMaximalRun n selected other → run.first ≤ value → other.first < run.first
-      → other.last < value
-  earlier-run value run other maximal also starts less =
-      let apart = starts-apart other run also maximal less in
-      omega (arith, apart, starts)
+  module _ (value : ℕ) (run : Interval) (maximal : IsMaximalRun n selected run)
+      (starts : run.first ≤ value) (reaches : value ≤ run.last) (last : ℕ)
+      (is : last + 1 ≡ run.first) where
+    -- So the last run before one that has the value is the last one before the value.
+    last-run : (other : Interval) → IsMaximalRun n selected other → other.first ≤ last
+        → ((rank : ℕ) → other.last < rank → rank ≤ last → selected rank ≡ false)
+        → IsLastBefore n selected value other
+    last-run other also begins =
+        let apart = starts-apart other run also maximal (omega (arith, begins, is)) in
+        last-before value last (skips-back_run value run maximal reaches last is) other also
+        (omega (arith, apart, starts))
+
+    pub found-before : {X : Type 0} (interval : X → Interval) (found : Option X)
+        → IfSome found (λ x. IsMaximalRun n selected (interval x))
+        → IfSome found (λ x. (interval x).first ≤ last)
+        → IfSome found (λ x. (rank : ℕ) → (interval x).last < rank → rank ≤ last
+        → selected rank ≡ false)
+        → IfSome found (λ x. IsLastBefore n selected value (interval x))
+    found-before interval None also begins free = tt
+    found-before interval (Some other) also begins free = last-run (interval other) also begins free

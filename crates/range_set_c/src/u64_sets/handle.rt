@@ -1,6 +1,7 @@
 //! The handle that C holds (docs/DECISIONS.md, handle-one-pointer).
 
 ghost use Rattle.std.specs.Prelude.{◌≡◌, ◌⊎◌, ◌<◌, [], IfOk, IsOk, MatchOption, OnErr};
+ghost use Rattle.range_set_c.specs.Answer.{IsChanged, IsRefused};
 ghost use Rattle.range_set_c.specs.U64Handle.{handle_owns, kept_coded};
 ghost use Rattle.range_set_c.specs.declared.u64_sets.kept.Kept.{Kept};
 

@@ -234,8 +234,8 @@ fn run_short_of(set: &RangeSetBlaze<u64, Global>, value: u64) -> Option<Run>
     ensures run { IfSome result (λ run.
         IsLastBefore (2 ^ 64) (members set.now) value (from_to run.first run.last)) }
 {
-    let before = value.checked_sub(1)?;
-    let run = run_up_to(set, before)?;
+    let below = value.checked_sub(1)?;
+    let run = run_up_to(set, below)?;
     if run.last < value {
         return Some(run);
     }
