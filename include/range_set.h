@@ -86,16 +86,16 @@ uint32_t rsb_u64_remove_range(rsb_u64 *set, uint64_t first, uint64_t last);
    and does not allocate, if all of them were already members. */
 uint32_t rsb_u64_union_with(rsb_u64 *set, const rsb_u64 *other);
 
-/* Keeps only the members that another set has too. Returns RSB_UNCHANGED, and does not allocate, if
-   these are all members. Does not allocate either if the other set is empty. */
+/* Removes the members that another set does not have. Returns RSB_UNCHANGED, and does not allocate,
+   if it has all of them. Does not allocate either if the other set is empty. */
 uint32_t rsb_u64_intersect_with(rsb_u64 *set, const rsb_u64 *other);
 
 /* Removes all members of another set. Returns RSB_UNCHANGED, and does not allocate, if none of them
    was a member. */
 uint32_t rsb_u64_subtract(rsb_u64 *set, const rsb_u64 *other);
 
-/* Removes the members that another set has too, and adds those that only the other set has. Returns
-   RSB_UNCHANGED, and does not allocate, if the other set is empty. */
+/* Removes the members that another set has too, and adds the members that only the other set has.
+   Returns RSB_UNCHANGED, and does not allocate, if the other set is empty. */
 uint32_t rsb_u64_xor_with(rsb_u64 *set, const rsb_u64 *other);
 
 /* Removes all members, but keeps a block of memory for later ones. rsb_u64_free frees that too. */
@@ -122,12 +122,13 @@ rsb_u64_count rsb_u64_len(const rsb_u64 *set);
    Takes a step for each run between them. */
 rsb_u64_count rsb_u64_len_in(const rsb_u64 *set, uint64_t first, uint64_t last);
 
-/* Returns the number of members below value, which need not be a member. Takes a step for each run
-   up to it. */
+/* Returns the number of members below `value`, which need not be a member. Takes a step for each
+   run up to it. */
 rsb_u64_count rsb_u64_rank(const rsb_u64 *set, uint64_t value);
 
-/* Stores the member with exactly n members below it in value and returns true. If there are at most
-   n members, returns false, and value is unchanged. Takes a step for each run up to the member. */
+/* Stores in `value` the member that has exactly n members below it, and returns true. If there are
+   at most n members, returns false, and `value` is unchanged. Takes a step for each run up to the
+   member. */
 bool rsb_u64_nth(const rsb_u64 *set, uint64_t n, uint64_t *value);
 
 /* Returns the number of runs. */
@@ -146,31 +147,32 @@ bool rsb_u64_last(const rsb_u64 *set, uint64_t *value);
    and UINT64_MAX if there are none. */
 bool rsb_u64_run_or_gap(const rsb_u64 *set, uint64_t value, rsb_u64_run *block);
 
-/* Stores the run that contains `from`, or otherwise the first run after it, in `run` and returns true.
-   If there is none, returns false, and `run` is unchanged. */
+/* Stores in `run` the run that contains `from`, or otherwise the first run after it, and returns
+   true. If there is none, returns false, and `run` is unchanged. */
 bool rsb_u64_next_run(const rsb_u64 *set, uint64_t from, rsb_u64_run *run);
 
-/* Stores the run that contains `from`, or otherwise the last run before it, in `run` and returns true.
-   If there is none, returns false, and `run` is unchanged. */
+/* Stores in `run` the run that contains `from`, or otherwise the last run before it, and returns
+   true. If there is none, returns false, and `run` is unchanged. */
 bool rsb_u64_prev_run(const rsb_u64 *set, uint64_t from, rsb_u64_run *run);
 
-/* Stores the first run that starts after `value` in `run` and returns true. If there is none, returns
-   false, and `run` is unchanged. This loop goes over all runs, and ends for every set:
+/* Stores in `run` the first run that starts after `value`, and returns true. If there is none,
+   returns false, and `run` is unchanged. This loop goes over all runs, and ends for every set:
 
      for (bool more = rsb_u64_next_run(&set, 0, &run); more;
           more = rsb_u64_run_after(&set, run.last, &run)) */
 bool rsb_u64_run_after(const rsb_u64 *set, uint64_t value, rsb_u64_run *run);
 
-/* Stores the last run that ends before `value` in `run` and returns true. If there is none, returns
-   false, and `run` is unchanged. This loop goes over all runs in descending order:
+/* Stores in `run` the last run that ends before `value`, and returns true. If there is none,
+   returns false, and `run` is unchanged. This loop goes over all runs in descending order:
 
      for (bool more = rsb_u64_prev_run(&set, UINT64_MAX, &run); more;
           more = rsb_u64_run_before(&set, run.first, &run)) */
 bool rsb_u64_run_before(const rsb_u64 *set, uint64_t value, rsb_u64_run *run);
 
-/* Stores the first gap with at least `len` values at or after `from` in `gap` and returns true. If that
-   gap starts before `from`, stores only its part at or after `from`. If there is no such gap, returns
-   false, and `gap` is unchanged. Takes a step for each run between `from` and the gap. */
+/* Stores in `gap` the first gap that has at least `len` values at or after `from`, and returns
+   true. If that gap starts before `from`, stores only its part at or after `from`. If there is no
+   such gap, returns false, and `gap` is unchanged. Takes a step for each run between `from` and the
+   gap. */
 bool rsb_u64_first_gap(const rsb_u64 *set, uint64_t from, uint64_t len, rsb_u64_run *gap);
 
 /* Set `out` to the union, the intersection, the difference (left without right) or the symmetric
