@@ -86,8 +86,8 @@ module _ {T I : Type 0} (rank : T → ℕ) (n : ℕ) (can_draw : I → Type 0)
     pub callable : fused_can can_draw (stream_of s)
     pub canonical : left_between rank may_give s ⊆ IsCanonicalIn n
 
-  -- Whether the iterator may be called. No proof search unfolds this definition: `rev` requires it
-  -- of the iterator that it holds.
+  -- Whether the iterator may be called. No proof search unfolds this definition, because `rev`
+  -- requires it of the iterator that it holds.
   unfoldable pub ElementsReady : Iter T I → Type 0
   ElementsReady s = IsReady s
 

@@ -5,8 +5,8 @@ use Rattle.range_set_blaze.specs.Text.{BlanksThen, DigitsThen, EndThen, NumberTh
 use Rattle.range_set_blaze.specs.declared.set.parse.Place.{Place}
 use Rattle.range_set_blaze.specs.declared.set.parse.Place.TheVariants.{Start, Before, Signed, Digits, Behind, Dot, Dots}
 
--- The start of a range that ends with this number: the number it began with, or else the same
--- number.
+-- The start of a range that ends with this number: the number it began with, if there is one, and
+-- otherwise this number.
 abbrev pub start_or : {T : Type 0} → Option T → T → T
 start_or None value = value
 start_or (Some start) value = start

@@ -94,7 +94,7 @@ module _ {F T : Type 0} (rank : T → ℕ) (g : Mut F (Bor T × Unit {0}) Bool) 
   AsksAll f set = (values : List T) × (last : F) × IsAsked g f values last
       × (map rank values ≡ ascending_ranks set)
 
-  -- Whether the closure `f` was called on the members in some prefix of them, once on each, in
+  -- Whether the closure `f` was called on a prefix of the members of the set, once on each, in
   -- ascending order.
   abbrev pub AsksFront : F → List Interval → Type 0
   AsksFront f set = (values : List T) × (last : F) × IsAsked g f values last

@@ -233,7 +233,7 @@ fn lay_number<W: Write>(page: &mut Page<'_, W>, number: &i32)
     page.lay(Buffer::new().format(*number).as_bytes());
 }
 
-/// The length of the longest line of a fault in bytes: `bad line `, 20 digits and a line feed.
+/// The length in bytes of the longest line of a fault: `bad line `, 20 digits and a line feed.
 const FAULT_LINE: usize = 30;
 
 /// Writes the line of a fault. Returns `Io` if a write fails.

@@ -26,9 +26,9 @@ pub fn canonical_lists_are_runs<T: Integer>()
         → IsCanonicalIn T.value_count runs ↔ AreRuns T.value_count (members runs) runs }
 {}
 
-/// The length of a range determines its end from its start, and its start from its end. For that
-/// length, `inclusive_end_from_start` and `start_from_inclusive_end` can return only these. Not in
-/// range-set-blaze.
+/// The start and the length of a range determine its end, and its end and length determine its
+/// start. For that length, `inclusive_end_from_start` and `start_from_inclusive_end` can return
+/// only these. Not in range-set-blaze.
 pub fn offsets_undo_length<T: Integer>()
     ensures end { (start end found : T) (length : ℕ)
         → T.rank start ≤ T.rank end → T.rank end < T.value_count

@@ -99,8 +99,8 @@ module _ {T N I A : Type 0} (integer : Elements T N) (stream : Stream I T N) whe
     pub deep : (events : List Event) → sweep_may_give integer stream s.sweep events
         → IsDepth s.depth events
 
-  -- The pieces that may come, of the ranks that have an odd number of crossing edges at or before
-  -- them. Once the stream is done, none come.
+  -- The pieces that may come: those of the ranks that have an odd number of crossing edges at or
+  -- before them. Once the stream is done, none come.
   abbrev pub deep_may_give : DeepPieces T I A N → Outcomes
   deep_may_give s = unless s.done (λ pieces. SomeEvents (sweep_may_give integer stream s.sweep)
       (λ events. ArePieces n (odd_past (edges_of rank s.start

@@ -70,7 +70,8 @@ pub record TakesLeastHead {T : Type 0} (rank : T → ℕ) (old : Kept T) (head :
   pub kept : IsPermutation old.heads (head ∷ new.heads)
   pub least : IsLeastOf rank head new.heads
 
--- The number of binary digits of `n`, which is 0 for 0. `most` must be at least that number.
+-- The number of binary digits of `n`, which is 0 for 0. The first argument must be at least that
+-- number.
 abbrev pub digits_within : ℕ → ℕ → ℕ
 digits_within zero n = 0
 digits_within (suc most) n = cond (nat_lt 0 n) (suc (digits_within most (n / 2))) 0

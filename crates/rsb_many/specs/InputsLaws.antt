@@ -5,8 +5,8 @@ use Rattle.std.specs.Prelude.{IfSome}
 use Rattle.rsb_streams.specs.MergeLaws.{both-finite}
 use Rattle.rsb_many.specs.Inputs.{left_of}
 
--- If an input's count is finite whenever the input is not over, it is also finite with 0 in its
--- place once the input is over.
+-- Suppose that an input's count is finite whenever the input is not over. Then it is always finite
+-- if 0 replaces it once the input is over.
 finite-unless : (over : Bool) (left : Count) → (over ≡ false → IsFinite left)
     → IsFinite (count_unless over left)
 finite-unless true left ends = tt

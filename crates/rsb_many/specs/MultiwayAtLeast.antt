@@ -16,8 +16,8 @@ use Rattle.rsb_many.specs.SweepPieces.{PassesSome, Telling}
 use Rattle.rsb_many.specs.declared.deep_pieces.DeepPieces.{DeepPieces}
 use Rattle.rsb_many.specs.declared.multiway_at_least.MultiwayAtLeast.{MultiwayAtLeast}
 
--- Whether only runs of what lies in at least `least` of the lists of the streams may come, and at
--- most as many as these lists have together. No proof search unfolds this definition.
+-- Whether what may come is only runs of what lies in at least `least` of the lists of the streams,
+-- and at most as many as these lists have together. No proof search unfolds this definition.
 unfoldable pub GivesRunsOfAllAtMost : {S : Type 0} → ℕ → ℕ → (S → Outcomes) → List S → Outcomes
     → Type 0
 GivesRunsOfAllAtMost least n may_give streams given = given ⊆ (λ runs.

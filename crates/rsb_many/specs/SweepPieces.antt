@@ -153,7 +153,8 @@ module _ {T N I A : Type 0} (integer : Elements T N) (stream : Stream I T N) whe
     pub whole : (events : List Event) → sweep_may_give integer stream s.sweep events
         → IsWhole rank n s.start events
 
-  -- The pieces that may come, of the ranks that have an odd number of edges at or before them.
+  -- The pieces that may come: those of the ranks that have an odd number of edges at or before
+  -- them.
   abbrev pub pieces_may_give : SweepPieces T I A N → Outcomes
   pieces_may_give s pieces = SomeEvents (sweep_may_give integer stream s.sweep)
       (λ events. ArePieces n (odd_past (edges_of rank s.start ++ map edge_of events)) pieces)

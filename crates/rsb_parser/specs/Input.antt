@@ -5,8 +5,8 @@ use Rattle.rsb_parser.specs.declared.command.Command.{Command}
 use Rattle.rsb_parser.specs.declared.input.Reading.{Reading}
 use Rattle.rsb_parser.specs.Spelling.{AreCommands, IsFirstBadLine}
 
--- Whether the lines of the bytes stay the same whatever follows: the lines of the bytes and what
--- follows are the lines of the bytes and then those of what follows.
+-- Whether the lines of the bytes stay the same whatever comes after them: the whole has these
+-- lines, and then the lines of what comes after.
 unfoldable pub IsClosed : List ℕ → Type 0
 IsClosed bytes = (more : List ℕ) → lines (bytes ++ more) ≡ lines bytes ++ lines more
 

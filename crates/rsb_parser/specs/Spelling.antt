@@ -158,8 +158,8 @@ LacksFirst {X} Holds line =
     (word : List ℕ) (others : List (List ℕ)) → words line ≡ word ∷ others
     → (x : X) → ¬ Holds word x
 
--- Whether the result is a value such that the fact holds of the first word of the line and that
--- value, with the rest of the line. It is `None` if there is no such value.
+-- Whether the result is a value, with the rest of the line, such that the fact holds of the first
+-- word of the line and that value. It is `None` if there is no such value.
 abbrev pub ReadsFirst : {X : Type 0} → Option (X × Bor (List ℕ)) → (List ℕ → X → Type 0) → List ℕ
     → Type 0
 ReadsFirst result Holds line = MatchOption result (LacksFirst Holds line)

@@ -1,4 +1,4 @@
--- Streams of which only the results of their calls are known.
+-- Streams of which only the results of calls are known.
 use Rattle.std.specs.Prelude.{◌≡◌, ◌⊎◌, ℕ, List, Option, Some, None, OnSome}
 use Rattle.std.specs.Iterator.{IsFinite, IsNearerEnd, Yields}
 use Rattle.std.specs.declared.iter.Iterator.{Ghosts as Iteration}

@@ -1,4 +1,4 @@
--- The laws of streams of which only the results of their calls are known.
+-- The laws of streams of which only the results of calls are known.
 use Rattle.std.proofs.Common.{ℕ, zero, suc, ◌<◌, ◌≤◌, List, [], ◌∷◌, refl, sym, ap, subst, inl, inr, arith}
 use Rattle.std.specs.Prelude.{Option, Some, None}
 use Rattle.std.specs.Iterator.{IsFinite, IsNearerEnd, Yields, size}

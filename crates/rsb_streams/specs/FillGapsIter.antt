@@ -42,7 +42,7 @@ abbrev pub fill_remaining : {T N I : Type 0} → Elements T N → FillGapsIter T
 fill_remaining integer s = at_most (values_from integer.rank integer.value_count s.start)
 
 module _ {T N I : Type 0} (integer : Elements T N) (stream : Stream I T N) where
-  -- The runs that are held and still to come, with their gaps.
+  -- The runs that are held or still to come, with their gaps.
   abbrev pub fill_may_give : FillGapsIter T I → FilledOutcomes
   fill_may_give s = fills_after integer.rank integer.value_count s.start
       ((put_back integer stream).may_give s.iter)

@@ -121,7 +121,7 @@ AreUndrawn {Place} may_give inputs = (place : Place) → IsUndrawn (may_give pla
 
 -- ---- calls
 
--- Whether a call returns the range that it uses of an input, and holds none of that input
+-- Whether a call uses one range of an input and returns it, and holds none of that input
 -- afterwards.
 pub record GivesFrom (before : Input) (run : Interval) (now : Input) : Type 0 where
   pub uses : Uses before (run ∷ []) now

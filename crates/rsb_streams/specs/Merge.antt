@@ -20,9 +20,9 @@ module _ {T N L R : Type 0} (integer : Elements T N) (lefts : Stream L T N)
   merge_inputs s Left = input_of integer lefts s.left
   merge_inputs s Right = input_of integer rights s.right
 
-  -- The merge: what is held and still to come of both streams, sorted by start. A draw takes one
-  -- range of one stream. At most as many are left as in both streams together, including those
-  -- held.
+  -- The merge: what is held of both streams and what is still to come, sorted by start. A draw
+  -- takes one range of one stream. At most as many are left as in both streams together, including
+  -- those held.
   abbrev pub merge : Stream (Merge T L R) T N
   merge = asking integer (AsksOne integer.rank merge_inputs) MergeReady
       (λ s. count_add ((put_back integer lefts).draws_left s.left)

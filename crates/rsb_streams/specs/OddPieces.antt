@@ -100,8 +100,8 @@ pub record IsLeft (runs : List Interval) (from : ℕ) (left : List Interval) : T
   pub same : (rank : ℕ) → from ≤ rank → members left rank ≡ oddly_covered runs rank
 
 module _ {T N I : Type 0} (integer : Elements T N) (stream : Stream I T N) where
-  -- Whether the source is ready, and no rank is in more than two of the ranges, pending and still
-  -- to come.
+  -- Whether the source is ready, and no rank is in more than two of the ranges that are pending or
+  -- still to come.
   pub record IsGoing (s : OddPieces T I) : Type 0 where
     pub callable : stream.can_draw s.iter
     pub twofold : (given : List Interval) → stream.may_give s.iter given
@@ -119,9 +119,9 @@ module _ {T N I : Type 0} (integer : Elements T N) (stream : Stream I T N) where
       (count_map (λ left. left + length (ends_of s.end)) (stream.draws_left s.iter))
 
   -- Whether a draw takes the ranges `drawn` from the source, and leaves what remains of them. What
-  -- these ranges and the one pending before leave past the returned piece is pending afterwards. So
-  -- one end is pending if a rank past the piece is in an odd number of these ranges, and none
-  -- otherwise. After the source has ended, none is pending.
+  -- is left past the returned piece, of these ranges and of the one that was pending before, is
+  -- pending afterwards. So one end is pending if a rank past the piece is in an odd number of these
+  -- ranges, and none otherwise. After the source has ended, none is pending.
   pub record Takes (s : OddPieces T I) (item : Option (RangeInclusive T)) (t : OddPieces T I) : Type
       0 where
     pub drawn : List (RangeInclusive T)

@@ -14,7 +14,8 @@ module _ {T N I : Type 0} (integer : Elements T N) (stream : Stream I T N)
     (sorted : IsSorted integer stream) where
   open integer use {rank, value_count as n}
 
-  -- There may be pieces, they are sorted by start, and they end. By cases on whether all was given.
+  -- Some list of pieces may come, the pieces are sorted by start, and they end. By cases on whether
+  -- all was given.
   keeps-by : (done : Bool) (s : OddPieces T I) → (done ≡ false → IsGoing integer stream s)
       → Keeps (HasSortedStarts n) (unless done (pieces_of n (pending rank s) (stream.may_give s.iter)))
       (count_unless done (count_map (λ left. left + length (ends_of s.end)) (stream.draws_left s.iter)))

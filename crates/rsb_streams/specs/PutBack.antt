@@ -50,7 +50,7 @@ module _ {T N I : Type 0} (integer : Elements T N) (stream : Stream I T N) where
   abbrev pub put_back_may_give : PutBack T I → Outcomes
   put_back_may_give s = after integer.rank s.held ((fused stream).may_give (fused_of s))
 
-  -- Whether the stream is ready, and what is held and still to come is sorted by start.
+  -- Whether the stream is ready, and what is held or still to come is sorted by start.
   pub record PutBackReady (s : PutBack T I) : Type 0 where
     pub callable : (fused stream).can_draw (fused_of s)
     pub sorted : put_back_may_give s ⊆ HasSortedStarts integer.value_count

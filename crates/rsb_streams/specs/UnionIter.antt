@@ -38,7 +38,7 @@ module _ {T N S : Type 0} (integer : Elements T N) (stream : Stream S T N) where
   abbrev pub AsksToJoin : UnionIter T S → Option (RangeInclusive T) → UnionIter T S → Type 0
   AsksToJoin s item t = MatchOption item (JoinsNothing s t) (λ answer. Joins s answer t)
 
-  -- The runs of what is held and still to come. At most as many are left as in the stream, plus one
+  -- The runs of what is held or still to come. At most as many are left as in the stream, plus one
   -- if a range is held.
   abbrev pub union_iter : Stream (UnionIter T S) T N
   union_iter = asking integer AsksToJoin

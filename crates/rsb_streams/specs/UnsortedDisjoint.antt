@@ -105,8 +105,9 @@ module _ {T : Type 0} (rank : T → ℕ) (n : ℕ) where
     pub finite : IsFinite (fuse_remaining remaining s.iter)
     pub proper : IfSome s.gathered IsProper
 
-  -- Whether a call returns the span of the piece that was begun together with the items that the
-  -- call draws. It draws up to an item that begins a new piece, which is then held, or to the end.
+  -- Whether a call returns the span of the piece that was begun before, extended by the items that
+  -- the call draws. It draws up to an item that begins a new piece, which is then held, or to the
+  -- end.
   pub record UnsortedSteps {I : Type 0} (steps : I → Option (RangeInclusive T) → I → Type 0)
       (s : UnsortedDisjoint T I) (answer : Option (RangeInclusive T)) (t : UnsortedDisjoint T I)
       : Type 0 where

@@ -52,8 +52,8 @@ impl<T: Integer, I: Iterator> CheckSortedTouching<T, I> {
 
 impl<T: Integer, A: Allocator> CheckSortedTouching<T, IntoIter<RangeInclusive<T>, A>> {
     /// Returns the ranges of a list as a stream. If a range is empty, or does not start past the
-    /// end of the one before, returns the first such position and the list. Does not allocate. Not
-    /// in range-set-blaze.
+    /// end of the one before, returns the position of the first such range and the list. Does not
+    /// allocate. Not in range-set-blaze.
     pub fn try_new(ranges: Vec<RangeInclusive<T>, A>) -> Result<Self, NotSortedTouching<T, A>>
         ensures ok { IsOk result ↔ IsTouchingIn T.value_count (intervals_of T.rank ranges.items) }
         ensures ready { IfOk result

@@ -5,8 +5,8 @@ use std::error::Error;
 use std::fmt;
 use std::ops::RangeInclusive;
 
-/// A list of ranges with an empty range, or with one that does not start past the end of the range
-/// before, and the first such position, counted from 0. Not in range-set-blaze.
+/// A list of ranges in which some range is empty, or does not start past the end of the one before,
+/// with the position of the first such range, counted from 0. Not in range-set-blaze.
 #[derive(Debug, Drop, PartialEq, Eq)]
 pub struct NotSortedTouching<T, A: Allocator = Global> {
     /// The first bad position, counted from 0.

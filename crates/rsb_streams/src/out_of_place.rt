@@ -1,4 +1,5 @@
-//! The first position at which a list of ranges does not ascend, with or without gaps between.
+//! The first position at which a list of ranges fails to ascend. The ranges may or may not be
+//! allowed to touch.
 
 ghost use Rattle.std.specs.Prelude.{◌≡◌, ◌↔◌, ◌+◌, ◌<◌, ◌≤◌, [], ◌∷◌, take, IfSome, IsNone, IsTrue};
 ghost use Rattle.std.specs.Range.{range_inclusive_start};

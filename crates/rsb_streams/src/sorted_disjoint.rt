@@ -235,9 +235,9 @@ pub trait DrawDisjoint<T: Integer>: Draw<T> {
         right.draw().is_none()
     }
 
-    /// Returns whether each member of `self` is a member of `other`. Both must be ready. If two or
-    /// more runs of members are not, it draws from each stream at most one range past the second
-    /// such run. Otherwise it draws both to their ends. Does not allocate.
+    /// Returns whether each member of `self` is a member of `other`. Both must be ready. If the
+    /// members that `other` lacks form two or more runs, it draws from each stream at most one
+    /// range past the second such run. Otherwise it draws both to their ends. Does not allocate.
     /// (`SortedDisjoint::is_subset`.)
     final fn is_subset<R: DrawDisjoint<T>>(self, other: R) -> bool
     where

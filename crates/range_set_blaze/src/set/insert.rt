@@ -21,8 +21,8 @@ use std::collections::BTreeMap;
 use std::ops::{Bound, RangeBounds};
 
 /// A new run joined with all runs that it touches, and up to three of those runs. `first` starts
-/// where `joined` does. `last` and `before` are two runs that start inside `joined`, past its start,
-/// `before` at the lower one.
+/// where `joined` does. `last` and `before` are two runs that start inside `joined`, past its
+/// start, and `before` starts below `last`.
 #[derive(Clone, Copy)]
 struct Joining<T> {
     joined: Run<T>,

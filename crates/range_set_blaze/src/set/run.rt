@@ -14,8 +14,8 @@ pub(crate) struct Run<T> {
     pub(crate) end: T,
 }
 
-/// Returns the value itself. Its clause states that the rank of the value is below the number of
-/// values.
+/// Returns the value itself. The clause `value` states that the rank of the value is below the
+/// number of values.
 pub(crate) fn known<T: Integer>(value: T) -> T
     ensures same { result ≡ value }
     ensures value { T.rank value < T.value_count }

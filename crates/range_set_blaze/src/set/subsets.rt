@@ -11,7 +11,7 @@ use std::alloc::Allocator;
 
 impl<T: Integer, A: Allocator> RangeSetBlaze<T, A> {
     /// Returns whether each member is a member of the other set. Walks each list of runs at most
-    /// once, and stops at the second run of members that are not. Does not allocate.
+    /// once, and stops at the second run of members that the other set lacks. Does not allocate.
     /// (`RangeSetBlaze::is_subset`.)
     pub fn is_subset<B: Allocator>(&self, other: &RangeSetBlaze<T, B>) -> bool
         ensures { IsTrue result ↔ IsSubset T.value_count (members self.now) (members other.now) }
@@ -20,8 +20,8 @@ impl<T: Integer, A: Allocator> RangeSetBlaze<T, A> {
     }
 
     /// Returns whether each member of the other set is a member of this one. Walks each list of
-    /// runs at most once, and stops at the second run of members that are not. Does not allocate.
-    /// (`RangeSetBlaze::is_superset`.)
+    /// runs at most once, and stops at the second run of members that this set lacks. Does not
+    /// allocate. (`RangeSetBlaze::is_superset`.)
     pub fn is_superset<B: Allocator>(&self, other: &RangeSetBlaze<T, B>) -> bool
         ensures { IsTrue result ↔ IsSubset T.value_count (members other.now) (members self.now) }
     {

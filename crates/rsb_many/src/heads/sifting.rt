@@ -10,8 +10,8 @@ use rsb_integer::Integer;
 use std::alloc::Allocator;
 
 impl<T: Integer, A: Allocator> ComparedHeads<T, A> {
-    /// Returns the place of a child of the given place. If there are two children, it is one that
-    /// the other does not come before. There must be a child.
+    /// Returns the place of a child of the given place. If there are two children, the other one
+    /// does not come before the one returned. There must be a child.
     #[inline(always)]
     fn lesser_child(&mut self, place: usize) -> usize
         requires some { 2 * place + 1 < length self.old.heads.items }
@@ -59,7 +59,7 @@ impl<T: Integer, A: Allocator> ComparedHeads<T, A> {
     }
 
     /// Moves the first head down to where it belongs, among heads that are a heap except for it. It
-    /// is written to the list only once its place is found.
+    /// is written to the list only after its place has been found.
     pub(super) fn sift_down(&mut self)
         requires values { All (HasValues T.rank T.value_count) self.old.heads.items }
         requires order { IsHeapButFirst T.rank self.old.heads.items }
