@@ -59,8 +59,8 @@ impl<T: Integer, L: Draw<T>, R: Draw<T>> Iterator for SymDiffIter<T, L, R> {
 
     ghost remaining = { (sym_diff T.Integer.own L.Draw R.Draw).draws_left };
 
-    // At most one end is left pending. `steps` states which, for each piece drawn (`TakesForPiece`).
-    // During the call, the pending ends are in a vector of two.
+    // At most one end is left pending. `steps` states which one, for each piece that is drawn
+    // (`TakesForPiece`). During the call, the pending ends are in a vector of two.
     fn next(&mut self) -> Option<RangeInclusive<T>>
         requires { (sym_diff T.Integer.own L.Draw R.Draw).can_draw self.old }
         ensures steps { (sym_diff T.Integer.own L.Draw R.Draw).draw_gives self.old result self.new }
