@@ -1,5 +1,5 @@
-# Written by tools/c/build. Says whether version @VERSION@ is one that find_package asks for: one of a range of versions, or
-# one whose number begins with @COMPATIBLE@ and is not later than @VERSION@.
+# Written by tools/c/build. Says whether version @VERSION@ is one that find_package asks for. It may ask for a range of
+# versions, or for a version that begins with @COMPATIBLE@ and is not later than this one.
 set(PACKAGE_VERSION "@VERSION@")
 set(PACKAGE_VERSION_COMPATIBLE FALSE)
 
