@@ -40,7 +40,8 @@ impl<T: Integer> RangeSet<T> {
         allocated(self.try_insert_range(range))
     }
 
-    /// Adds the values of a range and returns whether one of them was new.
+    /// Adds the values of a range and returns whether one of them was new. A range may have no
+    /// value.
     ///
     /// Does not allocate if none is new, or if the first value or the one before it is a member.
     pub fn try_insert_range(&mut self, range: impl RangeBounds<T>) -> Result<bool, AllocError> {

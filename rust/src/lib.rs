@@ -22,21 +22,25 @@
 //!
 //! # If an allocation fails
 //!
-//! Each call whose name begins with `try_` returns [`AllocError`] if an allocation fails. Each set
-//! is then unchanged. Every other call that allocates panics, and leaves each set unchanged too,
-//! except that `extend` has added some of the values. These calls do not abort as those of `std`
-//! do, since a program may catch a panic and go on.
+//! A call whose name begins with `try_` returns [`AllocError`] if an allocation fails. Every other
+//! call that allocates panics, so that a program may catch the panic and go on. Either way, each
+//! set is unchanged, except that `extend` may have added some of its values.
 //!
-//! # How the library is found
+//! # How to link the library
 //!
-//! The build script links the library in the folder that the variable `RANGE_SET_LIB_DIR` names.
-//! Without that variable, it asks `pkg-config`, and then looks in `out/lib` of the repository. It
-//! links the static library if it finds both. `RANGE_SET_LINK`, which is `static` or `shared`,
-//! overrides that. A program that links the shared library must find it when it starts, for example
-//! by `LD_LIBRARY_PATH`.
+//! Add this crate by its path, as in `range_set = { path = "wooljasper/rust" }`. Its build script
+//! looks for the C library in the folder that the variable `RANGE_SET_LIB_DIR` names. If that is
+//! not set, it asks `pkg-config`, and then looks in `out/lib` of the repository.
 //!
-//! The library's duties that no type can check are few. Use one allocator for the program, and do
-//! not call it from a signal handler, or from the forked child of a process with threads.
+//! It links the static library if it finds both. To choose, set `RANGE_SET_LINK` to `static` or to
+//! `shared`. A program must find the shared library when it starts, for example by
+//! `LD_LIBRARY_PATH`.
+//!
+//! # What stays your duty
+//!
+//! The types guarantee what the header asks of its callers, except for two duties. The program has
+//! one allocator for `malloc`, `realloc` and `free`. It does not call the library from a signal
+//! handler, or from the forked child of a process with threads.
 
 mod algebra;
 mod calls;

@@ -34,6 +34,15 @@ for_both! {
     made_from_values_and_ranges
 }
 
+#[test]
+fn a_range_that_was_iterated_to_its_end_has_no_values() {
+    let mut done = 5..=5_u64;
+    done.next();
+    let mut set = RangeSet::from(4..=6);
+    assert!(!set.remove_range(done.clone()) && set.len_in(done.clone()) == 0);
+    assert!(RangeSet::from(done).is_empty());
+}
+
 mod checks {
     use super::*;
 
