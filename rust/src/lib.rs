@@ -24,7 +24,7 @@
 //!
 //! A call whose name begins with `try_` returns [`AllocError`] if an allocation fails. Every other
 //! call that allocates panics, so that a program may catch the panic and go on. Either way, each
-//! set is unchanged, except that `extend` may have added some of its values.
+//! set that was passed by reference is unchanged, except that `extend` may have added some values.
 //!
 //! # How to link the library
 //!
