@@ -1,0 +1,124 @@
+//! Finds the C library, and has rustc link it.
+
+use std::env;
+use std::ffi::OsString;
+use std::path::{Path, PathBuf};
+use std::process::Command;
+
+/// The variables of the environment that this script and `pkg-config` read.
+const VARIABLES: [&str; 5] = [
+    "RANGE_SET_LIB_DIR",
+    "RANGE_SET_LINK",
+    "PKG_CONFIG",
+    "PKG_CONFIG_PATH",
+    "PKG_CONFIG_LIBDIR",
+];
+
+fn main() {
+    println!("cargo:rerun-if-changed=build.rs");
+    for name in VARIABLES {
+        println!("cargo:rerun-if-env-changed={name}");
+    }
+    let folder = folder();
+    let kind = kind(&folder);
+    println!(
+        "cargo:rerun-if-changed={}",
+        folder.join(kind.file()).display()
+    );
+    println!("cargo:rustc-link-search=native={}", folder.display());
+    match kind {
+        Kind::Static => println!("cargo:rustc-link-lib=static=range_set"),
+        Kind::Shared => {
+            println!("cargo:rustc-link-lib=dylib=range_set");
+            println!("cargo:rustc-link-arg=-Wl,-rpath,{}", folder.display());
+        }
+    }
+}
+
+/// The two forms of the library.
+#[derive(Clone, Copy)]
+enum Kind {
+    Static,
+    Shared,
+}
+
+impl Kind {
+    fn file(self) -> &'static str {
+        match self {
+            Kind::Static => "librange_set.a",
+            Kind::Shared => "librange_set.so",
+        }
+    }
+}
+
+/// Returns the folder of the library.
+fn folder() -> PathBuf {
+    env::var_os("RANGE_SET_LIB_DIR")
+        .map(PathBuf::from)
+        .or_else(of_pkg_config)
+        .unwrap_or_else(of_repository)
+}
+
+/// Returns the folder that `pkg-config` names. It does so only if the library's version suits this
+/// crate, and if this crate is built for the machine that builds it.
+fn of_pkg_config() -> Option<PathBuf> {
+    if env::var_os("HOST") != env::var_os("TARGET") {
+        return None;
+    }
+    let (least, below) = versions();
+    pkg_config(&[
+        "--exists",
+        &format!("range_set >= {least} range_set < {below}"),
+    ])?;
+    let folder = pkg_config(&["--variable=libdir", "range_set"])?;
+    (!folder.is_empty()).then(|| PathBuf::from(folder))
+}
+
+/// Returns what `pkg-config` prints, or `None` if it fails or is not there.
+fn pkg_config(arguments: &[&str]) -> Option<String> {
+    let command = env::var_os("PKG_CONFIG").unwrap_or(OsString::from("pkg-config"));
+    let ran = Command::new(command).args(arguments).output().ok()?;
+    let printed = String::from_utf8(ran.stdout).ok()?;
+    ran.status.success().then(|| printed.trim().to_string())
+}
+
+/// Returns the version of this crate, and the next one with other calls: the next minor version
+/// before 1.0.0, and the next major version after that.
+fn versions() -> (String, String) {
+    let part = |name| env::var(name).unwrap().parse::<u32>().unwrap();
+    let (major, minor) = (
+        part("CARGO_PKG_VERSION_MAJOR"),
+        part("CARGO_PKG_VERSION_MINOR"),
+    );
+    let below = if major == 0 {
+        format!("0.{}", minor + 1)
+    } else {
+        format!("{}", major + 1)
+    };
+    (env::var("CARGO_PKG_VERSION").unwrap(), below)
+}
+
+/// Returns the folder in which `tools/c/build` leaves the library.
+fn of_repository() -> PathBuf {
+    let here = PathBuf::from(env::var_os("CARGO_MANIFEST_DIR").unwrap());
+    here.parent().unwrap_or(&here).join("out/lib")
+}
+
+/// Returns which form to link: what `RANGE_SET_LINK` says, and otherwise the static one if it is
+/// there.
+fn kind(folder: &Path) -> Kind {
+    let wanted = match env::var("RANGE_SET_LINK").as_deref() {
+        Ok("static") => vec![Kind::Static],
+        Ok("shared") => vec![Kind::Shared],
+        Ok(other) => panic!("RANGE_SET_LINK is {other:?}, and neither static nor shared"),
+        Err(_) => vec![Kind::Static, Kind::Shared],
+    };
+    let found = wanted.iter().find(|kind| folder.join(kind.file()).exists());
+    *found.unwrap_or_else(|| {
+        panic!(
+            "{} does not have {}: run tools/c/build, or set RANGE_SET_LIB_DIR to its folder",
+            folder.display(),
+            wanted[0].file()
+        )
+    })
+}

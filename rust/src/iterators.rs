@@ -1,0 +1,291 @@
+//! Iterators over the runs, the gaps and the members of a set.
+
+use core::iter::FusedIterator;
+use core::ops::RangeInclusive;
+
+use crate::{Integer, RangeSet};
+
+impl<T: Integer> RangeSet<T> {
+    /// Iterates over the runs.
+    ///
+    /// ```
+    /// let set = range_set::RangeSet::<u32>::from_iter([8, 1, 2, 3, 7]);
+    /// assert!(set.runs().eq([1..=3, 7..=8]));
+    /// assert_eq!(set.runs().next_back(), Some(7..=8));
+    /// ```
+    pub fn runs(&self) -> Runs<'_, T> {
+        Runs {
+            set: self,
+            steps: Steps::over(self.run_count()),
+        }
+    }
+
+    /// Iterates over the gaps.
+    ///
+    /// ```
+    /// let set = range_set::RangeSet::<u32>::from_iter([0..=3, 7..=8]);
+    /// assert!(set.gaps().eq([4..=6, 9..=u32::MAX]));
+    /// ```
+    pub fn gaps(&self) -> Gaps<'_, T> {
+        let at_ends = usize::from(self.contains(T::MIN)) + usize::from(self.contains(T::MAX));
+        Gaps {
+            set: self,
+            steps: Steps::over(self.run_count() + 1 - at_ends),
+        }
+    }
+
+    /// Iterates over the members.
+    ///
+    /// ```
+    /// let set = range_set::RangeSet::<u64>::from_iter([1..=3, 7..=8]);
+    /// assert!(set.iter().eq([1, 2, 3, 7, 8]));
+    /// assert_eq!(set.iter().next_back(), Some(8));
+    /// ```
+    pub fn iter(&self) -> Iter<'_, T> {
+        Iter {
+            set: self,
+            members: Members::of(self),
+        }
+    }
+}
+
+/// The number of runs or gaps that are left, and where the next ones are.
+#[derive(Clone, Debug)]
+struct Steps<T> {
+    left: usize,
+    /// The next one from the front is the first one that ends here or later.
+    from: T,
+    /// The next one from the back is the last one that starts here or earlier.
+    to: T,
+}
+
+impl<T: Integer> Steps<T> {
+    fn over(count: usize) -> Self {
+        Steps {
+            left: count,
+            from: T::MIN,
+            to: T::MAX,
+        }
+    }
+
+    fn next(
+        &mut self,
+        find: impl FnOnce(T) -> Option<RangeInclusive<T>>,
+    ) -> Option<RangeInclusive<T>> {
+        self.left = self.left.checked_sub(1)?;
+        let range = find(self.from)?;
+        self.from = range.end().successor().unwrap_or(T::MAX);
+        Some(range)
+    }
+
+    fn next_back(
+        &mut self,
+        find: impl FnOnce(T) -> Option<RangeInclusive<T>>,
+    ) -> Option<RangeInclusive<T>> {
+        self.left = self.left.checked_sub(1)?;
+        let range = find(self.to)?;
+        self.to = range.start().predecessor().unwrap_or(T::MIN);
+        Some(range)
+    }
+}
+
+/// Returns the gap that contains a value, or otherwise the last gap before it.
+fn prev_gap<T: Integer>(set: &RangeSet<T>, value: T) -> Option<RangeInclusive<T>> {
+    let (block, is_run) = set.run_or_gap(value);
+    if is_run {
+        let before = block.start().predecessor()?;
+        return Some(set.run_or_gap(before).0);
+    }
+    Some(block)
+}
+
+/// Iterates over the runs of a set, from both ends. [`RangeSet::runs`] makes it.
+#[derive(Clone, Debug)]
+pub struct Runs<'a, T: Integer> {
+    set: &'a RangeSet<T>,
+    steps: Steps<T>,
+}
+
+impl<T: Integer> Iterator for Runs<'_, T> {
+    type Item = RangeInclusive<T>;
+
+    fn next(&mut self) -> Option<RangeInclusive<T>> {
+        self.steps.next(|from| self.set.next_run(from))
+    }
+
+    fn size_hint(&self) -> (usize, Option<usize>) {
+        (self.steps.left, Some(self.steps.left))
+    }
+}
+
+impl<T: Integer> DoubleEndedIterator for Runs<'_, T> {
+    fn next_back(&mut self) -> Option<RangeInclusive<T>> {
+        self.steps.next_back(|to| self.set.prev_run(to))
+    }
+}
+
+impl<T: Integer> ExactSizeIterator for Runs<'_, T> {}
+impl<T: Integer> FusedIterator for Runs<'_, T> {}
+
+/// Iterates over the gaps of a set, from both ends. [`RangeSet::gaps`] makes it.
+#[derive(Clone, Debug)]
+pub struct Gaps<'a, T: Integer> {
+    set: &'a RangeSet<T>,
+    steps: Steps<T>,
+}
+
+impl<T: Integer> Iterator for Gaps<'_, T> {
+    type Item = RangeInclusive<T>;
+
+    fn next(&mut self) -> Option<RangeInclusive<T>> {
+        self.steps.next(|from| self.set.first_gap(from, 1))
+    }
+
+    fn size_hint(&self) -> (usize, Option<usize>) {
+        (self.steps.left, Some(self.steps.left))
+    }
+}
+
+impl<T: Integer> DoubleEndedIterator for Gaps<'_, T> {
+    fn next_back(&mut self) -> Option<RangeInclusive<T>> {
+        self.steps.next_back(|to| prev_gap(self.set, to))
+    }
+}
+
+impl<T: Integer> ExactSizeIterator for Gaps<'_, T> {}
+impl<T: Integer> FusedIterator for Gaps<'_, T> {}
+
+/// The members of a set that are left.
+#[derive(Clone, Debug)]
+struct Members<T> {
+    left: u128,
+    /// The runs that no end has reached.
+    runs: Steps<T>,
+    /// What is left of the run that the front has reached, and of the one that the back has
+    /// reached.
+    front: Option<RangeInclusive<T>>,
+    back: Option<RangeInclusive<T>>,
+}
+
+/// Takes the first value of a range.
+fn take_first<T: Integer>(range: &mut Option<RangeInclusive<T>>) -> Option<T> {
+    let (first, last) = range.take()?.into_inner();
+    if first < last {
+        *range = first.successor().map(|next| next..=last);
+    }
+    Some(first)
+}
+
+/// Takes the last value of a range.
+fn take_last<T: Integer>(range: &mut Option<RangeInclusive<T>>) -> Option<T> {
+    let (first, last) = range.take()?.into_inner();
+    if first < last {
+        *range = last.predecessor().map(|previous| first..=previous);
+    }
+    Some(last)
+}
+
+impl<T: Integer> Members<T> {
+    fn of(set: &RangeSet<T>) -> Self {
+        Members {
+            left: set.len(),
+            runs: Steps::over(set.run_count()),
+            front: None,
+            back: None,
+        }
+    }
+
+    fn next(&mut self, set: &RangeSet<T>) -> Option<T> {
+        self.left = self.left.checked_sub(1)?;
+        if self.front.is_none() {
+            self.front = self.runs.next(|from| set.next_run(from));
+        }
+        take_first(&mut self.front).or_else(|| take_first(&mut self.back))
+    }
+
+    fn next_back(&mut self, set: &RangeSet<T>) -> Option<T> {
+        self.left = self.left.checked_sub(1)?;
+        if self.back.is_none() {
+            self.back = self.runs.next_back(|to| set.prev_run(to));
+        }
+        take_last(&mut self.back).or_else(|| take_last(&mut self.front))
+    }
+
+    fn size_hint(&self) -> (usize, Option<usize>) {
+        let left = usize::try_from(self.left).ok();
+        (left.unwrap_or(usize::MAX), left)
+    }
+}
+
+/// Iterates over the members of a set, from both ends. [`RangeSet::iter`] makes it.
+#[derive(Clone, Debug)]
+pub struct Iter<'a, T: Integer> {
+    set: &'a RangeSet<T>,
+    members: Members<T>,
+}
+
+impl<T: Integer> Iterator for Iter<'_, T> {
+    type Item = T;
+
+    fn next(&mut self) -> Option<T> {
+        self.members.next(self.set)
+    }
+
+    fn size_hint(&self) -> (usize, Option<usize>) {
+        self.members.size_hint()
+    }
+}
+
+impl<T: Integer> DoubleEndedIterator for Iter<'_, T> {
+    fn next_back(&mut self) -> Option<T> {
+        self.members.next_back(self.set)
+    }
+}
+
+impl<T: Integer> FusedIterator for Iter<'_, T> {}
+
+impl<'a, T: Integer> IntoIterator for &'a RangeSet<T> {
+    type Item = T;
+    type IntoIter = Iter<'a, T>;
+
+    fn into_iter(self) -> Iter<'a, T> {
+        self.iter()
+    }
+}
+
+/// Iterates over the members of a set that it owns, from both ends. `into_iter` makes it.
+#[derive(Clone, Debug)]
+pub struct IntoIter<T: Integer> {
+    set: RangeSet<T>,
+    members: Members<T>,
+}
+
+impl<T: Integer> Iterator for IntoIter<T> {
+    type Item = T;
+
+    fn next(&mut self) -> Option<T> {
+        self.members.next(&self.set)
+    }
+
+    fn size_hint(&self) -> (usize, Option<usize>) {
+        self.members.size_hint()
+    }
+}
+
+impl<T: Integer> DoubleEndedIterator for IntoIter<T> {
+    fn next_back(&mut self) -> Option<T> {
+        self.members.next_back(&self.set)
+    }
+}
+
+impl<T: Integer> FusedIterator for IntoIter<T> {}
+
+impl<T: Integer> IntoIterator for RangeSet<T> {
+    type Item = T;
+    type IntoIter = IntoIter<T>;
+
+    fn into_iter(self) -> IntoIter<T> {
+        let members = Members::of(&self);
+        IntoIter { set: self, members }
+    }
+}

@@ -1,0 +1,158 @@
+//! Calls that only read a set.
+
+use core::ops::{RangeBounds, RangeInclusive};
+
+use crate::calls::{Handle, Run};
+use crate::integer::run_of;
+use crate::{range_of, Integer, RangeSet};
+
+impl<T: Integer> RangeSet<T> {
+    /// Returns whether the set has no member.
+    #[must_use]
+    pub fn is_empty(&self) -> bool {
+        self.run_count() == 0
+    }
+
+    /// Returns whether a value is a member.
+    #[must_use]
+    pub fn contains(&self, value: T) -> bool {
+        (T::CALLS.contains)(&self.handle, value)
+    }
+
+    /// Returns whether all values of a range are members. An empty range has none, and the result
+    /// is true.
+    #[must_use]
+    pub fn contains_range(&self, range: impl RangeBounds<T>) -> bool {
+        run_of(range).is_none_or(|run| (T::CALLS.contains_range)(&self.handle, run.first, run.last))
+    }
+
+    /// Returns whether none of the values of a range is a member. An empty range has none, and the
+    /// result is true.
+    #[must_use]
+    pub fn is_disjoint_range(&self, range: impl RangeBounds<T>) -> bool {
+        run_of(range)
+            .is_none_or(|run| (T::CALLS.is_disjoint_range)(&self.handle, run.first, run.last))
+    }
+
+    /// Returns the number of members.
+    #[must_use]
+    pub fn len(&self) -> u128 {
+        (T::CALLS.len)(&self.handle).into()
+    }
+
+    /// Returns the number of members in a range. Takes a step for each run in it.
+    #[must_use]
+    pub fn len_in(&self, range: impl RangeBounds<T>) -> u128 {
+        run_of(range).map_or(0, |run| {
+            (T::CALLS.len_in)(&self.handle, run.first, run.last).into()
+        })
+    }
+
+    /// Returns the number of members below a value, which need not be a member. Takes a step for
+    /// each run up to it.
+    #[must_use]
+    pub fn rank(&self, value: T) -> u64 {
+        let below: u128 = (T::CALLS.rank)(&self.handle, value).into();
+        below as u64 // No value has 2^64 values below it.
+    }
+
+    /// Returns the member that has exactly `n` members below it, or `None` if there are at most `n`
+    /// members. Takes a step for each run up to the member.
+    #[must_use]
+    pub fn nth(&self, n: u64) -> Option<T> {
+        let mut value = T::MIN;
+        (T::CALLS.nth)(&self.handle, n, &mut value).then_some(value)
+    }
+
+    /// Returns the number of runs.
+    #[must_use]
+    pub fn run_count(&self) -> usize {
+        (T::CALLS.run_count)(&self.handle)
+    }
+
+    /// Returns the least member.
+    #[must_use]
+    pub fn first(&self) -> Option<T> {
+        let mut value = T::MIN;
+        (T::CALLS.first)(&self.handle, &mut value).then_some(value)
+    }
+
+    /// Returns the greatest member.
+    #[must_use]
+    pub fn last(&self) -> Option<T> {
+        let mut value = T::MIN;
+        (T::CALLS.last)(&self.handle, &mut value).then_some(value)
+    }
+
+    /// Returns the run or the gap that contains a value, and whether it is a run.
+    ///
+    /// ```
+    /// let set = range_set::RangeSet::<u32>::from_iter([1..=4, 8..=13]);
+    /// assert_eq!(set.run_or_gap(3), (1..=4, true));
+    /// assert_eq!(set.run_or_gap(6), (5..=7, false));
+    /// assert_eq!(set.run_or_gap(99), (14..=u32::MAX, false));
+    /// ```
+    #[must_use]
+    pub fn run_or_gap(&self, value: T) -> (RangeInclusive<T>, bool) {
+        let mut block = Run {
+            first: T::MIN,
+            last: T::MAX,
+        };
+        let is_run = (T::CALLS.run_or_gap)(&self.handle, value, &mut block);
+        (range_of(block), is_run)
+    }
+
+    /// Returns the run that contains `from`, or otherwise the first run after it.
+    #[must_use]
+    pub fn next_run(&self, from: T) -> Option<RangeInclusive<T>> {
+        self.run_by(T::CALLS.next_run, from)
+    }
+
+    /// Returns the run that contains `from`, or otherwise the last run before it.
+    #[must_use]
+    pub fn prev_run(&self, from: T) -> Option<RangeInclusive<T>> {
+        self.run_by(T::CALLS.prev_run, from)
+    }
+
+    /// Returns the first run that starts after a value.
+    #[must_use]
+    pub fn run_after(&self, value: T) -> Option<RangeInclusive<T>> {
+        self.run_by(T::CALLS.run_after, value)
+    }
+
+    /// Returns the last run that ends before a value.
+    #[must_use]
+    pub fn run_before(&self, value: T) -> Option<RangeInclusive<T>> {
+        self.run_by(T::CALLS.run_before, value)
+    }
+
+    fn run_by(
+        &self,
+        call: extern "C" fn(&Handle, T, &mut Run<T>) -> bool,
+        value: T,
+    ) -> Option<RangeInclusive<T>> {
+        let mut run = Run {
+            first: T::MIN,
+            last: T::MAX,
+        };
+        call(&self.handle, value, &mut run).then(|| range_of(run))
+    }
+
+    /// Returns the first gap that has at least `len` values at or after `from`, without its values
+    /// before `from`. Takes a step for each run between `from` and the gap.
+    ///
+    /// ```
+    /// let set = range_set::RangeSet::<u64>::from_iter([1..=4, 8..=13]);
+    /// assert_eq!(set.first_gap(0, 3), Some(5..=7));
+    /// assert_eq!(set.first_gap(6, 2), Some(6..=7));
+    /// assert_eq!(set.first_gap(6, 3), Some(14..=u64::MAX));
+    /// ```
+    #[must_use]
+    pub fn first_gap(&self, from: T, len: u64) -> Option<RangeInclusive<T>> {
+        let mut gap = Run {
+            first: T::MIN,
+            last: T::MAX,
+        };
+        (T::CALLS.first_gap)(&self.handle, from, len, &mut gap).then(|| range_of(gap))
+    }
+}
