@@ -38,16 +38,22 @@ class Runs(Walk):
         return self._of._calls.run_count(self._of._handle)
 
     def __iter__(self) -> Iterator[Run]:
-        run = self._of.next_run(0)
-        while run is not None:
+        calls, handle = self._of._calls, self._of._handle
+        block = calls.run()
+        more = calls.next_run(handle, 0, block)
+        while more:
+            run = Run(block.first, block.last)
             yield run
-            run = self._of.run_after(run.last)
+            more = calls.run_after(handle, run.last, block)
 
     def __reversed__(self) -> Iterator[Run]:
-        run = self._of.prev_run(self._of._calls.greatest)
-        while run is not None:
+        calls, handle = self._of._calls, self._of._handle
+        block = calls.run()
+        more = calls.prev_run(handle, calls.greatest, block)
+        while more:
+            run = Run(block.first, block.last)
             yield run
-            run = self._of.run_before(run.first)
+            more = calls.run_before(handle, run.first, block)
 
 
 class Gaps(Walk):
