@@ -1,4 +1,4 @@
-"""Builds the wheel of range_set with Python's own library alone, as PEP 517 describes.
+"""Builds the wheel of range_set with only Python's standard library, as PEP 517 describes.
 
 The wheel holds the package, and a copy of the C library if there is one: the file that the
 environment variable RANGE_SET_LIBRARY names, or the one that tools/c/build writes to out/lib.

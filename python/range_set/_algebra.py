@@ -1,13 +1,12 @@
-"""What both kinds of range sets have over other sets: comparisons and set algebra."""
+"""The comparisons and the set algebra of both kinds of range sets."""
 
 from __future__ import annotations
 
-from typing import Any, Iterable, TypeVar, Union
+from typing import Any, TypeVar
 
-from ._reads import Reads
-from ._values import Run, Values, all_ends
+from ._reads import Reads, Source
+from ._values import all_ends
 
-Source = Union["Algebra", range, Run, Iterable[Values]]
 Self = TypeVar("Self", bound="Algebra")
 
 

@@ -67,7 +67,7 @@ def run_type(number: Any) -> Type[ctypes.Structure]:
 class Calls:
     """The calls for sets of one width, under their names without the prefix, and their types.
 
-    Nothing checks what they get: each int must fit, and no two handles of a call may be the same.
+    They check no argument: each int must fit, and no two handles of a call may be the same.
     """
 
     def __init__(self, library: ctypes.PyDLL, bits: int) -> None:

@@ -1,4 +1,4 @@
-"""What both kinds of range sets have that only reads them: look-ups, walks, text and copies."""
+"""The part of both kinds of range sets that only reads them: look-ups, walks, text and copies."""
 
 from __future__ import annotations
 
@@ -14,6 +14,7 @@ from ._walks import Gaps, Runs
 LONGEST = 2**64 - 1
 
 Self = TypeVar("Self", bound="Reads")
+Source = Union["Reads", range, Run, Iterable[Values]]
 
 
 class Reads:
@@ -23,7 +24,7 @@ class Reads:
     _calls: Calls
     _handle: Any
 
-    def _begin(self, values: Union[Reads, range, Run, Iterable[Values]], bits: Optional[int]) -> None:
+    def _begin(self, values: Source, bits: Optional[int]) -> None:
         """Makes this the set of some values."""
         if bits is None:
             bits = values.bits if isinstance(values, Reads) else 64
@@ -48,7 +49,7 @@ class Reads:
         self._calls.clone(made._handle, self._handle)
         return made
 
-    def _add_each(self, values: Union[Reads, range, Run, Iterable[Values]]) -> None:
+    def _add_each(self, values: Source) -> None:
         calls, handle = self._calls, self._handle
         each = values.runs() if isinstance(values, Reads) else values
         for first, last in all_ends(each, calls.greatest):
@@ -225,9 +226,9 @@ class Reads:
         """Returns the set of the values of the ranges that text lists, such as `1..=5, 10..=20`.
 
         The ranges may come in any order and may overlap. A single value such as `5` means `5..=5`.
-        A range whose start is past its end has no members. Spaces, tabs and ends of lines may
-        stand around each number. Raises ValueError for any other text, and for a number that does
-        not fit.
+        A range whose start is past its end has no members. Spaces, tabs and ends of lines
+        are allowed around each number. Raises ValueError for any other text, and for a number that
+        does not fit.
         """
         made = cls._empty(calls_for(bits))
         for first, last in spelled_ends(text, made._calls.greatest):

@@ -3,9 +3,10 @@
 from __future__ import annotations
 
 from collections import abc
-from typing import Iterable, Optional, SupportsIndex, Type, TypeVar, Union
+from typing import Optional, SupportsIndex, Type, TypeVar
 
-from ._algebra import Algebra, Source
+from ._algebra import Algebra
+from ._reads import Source
 from ._values import Run, Values, ends_of
 
 Changing = TypeVar("Changing", bound="RangeSet")
@@ -23,12 +24,13 @@ class RangeSet(Algebra):
         RangeSet([5], bits=32)                      a set of 32-bit values; otherwise 64 bits
 
     Values are anything that `operator.index` takes, so True is 1, and 1.0 raises TypeError. `in`
-    takes any int. Every other call raises OverflowError for a value outside of the set's width.
-    If an allocation fails, a call raises MemoryError and a call with one other set changes nothing.
+    takes any int. Every other call raises OverflowError for a value that does not fit the width.
+    If an allocation fails, a call raises MemoryError. A call with one value, range or range set
+    then leaves the set unchanged.
 
-    Threads may share a set, since each call keeps the interpreter's lock. In an interpreter that
-    runs without this lock, use a lock of your own. After `os.fork` in a process with threads, the
-    child uses no set.
+    Threads may share a set: no other thread runs during a call of the C library, which keeps the
+    interpreter's lock. If the interpreter runs without this lock, use a lock of your own. After
+    `os.fork` in a process with threads, the child must not use sets.
     """
 
     __slots__ = ()
@@ -48,17 +50,17 @@ class RangeSet(Algebra):
         return self._calls.insert_range(self._handle, first, last)
 
     def discard(self, values: Values, last: Optional[SupportsIndex] = None) -> bool:
-        """Removes a value or a range, as far as it is in the set, and returns whether it changed.
+        """Removes those of some values that are members, and returns whether the set changed.
 
-        It names values as `add` does.
+        It takes the same arguments as `add`.
         """
         first, last = ends_of(values, last, self._calls.greatest)
         return self._calls.remove_range(self._handle, first, last)
 
     def remove(self, values: Values, last: Optional[SupportsIndex] = None) -> None:
-        """Removes a value or a range. Raises KeyError if not all of it is in the set.
+        """Removes some values, or raises KeyError if any of them is not a member.
 
-        It names values as `add` does.
+        It takes the same arguments as `add`.
         """
         first, last = ends_of(values, last, self._calls.greatest)
         if not self._calls.contains_range(self._handle, first, last):

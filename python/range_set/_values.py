@@ -1,4 +1,4 @@
-"""What callers name: values, ranges of values, runs, and their text."""
+"""The values, ranges and runs that callers pass, and the text of runs."""
 
 from __future__ import annotations
 
@@ -15,8 +15,8 @@ class Run(NamedTuple):
 
     @property
     def size(self) -> int:
-        """The number of values."""
-        return self.last - self.first + 1
+        """The number of values, which is 0 if the last is below the first."""
+        return max(0, self.last - self.first + 1)
 
     def values(self) -> range:
         """Returns the values as a `range`."""
@@ -25,7 +25,7 @@ class Run(NamedTuple):
 
 Values = Union[SupportsIndex, range, Run]
 
-# Ends that name no value. The C library takes them as it takes any two ends.
+# The ends of no values, for the C library.
 NOTHING = 1, 0
 
 BLANKS = " \t\n\r"
@@ -54,7 +54,7 @@ def unchecked_ends(values: Union[range, Run]) -> Tuple[int, int]:
 def ends_of(
     values: Values, last: Optional[SupportsIndex], greatest: int
 ) -> Tuple[int, int]:
-    """Returns the ends of what `add(values)` or `add(first, last)` names."""
+    """Returns the ends of the arguments of `add(values)` or of `add(first, last)`."""
     if last is not None:
         return checked(values, greatest), checked(last, greatest)  # type: ignore[arg-type]
     if isinstance(values, (range, Run)):

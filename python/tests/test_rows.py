@@ -272,6 +272,12 @@ class Comparisons(unittest.TestCase):
         self.assertIsInstance(FrozenRangeSet(), abc.Set)
         self.assertNotIsInstance(FrozenRangeSet(), abc.MutableSet)
 
+    def test_all_that_sets_have(self):
+        reflected = {"__rand__", "__ror__", "__rsub__", "__rxor__"}
+        for kind, model in ((RangeSet, set), (FrozenRangeSet, frozenset)):
+            missing = set(dir(model)) - set(dir(kind))
+            self.assertEqual(missing - {"__class_getitem__"}, reflected)
+
     def test_widths_are_not_equal(self):
         self.assertNotEqual(RangeSet([1]), RangeSet([1], bits=32))
         self.assertNotEqual(hash(FrozenRangeSet([1])), hash(FrozenRangeSet([1], bits=32)))
