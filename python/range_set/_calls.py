@@ -95,7 +95,7 @@ class Calls:
         return call
 
     def _declare(self, call: Any, result: Any, arguments: Tuple[Any, ...]) -> None:
-        """Declares a call. If its result is a function, that makes the result from C's value."""
+        """Declares a call. `changed` and `exact` also make its result from what C returns."""
         call.argtypes = [ctypes.POINTER(self.handle), *arguments]
         if result is changed:
             call.restype, call.errcheck = ctypes.c_uint32, changed
