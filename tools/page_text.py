@@ -23,7 +23,7 @@ LINK = re.compile(r"\[[^\]]*\]\(([^)\s]+)\)")
 CODE = re.compile(r"`([^`]+)`")
 FILE = re.compile(r"^[\w.*-]+(/[\w.*-]+)+$")
 SUFFIXES = {".antt", ".cpp", ".edit", ".h", ".hpp", ".md", ".py", ".rs", ".rt", ".txt"}
-FOLDERS = {".ci", "bench", "crates", "docs", "examples", "include", "tools"}
+FOLDERS = {".ci", "bench", "crates", "docs", "examples", "include", "python", "rust", "tools"}
 END_OF_SENTENCE = re.compile(r"(?<=[.!?])[\"”')]*\s+(?=[\"“'(`*\[]*[A-Z0-9`])")
 ROW = re.compile(r"^\| ([a-z0-9-]+) \|", re.M)
 
