@@ -1,0 +1,11 @@
+pub mod Addresses
+pub mod Around
+pub mod Blocks
+pub mod Bytes
+pub mod Lengths
+pub mod Lines
+pub mod Means
+pub mod OneMeaning
+pub mod Parts
+pub mod Ranges
+pub mod Written

@@ -1,0 +1,60 @@
+-- Blocks of addresses fit their type.
+use Rattle.std.proofs.Common.{◌≡◌, ℕ, ◌+◌, ◌-◌, ◌*◌, ◌/◌, ◌%◌, ◌^◌, ◌<◌, ◌≤◌, ◌↔◌, ap, ◌∙◌, arith}
+use Rattle.std.proofs.lemmas.Nat.{pow-add, pow_below, pow_pos, shr_below, shr_split, mul-le, div-add-mod', div_below, le-div, mod_below}
+use Rattle.address_lists.specs.AddressRange.{SharesBits, block_end, block_size, block_start}
+
+-- A block that does not have all addresses has fewer than the type.
+pub size_fits : (bits length : ℕ) → 0 < length → length ≤ bits → 2 ^ (bits - length) < 2 ^ bits
+size_fits bits length some within = pow_below (bits - length) bits (omega arith)
+
+-- All numbers are as many blocks of one size.
+whole : (bits length : ℕ) → length ≤ bits → 2 ^ bits ≡ 2 ^ length * 2 ^ (bits - length)
+whole bits length within =
+    let sum : bits ≡ length + (bits - length) = omega arith in
+    ap (λ n. 2 ^ n) sum ∙ pow-add 2 length (bits - length)
+
+-- A block ends within the type.
+pub block_fits : (bits length address : ℕ) → length ≤ bits → address < 2 ^ bits
+    → block_start bits length address + block_size bits length ≤ 2 ^ bits
+block_fits bits length address within fits =
+    let rest = bits - length in
+    let sum : bits ≡ length + rest = omega arith in
+    let below : address / 2 ^ rest < 2 ^ length =
+    shr_below address length rest (rw sum at fits) in
+    let blocks = mul-le (address / 2 ^ rest + 1) (2 ^ rest) (2 ^ length) (2 ^ rest) (omega arith)
+    (omega arith) in
+    omega (arith, shr_split address rest, whole bits length within, blocks)
+
+-- The numbers from `q * size` on, `size` of them, have the quotient q.
+quotient : (size q other : ℕ) → 0 < size → q * size ≤ other → other ≤ q * size + (size - 1)
+    → other / size ≡ q
+quotient size q other some low high =
+    let from = le-div q other size some low in
+    let below : other < (q + 1) * size = omega arith in
+    let to = div_below other size (q + 1) some below in
+    omega (arith, from, to)
+
+from_quotient : (size q other : ℕ) → 0 < size → other / size ≡ q
+    → (q * size ≤ other) × (other ≤ q * size + (size - 1))
+from_quotient size q other some is =
+    let split = div-add-mod' other size in
+    let rest = mod_below other size some in
+    let same : other / size * size ≡ q * size = ap (λ n. n * size) is in
+    (omega (arith, split, same), omega (arith, split, same, rest))
+
+-- A block has the addresses that share the first bits.
+pub block_members : (bits length address other : ℕ)
+    → ((block_start bits length address ≤ other)
+    × (other ≤ block_end bits length address))
+    ↔ SharesBits bits length address other
+block_members bits length address other =
+    let size = block_size bits length in
+    let some : 0 < size = pow_pos (bits - length) in
+    let q = address / size in
+    let split = div-add-mod' address size in
+    let start : address - address % size ≡ q * size = omega (arith, split) in (
+      (λ h. quotient size q other some (omega (arith, start, h.0)) (omega (arith, start, h.1))),
+      (λ is.
+          let within = from_quotient size q other some is in
+          (omega (arith, start, within.0), omega (arith, start, within.1))),
+    )

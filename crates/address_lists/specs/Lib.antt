@@ -1,0 +1,4 @@
+pub mod Address
+pub mod AddressRange
+pub mod Line
+pub mod LineParts
