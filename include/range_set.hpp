@@ -431,7 +431,7 @@ using u32_set = set<std::uint32_t>;
 // Equal sets have equal hashes. Takes a step for each run.
 template <class Number> struct std::hash<range_set::set<Number>> {
     std::size_t operator()(const range_set::set<Number> &hashed) const noexcept {
-        std::uint64_t mixed = 0;
+        std::uint64_t mixed = 1;
         for (auto [first, last] : hashed) {
             mixed = mix(mix(mixed + first) + last);
         }
