@@ -29,10 +29,12 @@
 
 #include "range_set/iterators.hpp"
 
-#include <functional>
 #include <initializer_list>
 #include <new>
-#include <optional>
+#include <optional> // and std::hash
+#if __cplusplus >= 202002L
+#include <ranges>
+#endif
 
 namespace range_set {
 
@@ -45,8 +47,8 @@ inline constexpr clone_t clone{};
 // A set of std::uint64_t or of std::uint32_t.
 template <class Number> class set {
     static_assert(detail::is_one_of<Number, std::uint64_t, std::uint32_t>,
-                  "range_set::set holds std::uint64_t or std::uint32_t: the C library has sets of these two types only. "
-                  "Another type is refused even if it is as wide, so name one of the two.");
+                  "range_set::set holds std::uint64_t or std::uint32_t, because the C library has only sets of these two types. "
+                  "Another type is refused even if it is as wide: name one of the two.");
 
     using c = detail::calls<Number>;
     using run_walk = detail::run_walk<Number>;
@@ -85,7 +87,7 @@ public:
         }
     }
 
-    template <class Container, class = std::enable_if_t<!std::is_same_v<std::decay_t<Container>, set>>,
+    template <class Container, class = std::enable_if_t<!std::is_base_of_v<set, std::decay_t<Container>>>,
               class = decltype(std::begin(std::declval<Container &>()))>
     explicit set(Container &&members) : set(std::begin(members), std::end(members)) {}
 
@@ -283,7 +285,7 @@ public:
     bool empty() const noexcept { return run_count() == 0; }
     std::size_t run_count() const noexcept { return c::run_count(&handle_); }
 
-    // The number of members. Throws std::overflow_error if it is 2^64.
+    // The number of members, not of runs. Throws std::overflow_error if it is 2^64.
     std::uint64_t size() const { return range_set::count(len()).value(); }
 
     // The number of members, and of those in a run: a range_set::count for std::uint64_t, since it may
@@ -444,6 +446,13 @@ private:
         return bits ^ (bits >> 29);
     }
 };
+
+#ifdef __cpp_lib_ranges
+// A set goes over its runs, and size() counts its members. So std::ranges::size must not call size().
+template <class Number> inline constexpr bool std::ranges::disable_sized_range<range_set::set<Number>> = true;
+template <class Walk> inline constexpr bool std::ranges::enable_view<range_set::detail::view<Walk>> = true;
+template <class Walk> inline constexpr bool std::ranges::enable_borrowed_range<range_set::detail::view<Walk>> = true;
+#endif
 
 #endif
 #endif

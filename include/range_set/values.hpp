@@ -62,12 +62,14 @@ template <class Number> struct run : detail::calls<Number>::run {
     // The run that has only the value 0.
     constexpr run() noexcept : run(Number{0}, Number{0}) {}
 
-    // These three throw std::out_of_range by the rule on arguments in range_set.hpp.
+    // These throw std::out_of_range by the rule on arguments in range_set.hpp. In a constant expression the
+    // compiler refuses such an argument.
     template <class First, class Last, class = detail::if_values<First, Last>>
     constexpr run(First from, Last to) noexcept(detail::always_fits<Number, First> && detail::always_fits<Number, Last>)
         : detail::calls<Number>::run{detail::number_of<Number>(from), detail::number_of<Number>(to)} {}
 
     template <class First, class Last> constexpr run(const std::pair<First, Last> &ends) : run(ends.first, ends.second) {}
+    template <class Other> constexpr run(const run<Other> &other) : run(other.first, other.last) {}
 
     template <class Value, class = detail::if_values<Value>>
     constexpr explicit run(Value value) noexcept(detail::always_fits<Number, Value>) : run(value, value) {}

@@ -110,6 +110,20 @@ template <class Set> static void takes_a_list_of_runs() {
     CHECK(a.empty());
 }
 
+template <class Set> static Set returned() {
+    return {{1, 5}, {7, 7}};
+}
+
+template <class Set> static std::string text_of(const Set &a) {
+    return text(a);
+}
+
+template <class Set> static void takes_a_list_wherever_a_set_is_expected() {
+    CHECK(text(returned<Set>()) == "1..=5, 7..=7" && text_of<Set>({{1, 5}}) == "1..=5");
+    Set a({{1, 5}, {7, 7}});
+    CHECK(a == returned<Set>() && a.is_superset({{1, 2}, {7, 7}}) && a.is_disjoint(Set{{8, 9}}));
+}
+
 template <class Set> static void takes_one_run() {
     typename Set::run five(1, 5);
     Set a(five), b{five}, c({1, 5}), d{{1, 5}};
@@ -123,6 +137,13 @@ template <class Set> static void takes_runs_and_values_of_containers() {
     Set a(runs), b(runs.begin(), runs.end()), c(pairs), d(values), e(values + 1, values + 3), f(a.gaps());
     CHECK(text(a) == "1..=2, 8..=9" && b == a && c == a && d == a);
     CHECK(text(e) == "1..=1, 8..=8" && f == ~a);
+}
+
+static void takes_sets_of_the_other_width() {
+    range_set::u32_set a{{1, 5}, {7, 7}}, b(range_set::u64_set{{1, 5}});
+    range_set::u64_set c(a);
+    CHECK(text(c) == "1..=5, 7..=7" && text(b) == "1..=5" && !c.insert(*a.begin()));
+    CHECK(throws<std::out_of_range>([&] { range_set::u32_set made(~c); }));
 }
 
 template <class Set> static void copies_only_by_clone() {
@@ -311,6 +332,8 @@ template <class Set> static void has_iterators_of_the_standard() {
     static_assert(std::bidirectional_iterator<typename Set::reverse_iterator>);
     static_assert(std::bidirectional_iterator<decltype(a.gaps().begin())>);
     static_assert(std::bidirectional_iterator<decltype(a.members().begin())>);
+    static_assert(std::ranges::view<decltype(a.runs())> && !std::ranges::sized_range<Set>);
+    CHECK(std::ranges::distance(a) == 2);
 #endif
 }
 
@@ -421,6 +444,7 @@ static void has_runs_that_are_values() {
 template <class Set> static void both_widths() {
     starts_empty<Set>();
     takes_a_list_of_runs<Set>();
+    takes_a_list_wherever_a_set_is_expected<Set>();
     takes_one_run<Set>();
     takes_runs_and_values_of_containers<Set>();
     copies_only_by_clone<Set>();
@@ -452,6 +476,7 @@ template <class Set> static void both_widths() {
 int main() {
     both_widths<range_set::u64_set>();
     both_widths<range_set::u32_set>();
+    takes_sets_of_the_other_width();
     refuses_what_32_bits_cannot_hold();
     counts_all_64_bit_values();
     has_runs_that_are_values();
