@@ -7,16 +7,16 @@
 // a set with itself. The others are yours, such as this one on threads: while a call changes a set, no
 // other call uses that set.
 //
-// Allocations: only constructors with arguments, clone(), insert, remove, erase and the operators that
-// change or make a set allocate. If an allocation fails, they throw std::bad_alloc and leave each set
-// unchanged. There is no copy constructor and no copy assignment, so no allocation is hidden. Copy a set
-// with `auto b = a.clone();` or `range_set::u64_set b(range_set::clone, a);`.
+// Allocations: a call that makes or changes a set may allocate. If an allocation fails, the call throws
+// std::bad_alloc and leaves each set unchanged. Reads and moves never allocate. There is no copy
+// constructor and no copy assignment, since they would hide an allocation. Copy a set with
+// `auto b = a.clone();` or `range_set::u64_set b(range_set::clone, a);`.
 //
 // Arguments: a value, or a number of values, may have any standard integer type. If it is negative or
 // too great, the call throws std::out_of_range and leaves each set unchanged. These types are refused at
 // compile time: bool, character types, floating-point types and enums. signed char and unsigned char are
-// integer types, since std::int8_t and std::uint8_t are. A call that reads a set is noexcept if its
-// arguments cannot be out of range.
+// allowed, since std::int8_t and std::uint8_t are these types. A call that reads a set is noexcept if its
+// argument types rule out such a value. Only size() is not.
 //
 // Runs: first and last, as two arguments or as `{first, last}`, mean all values between them, both
 // included. If last is below first, they mean no value. A range_set::run or a std::pair means the same.
@@ -32,7 +32,7 @@
 #include <initializer_list>
 #include <new>
 #include <optional> // and std::hash
-#if __cplusplus >= 202002L
+#if __cplusplus > 201703L && __has_include(<ranges>)
 #include <ranges>
 #endif
 
@@ -73,7 +73,7 @@ public:
     set() noexcept = default;
     ~set() { c::free(&handle_); }
 
-    // The members of a list of runs, which may overlap and come in any order: `a{{1, 5}, {10, 20}}`.
+    // The members of the runs, which may overlap and come in any order: `a{{1, 5}, {10, 20}}`.
     set(std::initializer_list<run> runs) : set(runs.begin(), runs.end()) {}
 
     // The members of one run.
@@ -91,8 +91,8 @@ public:
               class = decltype(std::begin(std::declval<Container &>()))>
     explicit set(Container &&members) : set(std::begin(members), std::end(members)) {}
 
-    set(const set &) = delete;            // a copy allocates: write b = a.clone() and not b = a
-    set &operator=(const set &) = delete; // a copy allocates: write b = a.clone() and not b = a
+    set(const set &) = delete;            // a copy allocates: write b = a.clone(), not b = a
+    set &operator=(const set &) = delete; // a copy allocates: write b = a.clone(), not b = a
     set(clone_t, const set &copied) : set() { changed(c::clone(&handle_, &copied.handle_)); }
     set clone() const { return set(clone_t(), *this); }
 
@@ -110,8 +110,8 @@ public:
 
     // ---- Change. Each call returns whether it changed the set.
 
-    // Adds a value or a run. Does not allocate if there is nothing to add, or if the first value or the
-    // value before it is a member.
+    // Adds a value or a run. Does not allocate if there is nothing to add. For a run, does not allocate
+    // either if its first value, or the value before that, is a member.
     template <class Value, class = detail::if_values<Value>> bool insert(Value value) {
         return changed(c::insert(&handle_, number(value)));
     }
@@ -119,8 +119,8 @@ public:
     template <class First, class Last> bool insert(First first, Last last) { return insert(run(first, last)); }
     bool insert(const run &added) { return changed(c::insert_range(&handle_, added.first, added.last)); }
 
-    // Removes a value or a run. Does not allocate if there is nothing to remove, or if the value after
-    // the last one is not a member or does not exist.
+    // Removes a value or a run. Does not allocate if there is nothing to remove. For a run, does not
+    // allocate either if the value after its last one is not a member or does not exist.
     template <class Value, class = detail::if_values<Value>> bool remove(Value value) {
         return changed(c::remove(&handle_, number(value)));
     }
@@ -138,6 +138,8 @@ public:
     // ---- Set algebra: union, intersection, difference, symmetric difference and complement. The right
     // operand is a set, a run or a value: `a - b`, `a | 3`, `a &= {1, 5}`, `a ^= {{1, 5}, {10, 20}}`.
 
+    // These do not allocate if they change nothing. No call may get the same set twice, so a set that is
+    // combined with itself is kept or cleared.
     set &operator|=(const set &right) {
         if (this != &right) {
             changed(c::union_with(&handle_, &right.handle_));
@@ -145,7 +147,6 @@ public:
         return *this;
     }
 
-    // No call may get the same set twice: a set is kept or cleared if it is combined with itself.
     set &operator&=(const set &right) {
         if (this != &right) {
             changed(c::intersect_with(&handle_, &right.handle_));
@@ -171,8 +172,8 @@ public:
         return *this;
     }
 
-    // With a run or a value at the right, `|=` inserts and `-=` removes. `&=` and `^=` first allocate a
-    // set of that run.
+    // With a run or a value at the right, `|=` inserts it and `-=` removes it. `&=` and `^=` first make a
+    // set of it.
     template <class Right = run, class = detail::if_run<Number, Right>> set &operator|=(const Right &right) {
         insert(right);
         return *this;
@@ -191,7 +192,7 @@ public:
         return *this ^= set(run(right));
     }
 
-    // Each of these returns a new set.
+    // Each of these returns a new set, which is allocated.
     friend set operator|(const set &left, const set &right) { return combined(c::either, left, right); }
     friend set operator&(const set &left, const set &right) { return combined(c::both, left, right); }
     friend set operator-(const set &left, const set &right) { return combined(c::left_alone, left, right); }
@@ -214,14 +215,14 @@ public:
         return left ^ set(run(right));
     }
 
-    // ---- Go over a set in ascending or, with rbegin and rend, in descending order. A walk ends for
-    // every set, even if the greatest value is a member, and each step takes a search in the set.
+    // ---- Go over a set in ascending order or, with rbegin and rend, in descending order. This ends for
+    // every set, even if the greatest value is a member. Each step searches the set, in logarithmic time.
     //
-    // `*iterator` is a copy and no reference. Otherwise the iterators meet the requirements of
-    // LegacyBidirectionalIterator, and those of std::bidirectional_iterator in C++20. They are valid
-    // until the set is changed, moved, swapped or destroyed. Only an iterator over runs stays valid if the
-    // set is changed: ++ then goes to the first run that starts after its run, and -- to the last run that
-    // ends before it.
+    // An iterator returns a copy: `*iterator` is not a reference. Otherwise it is a
+    // LegacyBidirectionalIterator, and a std::bidirectional_iterator in C++20. It is valid until the set is
+    // moved, swapped or destroyed. A change of the set also invalidates iterators over gaps and members.
+    // It does not invalidate those over runs: ++ goes to the first run that starts after the iterator's
+    // run, and -- goes to the last run that ends before it.
 
     // The runs: `for (auto run : a)`.
     iterator begin() const noexcept { return runs().begin(); }
@@ -229,18 +230,18 @@ public:
     reverse_iterator rbegin() const noexcept { return runs().rbegin(); }
     reverse_iterator rend() const noexcept { return runs().rend(); }
 
-    // Each of these returns a view with begin, end, rbegin, rend and empty. It refers to the set, so a
-    // temporary set has none: give it a name first.
+    // A view of the runs, with begin, end, rbegin, rend and empty. Each view refers to its set and copies
+    // nothing. So a temporary set has no views: give it a name first.
     detail::view<run_walk> runs() const & noexcept { return detail::view<run_walk>(handle_); }
-    void runs() const && = delete; // the temporary set would end before its view: give it a name first
+    void runs() const && = delete; // the temporary set would end before its view does: give it a name first
 
-    // The gaps: the runs of values that are not members, up to the least and the greatest value.
+    // A view of the gaps, which are the runs of the complement.
     detail::view<gap_walk> gaps() const & noexcept { return detail::view<gap_walk>(handle_); }
-    void gaps() const && = delete; // the temporary set would end before its view: give it a name first
+    void gaps() const && = delete; // the temporary set would end before its view does: give it a name first
 
-    // The members, one by one. Only the steps from run to run search.
+    // A view of the members, one by one. Only a step to another run searches the set.
     detail::view<member_walk> members() const & noexcept { return detail::view<member_walk>(handle_); }
-    void members() const && = delete; // the temporary set would end before its view: give it a name first
+    void members() const && = delete; // the temporary set would end before its view does: give it a name first
 
     // Calls `each` on each run, in ascending order.
     template <class Each> void runs(Each each) const {
@@ -296,7 +297,8 @@ public:
         return len(run(first, last));
     }
 
-    // The number of members below the value: at most the value itself. Takes a step for each run up to it.
+    // The number of members below the value, which need not be a member. Takes a step for each run up to
+    // it.
     template <class Value> std::uint64_t rank(Value value) const noexcept(fits<Value>) {
         return low(c::rank(&handle_, number(value)));
     }
@@ -347,17 +349,17 @@ public:
 
     // ---- Compare.
 
-    // Whether each member is a member of the other set, or the other way round.
+    // Whether each member of this set is in the other one, or each member of the other one in this set.
     bool is_subset(const set &other) const noexcept { return this == &other || c::is_subset(&handle_, &other.handle_); }
     bool is_superset(const set &other) const noexcept { return other.is_subset(*this); }
 
-    // Whether no member is a member of the other set.
+    // Whether no member of this set is in the other one.
     bool is_disjoint(const set &other) const noexcept {
         return this == &other ? empty() : c::is_disjoint(&handle_, &other.handle_);
     }
 
-    // A number below 0, equal to 0 or above 0, as the ascending lists of members compare. So do <, <=, >
-    // and >=. They do not ask which set is a subset.
+    // A number below 0, equal to 0 or above 0. Sets compare as the ascending lists of their members do,
+    // here and with <, <=, > and >=. A subset need not be less.
     int order(const set &other) const noexcept { return this == &other ? 0 : c::order(&handle_, &other.handle_); }
 
     // Whether both have the same members.
@@ -447,7 +449,7 @@ private:
     }
 };
 
-#ifdef __cpp_lib_ranges
+#if __cplusplus > 201703L && defined(__cpp_lib_ranges)
 // A set goes over its runs, and size() counts its members. So std::ranges::size must not call size().
 template <class Number> inline constexpr bool std::ranges::disable_sized_range<range_set::set<Number>> = true;
 template <class Walk> inline constexpr bool std::ranges::enable_view<range_set::detail::view<Walk>> = true;

@@ -40,8 +40,8 @@ template <class Number, class Argument> constexpr bool fits(Argument argument) n
 // Returns the argument as a Number. This function is the rule on arguments in range_set.hpp.
 template <class Number, class Argument>
 constexpr Number number_of(Argument argument) noexcept(always_fits<Number, Argument>) {
-    static_assert(is_integer<Argument>, "a value of a range_set::set has an integer type: not bool, and no character, "
-                                        "floating-point, enum or other type. Cast the argument if you mean its number.");
+    static_assert(is_integer<Argument>, "range_set takes integers: not bool, and not a character, floating-point or enum type. "
+                                        "Cast the argument if you mean its number.");
     if constexpr (is_integer<Argument> && !always_fits<Number, Argument>) {
         if (!fits<Number>(argument)) {
             throw std::out_of_range("range_set: an argument is negative or too great");
@@ -59,8 +59,8 @@ using if_values = std::enable_if_t<((std::is_arithmetic_v<Arguments> || std::is_
 // All values from first to last, both included: none if last is below first. A run of members, or a
 // gap between runs, is never empty. `auto [first, last] = run;` works too.
 template <class Number> struct run : detail::calls<Number>::run {
-    // The run that has only the value 0.
-    constexpr run() noexcept : run(Number{0}, Number{0}) {}
+    // No value: last is below first.
+    constexpr run() noexcept : run(Number{1}, Number{0}) {}
 
     // These throw std::out_of_range by the rule on arguments in range_set.hpp. In a constant expression the
     // compiler refuses such an argument.

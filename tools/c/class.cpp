@@ -438,7 +438,7 @@ static void has_runs_that_are_values() {
     static_assert(five.first == 1 && five.last == 5 && five != none && five == range_set::run<std::uint32_t>(1u, 5u));
     static_assert(std::is_trivially_copyable_v<range_set::run<std::uint64_t>>);
     rsb_u32_run plain = five;
-    CHECK(plain.last == 5 && none.first == 0 && none.last == 0);
+    CHECK(plain.last == 5 && range_set::u32_set(none).empty() && range_set::u32_set{{}, {}}.empty());
 }
 
 template <class Set> static void both_widths() {

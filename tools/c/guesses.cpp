@@ -45,6 +45,10 @@ static void goes_over_sets() {
         sum += member;
     }
     CHECK(sum == 181);
+    for (auto [first, last] : a - Set{{2, 20}}) {
+        sum = first + last;
+    }
+    CHECK(sum == 2);
     for (auto gap : a.gaps()) {
         sum = gap.first;
     }
