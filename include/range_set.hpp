@@ -47,8 +47,8 @@ inline constexpr clone_t clone{};
 // A set of std::uint64_t or of std::uint32_t.
 template <class Number> class set {
     static_assert(detail::is_one_of<Number, std::uint64_t, std::uint32_t>,
-                  "range_set::set holds std::uint64_t or std::uint32_t, because the C library has only sets of these two types. "
-                  "Another type is refused even if it is as wide: name one of the two.");
+                  "range_set::set holds std::uint64_t or std::uint32_t, because the C library has sets of only these "
+                  "two types. Another type is refused even if it is as wide: name one of the two.");
 
     using c = detail::calls<Number>;
     using run_walk = detail::run_walk<Number>;

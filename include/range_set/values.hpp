@@ -40,8 +40,8 @@ template <class Number, class Argument> constexpr bool fits(Argument argument) n
 // Returns the argument as a Number. This function is the rule on arguments in range_set.hpp.
 template <class Number, class Argument>
 constexpr Number number_of(Argument argument) noexcept(always_fits<Number, Argument>) {
-    static_assert(is_integer<Argument>, "range_set takes integers: not bool, and not a character, floating-point or enum type. "
-                                        "Cast the argument if you mean its number.");
+    static_assert(is_integer<Argument>, "range_set takes integers: not bool, and not a character, floating-point or "
+                                        "enum type. Cast the argument if you mean its number.");
     if constexpr (is_integer<Argument> && !always_fits<Number, Argument>) {
         if (!fits<Number>(argument)) {
             throw std::out_of_range("range_set: an argument is negative or too great");
