@@ -40,8 +40,8 @@ template <class Number, class Argument> constexpr bool fits(Argument argument) n
 // Returns the argument as a Number. This function is the rule on arguments in range_set.hpp.
 template <class Number, class Argument>
 constexpr Number number_of(Argument argument) noexcept(always_fits<Number, Argument>) {
-    static_assert(is_integer<Argument>, "range_set takes integers: not bool, and not a character, floating-point or "
-                                        "enum type. Cast the argument if you mean its number.");
+    static_assert(is_integer<Argument>, "range_set takes arguments of the standard integer types: not bool, and no "
+                                        "character, floating-point or enum type. Cast the argument if you mean its number.");
     if constexpr (is_integer<Argument> && !always_fits<Number, Argument>) {
         if (!fits<Number>(argument)) {
             throw std::out_of_range("range_set: an argument is negative or too great");
@@ -56,8 +56,8 @@ using if_values = std::enable_if_t<((std::is_arithmetic_v<Arguments> || std::is_
 
 } // namespace detail
 
-// All values from first to last, both included: none if last is below first. A run of members, or a
-// gap between runs, is never empty. `auto [first, last] = run;` works too.
+// All values from first to last, both included, or none if last is below first. The class returns runs of
+// members and gaps between them, which are never empty. A run is also an rsb_u64_run or an rsb_u32_run.
 template <class Number> struct run : detail::calls<Number>::run {
     // No value: last is below first.
     constexpr run() noexcept : run(Number{1}, Number{0}) {}
@@ -88,8 +88,8 @@ template <class Number> struct run : detail::calls<Number>::run {
     }
 };
 
-// A number of members, low + 2^64 * high: up to 2^64, which no std::uint64_t can hold. So it does not
-// convert to one. value() does, and so does size() of a set.
+// A number of members, low + 2^64 * high. It may be 2^64, which no std::uint64_t can hold, so it does not
+// convert to one. value() converts it, and so does size() of a set.
 struct count : rsb_u64_count {
     constexpr count(const rsb_u64_count &number) noexcept : rsb_u64_count{number.low, number.high} {}
 
