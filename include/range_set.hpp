@@ -54,6 +54,7 @@ template <class Number> class set {
     using run_walk = detail::run_walk<Number>;
     using gap_walk = detail::gap_walk<Number>;
     using member_walk = detail::member_walk<Number>;
+    template <class... Arguments> static constexpr bool fits = (detail::always_fits<Number, Arguments> && ...);
 
 public:
     using run = range_set::run<Number>;
@@ -385,8 +386,6 @@ public:
     }
 
 private:
-    template <class... Arguments> static constexpr bool fits = (detail::always_fits<Number, Arguments> && ...);
-
     template <class Argument> static constexpr Number number(Argument argument) noexcept(fits<Argument>) {
         return detail::number_of<Number>(argument);
     }
