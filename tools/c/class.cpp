@@ -1,103 +1,487 @@
-// The C++ class: each of its members once, a set beside itself, and memory that is refused.
+// The C++ class: each of its members, a set beside itself, values at both ends, and allocations that fail.
+// Each test runs for both widths. `text` writes a set as in `1..=5, 10..=20`.
 #include "range_set.hpp"
 
-#include <cstdio>
-#include <cstdlib>
+#include "check.hpp"
+
+#include <algorithm>
+#include <iterator>
+#include <map>
+#include <unordered_set>
 #include <vector>
 
-#define CHECK(claim)                                                                  \
-    do {                                                                              \
-        if (!(claim)) {                                                               \
-            std::fprintf(stderr, "%s:%d: not so: %s\n", __FILE__, __LINE__, #claim);  \
-            std::exit(1);                                                             \
-        }                                                                             \
-    } while (0)
+template <class Number> static constexpr Number greatest = static_cast<Number>(-1);
 
-extern "C" void *__real_malloc(std::size_t size);
+// ---- Allocations that fail: the linker sends the library's calls of malloc and realloc here.
 
-static bool refusing;
-
-extern "C" void *__wrap_malloc(std::size_t size) {
-    return refusing ? nullptr : __real_malloc(size);
+extern "C" {
+void *real_malloc(std::size_t size) __asm__("__real_malloc");
+void *real_realloc(void *block, std::size_t size) __asm__("__real_realloc");
+void *wrap_malloc(std::size_t size) __asm__("__wrap_malloc");
+void *wrap_realloc(void *block, std::size_t size) __asm__("__wrap_realloc");
 }
 
-static std::uint64_t counted(std::uint64_t count) {
-    return count;
-}
+// How many more allocations succeed before all fail. Below 0, none fails.
+static int allowed = -1;
 
-static std::uint64_t counted(rsb_u64_count count) {
-    return count.low;
-}
-
-template <class Number> static void members() {
-    using set = range_set::set<Number>;
-    const Number greatest = static_cast<Number>(-1);
-    set a, b;
-    CHECK(a.empty() && !a.first() && !a.last() && a == b);
-    CHECK(a.insert(1, 5) && !a.insert(3) && a.insert(9) && a.remove(3) && !a.remove(3));
-    CHECK(b.insert(4, 20));
-    CHECK(*a.first() == 1 && *a.last() == 9 && a.run_count() == 3 && a.contains(2) && !a.contains(3));
-    auto around = a.run_or_gap(7);
-    CHECK(!around.second && around.first.first == 6 && around.first.last == 8);
-    CHECK(a.contains(4, 5) && !a.contains(3, 5) && a.is_disjoint(6, 8) && !a.is_disjoint(8, 9));
-    CHECK(counted(a.len(2, 9)) == 4 && counted(a.rank(9)) == 4 && *a.nth(4) == 9 && !a.nth(5));
-    CHECK(a.next_run(6)->first == 9 && !a.next_run(10) && a.prev_run(3)->last == 2 && !a.prev_run(0));
-    CHECK(a.run_after(1)->first == 4 && !a.run_after(9) && a.run_before(5)->last == 2 && !a.run_before(2));
-    CHECK(a.first_gap(2, 2)->first == 6 && !(~set()).first_gap(0, 1));
-
-    set both = a & b, either = a | b, alone = a - b, one = a ^ b, copy = a.clone(), rest = ~a;
-    CHECK(both.run_count() == 2 && either.run_count() == 2 && *alone.last() == 2 && *one.last() == 20);
-    CHECK(copy == a && copy != b && a < b && !(b < a) && a.order(copy) == 0);
-    CHECK(both.is_subset(a) && !a.is_subset(b) && alone.is_disjoint(b) && *rest.last() == greatest);
-    CHECK((a & a) == a && (a - a).empty() && a == a && a.is_subset(a) && !a.is_disjoint(a));
-
-    std::vector<Number> ends;
-    rest.runs([&](const auto &run) { ends.push_back(run.last); });
-    CHECK((ends == std::vector<Number>{0, 3, 8, greatest}));
-
-    set part = a.clone();
-    part &= b;
-    CHECK(part == both);
-    part ^= a;
-    CHECK(part == alone);
-    part |= b;
-    part -= b;
-    CHECK(part == alone && part.remove(1, 2) && !part.remove(1, 2) && part.empty());
-
-    a |= b;
-    const set &same = a;
-    a |= same;
-    a &= same;
-    CHECK(a == either);
-    set &itself = copy;
-    copy -= itself;
-    CHECK(copy.empty());
-    copy = a.clone();
-    copy ^= itself;
-    CHECK(copy.empty());
-    set moved = std::move(a);
-    CHECK(moved == either && a.empty());
-    a = std::move(moved);
-    CHECK(a == either);
-
-    refusing = true;
-    bool refused = false;
-    try {
-        set never = a | copy;
-    } catch (const std::bad_alloc &) {
-        refused = true;
+static bool refuses() {
+    if (allowed > 0) {
+        --allowed;
+        return false;
     }
-    refusing = false;
-    CHECK(refused && a == either);
-    a.clear();
+    return allowed == 0;
+}
+
+void *wrap_malloc(std::size_t size) {
+    return refuses() ? nullptr : real_malloc(size);
+}
+
+void *wrap_realloc(void *block, std::size_t size) {
+    return refuses() ? nullptr : real_realloc(block, size);
+}
+
+// Calls until no allocation fails: at first none succeeds, then one, and so on. After each failure,
+// `a` and `b` must be as they were. Returns the number of failures.
+template <class Set, class Call> static int failures(const Set &a, const Set &b, Call call) {
+    const std::string a_before = text(a), b_before = text(b);
+    for (int succeeding = 0;; ++succeeding) {
+        allowed = succeeding;
+        bool failed = throws<std::bad_alloc>(call);
+        allowed = -1;
+        if (!failed) {
+            return succeeding;
+        }
+        CHECK(text(a) == a_before && text(b) == b_before);
+    }
+}
+
+template <class Set> static void leaves_sets_unchanged_if_an_allocation_fails() {
+    Set a{{1, 5}, {10, 20}}, b{{3, 12}, {30, 40}};
+    std::vector<typename Set::run> runs(b.begin(), b.end());
+    CHECK(failures(a, b, [&] { Set made(range_set::clone, a); }) > 0);
+    CHECK(failures(a, b, [&] { Set made{{1, 5}, {10, 20}}; }) > 0);
+    CHECK(failures(a, b, [&] { Set made(runs); }) > 0);
+    CHECK(failures(a, b, [&] { Set made = a | b; }) > 0);
+    CHECK(failures(a, b, [&] { Set made = a & b; }) > 0);
+    CHECK(failures(a, b, [&] { Set made = a - b; }) > 0);
+    CHECK(failures(a, b, [&] { Set made = a ^ b; }) > 0);
+    CHECK(failures(a, b, [&] { Set made = a ^ a; }) > 0);
+    CHECK(failures(a, b, [&] { Set made = ~a; }) > 0);
+    CHECK(failures(a, b, [&] { Set made = a - 3; }) > 0);
+}
+
+template <class Set> static void changes_all_or_nothing_if_an_allocation_fails() {
+    Set a{{1, 5}, {10, 20}}, b{{3, 12}, {30, 40}};
+    failures(a, b, [&] { a |= b; });
+    CHECK(text(a) == "1..=20, 30..=40");
+    failures(a, b, [&] { a -= b; });
+    CHECK(text(a) == "1..=2, 13..=20");
+    failures(a, b, [&] { a ^= b; });
+    CHECK(text(a) == "1..=20, 30..=40");
+    failures(a, b, [&] { a &= b; });
+    CHECK(text(a) == "3..=12, 30..=40");
+    failures(a, b, [&] { a &= {5, 35}; });
+    CHECK(text(a) == "5..=12, 30..=35");
+    failures(a, b, [&] { a ^= {10, 31}; });
+    CHECK(text(a) == "5..=9, 13..=29, 32..=35");
+    failures(a, b, [&] { a.erase(20); });
+    failures(a, b, [&] { a.insert(100, 200); });
+    CHECK(text(a) == "5..=9, 13..=19, 21..=29, 32..=35, 100..=200");
+    failures(a, b, [&] { a = {{1, 5}}; });
+    CHECK(text(a) == "1..=5");
+}
+
+// ---- Construct, copy, move.
+
+template <class Set> static void starts_empty() {
+    Set a;
+    CHECK(a.empty() && a.run_count() == 0 && a.size() == 0 && !a.first() && !a.last());
+    CHECK(a == Set() && a.begin() == a.end() && text(a) == "");
+}
+
+template <class Set> static void takes_a_list_of_runs() {
+    Set a{{10, 20}, {1, 5}, {4, 6}, {9, 8}};
+    CHECK(text(a) == "1..=6, 10..=20");
+    Set b = {{7, 7}};
+    CHECK(text(b) == "7..=7");
+    a = {{1, 2}, {4, 5}};
+    CHECK(text(a) == "1..=2, 4..=5");
+    a = {};
     CHECK(a.empty());
 }
 
+template <class Set> static Set returned() {
+    return {{1, 5}, {7, 7}};
+}
+
+template <class Set> static std::string text_of(const Set &a) {
+    return text(a);
+}
+
+template <class Set> static void takes_a_list_wherever_a_set_is_expected() {
+    CHECK(text(returned<Set>()) == "1..=5, 7..=7" && text_of<Set>({{1, 5}}) == "1..=5");
+    Set a({{1, 5}, {7, 7}});
+    CHECK(a == returned<Set>() && a.is_superset({{1, 2}, {7, 7}}) && a.is_disjoint(Set{{8, 9}}));
+}
+
+template <class Set> static void takes_one_run() {
+    typename Set::run five(1, 5);
+    Set a(five), b{five}, c({1, 5}), d{{1, 5}};
+    CHECK(text(a) == "1..=5" && b == a && c == a && d == a);
+}
+
+template <class Set> static void takes_runs_and_values_of_containers() {
+    std::vector<typename Set::run> runs{{8, 9}, {1, 2}};
+    std::map<int, long> pairs{{1, 2}, {8, 9}};
+    int values[] = {9, 1, 8, 2, 2};
+    Set a(runs), b(runs.begin(), runs.end()), c(pairs), d(values), e(values + 1, values + 3), f(a.gaps());
+    CHECK(text(a) == "1..=2, 8..=9" && b == a && c == a && d == a);
+    CHECK(text(e) == "1..=1, 8..=8" && f == ~a);
+}
+
+static void takes_sets_of_the_other_width() {
+    range_set::u32_set a{{1, 5}, {7, 7}}, b(range_set::u64_set{{1, 5}});
+    range_set::u64_set c(a);
+    CHECK(text(c) == "1..=5, 7..=7" && text(b) == "1..=5" && !c.insert(*a.begin()));
+    CHECK(throws<std::out_of_range>([&] { range_set::u32_set made(~c); }));
+}
+
+template <class Set> static void copies_only_by_clone() {
+    static_assert(!std::is_copy_constructible_v<Set> && !std::is_copy_assignable_v<Set>);
+    Set a{{1, 5}};
+    Set b = a.clone(), c(range_set::clone, a);
+    b.insert(7);
+    CHECK(text(a) == "1..=5" && text(b) == "1..=5, 7..=7" && c == a);
+}
+
+template <class Set> static void moves_and_leaves_empty() {
+    static_assert(std::is_nothrow_move_constructible_v<Set> && std::is_nothrow_move_assignable_v<Set>);
+    Set a{{1, 5}}, b{{7, 9}};
+    Set c = std::move(a);
+    CHECK(text(c) == "1..=5" && a.empty());
+    c = std::move(b);
+    CHECK(text(c) == "7..=9" && b.empty());
+    Set &itself = c;
+    c = std::move(itself);
+    CHECK(text(c) == "7..=9");
+    a = c.clone();
+    CHECK(a == c);
+}
+
+template <class Set> static void swaps() {
+    static_assert(std::is_nothrow_swappable_v<Set>);
+    Set a{{1, 5}}, b{{7, 9}};
+    swap(a, b);
+    CHECK(text(a) == "7..=9" && text(b) == "1..=5");
+    a.swap(b);
+    a.swap(a);
+    CHECK(text(a) == "1..=5" && text(b) == "7..=9");
+}
+
+// ---- Change.
+
+template <class Set> static void inserts() {
+    Set a;
+    CHECK(a.insert(3) && !a.insert(3) && a.insert(5, 9) && !a.insert(6, 8) && !a.insert(9, 5));
+    CHECK(a.insert({11, 12}) && !a.insert(std::make_pair(11, 12)) && text(a) == "3..=3, 5..=9, 11..=12");
+    CHECK(!a.insert(*a.begin()) && a.insert(4) && text(a) == "3..=9, 11..=12");
+}
+
+template <class Set> static void removes() {
+    Set a{{1, 20}};
+    CHECK(a.remove(3) && !a.remove(3) && a.remove(5, 6) && !a.remove(5, 6) && a.remove({9, 10}));
+    CHECK(a.erase(12) && !a.erase(12) && a.erase(14, 15) && a.erase({17, 30}) && !a.erase(8, 7));
+    CHECK(text(a) == "1..=2, 4..=4, 7..=8, 11..=11, 13..=13, 16..=16");
+    CHECK(a.erase(*a.begin()) && *a.first() == 4);
+    a.clear();
+    CHECK(a.empty() && !a.remove(4) && a.insert(4));
+}
+
+// ---- Set algebra.
+
+template <class Set> static void combines() {
+    Set a{{1, 5}, {9, 9}}, b{{4, 20}};
+    CHECK(text(a | b) == "1..=20" && text(a & b) == "4..=5, 9..=9" && text(a - b) == "1..=3");
+    CHECK(text(a ^ b) == "1..=3, 6..=8, 10..=20" && text(b - a) == "6..=8, 10..=20" && ~~a == a);
+    Set c = a.clone();
+    CHECK((c |= b) == (a | b) && (c &= a) == a && (c ^= b) == (a ^ b) && (c -= b) == (a - b));
+}
+
+template <class Set> static void combines_with_runs_and_values() {
+    const Set a{{1, 5}, {9, 9}};
+    typename Set::run middle(4, 9);
+    CHECK(text(a | middle) == "1..=9" && text(a & middle) == "4..=5, 9..=9" && text(a - middle) == "1..=3");
+    CHECK(text(a ^ middle) == "1..=3, 6..=8" && text(a | 6) == "1..=6, 9..=9" && text(a & 9) == "9..=9");
+    CHECK(text(a - 9) == "1..=5" && text(a ^ 5) == "1..=4, 9..=9" && text(a | std::make_pair(6, 8)) == "1..=9");
+    Set c = a.clone();
+    CHECK(text(c |= 7) == "1..=5, 7..=7, 9..=9" && text(c -= {3, 8}) == "1..=2, 9..=9");
+    CHECK(text(c ^= {2, 3}) == "1..=1, 3..=3, 9..=9" && text(c &= middle) == "9..=9" && text(c &= 8) == "");
+    CHECK(text(c |= {{1, 5}, {10, 20}}) == "1..=5, 10..=20" && text(c |= {{7, 8}}) == "1..=5, 7..=8, 10..=20");
+}
+
+template <class Set> static void combines_with_itself() {
+    Set a{{1, 5}, {9, 9}};
+    const Set &itself = a;
+    CHECK((a | itself) == a && (a & itself) == a && (a - itself).empty() && (a ^ itself).empty());
+    a |= itself;
+    a &= itself;
+    a |= *a.begin();
+    CHECK(text(a) == "1..=5, 9..=9");
+    a -= itself;
+    CHECK(a.empty() && a.insert(3));
+    a ^= itself;
+    CHECK(a.empty());
+}
+
+template <class Set> static void complements_up_to_both_ends() {
+    using Number = decltype(Set::run::first);
+    Set all = ~Set();
+    CHECK(all.run_count() == 1 && *all.first() == 0 && *all.last() == greatest<Number> && (~all).empty());
+    Set ends = all - typename Set::run(Number{1}, greatest<Number> - 1);
+    CHECK(ends.run_count() == 2 && ends.contains(0) && ends.contains(greatest<Number>));
+}
+
+// ---- Go over a set.
+
+// The first and last values of all runs or gaps, one after the other.
+template <class View> static auto ends_of(const View &view) {
+    std::vector<decltype(view.begin()->first)> ends;
+    for (auto [first, last] : view) {
+        ends.push_back(first);
+        ends.push_back(last);
+    }
+    return ends;
+}
+
+// What an iterator gives before the end, and that it gives the same on its way back.
+template <class Iterator> static auto there_and_back(Iterator from, Iterator to) {
+    std::vector<typename Iterator::value_type> there(from, to), back;
+    for (Iterator at = to; at != from;) {
+        back.push_back(*--at);
+    }
+    CHECK(std::equal(there.begin(), there.end(), back.rbegin(), back.rend()));
+    return there;
+}
+
+template <class Set> static void walks_runs() {
+    using Number = decltype(Set::run::first);
+    using runs = std::vector<typename Set::run>;
+    Set a{{0, 2}, {4, 4}, {greatest<Number>, greatest<Number>}};
+    CHECK((ends_of(a) == std::vector<Number>{0, 2, 4, 4, greatest<Number>, greatest<Number>}));
+    CHECK((there_and_back(a.begin(), a.end()) == runs{{0, 2}, {4, 4}, {greatest<Number>, greatest<Number>}}));
+    CHECK((there_and_back(a.rbegin(), a.rend()) == runs{{greatest<Number>, greatest<Number>}, {4, 4}, {0, 2}}));
+    CHECK(a.begin()->last == 2 && std::prev(a.end())->first == greatest<Number> && std::next(a.rbegin())->first == 4);
+    CHECK(std::make_reverse_iterator(a.end())->first == greatest<Number> && std::distance(a.begin(), a.end()) == 3);
+    CHECK(ends_of(a.runs()) == ends_of(a) && !a.runs().empty());
+    runs each;
+    a.runs([&](const auto &run) { each.push_back(run); });
+    CHECK(each == there_and_back(a.begin(), a.end()));
+}
+
+template <class Set> static void walks_gaps() {
+    using Number = decltype(Set::run::first);
+    using gaps = std::vector<typename Set::run>;
+    Set a{{1, 2}, {4, 4}};
+    CHECK((there_and_back(a.gaps().begin(), a.gaps().end()) == gaps{{0, 0}, {3, 3}, {5, greatest<Number>}}));
+    CHECK((there_and_back(a.gaps().rbegin(), a.gaps().rend()) == gaps{{5, greatest<Number>}, {3, 3}, {0, 0}}));
+    CHECK(ends_of(a.gaps()) == ends_of(~a) && ends_of((~a).clone()) == ends_of(a.gaps()));
+    Set both_ends{{0, 2}, {5, greatest<Number>}};
+    CHECK((there_and_back(both_ends.gaps().begin(), both_ends.gaps().end()) == gaps{{3, 4}}));
+    Set none, all = ~none;
+    CHECK(all.gaps().empty() && all.gaps().rbegin() == all.gaps().rend());
+    CHECK((there_and_back(none.gaps().begin(), none.gaps().end()) == gaps{{0, greatest<Number>}}));
+}
+
+template <class Set> static void walks_members() {
+    using Number = decltype(Set::run::first);
+    Set a{{0, 2}, {4, 4}, {greatest<Number> - 1, greatest<Number>}};
+    std::vector<Number> expected{0, 1, 2, 4, greatest<Number> - 1, greatest<Number>}, each;
+    for (Number member : a.members()) {
+        each.push_back(member);
+    }
+    CHECK(each == expected && there_and_back(a.members().begin(), a.members().end()) == expected);
+    std::reverse(each.begin(), each.end());
+    CHECK(there_and_back(a.members().rbegin(), a.members().rend()) == each);
+    CHECK(std::count(a.members().begin(), a.members().end(), 4) == 1);
+    Set none;
+    CHECK(none.runs().empty() && none.members().empty() && none.members().rbegin() == none.members().rend());
+}
+
+template <class Set> static void walks_runs_while_the_set_changes() {
+    Set a{{1, 2}, {4, 6}, {8, 9}, {11, 11}};
+    for (auto run : a) {
+        if (run.last - run.first == 1) {
+            a.erase(run);
+        }
+    }
+    CHECK(text(a) == "4..=6, 11..=11");
+}
+
+template <class Set> static void has_iterators_of_the_standard() {
+    using iterator = typename Set::iterator;
+    using traits = std::iterator_traits<iterator>;
+    static_assert(std::is_same_v<typename traits::iterator_category, std::bidirectional_iterator_tag>);
+    static_assert(std::is_same_v<typename traits::value_type, typename Set::run>);
+    static_assert(std::is_default_constructible_v<iterator> && std::is_copy_assignable_v<iterator>);
+    CHECK(iterator() == iterator());
+    Set a{{1, 2}, {4, 6}};
+    iterator at = a.begin();
+    CHECK((*at++ == typename Set::run(1, 2)) && (*at-- == typename Set::run(4, 6)) && at == a.begin());
+#if __cplusplus >= 202002L
+    static_assert(std::ranges::bidirectional_range<Set>);
+    static_assert(std::bidirectional_iterator<typename Set::reverse_iterator>);
+    static_assert(std::bidirectional_iterator<decltype(a.gaps().begin())>);
+    static_assert(std::bidirectional_iterator<decltype(a.members().begin())>);
+    static_assert(std::ranges::view<decltype(a.runs())> && !std::ranges::sized_range<Set>);
+    CHECK(std::ranges::distance(a) == 2);
+#endif
+}
+
+// ---- Ask, count, search.
+
+template <class Set> static void asks_about_values() {
+    Set a{{1, 5}, {9, 9}};
+    CHECK(a.contains(5) && !a.contains(6) && a.contains(1, 5) && !a.contains(5, 9) && a.contains(7, 6));
+    CHECK(a.contains({2, 3}) && a.is_disjoint(6, 8) && !a.is_disjoint({8, 9}) && a.is_disjoint(9, 1));
+    CHECK(*a.first() == 1 && *a.last() == 9);
+}
+
+template <class Set> static void counts() {
+    Set a{{1, 5}, {9, 9}};
+    CHECK(a.size() == 6 && a.len() == 6 && a.len(2, 9) == 5 && a.len({6, 8}) == 0 && a.len(9, 2) == 0 && !a.empty());
+    CHECK(a.run_count() == 2 && a.rank(9) == 5 && a.rank(0) == 0 && *a.nth(5) == 9 && !a.nth(6));
+    CHECK(text(a.len()) == "6");
+}
+
+template <class Set> static void searches() {
+    using Number = decltype(Set::run::first);
+    Set a{{1, 2}, {4, 5}, {9, 9}};
+    auto [gap, gap_is_run] = a.run_or_gap(7);
+    auto [run, run_is_run] = a.run_or_gap(4);
+    CHECK(!gap_is_run && text(gap) == "6..=8" && run_is_run && text(run) == "4..=5");
+    CHECK(a.next_run(6)->first == 9 && !a.next_run(10) && a.prev_run(3)->last == 2 && !a.prev_run(0));
+    CHECK(a.run_after(1)->first == 4 && !a.run_after(9) && a.run_before(5)->last == 2 && !a.run_before(2));
+    CHECK(a.first_gap(2, 2)->first == 6 && a.first_gap(7, 1)->first == 7 && !(~Set()).first_gap(0, 1));
+    CHECK(a.first_gap(0, 4)->last == greatest<Number> && !a.first_gap(greatest<Number>, 2));
+}
+
+// ---- Compare, hash, write.
+
+template <class Set> static void compares() {
+    Set a{{1, 5}}, same{{1, 3}, {4, 5}}, later{{2, 2}};
+    CHECK(a == same && !(a != same) && a <= same && a >= same && !(a < same) && !(a > same) && a.order(same) == 0);
+    CHECK(a != later && a < later && a <= later && later > a && later >= a && !(later <= a) && a.order(later) < 0);
+    const Set &itself = a;
+    CHECK(a == itself && a <= itself && !(a < itself) && a.is_subset(itself) && !a.is_disjoint(itself));
+    CHECK(later.is_subset(a) && a.is_superset(later) && !a.is_subset(later) && !later.is_superset(a));
+    CHECK(!a.is_disjoint(later) && a.is_disjoint(~a) && Set() < a);
+}
+
+template <class Set> static void hashes() {
+    std::hash<Set> hash;
+    CHECK(hash(Set{{1, 5}}) == hash(Set{{1, 3}, {4, 5}}) && hash(Set{{1, 5}}) != hash(Set{{1, 4}}));
+    CHECK(hash(Set{{1, 1}, {3, 3}}) != hash(Set{{1, 3}}) && hash(Set()) != hash(Set{{0, 0}}));
+    std::unordered_set<Set> sets;
+    sets.insert(Set{{1, 5}});
+    CHECK(sets.count(Set{{1, 5}}) == 1 && sets.count(Set{{1, 6}}) == 0 && !sets.insert(Set{{1, 5}}).second);
+}
+
+template <class Set> static void writes_text() {
+    Set a{{1, 5}, {7, 7}, {10, 20}};
+    CHECK(text(a) == "1..=5, 7..=7, 10..=20" && text(*a.begin()) == "1..=5");
+    std::wostringstream wide;
+    wide << a;
+    CHECK(wide.str() == L"1..=5, 7..=7, 10..=20");
+}
+
+// ---- Arguments.
+
+template <class Set> static void takes_any_integer_type() {
+    Set a;
+    signed char small = 1;
+    CHECK(a.insert(small) && a.insert(2u) && a.insert(3l) && a.insert(4ull) && a.insert(std::uint8_t{5}));
+    CHECK(a.contains(1ll, short{5}) && a.erase(std::uint16_t{3}) && text(a) == "1..=2, 4..=5");
+    static_assert(noexcept(a.contains(2u)) && noexcept(a.next_run(std::uint8_t{2})) && !noexcept(a.contains(2)));
+}
+
+template <class Set> static void refuses_values_out_of_range() {
+    using error = std::out_of_range;
+    Set a{{1, 5}};
+    CHECK(throws<error>([&] { a.insert(-1); }) && throws<error>([&] { a.insert(6, -1ll); }));
+    CHECK(throws<error>([&] { a.erase(-1); }) && throws<error>([&] { a.remove(short{-1}, 3); }));
+    CHECK(throws<error>([&] { a.contains(-1); }) && throws<error>([&] { a.insert({-1, 3}); }));
+    CHECK(throws<error>([&] { a |= -1; }) && throws<error>([&] { Set made{{-2, -1}}; }));
+    CHECK(throws<error>([&] { a.rank(-1); }) && throws<error>([&] { a.nth(-1); }));
+    CHECK(throws<error>([&] { a.next_run(-1); }) && throws<error>([&] { a.first_gap(0, -1); }));
+    std::vector<int> values{7, -1};
+    CHECK(throws<error>([&] { Set made(values); }) && throws<error>([&] { a = Set(values); }));
+    CHECK(text(a) == "1..=5");
+}
+
+static void refuses_what_32_bits_cannot_hold() {
+    range_set::u32_set a{{1, 5}};
+    CHECK(throws<std::out_of_range>([&] { a.insert(1ull << 40); }) && throws<std::out_of_range>([&] { a -= 1ll << 32; }));
+    CHECK(a.insert(0xffffffffll) && text(a) == "1..=5, 4294967295..=4294967295");
+    CHECK((~range_set::u32_set()).size() == 1ull << 32 && !a.nth(1ull << 40));
+}
+
+static void counts_all_64_bit_values() {
+    range_set::u64_set all = ~range_set::u64_set();
+    CHECK(all.len().high == 1 && all.len().low == 0 && text(all.len()) == "18446744073709551616");
+    CHECK(throws<std::overflow_error>([&] { return all.size(); }));
+    CHECK(all.len() != 0 && all.len() > 5 && !(all.len() <= 5) && all.len() == all.len(0, greatest<std::uint64_t>));
+    CHECK(all.rank(greatest<std::uint64_t>) == greatest<std::uint64_t>);
+    CHECK(all.erase(7) && all.size() == greatest<std::uint64_t>);
+}
+
+static void has_runs_that_are_values() {
+    constexpr range_set::run<std::uint32_t> five(1, 5), none;
+    static_assert(five.first == 1 && five.last == 5 && five != none && five == range_set::run<std::uint32_t>(1u, 5u));
+    static_assert(std::is_trivially_copyable_v<range_set::run<std::uint64_t>>);
+    rsb_u32_run plain = five;
+    CHECK(plain.last == 5 && range_set::u32_set(none).empty());
+    CHECK((range_set::u32_set{{}, {}}.empty()));
+}
+
+template <class Set> static void both_widths() {
+    starts_empty<Set>();
+    takes_a_list_of_runs<Set>();
+    takes_a_list_wherever_a_set_is_expected<Set>();
+    takes_one_run<Set>();
+    takes_runs_and_values_of_containers<Set>();
+    copies_only_by_clone<Set>();
+    moves_and_leaves_empty<Set>();
+    swaps<Set>();
+    inserts<Set>();
+    removes<Set>();
+    combines<Set>();
+    combines_with_runs_and_values<Set>();
+    combines_with_itself<Set>();
+    complements_up_to_both_ends<Set>();
+    walks_runs<Set>();
+    walks_gaps<Set>();
+    walks_members<Set>();
+    walks_runs_while_the_set_changes<Set>();
+    has_iterators_of_the_standard<Set>();
+    asks_about_values<Set>();
+    counts<Set>();
+    searches<Set>();
+    compares<Set>();
+    hashes<Set>();
+    writes_text<Set>();
+    takes_any_integer_type<Set>();
+    refuses_values_out_of_range<Set>();
+    leaves_sets_unchanged_if_an_allocation_fails<Set>();
+    changes_all_or_nothing_if_an_allocation_fails<Set>();
+}
+
 int main() {
-    members<std::uint64_t>();
-    members<std::uint32_t>();
-    range_set::set<std::uint64_t> all = ~range_set::set<std::uint64_t>();
-    CHECK(all.len().high == 1 && all.len().low == 0);
+    both_widths<range_set::u64_set>();
+    both_widths<range_set::u32_set>();
+    takes_sets_of_the_other_width();
+    refuses_what_32_bits_cannot_hold();
+    counts_all_64_bit_values();
+    has_runs_that_are_values();
     std::printf("the class answers as the calls do\n");
     return 0;
 }

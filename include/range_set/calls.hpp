@@ -1,0 +1,62 @@
+// The functions of range_set.h, by the type of the values. Only the class in range_set.hpp uses them.
+#ifndef RANGE_SET_CALLS_HPP
+#define RANGE_SET_CALLS_HPP
+
+#include "../range_set.h"
+
+#include <cstdint>
+
+namespace range_set::detail {
+
+// The functions for one width. They have the names of range_set.h, except `either` (union), `both`
+// (intersection), `left_alone` (difference) and `one_alone` (symmetric_difference).
+#define RANGE_SET_CALLS(number, width)                                                                                     \
+    template <> struct calls<number> {                                                                                     \
+        using handle = rsb_##width;                                                                                        \
+        using run = rsb_##width##_run;                                                                                     \
+        static constexpr auto insert_range = rsb_##width##_insert_range;                                                   \
+        static constexpr auto insert = rsb_##width##_insert;                                                               \
+        static constexpr auto remove = rsb_##width##_remove;                                                               \
+        static constexpr auto remove_range = rsb_##width##_remove_range;                                                   \
+        static constexpr auto union_with = rsb_##width##_union_with;                                                       \
+        static constexpr auto intersect_with = rsb_##width##_intersect_with;                                               \
+        static constexpr auto subtract = rsb_##width##_subtract;                                                           \
+        static constexpr auto xor_with = rsb_##width##_xor_with;                                                           \
+        static constexpr auto clear = rsb_##width##_clear;                                                                 \
+        static constexpr auto free = rsb_##width##_free;                                                                   \
+        static constexpr auto contains = rsb_##width##_contains;                                                           \
+        static constexpr auto contains_range = rsb_##width##_contains_range;                                               \
+        static constexpr auto is_disjoint_range = rsb_##width##_is_disjoint_range;                                         \
+        static constexpr auto len = rsb_##width##_len;                                                                     \
+        static constexpr auto len_in = rsb_##width##_len_in;                                                               \
+        static constexpr auto rank = rsb_##width##_rank;                                                                   \
+        static constexpr auto nth = rsb_##width##_nth;                                                                     \
+        static constexpr auto run_count = rsb_##width##_run_count;                                                         \
+        static constexpr auto first = rsb_##width##_first;                                                                 \
+        static constexpr auto last = rsb_##width##_last;                                                                   \
+        static constexpr auto run_or_gap = rsb_##width##_run_or_gap;                                                       \
+        static constexpr auto next_run = rsb_##width##_next_run;                                                           \
+        static constexpr auto prev_run = rsb_##width##_prev_run;                                                           \
+        static constexpr auto run_after = rsb_##width##_run_after;                                                         \
+        static constexpr auto run_before = rsb_##width##_run_before;                                                       \
+        static constexpr auto first_gap = rsb_##width##_first_gap;                                                         \
+        static constexpr auto either = rsb_##width##_union;                                                                \
+        static constexpr auto both = rsb_##width##_intersection;                                                           \
+        static constexpr auto left_alone = rsb_##width##_difference;                                                       \
+        static constexpr auto one_alone = rsb_##width##_symmetric_difference;                                              \
+        static constexpr auto complement = rsb_##width##_complement;                                                       \
+        static constexpr auto clone = rsb_##width##_clone;                                                                 \
+        static constexpr auto equal = rsb_##width##_equal;                                                                 \
+        static constexpr auto order = rsb_##width##_order;                                                                 \
+        static constexpr auto is_subset = rsb_##width##_is_subset;                                                         \
+        static constexpr auto is_disjoint = rsb_##width##_is_disjoint;                                                     \
+    }
+
+template <class Number> struct calls;
+RANGE_SET_CALLS(std::uint64_t, u64);
+RANGE_SET_CALLS(std::uint32_t, u32);
+#undef RANGE_SET_CALLS
+
+} // namespace range_set::detail
+
+#endif
