@@ -9,6 +9,8 @@
  *     using the old one. Only these functions read or write what a handle holds.
  *   - Each pointer passed to a call is valid and not null, and no two of them are equal: two
  *     handles are two sets. To combine a set with itself, clone it first.
+ *   - An array has at least as many elements as the call is told, and shares no memory with what
+ *     else is passed. If the call is told 0, the array may be null.
  *   - While a call changes a set, no other call uses its handle. If threads share a handle, they
  *     lock it, or all of them only read. A set may pass from one thread to another under a lock, or
  *     when a thread starts or is joined.
@@ -17,9 +19,10 @@
  *
  * A freed handle is the empty set again, so you may free it twice or go on using it.
  *
- * A call leaves the set of a `const` handle unchanged, and does not allocate for it. It also writes
- * nothing to that set, so several such calls may read one set at once. This last fact is tested and
- * not proved, since a contract assumes that no other call uses the same handles.
+ * A call leaves the set of a `const` handle unchanged, and does not allocate for it, except that
+ * rsb_u64_to_text allocates the text. It also writes nothing to that set, so several such calls may
+ * read one set at once. This last fact is tested and not proved, since a contract assumes that no
+ * other call uses the same handles.
  */
 #ifndef RANGE_SET_H
 #define RANGE_SET_H
@@ -35,12 +38,15 @@
 extern "C" {
 #endif
 
-/* What a call that changes a set returns. It returns no other value. A call that clears or frees a
-   set always succeeds, and returns nothing. */
+/* What a call that changes a set returns: one of the first three. rsb_u64_from_text and
+   rsb_u64_to_text return RSB_CHANGED, RSB_NO_MEMORY, or the one that names them. A call that clears
+   or frees a set always succeeds, and returns nothing. */
 enum {
     RSB_UNCHANGED = 0, /* the set was already as requested, and is unchanged */
     RSB_CHANGED = 1,   /* the set is now as requested, and was not; or `out` is the new set */
-    RSB_NO_MEMORY = 2  /* an allocation failed, and each set of the call is unchanged */
+    RSB_NO_MEMORY = 2, /* an allocation failed, and each set of the call is unchanged */
+    RSB_BAD_TEXT = 3,  /* from_text: the text does not list ranges, and `out` is unchanged */
+    RSB_NO_ROOM = 4    /* to_text: the text does not fit, and the buffer is unchanged */
 };
 
 /* The empty set: `rsb_u64 set = RSB_EMPTY;`. */
@@ -185,6 +191,25 @@ uint32_t rsb_u64_symmetric_difference(rsb_u64 *out, const rsb_u64 *left, const r
 uint32_t rsb_u64_complement(rsb_u64 *out, const rsb_u64 *set);
 uint32_t rsb_u64_clone(rsb_u64 *out, const rsb_u64 *set);
 
+/* Sets `out` to the values of `count` runs, which may come in any order, overlap and touch. A run
+   whose last value is below its first one has no values. Returns RSB_CHANGED, or returns
+   RSB_NO_MEMORY and leaves `out` unchanged. */
+uint32_t rsb_u64_from_runs(rsb_u64 *out, const rsb_u64_run *runs, size_t count);
+
+/* Sets `out` to the values of the ranges that `text` lists, such as 1..=5, 10..=20. The ranges may
+   come in any order, and 7 means 7..=7. Blanks may be around each number. Empty text gives the
+   empty set. The text needs no zero byte at its end.
+   Returns RSB_CHANGED. Returns RSB_BAD_TEXT if the text does not list ranges of uint64_t, or
+   RSB_NO_MEMORY if an allocation fails; `out` is then unchanged. */
+uint32_t rsb_u64_from_text(rsb_u64 *out, const char *text, size_t length);
+
+/* Writes the text of a set, such as 1..=5, 10..=20, to the start of `buffer`, with no zero byte at
+   its end. rsb_u64_from_text reads it as the same set. Stores the length of the text in `length`,
+   also if the text is longer than `capacity`: then returns RSB_NO_ROOM, and `buffer` is unchanged.
+   Otherwise returns RSB_CHANGED. If an allocation fails, returns RSB_NO_MEMORY, and `buffer` and
+   `length` are unchanged. */
+uint32_t rsb_u64_to_text(const rsb_u64 *set, char *buffer, size_t capacity, size_t *length);
+
 /* Returns whether two sets have the same members. */
 bool rsb_u64_equal(const rsb_u64 *left, const rsb_u64 *right);
 
@@ -241,6 +266,9 @@ uint32_t rsb_u32_difference(rsb_u32 *out, const rsb_u32 *left, const rsb_u32 *ri
 uint32_t rsb_u32_symmetric_difference(rsb_u32 *out, const rsb_u32 *left, const rsb_u32 *right);
 uint32_t rsb_u32_complement(rsb_u32 *out, const rsb_u32 *set);
 uint32_t rsb_u32_clone(rsb_u32 *out, const rsb_u32 *set);
+uint32_t rsb_u32_from_runs(rsb_u32 *out, const rsb_u32_run *runs, size_t count);
+uint32_t rsb_u32_from_text(rsb_u32 *out, const char *text, size_t length);
+uint32_t rsb_u32_to_text(const rsb_u32 *set, char *buffer, size_t capacity, size_t *length);
 bool rsb_u32_equal(const rsb_u32 *left, const rsb_u32 *right);
 int32_t rsb_u32_order(const rsb_u32 *left, const rsb_u32 *right);
 bool rsb_u32_is_subset(const rsb_u32 *left, const rsb_u32 *right);

@@ -449,6 +449,91 @@ static void complemented(set_t *out, set_t *again, const set_t *set, const table
     }
 }
 
+/* ---- Arrays of runs, and text. */
+
+/* Sets `out` to what some runs have. They overlap, come in any order, and may end before they start. */
+static void gathered(set_t *out, table *made) {
+    enum { MOST = 12 };
+    run_t runs[MOST];
+    table next = {{false}};
+    size_t count = drawn(MOST + 1);
+    for (size_t i = 0; i < count; i++) {
+        size_t first = drawn(TABLE), last = first + drawn(9);
+        last = last < TABLE ? last : TABLE - 1;
+        last = first > 0 && drawn(6) == 0 ? first - 1 : last;
+        runs[i] = (run_t){at(first), at(last)};
+        for (size_t place = first; place <= last; place++) {
+            next.has[place] = true;
+        }
+    }
+    long before = asked;
+    uint32_t answer = told(CALL(from_runs)(out, count > 0 ? runs : NULL, count), before);
+    CHECK(answer != RSB_UNCHANGED);
+    *made = answer == RSB_CHANGED ? next : *made;
+    same(out, made);
+}
+
+enum { LONGEST = TABLE * 48 };
+
+/* Writes the text of a table, and returns its length. */
+static size_t spelled(char *text, const table *bits) {
+    size_t length = 0;
+    for (size_t place = 0; place < TABLE; place++) {
+        size_t last = place;
+        while (bits->has[place] && last + 1 < TABLE && bits->has[last + 1]) {
+            last++;
+        }
+        if (bits->has[place]) {
+            length += (size_t)snprintf(text + length, LONGEST - length, "%s%llu..=%llu", length > 0 ? ", " : "",
+                (unsigned long long)at(place), (unsigned long long)at(last));
+        }
+        place = last;
+    }
+    return length;
+}
+
+/* The text of a set, into a buffer that is too short for it, and into one that is just long enough. `out` is then read from it. */
+static void told_by_text(set_t *out, table *made, const set_t *set, const table *bits) {
+    static char wanted[LONGEST], text[LONGEST];
+    size_t length = spelled(wanted, bits), found = 7;
+    memset(text, '*', sizeof text);
+    if (length > 0) {
+        long before = asked;
+        uint32_t answer = CALL(to_text)(set, length > 1 ? text : NULL, length - 1, &found);
+        CHECK(answer == (refused_at > before && refused_at <= asked ? RSB_NO_MEMORY : RSB_NO_ROOM));
+        CHECK(found == (answer == RSB_NO_ROOM ? length : 7));
+        for (size_t i = 0; i < sizeof text; i++) {
+            CHECK(text[i] == '*');
+        }
+    }
+    found = 7;
+    long before = asked;
+    uint32_t answer = told(CALL(to_text)(set, length > 0 ? text : NULL, length, &found), before);
+    CHECK(answer != RSB_UNCHANGED && found == (answer == RSB_CHANGED ? length : 7));
+    CHECK(answer != RSB_CHANGED || !memcmp(text, wanted, length));
+    for (size_t i = answer == RSB_CHANGED ? length : 0; i < sizeof text; i++) {
+        CHECK(text[i] == '*');
+    }
+    same(set, bits);
+
+    before = asked;
+    answer = told(CALL(from_text)(out, length > 0 ? wanted : NULL, length), before);
+    CHECK(answer != RSB_UNCHANGED);
+    *made = answer == RSB_CHANGED ? *bits : *made;
+    same(out, made);
+}
+
+/* Text that does not list ranges leaves the set as it was. */
+static void told_by_no_text(set_t *out, const table *made) {
+    static const char *const texts[] = {"1..=", "1..2", "1,", ",", "x", "-1", "1 2", "18446744073709551616", "\xff", "1..=2\xc3"};
+    for (size_t i = 0; i < sizeof texts / sizeof *texts; i++) {
+        long before = asked;
+        uint32_t answer = CALL(from_text)(out, texts[i], strlen(texts[i]));
+        CHECK(answer == (refused_at > before && refused_at <= asked ? RSB_NO_MEMORY : RSB_BAD_TEXT));
+        same(out, made);
+    }
+}
+
 /* One round, and how many allocations it asked for. */
 static long round_of(unsigned long long start, long refused) {
     seed = start;
@@ -475,6 +560,9 @@ static long round_of(unsigned long long start, long refused) {
 
     changed_by(&c, &tc, &b, &tb);
     changed_by(&d, &td, &c, &tc);
+    gathered(&d, &td);
+    told_by_text(&d, &td, &b, &tb);
+    told_by_no_text(&d, &td);
     CALL(free)(&d);
     complemented(&d, &c, &b, &tb);
 
@@ -553,6 +641,25 @@ static void changed_by_nothing(void) {
     CALL(free)(&some);
 }
 
+/* What text may list: blanks, signs, ranges in any order, and numbers up to the greatest. */
+static void read_from_text(void) {
+    static const char text[] = " 7 , 3 ..= 5,\t+4..=2\n,1..=4";
+    set_t some = RSB_EMPTY;
+    run_t run = {3, 2};
+    CHECK(CALL(from_text)(&some, text, sizeof text - 1) == RSB_CHANGED && CALL(run_count)(&some) == 2);
+    CHECK(CALL(next_run)(&some, 0, &run) && run.first == 1 && run.last == 5);
+    CHECK(CALL(run_after)(&some, 5, &run) && run.first == 7 && run.last == 7);
+#if WIDTH == 64
+    CHECK(CALL(from_text)(&some, "18446744073709551615", 20) == RSB_CHANGED && CALL(contains)(&some, GREATEST));
+#else
+    CHECK(CALL(from_text)(&some, "4294967295", 10) == RSB_CHANGED && CALL(contains)(&some, GREATEST));
+    CHECK(CALL(from_text)(&some, "4294967296", 10) == RSB_BAD_TEXT && CALL(contains)(&some, GREATEST));
+#endif
+    CHECK(CALL(from_text)(&some, "", 0) == RSB_CHANGED && CALL(run_count)(&some) == 0);
+    CHECK(CALL(from_text)(&some, "1..=5", 4) == RSB_BAD_TEXT && CALL(run_count)(&some) == 0);
+    CALL(free)(&some);
+}
+
 int main(void) {
     for (unsigned long long start = 1; start <= ROUNDS; start++) {
         long wanted = round_of(start * 2654435761u, 0);
@@ -563,6 +670,7 @@ int main(void) {
     CHECK(refusals > 0);
     whole();
     changed_by_nothing();
+    read_from_text();
     printf("u%d: each call agrees with its table, %llu allocations refused\n", WIDTH, refusals);
     return 0;
 }

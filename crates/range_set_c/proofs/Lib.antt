@@ -1,3 +1,5 @@
+mod Arrays
+mod SetText
 mod U32Box
 mod U64Box
 mod UnboxedForm

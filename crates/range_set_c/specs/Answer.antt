@@ -21,6 +21,14 @@ IsChanged status = status ≡ 1
 abbrev pub IsRefused : ℕ → Type 0
 IsRefused status = status ≡ 2
 
+-- Whether the text does not list ranges.
+abbrev pub IsBadText : ℕ → Type 0
+IsBadText status = status ≡ 3
+
+-- Whether the buffer is too small for the text.
+abbrev pub HasNoRoom : ℕ → Type 0
+HasNoRoom status = status ≡ 4
+
 -- Whether the set is now as requested.
 abbrev pub Succeeds : ℕ → Type 0
 Succeeds status = status < 2

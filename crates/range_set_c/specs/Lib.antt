@@ -1,6 +1,9 @@
 pub mod Answer
+pub mod SetText
 pub mod U32Handle
 pub mod U32Opened
+pub mod U32Runs
 pub mod U64Handle
 pub mod U64Opened
+pub mod U64Runs
 pub mod Walk

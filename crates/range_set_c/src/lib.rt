@@ -2,7 +2,8 @@
 //!
 //! `include/range_set.h` declares the exports, and lists the duties of a caller that no proof can
 //! check. The clauses of an export are about `kept.set`, the set that a handle points to, as the
-//! list of its runs. An export takes each handle by `&mut` (docs/DECISIONS.md, handle-by-mut).
+//! list of its runs. An export takes each handle by `&mut` (docs/DECISIONS.md, handle-by-mut), and
+//! its handles are different sets (docs/DECISIONS.md, handles-apart).
 #![tactic(auto)]
 
 mod status;

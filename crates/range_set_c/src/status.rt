@@ -1,5 +1,5 @@
-//! What a call that changes a set returns. A call that clears or frees a set always succeeds, and
-//! returns nothing.
+//! What a call that changes a set returns, and a call that reads or writes text. A call that clears
+//! or frees a set always succeeds, and returns nothing.
 
 /// The set was already as requested, and is unchanged.
 pub const UNCHANGED: u32 = 0;
@@ -9,3 +9,9 @@ pub const CHANGED: u32 = 1;
 
 /// An allocation failed, and every set is unchanged.
 pub const NO_MEMORY: u32 = 2;
+
+/// The text does not list ranges of numbers of the type, and the set is unchanged.
+pub const BAD_TEXT: u32 = 3;
+
+/// The buffer is too small for the text, and is unchanged.
+pub const NO_ROOM: u32 = 4;

@@ -1,6 +1,7 @@
 // Written by tools/c/narrow from src/u64_sets.rt.
 //! Sets of `u32`.
 
+mod arrays;
 mod changes;
 mod combinations;
 mod comparisons;
@@ -11,3 +12,4 @@ mod look_up;
 mod open;
 mod run;
 mod runs;
+mod text;

@@ -1,5 +1,6 @@
 //! Sets of `u64`.
 
+mod arrays;
 mod changes;
 mod combinations;
 mod comparisons;
@@ -10,3 +11,4 @@ mod look_up;
 mod open;
 mod run;
 mod runs;
+mod text;

@@ -1,0 +1,13 @@
+-- The values of runs of `u64` that C passes.
+use Rattle.std.specs.Prelude.{List, map}
+use Rattle.rsb_integer.specs.Runs.{Interval, from_to, members}
+use Rattle.rsb_integer.specs.Selection.{Selection}
+use Rattle.range_set_c.specs.declared.u64_sets.run.Run.{Run}
+
+-- The values from the first of a run to its last. There are none if the last is below the first.
+abbrev pub interval_of_run : Run → Interval
+interval_of_run run = from_to run.first run.last
+
+-- The values of at least one of the runs.
+abbrev pub values_of : List Run → Selection
+values_of runs = members (map interval_of_run runs)
