@@ -1,1 +1,2 @@
+pub mod aligned
 pub mod spelling

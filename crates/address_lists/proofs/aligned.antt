@@ -1,0 +1,7 @@
+pub mod Biggest
+pub mod Fewest
+pub mod Left
+pub mod Meeting
+pub mod OneMore
+pub mod Powers
+pub mod Split

@@ -1,0 +1,22 @@
+use Rattle.std.proofs.Common.{subst, sym}
+use Rattle.range_set_blaze.specs.Runs.{members}
+use Rattle.address_lists.specs.Blocks.{AreMaximalBlocks}
+use Rattle.address_lists.specs.BlocksLeft.{block_runs, blocks_may_give}
+use Rattle.address_lists.proofs.aligned.Left.{all-given}
+use Rattle.address_lists.proofs.blocks.blocks_of.Goals as goal
+
+-- The blocks that the calls gave are those of a list that the stream may give.
+pub returns : goal.returns
+returns g c =
+    let runs_of = block_runs g.T.Integer.rank g.T.Address.width in
+    let given = all-given g.T.Integer.rank g.T.Address.width g.I.Draw.may_give
+    c.loop-block.yielded c.into_iter-block-iterator.result c.loop-block.block-iterator
+    c.next.new.self c.loop-block.yielded_by c.in-None.ensures.steps in
+    let at = c.new-block-items.ensures.gives (runs_of c.loop-block.yielded)
+    (subst (λ each. blocks_may_give g.T.Integer.rank g.I.Draw.may_give each
+    (runs_of c.loop-block.yielded)) c.into_iter-block-iterator.ensures.into_iter_gives given) in (
+      at.0,
+      at.1,
+      subst (λ items. AreMaximalBlocks (members at.0) (runs_of items))
+          (sym c.loop-block.invariant) at.2,
+    )
