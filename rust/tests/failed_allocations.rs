@@ -1,5 +1,5 @@
-//! Each allocation of a call fails once. The call then returns an error, or panics, and its sets
-//! are unchanged.
+//! The allocations of a call fail, from each one on. The call then returns an error, or panics, and
+//! its sets are unchanged.
 //!
 //! The test replaces `malloc` and its like, which only works with the GNU C library.
 #![cfg(all(target_os = "linux", target_env = "gnu"))]
@@ -17,15 +17,26 @@ extern "C" {
 }
 
 thread_local! {
-    /// The number of allocations until one fails, or `None` if none is to fail.
+    /// The number of allocations until they fail, or `None` if none is to fail.
     static LEFT: Cell<Option<usize>> = const { Cell::new(None) };
+    /// Whether only one allocation is to fail.
+    static ONCE: Cell<bool> = const { Cell::new(false) };
+    /// Whether an allocation failed.
+    static FAILED: Cell<bool> = const { Cell::new(false) };
 }
 
-/// Returns whether this allocation fails. Only one does.
+/// Returns whether this allocation fails.
 fn fails() -> bool {
     let left = LEFT.get();
-    LEFT.set(left.and_then(|left| left.checked_sub(1)));
-    left == Some(0)
+    let fails = left == Some(0);
+    if fails {
+        FAILED.set(true);
+    }
+    LEFT.set(match left {
+        Some(0) if ONCE.get() => None,
+        _ => left.map(|left| left.saturating_sub(1)),
+    });
+    fails
 }
 
 #[no_mangle]
@@ -44,11 +55,13 @@ unsafe extern "C" fn realloc(block: *mut c_void, size: usize) -> *mut c_void {
     unsafe { __libc_realloc(block, size) }
 }
 
-/// Returns what a call returns if the allocation with a number fails, and whether it got so far.
-fn with_failure<V>(number: usize, call: impl FnOnce() -> V) -> (V, bool) {
+/// Returns what a call returns if its allocations fail from one number on, and whether it got so far.
+fn with_failures<V>(number: usize, call: impl FnOnce() -> V) -> (V, bool) {
     LEFT.set(Some(number));
+    FAILED.set(false);
     let result = call();
-    (result, LEFT.replace(None).is_none())
+    LEFT.set(None);
+    (result, FAILED.get())
 }
 
 fn ten_runs() -> RangeSet<u64> {
@@ -89,7 +102,7 @@ fn a_failed_change_leaves_the_set_unchanged() {
         assert_eq!(call(&mut wanted, &other), Ok(true), "{name}");
         for number in 0.. {
             let mut set = ten_runs();
-            let (result, has_failed) = with_failure(number, || call(&mut set, &other));
+            let (result, has_failed) = with_failures(number, || call(&mut set, &other));
             if !has_failed {
                 assert_eq!((result, &set), (Ok(true), &wanted), "{name}");
                 break;
@@ -110,7 +123,7 @@ fn a_failed_build_returns_an_error() {
         let wanted = call(&set, &other).unwrap();
         let mut failures = 0;
         loop {
-            let (result, has_failed) = with_failure(failures, || call(&set, &other));
+            let (result, has_failed) = with_failures(failures, || call(&set, &other));
             if !has_failed {
                 assert_eq!(result, Ok(wanted), "{name}");
                 break;
@@ -126,9 +139,12 @@ fn a_failed_build_returns_an_error() {
 fn calls_without_try_panic() {
     let result = panic::catch_unwind(|| {
         let mut set = RangeSet::<u32>::new();
+        // A panic allocates too.
+        ONCE.set(true);
         LEFT.set(Some(0));
         set.insert(1)
     });
     assert!(result.is_err());
     LEFT.set(None);
+    ONCE.set(false);
 }
