@@ -23,8 +23,8 @@ abbrev pub block_end : ℕ → ℕ → ℕ → ℕ
 block_end bits length address = block_start bits length address + (block_size bits length - 1)
 
 -- Whether the range has the addresses whose first `length` bits are those of `address`.
-abbrev pub IsBlock : ℕ → ℕ → ℕ → RangeInclusive ℕ → Type 0
-IsBlock bits length address range =
+abbrev pub IsBlockAround : ℕ → ℕ → ℕ → RangeInclusive ℕ → Type 0
+IsBlockAround bits length address range =
     Spans range (block_start bits length address) (block_end bits length address)
 
 -- Whether two addresses have the same first `length` bits.
@@ -49,7 +49,7 @@ pub record WritesBlock (bits : ℕ) (IsAddress : List ℕ → ℕ → Type 0)
   pub address_written : IsAddress address_text address
   pub length_written : length_text ≡ decimal length
   pub within : length ≤ bits
-  pub block : IsBlock bits length address range
+  pub block : IsBlockAround bits length address range
 
 -- `ADDRESS-ADDRESS`, from its two parts, with or without white space around the dash. The second
 -- address is not below the first.

@@ -1,6 +1,6 @@
 //! Sets of addresses as blocks: as few as there can be.
 
-ghost use Rattle.std.specs.Prelude.{List, IfOk, MatchOption};
+ghost use Rattle.std.specs.Prelude.{All, List, IfOk, MatchOption};
 ghost use Rattle.range_set_blaze.specs.Runs.{members, Interval};
 ghost use Rattle.address_lists.specs.Blocks.{AreBlocks, AreFewest, AreMaximalBlocks, Ascends};
 ghost use Rattle.address_lists.specs.BlocksLeft.{
@@ -10,6 +10,7 @@ ghost use Rattle.address_lists.specs.BlocksLeft.{
   BlocksReady,
   GivesBlock,
   GivesBlocks,
+  IsAligned,
   TakesNone,
   TakesSpan,
 };
@@ -25,7 +26,7 @@ pub use block::Block;
 pub use laws::maximal_blocks_are_fewest;
 use range_set_blaze::{Draw, DrawDisjoint, RangeSetBlaze};
 use span::Span;
-use std::alloc::{AllocError, Global};
+use std::alloc::{AllocError, Allocator};
 
 /// The blocks of a stream of addresses, in ascending order: as few as there can be. They are
 /// computed one by one, and nothing is allocated. After `None`, the iterator must not be called.
@@ -100,14 +101,15 @@ pub trait IntoBlocks<T: Address>: DrawDisjoint<T> {
 
 impl<T: Address, I: DrawDisjoint<T>> IntoBlocks<T> for I {}
 
-/// Returns the list of the blocks of a ready stream.
-pub fn blocks_of<T: Address, I: DrawDisjoint<T>>(
-    alloc: Global,
+/// Returns the list of the blocks of a ready stream. If allocation fails, the stream is dropped.
+pub fn blocks_of<T: Address, I: DrawDisjoint<T>, A: Allocator>(
+    alloc: A,
     ranges: I,
-) -> Result<Vec<Block<T>>, AllocError>
+) -> Result<Vec<Block<T>, A>, AllocError>
     requires { I.can_draw ranges }
-    ensures { IfOk result (λ blocks. (runs : List Interval) × I.may_give ranges runs
+    ensures blocks { IfOk result (λ blocks. (runs : List Interval) × I.may_give ranges runs
         × AreMaximalBlocks (members runs) (block_runs T.rank T.width blocks.items)) }
+    ensures aligned { IfOk result (λ blocks. All (IsAligned T.rank T.width) blocks.items) }
 {
     let mut blocks = Vec::new(alloc);
     for block in Blocks::new(ranges) {
@@ -117,11 +119,12 @@ pub fn blocks_of<T: Address, I: DrawDisjoint<T>>(
 }
 
 /// Returns the list of the blocks of a set: aligned, ascending, with exactly the addresses of the
-/// set, and as few as there can be.
-pub fn set_blocks<T: Address + 'static>(
-    alloc: Global,
-    set: &RangeSetBlaze<T>,
-) -> Result<Vec<Block<T>>, AllocError>
+/// set, and as few as there can be. If allocation fails, no list is made.
+pub fn set_blocks<T: Address + 'static, A: Allocator, B: Allocator>(
+    alloc: A,
+    set: &RangeSetBlaze<T, B>,
+) -> Result<Vec<Block<T>, A>, AllocError>
+    ensures aligned { IfOk result (λ blocks. All (IsAligned T.rank T.width) blocks.items) }
     ensures exact { IfOk result (λ blocks.
         AreBlocks (members set.now) (block_runs T.rank T.width blocks.items)) }
     ensures ascending { IfOk result (λ blocks. Ascends (block_runs T.rank T.width blocks.items)) }

@@ -9,7 +9,7 @@ pub mod text;
 pub use crate::blocks::{
     Address, Block, Blocks, IntoBlocks, blocks_of, maximal_blocks_are_fewest, set_blocks,
 };
-pub use crate::line::{Line, first_line, parse_line};
+pub use crate::line::{Line, parse_line};
 pub use crate::text::{
     v4_block_text, v4_range_text, v4_text, v6_block_text, v6_range_text, v6_text,
 };

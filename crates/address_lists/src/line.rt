@@ -5,13 +5,11 @@ ghost use Rattle.std.specs.List.{position};
 ghost use Rattle.address_lists.specs.Line.{IsLine, begins_comment, content};
 ghost use Rattle.address_lists.specs.LineParts.{Reads};
 
-pub(crate) mod cut;
 pub(crate) mod parts;
 pub(crate) mod prefix;
 pub(crate) mod v4;
 pub(crate) mod v6;
 
-pub use crate::line::cut::first_line;
 use crate::line::parts::trimmed;
 use std::ops::RangeInclusive;
 

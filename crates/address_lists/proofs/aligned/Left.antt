@@ -1,6 +1,6 @@
 -- One call of an iterator over blocks: the span from which it takes a block, and what it leaves.
-use Rattle.std.proofs.Common.{◌≡◌, ℕ, ◌+◌, ◌-◌, ◌*◌, ◌^◌, ◌<◌, ◌≤◌, List, [], ◌∷◌, ◌++◌, refl, sym, ap, ◌∙◌, subst, arith}
-use Rattle.std.proofs.lemmas.List.Elements.{All-cons, All-head, All-tail}
+use Rattle.std.proofs.Common.{◌≡◌, ℕ, ◌+◌, ◌-◌, ◌*◌, ◌^◌, ◌<◌, ◌≤◌, List, [], ◌∷◌, ◌++◌, refl, sym, ap, ◌∙◌, subst, arith, All}
+use Rattle.std.proofs.lemmas.List.Elements.{All-cons, All-head, All-nil, All-tail}
 use Rattle.std.proofs.lemmas.Nat.{pow_pos, row_fits}
 use Rattle.std.specs.Prelude.{Option, Some, None}
 use Rattle.std.specs.Iterator.{Count, IsFinite, MakesProgress, Yields, size}
@@ -13,7 +13,7 @@ use Rattle.range_set_blaze.specs.Runs.{length_of, members, Interval, IsCanonical
 use Rattle.range_set_blaze.specs.Stream.{◌⊆◌, HasOutcome, Outcomes}
 use Rattle.range_set_blaze.proofs.RangeLemmas.{interval_of-some}
 use Rattle.address_lists.specs.Blocks.{AreMaximalBlocks, IsMaximalBlock}
-use Rattle.address_lists.specs.BlocksLeft.{block_run, block_runs, blocks_left, blocks_may_give, runs_left, span_length, span_list, span_run, BlocksReady, GivesBlock, GivesBlocks, IsRest, IsSplit, TakesNone, TakesSpan}
+use Rattle.address_lists.specs.BlocksLeft.{block_run, block_runs, blocks_left, blocks_may_give, runs_left, span_length, span_list, span_run, BlocksReady, GivesBlock, GivesBlocks, IsAligned, IsRest, IsSplit, TakesNone, TakesSpan}
 use Rattle.address_lists.specs.declared.blocks.Blocks.{Blocks}
 use Rattle.address_lists.specs.declared.blocks.block.Block.{Block}
 use Rattle.address_lists.specs.declared.blocks.span.Span.{Span}
@@ -283,6 +283,15 @@ all-given rank width may_give [] s t u calls end =
 all-given rank width may_give (block ∷ items) s t u calls end =
     calls.1.answers (block_runs rank width items)
     (all-given rank width may_give items calls.0 t u calls.2 end)
+
+-- Each block that calls gave is aligned.
+pub all-aligned : {T I : Type 0} (rank : T → ℕ) (width : ℕ) (may_give : I → Outcomes)
+    (items : List (Block T)) (s t : Blocks T I)
+    → Yields (GivesBlock rank width may_give) s items t → All (IsAligned rank width) items
+all-aligned rank width may_give [] s t calls = All-nil (IsAligned rank width)
+all-aligned rank width may_give (block ∷ items) s t calls =
+    All-cons (IsAligned rank width) block items calls.1.aligned
+    (all-aligned rank width may_give items calls.0 t calls.2)
 
 -- An iterator from which nothing was drawn gives the blocks of what its stream may give.
 pub fresh-gives : {T I : Type 0} (rank : T → ℕ) (may_give : I → Outcomes) (ranges : I)

@@ -17,7 +17,7 @@ use Rattle.std.specs.Net.Text.{hex_groups_text, ipv4_text, ipv6_text}
 use Rattle.std.specs.Str.{bytes_eq}
 use Rattle.std.specs.declared.ops.RangeInclusive.{RangeInclusive}
 use Rattle.address_lists.specs.Address.{v4_text, v6_text}
-use Rattle.address_lists.specs.AddressRange.{IsBlock, Spans, WritesRange}
+use Rattle.address_lists.specs.AddressRange.{IsBlockAround, Spans, WritesRange}
 use Rattle.address_lists.specs.Line.{begins_comment, content}
 use Rattle.address_lists.specs.LineParts.{parts, trimmed, without_first_blanks}
 use Rattle.address_lists.proofs.spelling.Bytes.{byte_fits, segment_fits}
@@ -129,7 +129,7 @@ module _ (bits : ℕ) (IsAddress : List ℕ → ℕ → Type 0) where
   -- An address, a slash and a length mean the block.
   pub block_line : (text digits : List ℕ) (n length : ℕ) (range : RangeInclusive ℕ)
       → All IsPlain text → All IsPlain digits → IsAddress text n → digits ≡ decimal length
-      → length ≤ bits → IsBlock bits length n range
+      → length ≤ bits → IsBlockAround bits length n range
       → WritesRange bits IsAddress (content (text ++ 47 ∷ digits)) range
   block_line text digits n length range plain plain_too is spelled within block =
       let quiet : IsQuiet 47 = record { no_comment = refl; no_blank = refl } in

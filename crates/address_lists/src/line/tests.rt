@@ -1,6 +1,6 @@
 //! Lines, and what they mean.
 
-use super::{Line, first_line, parse_line};
+use super::{Line, parse_line};
 use std::test::*;
 
 // Returns the first and the last address of a line of IPv4 addresses.
@@ -151,22 +151,5 @@ fn a_fault_makes_an_ipv6_line_bad(rt: HostRuntime) {
         "fe80::1%1",
     ] {
         assert!(rt; is_bad(line), "at {line}");
-    }
-}
-
-#[test]
-fn a_line_ends_at_its_line_feed(rt: HostRuntime) {
-    for (bytes, line, rest) in [
-        ("a", "a", ""),
-        ("a\n", "a", ""),
-        ("a\r\nb\n", "a", "b\n"),
-        ("\n\n", "", "\n"),
-        ("a\r", "a\r", ""),
-    ] {
-        if !bytes.is_empty() {
-            let (found, later) = first_line(bytes.as_bytes());
-            assert!(rt; found == line.as_bytes(), "the line of {bytes:?}");
-            assert!(rt; later == rest.as_bytes(), "what follows in {bytes:?}");
-        }
     }
 }

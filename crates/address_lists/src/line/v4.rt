@@ -2,7 +2,7 @@
 
 ghost use Rattle.std.specs.Prelude.{◌≤◌};
 ghost use Rattle.address_lists.specs.Address.{IsV4};
-ghost use Rattle.address_lists.specs.AddressRange.{IsBlock, WritesBlock, WritesOne, WritesOneOrBlock, WritesRange, WritesSpan};
+ghost use Rattle.address_lists.specs.AddressRange.{IsBlockAround, WritesBlock, WritesOne, WritesOneOrBlock, WritesRange, WritesSpan};
 ghost use Rattle.address_lists.specs.LineParts.{Reads, parts};
 
 use crate::line::parts::{Parts, parts_of, trimmed};
@@ -64,7 +64,7 @@ fn span(first_text: &[u8], last_text: &[u8]) -> Option<RangeInclusive<u32>>
 // Returns the addresses that have the same first bits as the address.
 fn block_around(address: u32, length: u32) -> RangeInclusive<u32>
     requires { length ≤ 32 }
-    ensures { IsBlock 32 length address result }
+    ensures { IsBlockAround 32 length address result }
 {
     if length == 0 {
         return 0..=u32::MAX;

@@ -1,13 +1,13 @@
-use Rattle.std.proofs.Common.{subst, sym}
+use Rattle.std.proofs.Common.{subst, sym, All}
 use Rattle.range_set_blaze.specs.Runs.{members}
 use Rattle.address_lists.specs.Blocks.{AreMaximalBlocks}
-use Rattle.address_lists.specs.BlocksLeft.{block_runs, blocks_may_give}
-use Rattle.address_lists.proofs.aligned.Left.{all-given}
+use Rattle.address_lists.specs.BlocksLeft.{block_runs, blocks_may_give, IsAligned}
+use Rattle.address_lists.proofs.aligned.Left.{all-aligned, all-given}
 use Rattle.address_lists.proofs.blocks.blocks_of.Goals as goal
 
 -- The blocks that the calls gave are those of a list that the stream may give.
-pub returns : goal.returns
-returns g c =
+pub returns-clause-blocks : goal.returns-clause-blocks
+returns-clause-blocks g c =
     let runs_of = block_runs g.T.Integer.rank g.T.Address.width in
     let given = all-given g.T.Integer.rank g.T.Address.width g.I.Draw.may_give
     c.loop-block.yielded c.into_iter-block-iterator.result c.loop-block.block-iterator
@@ -20,3 +20,10 @@ returns g c =
       subst (λ items. AreMaximalBlocks (members at.0) (runs_of items))
           (sym c.loop-block.invariant) at.2,
     )
+
+-- Each of them is aligned.
+pub returns-clause-aligned : goal.returns-clause-aligned
+returns-clause-aligned g c =
+    subst (All (IsAligned g.T.Integer.rank g.T.Address.width)) (sym c.loop-block.invariant)
+    (all-aligned g.T.Integer.rank g.T.Address.width g.I.Draw.may_give c.loop-block.yielded
+    c.into_iter-block-iterator.result c.loop-block.block-iterator c.loop-block.yielded_by)
