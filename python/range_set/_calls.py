@@ -8,13 +8,18 @@ from typing import TYPE_CHECKING, Any, Callable, Dict, Tuple, Type
 
 from ._library import load_library
 
-CHANGED, NO_MEMORY = 1, 2
+CHANGED, NO_MEMORY, BAD_TEXT = 1, 2, 3
 
 
 def changed(status: int, call: object, arguments: object) -> bool:
-    """Returns whether a call changed its set, or raises MemoryError if an allocation failed."""
+    """Returns whether a call changed its set, or wrote its text.
+
+    Raises MemoryError if an allocation failed, and ValueError if the text does not list ranges.
+    """
     if status == NO_MEMORY:
         raise MemoryError("the C library could not allocate memory for a range set")
+    if status == BAD_TEXT:
+        raise ValueError("the text does not list numbers and ranges, such as 1..=5, that fit the set")
     return status == CHANGED
 
 
@@ -109,6 +114,7 @@ class Calls:
         truth, number = ctypes.c_bool, self.number
         other = ctypes.POINTER(self.handle)
         value, block = ctypes.POINTER(number), ctypes.POINTER(self.run)
+        text, size = ctypes.c_char_p, ctypes.c_size_t
         signatures = {
             "clear": (None, ()),
             "contains": (truth, (number,)),
@@ -121,6 +127,8 @@ class Calls:
             "first_gap": (truth, (number, ctypes.c_uint64, block)),
             "complement": (changed, (other,)),
             "clone": (changed, (other,)),
+            "from_text": (changed, (text, size)),
+            "to_text": (changed, (text, size, ctypes.POINTER(size))),
             "order": (ctypes.c_int32, (other,)),
         }
         for names, result, arguments in (

@@ -2,12 +2,13 @@
 
 from __future__ import annotations
 
+import ctypes
 from operator import index
 from struct import pack, unpack
 from typing import Any, Iterable, Iterator, Optional, SupportsIndex, Tuple, Type, TypeVar, Union, overload
 
 from ._calls import Calls, calls_for
-from ._values import Run, Values, all_ends, checked, ends_of, spelled_ends, text_of, unchecked_ends
+from ._values import Run, Values, all_ends, checked, ends_of, unchecked_ends
 from ._walks import Gaps, Runs
 
 # The greatest number that the C library takes as an index or a length, for sets of both widths.
@@ -214,7 +215,11 @@ class Reads:
 
     def __str__(self) -> str:
         """Returns the runs as text, such as `1..=5, 10..=20`, which `parse` reads."""
-        return text_of(self.runs())
+        length = ctypes.c_size_t()
+        text = ctypes.create_string_buffer(0)
+        while not self._calls.to_text(self._handle, text, len(text), length):
+            text = ctypes.create_string_buffer(length.value)
+        return text.raw[: length.value].decode("ascii")
 
     def __repr__(self) -> str:
         parts = [repr([run.values() for run in self.runs()])] if self else []
@@ -231,8 +236,8 @@ class Reads:
         does not fit.
         """
         made = cls._empty(calls_for(bits))
-        for first, last in spelled_ends(text, made._calls.greatest):
-            made._calls.insert_range(made._handle, first, last)
+        data = str.encode(text)  # for other types than str, TypeError
+        made._calls.from_text(made._handle, data, len(data))
         return made
 
     def copy(self: Self) -> Self:

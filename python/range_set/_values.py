@@ -1,8 +1,7 @@
-"""The values, ranges and runs that callers pass, and the text of runs."""
+"""The values, ranges and runs that callers pass."""
 
 from __future__ import annotations
 
-import re
 from operator import index
 from typing import Iterable, Iterator, NamedTuple, Optional, SupportsIndex, Tuple, Union
 
@@ -27,11 +26,6 @@ Values = Union[SupportsIndex, range, Run]
 
 # The ends of no values, for the C library.
 NOTHING = 1, 0
-
-BLANKS = " \t\n\r"
-_NUMBER = rf"[{BLANKS}]*([+-]?[0-9]+)[{BLANKS}]*"
-_RANGE = re.compile(rf"{_NUMBER}(?:\.\.={_NUMBER})?")
-
 
 def checked(value: SupportsIndex, greatest: int) -> int:
     """Returns a value as an int, or raises OverflowError if it is not in 0..=greatest."""
@@ -72,23 +66,3 @@ def all_ends(values: Union[range, Run, Iterable[Values]], greatest: int) -> Iter
         values = (values,)
     for item in values:
         yield ends_of(item, None, greatest)
-
-
-def spelled_ends(text: str, greatest: int) -> Iterator[Tuple[int, int]]:
-    """Yields the ends of each range that text lists, such as `1..=5, 10..=20`."""
-    if not text.strip(BLANKS):
-        return
-    for piece in text.split(","):
-        match = _RANGE.fullmatch(piece)
-        if not match:
-            raise ValueError(f"{piece!r} is neither a number nor a range such as 1..=5")
-        first = int(match[1])
-        last = first if match[2] is None else int(match[2])
-        if not (0 <= first <= greatest and 0 <= last <= greatest):
-            raise ValueError(f"{piece!r} has a number that is not in 0..={greatest}")
-        yield first, last
-
-
-def text_of(runs: Iterable[Run]) -> str:
-    """Returns the text of runs, which `spelled_ends` reads."""
-    return ", ".join(f"{first}..={last}" for first, last in runs)

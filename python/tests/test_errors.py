@@ -6,7 +6,7 @@ import sys
 import unittest
 
 from range_set import FrozenRangeSet, RangeSet, Run
-from range_set._calls import CALLS, NO_MEMORY, changed
+from range_set._calls import BAD_TEXT, CALLS, NO_MEMORY, changed
 
 GREATEST = {32: 2**32 - 1, 64: 2**64 - 1}
 
@@ -71,6 +71,7 @@ class Values(unittest.TestCase):
                 self.assertRaises(ValueError, RangeSet.parse, text, bits=bits)
             for text in ("-1", str(greatest + 1), f"0..={greatest + 1}", "9" * 5000):
                 self.assertRaises(ValueError, FrozenRangeSet.parse, text, bits=bits)
+        self.assertRaises(TypeError, RangeSet.parse, b"1")
 
 
 class Widths(unittest.TestCase):
@@ -138,10 +139,11 @@ class Allocations(unittest.TestCase):
     def test_each_status(self):
         self.assertEqual([changed(status, None, ()) for status in (0, 1)], [False, True])
         self.assertRaises(MemoryError, changed, NO_MEMORY, None, ())
+        self.assertRaises(ValueError, changed, BAD_TEXT, None, ())
 
     def test_calls_that_allocate_report_failures(self):
         names = "insert_range remove_range union_with intersect_with subtract xor_with union intersection"
-        names += " difference symmetric_difference complement clone"
+        names += " difference symmetric_difference complement clone from_text to_text"
         for calls in CALLS.values():
             for name in names.split():
                 self.assertIs(getattr(calls, name).errcheck, changed)
