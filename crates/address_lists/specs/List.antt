@@ -34,8 +34,8 @@ AreAddressesOf Means list selected =
 -- addresses.
 pub record IsListOf (bytes : List ℕ) (v4 v6 : Selection) : Type 0 where
   pub good : All IsGoodLine (lines bytes)
-  pub v4 : AreAddressesOf MeansV4 (lines bytes) v4
-  pub v6 : AreAddressesOf MeansV6 (lines bytes) v6
+  pub v4_addresses : AreAddressesOf MeansV4 (lines bytes) v4
+  pub v6_addresses : AreAddressesOf MeansV6 (lines bytes) v6
 
 -- Whether the line with this number, counted from 1, is the first that has no meaning.
 pub record IsFirstBadLine (bytes : List ℕ) (number : ℕ) : Type 0 where
