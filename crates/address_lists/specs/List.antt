@@ -1,5 +1,5 @@
 -- What a list of addresses selects, line by line.
-use Rattle.std.specs.Prelude.{◌≡◌, ◌↔◌, ℕ, ◌+◌, ◌≤◌, ◌++◌, All, Any, Bool, IsTrue, List, ◌∷◌, filter, length, map, nat_lt}
+use Rattle.std.specs.Prelude.{◌≡◌, ◌⊎◌, ◌↔◌, ℕ, ◌+◌, ◌≤◌, ◌++◌, All, Any, Bool, IsTrue, List, ◌∷◌, filter, length, map, nat_lt}
 use Rattle.std.specs.Str.Lines.{lines}
 use Rattle.range_set_blaze.specs.Selection.{Selection}
 use Rattle.address_lists.specs.declared.line.Line.{Line}
@@ -27,6 +27,12 @@ pub record HasAddress (Means : List ℕ → ℕ → ℕ → Type 0) (number : �
 abbrev pub AreAddressesOf : (List ℕ → ℕ → ℕ → Type 0) → List (List ℕ) → Selection → Type 0
 AreAddressesOf Means list selected =
     (number : ℕ) → IsTrue (selected number) ↔ Any (HasAddress Means number) list
+
+-- Whether the new selection has the numbers of the old one, those of the addresses of a family that
+-- the line means, and no others.
+abbrev pub AddsAddressesOf : (List ℕ → ℕ → ℕ → Type 0) → List ℕ → Selection → Selection → Type 0
+AddsAddressesOf Means line old new = (number : ℕ)
+    → IsTrue (new number) ↔ (IsTrue (old number) ⊎ HasAddress Means number line)
 
 -- ---- files
 

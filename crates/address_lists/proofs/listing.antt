@@ -1,0 +1,4 @@
+pub mod FirstLine
+pub mod LineEnds
+pub mod Reading
+pub mod Selected
