@@ -66,7 +66,7 @@ reads_line before after buffer line empty bytes rest =
     by (Some known) bytes = bytes ∙ ap (λ front. front ++ take_through 10 known) empty
 
 -- A line has the meaning of another with the same content.
-same_meaning : (line other : List ℕ) → content line ≡ content other → (what : Line)
+pub same_meaning : (line other : List ℕ) → content line ≡ content other → (what : Line)
     → IsLine other what → IsLine line what
 same_meaning line other is Nothing h = is ∙ h
 same_meaning line other is (V4 range) h = rw is h

@@ -169,6 +169,17 @@ pub no_v6 : (line : List ℕ) (what : Line) (selected : Selection)
     → AddsAddressesOf MeansV6 line selected selected
 no_v6 = adds_none V6 V6_injective fresh_v6
 
+-- A line without content means no address.
+pub empty_v4 : (line : List ℕ) → content line ≡ [] → (number : ℕ)
+    → HasAddress MeansV4 number line → ⊥
+empty_v4 line empty number h =
+    has_none V4 V4_injective fresh_v4 line Nothing empty (λ range is. absurd (cc is)) number h
+
+pub empty_v6 : (line : List ℕ) → content line ≡ [] → (number : ℕ)
+    → HasAddress MeansV6 number line → ⊥
+empty_v6 line empty number h =
+    has_none V6 V6_injective fresh_v6 line Nothing empty (λ range is. absurd (cc is)) number h
+
 -- ---- one more line
 
 -- An element of a list with one more is the new one, or is in the list.
