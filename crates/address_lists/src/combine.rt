@@ -107,3 +107,6 @@ fn v6_sets<A: Allocator>(
     }
     Ok(sets)
 }
+
+#[cfg(test)]
+mod tests;
