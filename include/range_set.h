@@ -27,9 +27,9 @@
  * A freed handle is the empty set again, so you may free it twice or go on using it.
  *
  * A call leaves the set of a `const` handle unchanged, and does not allocate for it, except that
- * rsb_u64_to_text allocates the text. It also writes nothing to that set, so several such calls may
- * read one set at once. This last fact is tested and not proved, since a contract assumes that no
- * other call uses the same handles.
+ * rsb_u64_to_text allocates the text, and rsb_u64_sets_add a copy. It also writes nothing to that
+ * set, so several such calls may read one set at once. This last fact is tested and not proved,
+ * since a contract assumes that no other call uses the same handles.
  */
 #ifndef RANGE_SET_H
 #define RANGE_SET_H
@@ -207,21 +207,22 @@ uint32_t rsb_u64_clone(rsb_u64 *out, const rsb_u64 *set);
 
 /* Sets `out` to the values of `count` runs, which may come in any order, overlap and touch. A run
    whose last value is below its first one has no values. Returns RSB_CHANGED, or returns
-   RSB_NO_MEMORY and leaves `out` unchanged. */
+   RSB_NO_MEMORY and leaves `out` unchanged. Does not allocate if `count` is 0. */
 uint32_t rsb_u64_from_runs(rsb_u64 *out, const rsb_u64_run *runs, size_t count);
 
 /* Sets `out` to the values of the ranges that `text` lists, such as 1..=5, 10..=20. The ranges may
    come in any order, and 7 means 7..=7. Blanks may be around each number. Empty text gives the
    empty set. The text needs no zero byte at its end.
    Returns RSB_CHANGED. Returns RSB_BAD_TEXT if the text does not list ranges of uint64_t, or
-   RSB_NO_MEMORY if an allocation fails; `out` is then unchanged. */
+   RSB_NO_MEMORY if an allocation fails; `out` is then unchanged. Does not allocate if `length` is
+   0. */
 uint32_t rsb_u64_from_text(rsb_u64 *out, const char *text, size_t length);
 
 /* Writes the text of a set, such as 1..=5, 10..=20, to the start of `buffer`, with no zero byte at
    its end. rsb_u64_from_text reads it as the same set. Stores the length of the text in `length`,
    also if the text is longer than `capacity`: then returns RSB_NO_ROOM, and `buffer` is unchanged.
    Otherwise returns RSB_CHANGED. If an allocation fails, returns RSB_NO_MEMORY, and `buffer` and
-   `length` are unchanged. */
+   `length` are unchanged. Does not allocate if the set is empty. */
 uint32_t rsb_u64_to_text(const rsb_u64 *set, char *buffer, size_t capacity, size_t *length);
 
 /* Returns whether two sets have the same members. */

@@ -217,6 +217,24 @@ static void changed_by_nothing(void) {
     CALL(free)(&some);
 }
 
+/* No runs, no text and the text of no members ask for no memory. */
+static void made_of_nothing(void) {
+    set_t some = RSB_EMPTY;
+    size_t length = 7;
+    CHECK(CALL(insert)(&some, 5) == RSB_CHANGED);
+    long before = asked;
+    CHECK(CALL(from_runs)(&some, NULL, 0) == RSB_CHANGED && CALL(run_count)(&some) == 0);
+    CHECK(asked == before && CALL(insert)(&some, 5) == RSB_CHANGED);
+    before = asked;
+    CHECK(CALL(from_text)(&some, NULL, 0) == RSB_CHANGED && CALL(run_count)(&some) == 0);
+    CHECK(CALL(to_text)(&some, NULL, 0, &length) == RSB_CHANGED && length == 0 && asked == before);
+    CHECK(CALL(insert)(&some, 5) == RSB_CHANGED && CALL(remove)(&some, 5) == RSB_CHANGED);
+    before = asked;
+    length = 7;
+    CHECK(CALL(to_text)(&some, NULL, 0, &length) == RSB_CHANGED && length == 0 && asked == before);
+    CALL(free)(&some);
+}
+
 /* What text may list: blanks, signs, ranges in any order, and numbers up to the greatest. */
 static void read_from_text(void) {
     static const char text[] = " 7 , 3 ..= 5,\t+4..=2\n,1..=4";
@@ -246,6 +264,7 @@ int main(void) {
     CHECK(refusals > 0);
     whole();
     changed_by_nothing();
+    made_of_nothing();
     read_from_text();
     printf("u%d: each call agrees with its table, %llu allocations refused\n", WIDTH, refusals);
     return 0;
