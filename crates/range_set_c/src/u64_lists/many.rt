@@ -164,11 +164,7 @@ impl Kept {
     }
 
     // Returns the values in at least `k` of the sets.
-    fn at_least(
-        &self,
-        alloc: Global,
-        k: usize,
-    ) -> Result<RangeSetBlaze<u64, Global>, AllocError>
+    fn at_least(&self, alloc: Global, k: usize) -> Result<RangeSetBlaze<u64, Global>, AllocError>
         ensures { IfOk result (λ set. IsMadeOf (2 ^ 64) (at_least k) self.now set) }
     {
         MultiwayRangeSetBlazeRef::at_least(&self.sets, alloc, k)
