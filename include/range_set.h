@@ -1,28 +1,35 @@
 /* Sets of unsigned integers, kept as sorted runs that never touch, for C and languages that call C.
  *
  * The functions are exports of the static library crates/range_set_c, whose contracts are proved.
+ * Those that the headers in range_set/ define over the exports are only tested.
  * Each function does what this header says, for every set, every value and every failed allocation,
  * as long as its caller fulfills these duties. Nothing checks them:
  *
- *   - A handle begins as RSB_EMPTY, or as a struct of zeros: the empty set, which owns no memory.
+ *   - A handle begins as RSB_EMPTY, or as a struct of zeros: the empty set or the empty list, which
+ *     owns no memory.
  *   - A handle and a copy of it are never both used. You may move a handle: copy it, and stop
  *     using the old one. Only these functions read or write what a handle holds.
- *   - Each pointer passed to a call is valid and not null, and no two of them are equal: two
- *     handles are two sets. To combine a set with itself, clone it first.
- *   - An array has at least as many elements as the call is told, and shares no memory with what
- *     else is passed. If the call is told 0, the array may be null.
+ *   - Each pointer passed to a call is valid and not null. What it points to shares no memory with
+ *     what the others point to, but handles may be the same, as said below.
+ *   - An array has at least as many elements as the call is told. If that is 0, it may be null.
  *   - While a call changes a set, no other call uses its handle. If threads share a handle, they
  *     lock it, or all of them only read. A set may pass from one thread to another under a lock, or
  *     when a thread starts or is joined.
  *   - No call is made from a signal handler, or from the forked child of a process with threads.
  *   - malloc, realloc and free belong to one allocator, and align as those of the C library do.
  *
+ * Handles of a call may be the same handle, which is then one set in several places. The result is
+ * that of a call on different sets with the same members: rsb_u64_subtract(&a, &a) empties `a`, and
+ * rsb_u64_difference(&a, &b, &a) sets `a` to `b` without `a`. C and C++ get this from functions in
+ * range_set/u64_same.h. A program in another language loads the exports themselves, and must pass
+ * them different handles.
+ *
  * A freed handle is the empty set again, so you may free it twice or go on using it.
  *
  * A call leaves the set of a `const` handle unchanged, and does not allocate for it, except that
- * rsb_u64_to_text allocates the text. It also writes nothing to that set, so several such calls may
- * read one set at once. This last fact is tested and not proved, since a contract assumes that no
- * other call uses the same handles.
+ * rsb_u64_to_text allocates the text, and rsb_u64_sets_add a copy. It also writes nothing to that
+ * set, so several such calls may read one set at once. This last fact is tested and not proved,
+ * since a contract assumes that no other call uses the same handles.
  */
 #ifndef RANGE_SET_H
 #define RANGE_SET_H
@@ -49,8 +56,15 @@ enum {
     RSB_NO_ROOM = 4    /* to_text: the text does not fit, and the buffer is unchanged */
 };
 
-/* The empty set: `rsb_u64 set = RSB_EMPTY;`. */
+/* The empty set, or the empty list: `rsb_u64 set = RSB_EMPTY;`. In C++, a function that this header
+   defines has external linkage, so that an inline function may call it. */
+#ifdef __cplusplus
+#define RSB_EMPTY {}
+#define RSB_INLINE inline
+#else
 #define RSB_EMPTY {0}
+#define RSB_INLINE static inline
+#endif
 
 /* ---- Sets of uint64_t. */
 
@@ -193,21 +207,22 @@ uint32_t rsb_u64_clone(rsb_u64 *out, const rsb_u64 *set);
 
 /* Sets `out` to the values of `count` runs, which may come in any order, overlap and touch. A run
    whose last value is below its first one has no values. Returns RSB_CHANGED, or returns
-   RSB_NO_MEMORY and leaves `out` unchanged. */
+   RSB_NO_MEMORY and leaves `out` unchanged. Does not allocate if `count` is 0. */
 uint32_t rsb_u64_from_runs(rsb_u64 *out, const rsb_u64_run *runs, size_t count);
 
 /* Sets `out` to the values of the ranges that `text` lists, such as 1..=5, 10..=20. The ranges may
    come in any order, and 7 means 7..=7. Blanks may be around each number. Empty text gives the
    empty set. The text needs no zero byte at its end.
    Returns RSB_CHANGED. Returns RSB_BAD_TEXT if the text does not list ranges of uint64_t, or
-   RSB_NO_MEMORY if an allocation fails; `out` is then unchanged. */
+   RSB_NO_MEMORY if an allocation fails; `out` is then unchanged. Does not allocate if `length` is
+   0. */
 uint32_t rsb_u64_from_text(rsb_u64 *out, const char *text, size_t length);
 
 /* Writes the text of a set, such as 1..=5, 10..=20, to the start of `buffer`, with no zero byte at
    its end. rsb_u64_from_text reads it as the same set. Stores the length of the text in `length`,
    also if the text is longer than `capacity`: then returns RSB_NO_ROOM, and `buffer` is unchanged.
    Otherwise returns RSB_CHANGED. If an allocation fails, returns RSB_NO_MEMORY, and `buffer` and
-   `length` are unchanged. */
+   `length` are unchanged. Does not allocate if the set is empty. */
 uint32_t rsb_u64_to_text(const rsb_u64 *set, char *buffer, size_t capacity, size_t *length);
 
 /* Returns whether two sets have the same members. */
@@ -222,6 +237,33 @@ bool rsb_u64_is_subset(const rsb_u64 *left, const rsb_u64 *right);
 
 /* Returns whether no member of the left set is a member of the right set. */
 bool rsb_u64_is_disjoint(const rsb_u64 *left, const rsb_u64 *right);
+
+/* A list of copies of sets, for calls on any number of sets. It begins as RSB_EMPTY, and
+   rsb_u64_sets_free frees its memory. rsb_u64_union_of, rsb_u64_intersection_of,
+   rsb_u64_symmetric_difference_of and rsb_u64_at_least take an array of pointers to handles
+   instead (range_set/u64_many.h). */
+typedef struct rsb_u64_sets {
+    void *rsb_private;
+} rsb_u64_sets;
+
+/* Adds a copy of a set at the end of a list. Returns RSB_CHANGED, or returns RSB_NO_MEMORY and
+   leaves the list unchanged. */
+uint32_t rsb_u64_sets_add(rsb_u64_sets *list, const rsb_u64 *set);
+
+/* Set `out` to the values in at least one of the sets of a list, in all of them, in an odd number
+   of them, or in at least k of them. In an empty list, no value is in a set, and every value is in
+   all of them. A set that was added twice counts twice. Return RSB_CHANGED and free what `out` held
+   before, or return RSB_NO_MEMORY and leave `out` unchanged. */
+uint32_t rsb_u64_sets_union(rsb_u64 *out, const rsb_u64_sets *list);
+uint32_t rsb_u64_sets_intersection(rsb_u64 *out, const rsb_u64_sets *list);
+uint32_t rsb_u64_sets_symmetric_difference(rsb_u64 *out, const rsb_u64_sets *list);
+uint32_t rsb_u64_sets_at_least(rsb_u64 *out, const rsb_u64_sets *list, size_t k);
+
+/* Frees all memory of the list, which is then empty. */
+void rsb_u64_sets_free(rsb_u64_sets *list);
+
+#include "range_set/u64_many.h"
+#include "range_set/u64_same.h"
 
 /* ---- Sets of uint32_t: the same calls. A number of values is a plain uint64_t, and the greatest
    value is UINT32_MAX. */
@@ -273,6 +315,19 @@ bool rsb_u32_equal(const rsb_u32 *left, const rsb_u32 *right);
 int32_t rsb_u32_order(const rsb_u32 *left, const rsb_u32 *right);
 bool rsb_u32_is_subset(const rsb_u32 *left, const rsb_u32 *right);
 bool rsb_u32_is_disjoint(const rsb_u32 *left, const rsb_u32 *right);
+
+typedef struct rsb_u32_sets {
+    void *rsb_private;
+} rsb_u32_sets;
+uint32_t rsb_u32_sets_add(rsb_u32_sets *list, const rsb_u32 *set);
+uint32_t rsb_u32_sets_union(rsb_u32 *out, const rsb_u32_sets *list);
+uint32_t rsb_u32_sets_intersection(rsb_u32 *out, const rsb_u32_sets *list);
+uint32_t rsb_u32_sets_symmetric_difference(rsb_u32 *out, const rsb_u32_sets *list);
+uint32_t rsb_u32_sets_at_least(rsb_u32 *out, const rsb_u32_sets *list, size_t k);
+void rsb_u32_sets_free(rsb_u32_sets *list);
+
+#include "range_set/u32_many.h"
+#include "range_set/u32_same.h"
 
 #ifdef __cplusplus
 }

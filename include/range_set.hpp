@@ -139,39 +139,11 @@ public:
     // ---- Set algebra: union, intersection, difference, symmetric difference and complement. The right
     // operand is a set, a run or a value: `a - b`, `a | 3`, `a &= {1, 5}`, `a ^= {{1, 5}, {10, 20}}`.
 
-    // These do not allocate if they change nothing. No call may get the same set twice, so a set that is
-    // combined with itself is kept or cleared.
-    set &operator|=(const set &right) {
-        if (this != &right) {
-            changed(c::union_with(&handle_, &right.handle_));
-        }
-        return *this;
-    }
-
-    set &operator&=(const set &right) {
-        if (this != &right) {
-            changed(c::intersect_with(&handle_, &right.handle_));
-        }
-        return *this;
-    }
-
-    set &operator-=(const set &right) {
-        if (this == &right) {
-            clear();
-        } else {
-            changed(c::subtract(&handle_, &right.handle_));
-        }
-        return *this;
-    }
-
-    set &operator^=(const set &right) {
-        if (this == &right) {
-            clear();
-        } else {
-            changed(c::xor_with(&handle_, &right.handle_));
-        }
-        return *this;
-    }
+    // These do not allocate if they change nothing.
+    set &operator|=(const set &right) { return changed_by(c::union_with, right); }
+    set &operator&=(const set &right) { return changed_by(c::intersect_with, right); }
+    set &operator-=(const set &right) { return changed_by(c::subtract, right); }
+    set &operator^=(const set &right) { return changed_by(c::xor_with, right); }
 
     // With a run or a value at the right, `|=` inserts it and `-=` removes it. `&=` and `^=` first make a
     // set of it.
@@ -214,6 +186,39 @@ public:
 
     template <class Right, class = detail::if_run<Number, Right>> friend set operator^(const set &left, const Right &right) {
         return left ^ set(run(right));
+    }
+
+    // ---- Set algebra on any number of sets: in braces, as in `u64_set::union_of({a, b, c})`, or in a
+    // container. Each copies the sets into a list of the C library, and returns a new set.
+
+    // A set in braces.
+    class operand {
+    public:
+        operand(const set &given) noexcept : set_(&given) {}
+        operator const set &() const noexcept { return *set_; }
+
+    private:
+        const set *set_;
+    };
+
+    using operands = std::initializer_list<operand>;
+
+    // The values in at least one of the sets.
+    template <class Sets = operands> static set union_of(const Sets &sets) { return made_of(c::sets_union, sets); }
+
+    // The values in all of the sets. If there are no sets, this is every value.
+    template <class Sets = operands> static set intersection_of(const Sets &sets) {
+        return made_of(c::sets_intersection, sets);
+    }
+
+    // The values in an odd number of the sets.
+    template <class Sets = operands> static set symmetric_difference_of(const Sets &sets) {
+        return made_of(c::sets_symmetric_difference, sets);
+    }
+
+    // The values in at least k of the sets. If k is 0, this is every value.
+    template <class Count, class Sets = operands> static set at_least(Count k, const Sets &sets) {
+        return made_of(c::sets_at_least, sets, detail::number_of<std::size_t>(k));
     }
 
     // ---- Go over a set in ascending order or, with rbegin and rend, in descending order. This ends for
@@ -351,22 +356,18 @@ public:
     // ---- Compare.
 
     // Whether each member of this set is in the other one, or each member of the other one in this set.
-    bool is_subset(const set &other) const noexcept { return this == &other || c::is_subset(&handle_, &other.handle_); }
+    bool is_subset(const set &other) const noexcept { return c::is_subset(&handle_, &other.handle_); }
     bool is_superset(const set &other) const noexcept { return other.is_subset(*this); }
 
     // Whether no member of this set is in the other one.
-    bool is_disjoint(const set &other) const noexcept {
-        return this == &other ? empty() : c::is_disjoint(&handle_, &other.handle_);
-    }
+    bool is_disjoint(const set &other) const noexcept { return c::is_disjoint(&handle_, &other.handle_); }
 
     // A number below 0, equal to 0 or above 0. Sets compare as the ascending lists of their members do,
     // here and with <, <=, > and >=. A subset need not be less.
-    int order(const set &other) const noexcept { return this == &other ? 0 : c::order(&handle_, &other.handle_); }
+    int order(const set &other) const noexcept { return c::order(&handle_, &other.handle_); }
 
     // Whether both have the same members.
-    friend bool operator==(const set &left, const set &right) noexcept {
-        return &left == &right || c::equal(&left.handle_, &right.handle_);
-    }
+    friend bool operator==(const set &left, const set &right) noexcept { return c::equal(&left.handle_, &right.handle_); }
 
     friend bool operator!=(const set &left, const set &right) noexcept { return !(left == right); }
     friend bool operator<(const set &left, const set &right) noexcept { return left.order(right) < 0; }
@@ -413,13 +414,34 @@ private:
         return out;
     }
 
-    // No call may get the same set twice, so a set that is combined with itself is cloned first.
+    template <class Call> set &changed_by(Call call, const set &right) {
+        changed(call(&handle_, &right.handle_));
+        return *this;
+    }
+
     template <class Call> static set combined(Call call, const set &left, const set &right) {
-        if (&left == &right) {
-            return combined(call, left, right.clone());
-        }
         set out;
         changed(call(&out.handle_, &left.handle_, &right.handle_));
+        return out;
+    }
+
+    // Copies of sets, in a list of the C library.
+    struct list {
+        typename c::list copies{};
+
+        list() noexcept = default;
+        list(const list &) = delete;
+        list &operator=(const list &) = delete;
+        ~list() { c::sets_free(&copies); }
+    };
+
+    template <class Call, class Sets, class... Count> static set made_of(Call call, const Sets &sets, Count... k) {
+        list all;
+        for (const set &each : sets) {
+            changed(c::sets_add(&all.copies, &each.handle_));
+        }
+        set out;
+        changed(call(&out.handle_, &all.copies, k...));
         return out;
     }
 

@@ -13,6 +13,7 @@ namespace range_set::detail {
 #define RANGE_SET_CALLS(number, width)                                                                                     \
     template <> struct calls<number> {                                                                                     \
         using handle = rsb_##width;                                                                                        \
+        using list = rsb_##width##_sets;                                                                                   \
         using run = rsb_##width##_run;                                                                                     \
         static constexpr auto insert_range = rsb_##width##_insert_range;                                                   \
         static constexpr auto insert = rsb_##width##_insert;                                                               \
@@ -50,6 +51,12 @@ namespace range_set::detail {
         static constexpr auto order = rsb_##width##_order;                                                                 \
         static constexpr auto is_subset = rsb_##width##_is_subset;                                                         \
         static constexpr auto is_disjoint = rsb_##width##_is_disjoint;                                                     \
+        static constexpr auto sets_add = rsb_##width##_sets_add;                                                           \
+        static constexpr auto sets_union = rsb_##width##_sets_union;                                                       \
+        static constexpr auto sets_intersection = rsb_##width##_sets_intersection;                                         \
+        static constexpr auto sets_symmetric_difference = rsb_##width##_sets_symmetric_difference;                         \
+        static constexpr auto sets_at_least = rsb_##width##_sets_at_least;                                                 \
+        static constexpr auto sets_free = rsb_##width##_sets_free;                                                         \
     }
 
 template <class Number> struct calls;

@@ -2,8 +2,10 @@
 
 from __future__ import annotations
 
-from typing import Any, TypeVar
+from operator import index
+from typing import Any, Iterable, Optional, SupportsIndex, Type, TypeVar
 
+from ._calls import calls_for
 from ._reads import Reads, Source
 from ._values import all_ends
 
@@ -23,7 +25,7 @@ class Algebra(Reads):
     def _other(self, values: Source) -> Algebra:
         """Returns a set of this width with some values, which is never this set itself.
 
-        The C library takes no set twice in one call.
+        The handles of an exported call must differ.
         """
         if not isinstance(values, Algebra):
             made = Algebra._empty(self._calls)
@@ -39,6 +41,15 @@ class Algebra(Reads):
             return NotImplemented
         made = self._empty(self._calls)
         call(made._handle, self._handle, self._other(other)._handle)
+        return made
+
+    def _made_of(self: Self, call: Any, sets: Iterable[Source], *count: int) -> Self:
+        """Returns the set that a call makes of any number of sets of this width."""
+        copies = self._calls.list()
+        for values in sets:
+            self._calls.sets_add(copies, self._other(values)._handle)
+        made = self._empty(self._calls)
+        call(made._handle, copies, *count)
         return made
 
     # Each of these changes the set in place. A frozen set has them only while it is made.
@@ -91,6 +102,8 @@ class Algebra(Reads):
 
     def union(self: Self, *others: Source) -> Self:
         """Returns the values that are in this set or in any of the others."""
+        if len(others) > 1:
+            return self._made_of(self._calls.sets_union, (self, *others))
         made = self._clone()
         for values in others:
             made._join(values)
@@ -98,6 +111,8 @@ class Algebra(Reads):
 
     def intersection(self: Self, *others: Source) -> Self:
         """Returns the values that are in this set and in each of the others."""
+        if len(others) > 1:
+            return self._made_of(self._calls.sets_intersection, (self, *others))
         made = self._clone()
         for values in others:
             made._keep(values)
@@ -112,10 +127,26 @@ class Algebra(Reads):
 
     def symmetric_difference(self: Self, *others: Source) -> Self:
         """Returns the values that are in an odd number of the sets: this one and the others."""
+        if len(others) > 1:
+            return self._made_of(self._calls.sets_symmetric_difference, (self, *others))
         made = self._clone()
         for values in others:
             made._flip(values)
         return made
+
+    @classmethod
+    def at_least(cls: Type[Self], k: SupportsIndex, sets: Iterable[Source], *, bits: Optional[int] = None) -> Self:
+        """Returns the values that are in at least `k` of the sets: every value if `k` is 0.
+
+        The width is that of the first range set, unless `bits` says it. A set that comes twice
+        counts twice.
+        """
+        wanted, given = index(k), list(sets)
+        if wanted < 0:
+            raise ValueError("the number of sets is at least 0")
+        widths = [it.bits for it in given if isinstance(it, Algebra)]
+        made = cls._empty(calls_for((widths or [64])[0] if bits is None else bits))
+        return made._made_of(made._calls.sets_at_least, given, min(wanted, len(given) + 1))
 
     # ---- Comparisons.
 

@@ -38,7 +38,7 @@ def handle_type(free: Any) -> Type[ctypes.Structure]:
     """Returns the type of handles that `free` frees."""
 
     class Handle(ctypes.Structure):
-        """A set of the C library. It begins as the empty set, and is freed with its only owner.
+        """A set or a list of sets. It begins empty, and is freed with its only owner.
 
         When the interpreter exits, handles are left to the operating system. So no call is made
         while modules are torn down.
@@ -72,7 +72,7 @@ def run_type(number: Any) -> Type[ctypes.Structure]:
 class Calls:
     """The calls for sets of one width, under their names without the prefix, and their types.
 
-    They check no argument: each int must fit, and no two handles of a call may be the same.
+    They check no argument: each int must fit, and the handles of a call must differ.
     """
 
     def __init__(self, library: ctypes.PyDLL, bits: int) -> None:
@@ -82,8 +82,10 @@ class Calls:
         self.run: Any = run_type(self.number)
         self._prefix = f"rsb_u{bits}_"
         self.handle: Any = handle_type(self._call(library, "free"))
+        self.list: Any = handle_type(self._call(library, "sets_free"))
         for name, (result, arguments) in self._signatures().items():
-            self._declare(self._call(library, name), result, arguments)
+            first = self.list if name == "sets_add" else self.handle
+            self._declare(self._call(library, name), result, (ctypes.POINTER(first), *arguments))
 
     if TYPE_CHECKING:
 
@@ -101,7 +103,7 @@ class Calls:
 
     def _declare(self, call: Any, result: Any, arguments: Tuple[Any, ...]) -> None:
         """Declares a call. `changed` and `exact` also make its result from what C returns."""
-        call.argtypes = [ctypes.POINTER(self.handle), *arguments]
+        call.argtypes = arguments
         if result is changed:
             call.restype, call.errcheck = ctypes.c_uint32, changed
         elif result is exact and self.bits == 64:
@@ -112,7 +114,7 @@ class Calls:
     def _signatures(self) -> Dict[str, Tuple[Any, Tuple[Any, ...]]]:
         """Returns what each call returns, and what it takes after its first handle."""
         truth, number = ctypes.c_bool, self.number
-        other = ctypes.POINTER(self.handle)
+        other, sets = ctypes.POINTER(self.handle), ctypes.POINTER(self.list)
         value, block = ctypes.POINTER(number), ctypes.POINTER(self.run)
         text, size = ctypes.c_char_p, ctypes.c_size_t
         signatures = {
@@ -130,6 +132,8 @@ class Calls:
             "from_text": (changed, (text, size)),
             "to_text": (changed, (text, size, ctypes.POINTER(size))),
             "order": (ctypes.c_int32, (other,)),
+            "sets_add": (changed, (other,)),
+            "sets_at_least": (changed, (sets, size)),
         }
         for names, result, arguments in (
             ("insert_range remove_range", changed, (number, number)),
@@ -138,6 +142,7 @@ class Calls:
             ("run_or_gap next_run prev_run run_after run_before", truth, (number, block)),
             ("union intersection difference symmetric_difference", changed, (other, other)),
             ("equal is_subset is_disjoint", truth, (other,)),
+            ("sets_union sets_intersection sets_symmetric_difference", changed, (sets,)),
         ):
             signatures.update((name, (result, arguments)) for name in names.split())
         return signatures

@@ -23,7 +23,8 @@ def c_type(text, calls):
     if word.endswith("*"):
         return ctypes.POINTER(c_type(word[:-1], calls))
     name = f"rsb_u{calls.bits}"
-    return {**NUMBERS, name: calls.handle, f"{name}_run": calls.run, f"{name}_count": WideCount}[word]
+    structs = {name: calls.handle, f"{name}_sets": calls.list, f"{name}_run": calls.run, f"{name}_count": WideCount}
+    return {**NUMBERS, **structs}[word]
 
 
 @unittest.skipUnless(HEADER.exists(), "needs the header of the repository")
@@ -43,7 +44,7 @@ class Header(unittest.TestCase):
         call = getattr(calls, name)
         kinds = [re.sub(r"\w+$", "", argument.strip()) for argument in arguments.split(",")]
         with self.subTest(bits=calls.bits, name=name):
-            self.assertEqual(call.argtypes, [c_type(kind, calls) for kind in kinds])
+            self.assertEqual(list(call.argtypes), [c_type(kind, calls) for kind in kinds])
             self.assertEqual(call.restype, c_type(result, calls))
             made = changed if result == "uint32_t" else exact if call.restype is WideCount else None
             self.assertIs(getattr(call, "errcheck", None), made)

@@ -102,6 +102,18 @@ class Trial:
         self.same(set(made), getattr(self.model, name)(members))
         self.same(set(getattr(made, name)(more)), getattr(set(made), name)(more))
 
+    def try_many(self):
+        others = [self.other() for _ in range(2 + self.random.randrange(3))]
+        sets, models = [made for made, _ in others], [members for _, members in others]
+        self.same(set(self.made.union(*sets)), self.model.union(*models))
+        self.same(set(self.made.intersection(*sets)), self.model.intersection(*models))
+        depth = {value: sum(value in members for members in models) for value in set().union(*models)}
+        odd = {value for value, deep in depth.items() if deep % 2}
+        self.same(set(self.made.symmetric_difference(*sets)), self.model ^ odd)
+        for k in range(1, len(sets) + 2):
+            wanted = {value for value, deep in depth.items() if deep >= k}
+            self.same(set(RangeSet.at_least(k, sets)), wanted)
+
     def try_update(self):
         name = self.random.choice(["", "intersection_", "difference_", "symmetric_difference_"]) + "update"
         other, members = self.other()

@@ -193,6 +193,8 @@ class Algebra(unittest.TestCase):
             self.assertEqual(one.compare(one), 0)
             self.assertEqual(one.union(one, one), one)
             self.assertEqual(one.symmetric_difference(one, one), one)
+            self.assertEqual(one.intersection(one, one, one), one)
+            self.assertEqual(one.difference(one), none)
 
     def test_one_set_twice_in_place(self):
         for change, left in (("__ior__", 5), ("__iand__", 5), ("__isub__", 0), ("__ixor__", 0)):
@@ -214,6 +216,23 @@ class Algebra(unittest.TestCase):
             self.assertEqual(str(made.symmetric_difference(range(5, 15), [0])), "1..=4, 10..=14")
             for same in (made.union(), made.intersection(), made.difference(), made.symmetric_difference()):
                 self.assertEqual(same, made)
+
+    def test_at_least(self):
+        for kind, bits in EACH:
+            sets = kind([range(1, 6)], bits=bits), RangeSet([range(4, 10)], bits=bits), [5, range(9, 13)]
+            made = [kind.at_least(k, sets) for k in range(1, 5)]
+            self.assertEqual([str(it) for it in made], ["1..=12", "4..=5, 9..=9", "5..=5", ""])
+            self.assertEqual({(type(it), it.bits) for it in made}, {(kind, bits)})
+            self.assertEqual(kind.at_least(0, sets), ~kind(bits=bits))
+            self.assertEqual(kind.at_least(0, [], bits=bits), ~kind(bits=bits))
+            self.assertEqual(kind.at_least(10**30, sets), kind(bits=bits))
+            self.assertEqual(kind.at_least(2, [sets[0], sets[0]]), sets[0])
+            self.assertEqual(str(kind.at_least(1, [[3], range(5)], bits=bits)), "0..=4")
+            self.assertRaises(ValueError, kind.at_least, -1, sets)
+            self.assertRaises(TypeError, kind.at_least, 1.5, sets)
+            self.assertRaises(OverflowError, kind.at_least, 1, [sets[0], [-1]])
+        self.assertEqual(RangeSet.at_least(1, []), RangeSet())
+        self.assertRaises(ValueError, RangeSet.at_least, 1, [RangeSet(), RangeSet(bits=32)])
 
     def test_updates(self):
         for bits in GREATEST:

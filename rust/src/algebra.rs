@@ -9,8 +9,8 @@ use crate::calls::Handle;
 use crate::{allocated, changed, AllocError, Integer, RangeSet};
 
 impl<T: Integer> RangeSet<T> {
-    /// Returns whether both references are to one set. The library does not take the same set
-    /// twice.
+    /// Returns whether both references are to one set. The library's exports do not take the same
+    /// set twice.
     pub(crate) fn is_same(&self, other: &Self) -> bool {
         ptr::eq(self, other)
     }
@@ -136,7 +136,7 @@ impl<T: Integer> RangeSet<T> {
     }
 
     /// Returns the set that a call makes.
-    fn built(call: impl FnOnce(&mut Handle) -> u32) -> Result<Self, AllocError> {
+    pub(crate) fn built(call: impl FnOnce(&mut Handle) -> u32) -> Result<Self, AllocError> {
         let mut out = Self::new();
         changed(call(&mut out.handle))?;
         Ok(out)

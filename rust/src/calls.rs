@@ -2,7 +2,8 @@
 //!
 //! References stand for the header's pointers, so most of its duties hold by their types: each
 //! pointer is valid, and while a call changes a set, no other call uses its handle. A call is
-//! `unsafe` here if two of its references may be equal, which the header forbids.
+//! `unsafe` here if two of its references may be equal, which only the header's own functions allow,
+//! or if it takes an array.
 
 use core::ffi::c_void;
 use core::ptr;
@@ -24,6 +25,20 @@ unsafe impl Sync for Handle {}
 impl Handle {
     pub const fn empty() -> Self {
         Handle {
+            private: ptr::null_mut(),
+        }
+    }
+}
+
+/// What the C library keeps of a list of sets. Null is the empty list.
+#[repr(C)]
+pub struct List {
+    private: *mut c_void,
+}
+
+impl List {
+    pub const fn empty() -> Self {
+        List {
             private: ptr::null_mut(),
         }
     }
@@ -51,9 +66,11 @@ impl From<Count> for u128 {
     }
 }
 
-/// What a call that changes a set returns. The only other value says that an allocation failed.
+/// What a call that changes or makes a set returns. The only other value says that an allocation
+/// failed.
 pub const UNCHANGED: u32 = 0;
 pub const CHANGED: u32 = 1;
+pub const BAD_TEXT: u32 = 3;
 
 /// A type of values, whose sets have functions in the library.
 pub trait Width: Sized + 'static {
@@ -139,6 +156,12 @@ calls! {
     fn first_gap(set: &Handle, from: T, len: u64, gap: &mut Run<T>) -> bool;
     fn complement(out: &mut Handle, set: &Handle) -> u32;
     fn clone(out: &mut Handle, set: &Handle) -> u32;
+    fn sets_add(list: &mut List, set: &Handle) -> u32;
+    fn sets_union(out: &mut Handle, list: &List) -> u32;
+    fn sets_intersection(out: &mut Handle, list: &List) -> u32;
+    fn sets_symmetric_difference(out: &mut Handle, list: &List) -> u32;
+    fn sets_at_least(out: &mut Handle, list: &List, k: usize) -> u32;
+    fn sets_free(list: &mut List);
 
     unsafe:
     fn union(out: &mut Handle, left: &Handle, right: &Handle) -> u32;
@@ -149,4 +172,5 @@ calls! {
     fn order(left: &Handle, right: &Handle) -> i32;
     fn is_subset(left: &Handle, right: &Handle) -> bool;
     fn is_disjoint(left: &Handle, right: &Handle) -> bool;
+    fn from_text(out: &mut Handle, text: *const u8, length: usize) -> u32;
 }

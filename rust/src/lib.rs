@@ -22,8 +22,8 @@
 //!
 //! # If an allocation fails
 //!
-//! A call whose name begins with `try_` returns [`AllocError`] if an allocation fails. Every other
-//! call that allocates panics, so that a program may catch the panic and go on. Either way, each
+//! A call whose name begins with `try_` returns [`AllocError`] if an allocation fails, and
+//! `from_str` returns [`ParseError`]. Every other call that allocates panics, so that a program may catch the panic and go on. Either way, each
 //! set that was passed by reference is unchanged, except that `extend` may have added some values.
 //!
 //! # How to link the library
@@ -48,7 +48,9 @@ mod changes;
 mod integer;
 mod iterators;
 mod look_up;
+mod many;
 mod std_traits;
+mod text;
 
 use core::fmt;
 use core::marker::PhantomData;
@@ -56,6 +58,7 @@ use core::ops::RangeInclusive;
 
 pub use integer::Integer;
 pub use iterators::{Gaps, IntoIter, Iter, Runs};
+pub use text::ParseError;
 
 /// A set of `u32` or of `u64`, kept as sorted runs that never touch.
 ///

@@ -9,7 +9,7 @@ use std::ffi::c_void;
 use std::panic;
 use std::ptr;
 
-use range_set::{AllocError, RangeSet};
+use range_set::{AllocError, ParseError, RangeSet};
 
 extern "C" {
     fn __libc_malloc(size: usize) -> *mut c_void;
@@ -85,13 +85,15 @@ const CHANGES: [(&str, Call); 8] = [
 type Build = fn(&RangeSet<u64>, &RangeSet<u64>) -> Result<RangeSet<u64>, AllocError>;
 
 /// Calls that make a new set.
-const BUILDS: [(&str, Build); 6] = [
+const BUILDS: [(&str, Build); 8] = [
     ("union", |a, b| a.try_union(b)),
     ("intersection", |a, b| a.try_intersection(b)),
     ("difference", |a, b| a.try_difference(b)),
     ("symmetric_difference", |a, b| a.try_symmetric_difference(b)),
     ("complement", |a, _| a.try_complement()),
     ("clone", |a, _| a.try_clone()),
+    ("union_of", |a, b| RangeSet::try_union_of([a, b, a])),
+    ("at_least", |a, b| RangeSet::try_at_least(2, [a, b, a])),
 ];
 
 #[test]
@@ -133,6 +135,25 @@ fn a_failed_build_returns_an_error() {
         }
         assert!(failures > 0, "{name} does not allocate");
     }
+}
+
+#[test]
+fn a_failed_parse_returns_an_error() {
+    let mut failures = 0;
+    loop {
+        let (result, has_failed) = with_failures(failures, || "1..=5, 7".parse::<RangeSet<u64>>());
+        if !has_failed {
+            assert_eq!(result, Ok(RangeSet::from_iter([1..=5, 7..=7])));
+            break;
+        }
+        assert_eq!(
+            result,
+            Err(ParseError::NoMemory(AllocError)),
+            "allocation {failures}"
+        );
+        failures += 1;
+    }
+    assert!(failures > 0);
 }
 
 #[test]

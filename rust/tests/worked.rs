@@ -5,7 +5,7 @@ mod common;
 use std::collections::HashSet;
 
 use common::{below_greatest, Value};
-use range_set::RangeSet;
+use range_set::{ParseError, RangeSet};
 
 /// Returns the set of small ranges.
 fn set<T: Value>(ranges: &[(u8, u8)]) -> RangeSet<T> {
@@ -29,7 +29,7 @@ macro_rules! for_both {
 }
 
 for_both! {
-    text combinations assignments a_set_beside_itself comparisons equal_sets_hash_alike changes
+    text text_of_other_forms combinations assignments any_number a_set_beside_itself comparisons equal_sets_hash_alike changes
     bounds look_ups searches iterators_from_both_ends members_from_both_ends ends_of_the_type
     made_from_values_and_ranges
 }
@@ -78,15 +78,33 @@ mod checks {
     ];
 
     fn read<T: Value>(text: &str) -> RangeSet<T> {
-        let ends = |run: &str| {
-            let (first, last) = run.split_once("..=").unwrap();
-            (first.parse().unwrap(), last.parse().unwrap())
-        };
-        set(&text
-            .split(", ")
-            .filter(|run| !run.is_empty())
-            .map(ends)
-            .collect::<Vec<_>>())
+        text.parse().unwrap()
+    }
+
+    pub fn text_of_other_forms<T: Value>() {
+        let some = set::<T>(&[(1, 5), (7, 7)]);
+        for text in ["1..=5, 7..=7", " 7 ,3..=5,\t+1..=4\n", "7,5,4,3,2,1,9..=8"] {
+            assert_eq!(text.parse().as_ref(), Ok(&some), "{text:?}");
+        }
+        assert_eq!(" ".parse(), Ok(set::<T>(&[])));
+        let greatest = RangeSet::from(T::MAX..=T::MAX);
+        assert_eq!(greatest.to_string().parse(), Ok(greatest));
+        for text in [
+            "1..5",
+            "1..=",
+            ",",
+            "-1",
+            "x",
+            "1 2",
+            "18446744073709551616",
+            "\u{e9}",
+        ] {
+            assert_eq!(
+                text.parse::<RangeSet<T>>(),
+                Err(ParseError::BadText),
+                "{text:?}"
+            );
+        }
     }
 
     pub fn combinations<T: Value>() {
@@ -126,6 +144,27 @@ mod checks {
             changed -= b;
             assert!(changed.is_empty(), "{row:?}");
         }
+    }
+
+    pub fn any_number<T: Value>() {
+        let sets = ["1..=5", "4..=9", "5..=5, 9..=12"].map(read::<T>);
+        assert_eq!(RangeSet::union_of(&sets), read("1..=12"));
+        assert_eq!(RangeSet::intersection_of(&sets), read("5..=5"));
+        let odd = RangeSet::symmetric_difference_of(&sets);
+        assert_eq!(odd, read("1..=3, 5..=8, 10..=12"));
+        let all = !RangeSet::<T>::new();
+        for (k, wanted) in ["1..=12", "4..=5, 9..=9", "5..=5", ""]
+            .into_iter()
+            .enumerate()
+        {
+            assert_eq!(RangeSet::at_least(k + 1, &sets), read(wanted));
+        }
+        assert_eq!(RangeSet::at_least(0, &sets), all);
+        assert_eq!(RangeSet::at_least(2, [&sets[0], &sets[0]]), sets[0]);
+        let none: [&RangeSet<T>; 0] = [];
+        assert!(RangeSet::union_of(none).is_empty());
+        assert!(RangeSet::symmetric_difference_of(none).is_empty());
+        assert_eq!(RangeSet::intersection_of(none), all);
     }
 
     #[allow(clippy::eq_op)]

@@ -2,7 +2,7 @@
 // Each test runs for both widths. `text` writes a set as in `1..=5, 10..=20`.
 #include "range_set.hpp"
 
-#include "check.hpp"
+#include "failures.hpp"
 
 #include <algorithm>
 #include <iterator>
@@ -12,48 +12,7 @@
 
 template <class Number> static constexpr Number greatest = static_cast<Number>(-1);
 
-// ---- Allocations that fail: the linker sends the library's calls of malloc and realloc here.
-
-extern "C" {
-void *real_malloc(std::size_t size) __asm__("__real_malloc");
-void *real_realloc(void *block, std::size_t size) __asm__("__real_realloc");
-void *wrap_malloc(std::size_t size) __asm__("__wrap_malloc");
-void *wrap_realloc(void *block, std::size_t size) __asm__("__wrap_realloc");
-}
-
-// How many more allocations succeed before all fail. Below 0, none fails.
-static int allowed = -1;
-
-static bool refuses() {
-    if (allowed > 0) {
-        --allowed;
-        return false;
-    }
-    return allowed == 0;
-}
-
-void *wrap_malloc(std::size_t size) {
-    return refuses() ? nullptr : real_malloc(size);
-}
-
-void *wrap_realloc(void *block, std::size_t size) {
-    return refuses() ? nullptr : real_realloc(block, size);
-}
-
-// Calls until no allocation fails: at first none succeeds, then one, and so on. After each failure,
-// `a` and `b` must be as they were. Returns the number of failures.
-template <class Set, class Call> static int failures(const Set &a, const Set &b, Call call) {
-    const std::string a_before = text(a), b_before = text(b);
-    for (int succeeding = 0;; ++succeeding) {
-        allowed = succeeding;
-        bool failed = throws<std::bad_alloc>(call);
-        allowed = -1;
-        if (!failed) {
-            return succeeding;
-        }
-        CHECK(text(a) == a_before && text(b) == b_before);
-    }
-}
+// ---- Allocations that fail.
 
 template <class Set> static void leaves_sets_unchanged_if_an_allocation_fails() {
     Set a{{1, 5}, {10, 20}}, b{{3, 12}, {30, 40}};
@@ -65,7 +24,9 @@ template <class Set> static void leaves_sets_unchanged_if_an_allocation_fails() 
     CHECK(failures(a, b, [&] { Set made = a & b; }) > 0);
     CHECK(failures(a, b, [&] { Set made = a - b; }) > 0);
     CHECK(failures(a, b, [&] { Set made = a ^ b; }) > 0);
-    CHECK(failures(a, b, [&] { Set made = a ^ a; }) > 0);
+    CHECK(failures(a, b, [&] { Set made = a | a; }) > 0 && failures(a, b, [&] { Set made = a ^ a; }) == 0);
+    CHECK(failures(a, b, [&] { Set made = Set::union_of({a, b, a}); }) > 0);
+    CHECK(failures(a, b, [&] { Set made = Set::at_least(2, {a, b, a}); }) > 0);
     CHECK(failures(a, b, [&] { Set made = ~a; }) > 0);
     CHECK(failures(a, b, [&] { Set made = a - 3; }) > 0);
 }
@@ -230,7 +191,25 @@ template <class Set> static void combines_with_itself() {
     a -= itself;
     CHECK(a.empty() && a.insert(3));
     a ^= itself;
-    CHECK(a.empty());
+    CHECK(a.empty() && a == itself && a <= itself && a.is_subset(itself) && a.is_disjoint(itself));
+    a = {{3, 4}};
+    CHECK(a == itself && a.order(itself) == 0 && a.is_superset(itself) && !a.is_disjoint(itself));
+}
+
+template <class Set> static void combines_any_number() {
+    Set a{{1, 5}}, b{{4, 9}}, c{{5, 5}, {9, 12}};
+    CHECK(text(Set::union_of({a, b, c})) == "1..=12" && text(Set::intersection_of({a, b, c})) == "5..=5");
+    CHECK(text(Set::symmetric_difference_of({a, b, c})) == "1..=3, 5..=8, 10..=12");
+    CHECK(text(Set::at_least(2, {a, b, c})) == "4..=5, 9..=9" && Set::at_least(4, {a, b, c}).empty());
+    CHECK(Set::union_of({}).empty() && Set::intersection_of({}) == ~Set() && Set::at_least(0, {a}) == ~Set());
+    CHECK(Set::union_of({a, a | b}) == (a | b) && Set::at_least(2, {a, a}) == a);
+    CHECK(throws<std::out_of_range>([&] { Set::at_least(-1, {a}); }));
+    std::vector<Set> sets;
+    sets.push_back(a.clone());
+    sets.push_back(b.clone());
+    CHECK(Set::union_of(sets) == (a | b) && Set::intersection_of(sets) == (a & b));
+    a = Set::symmetric_difference_of({a, b, c});
+    CHECK(text(a) == "1..=3, 5..=8, 10..=12");
 }
 
 template <class Set> static void complements_up_to_both_ends() {
@@ -457,6 +436,7 @@ template <class Set> static void both_widths() {
     combines<Set>();
     combines_with_runs_and_values<Set>();
     combines_with_itself<Set>();
+    combines_any_number<Set>();
     complements_up_to_both_ends<Set>();
     walks_runs<Set>();
     walks_gaps<Set>();

@@ -1,9 +1,10 @@
 -- The text of a set is what `Display` writes, and text that lists ranges is ASCII.
-use Rattle.std.proofs.Common.{◌≡◌, ℕ, ℤ, pos, Bool, true, false, ◌^◌, ◌<◌, ◌≤◌, inl, inr, List, [], ◌∷◌, ◌++◌, Option, Some, refl, sym, ap, ◌∙◌, subst, lit<, arith}
+use Rattle.std.proofs.Common.{◌≡◌, ℕ, ℤ, pos, Bool, true, false, ◌+◌, ◌^◌, ◌<◌, ◌≤◌, inl, inr, List, [], ◌∷◌, ◌++◌, length, Option, Some, refl, sym, ap, ◌∙◌, subst, lit<, arith}
 use Rattle.std.proofs.lemmas.Bool.Decides.{nat_tests}
+use Rattle.std.proofs.lemmas.List.{length-append}
 use Rattle.std.proofs.lemmas.Str.{IsUtf8-from_ascii}
 use Rattle.std.proofs.lemmas.Str.Ascii.{IsAscii-cons, IsAscii-nil}
-use Rattle.std.specs.Prelude.{decimal}
+use Rattle.std.specs.Prelude.{codes, decimal}
 use Rattle.std.specs.Char.{digit_value}
 use Rattle.std.specs.Fmt.{◌++?◌, comma_space, debug_items}
 use Rattle.std.specs.Int.{FitsUnsignedBits}
@@ -134,6 +135,16 @@ module _ {T : Type 0} (number : T → ℤ) (fits : ℤ → Type 0) where
 
 -- ---- the set that text lists
 
+-- Text with `..=` in it is not empty.
+not-empty : (start end rest : List ℕ) → ¬ ([] ≡ (start ++ (codes "..=" ++ end)) ++ rest)
+not-empty start end rest none =
+    let dots = codes "..=" ++ end in
+    let whole = length-append (start ++ dots) rest in
+    let front = length-append start dots in
+    let some = length-append (codes "..=") end in
+    let zero = ap (λ (text : List ℕ). length text) none in
+    omega (arith, zero, whole, front, some)
+
 module _ (bits : ℕ) where
   -- If the set is what the contract of `parse` states, it is what the text lists.
   pub is-read : (set : List Interval) (string text : List ℕ) → string ≡ text
@@ -151,6 +162,30 @@ module _ (bits : ℕ) where
         only = only;
         again = λ runs canonical is.
             written runs canonical (text-written runs ∙ ap Some (sym is));
+      })
+
+  -- Empty text lists no ranges.
+  none-listed : (ranges : List (RangeInclusive ℕ)) → Lists bits [] ranges
+      → IsSetOf [] (members (intervals_of (λ x. x) ranges))
+  none-listed [] listed = λ rank. refl
+  none-listed (range ∷ others) (inl wrong) = absurd wrong
+  none-listed (range ∷ others) (inr (inl wrong)) = absurd wrong
+  none-listed (range ∷ others) (inr (inr wrong)) = absurd wrong
+
+  -- Only the empty set has empty text.
+  none-written : (runs : List Interval) → [] ≡ text_of runs → [] ≡ runs
+  none-written [] is = refl
+  none-written (run ∷ runs) is = absurd (not-empty (decimal run.first) (decimal run.last)
+      (text_after comma_space runs) is)
+
+  -- If the text is empty, so is the set that it lists.
+  pub nothing-read : (text : List ℕ) → text ≡ [] → IsRead bits text []
+  nothing-read text is =
+      subst (λ (t : List ℕ). IsRead bits t []) (sym is) (record {
+        ranges = [];
+        listed = refl;
+        only = none-listed;
+        again = λ runs canonical same. none-written runs same;
       })
 
 -- ---- text that does not list ranges

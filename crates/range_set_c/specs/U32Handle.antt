@@ -14,8 +14,8 @@ use Rattle.range_set_c.specs.contracts.u32_sets.kept.Kept.{the_row}
 abbrev pub kept_coded : Coded the_row.Denot
 kept_coded = the_row.coded
 
--- A boxed set and the right to free its memory. If the pointer is null, the set is empty and there
--- is no memory.
+-- A boxed set and the right to free its memory. If the pointer is null, the set is empty and
+-- there is no memory.
 abbrev pub handle_owns : Global → Ptr → the_row.Denot → Fml
 handle_owns alloc (block_ptr b o) kept =
     box_owns (ghosts.dealloc_token alloc) the_row (block_ptr b o) kept

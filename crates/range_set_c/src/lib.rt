@@ -7,6 +7,8 @@
 #![tactic(auto)]
 
 mod status;
+mod u32_lists;
 mod u32_sets;
+mod u64_lists;
 mod u64_sets;
 mod unboxed;

@@ -4,7 +4,7 @@ mod arrays;
 mod changes;
 mod combinations;
 mod comparisons;
-mod handle;
+pub(crate) mod handle;
 mod in_place;
 mod kept;
 mod look_up;

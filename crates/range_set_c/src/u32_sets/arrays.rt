@@ -1,7 +1,7 @@
 // Written by tools/c/narrow from src/u64_sets/arrays.rt.
 //! Sets built from arrays.
 
-ghost use Rattle.std.specs.Prelude.{◌≡◌, ◌⊎◌, IfOk, OnOk};
+ghost use Rattle.std.specs.Prelude.{◌≡◌, ◌⊎◌, [], IfOk, OnOk};
 ghost use Rattle.rsb_integer.specs.Runs.{covers};
 ghost use Rattle.range_set_blaze.specs.Set.{Adds, IsSetOf};
 ghost use Rattle.range_set_c.specs.Answer.{IsChanged, IsRefused};
@@ -9,18 +9,25 @@ ghost use Rattle.range_set_c.specs.U32Runs.{interval_of_run, values_of};
 
 use super::handle::Handle;
 use super::run::Run;
+use crate::status::CHANGED;
 use range_set_blaze::RangeSetBlaze;
 use std::alloc::{AllocError, Global};
 
 /// Sets `out` to the values of the runs of an array, and returns `CHANGED`. The runs may come in
 /// any order, and may overlap. A run whose last value is below its first one has no values. If an
-/// allocation fails, it returns `NO_MEMORY`, and `out` is unchanged.
+/// allocation fails, it returns `NO_MEMORY`, and `out` is unchanged. It does not allocate if the
+/// array is empty.
 #[unsafe(no_mangle)]
 pub extern "C" fn rsb_u32_from_runs(alloc: Global, out: &mut Handle, runs: &[Run]) -> u32
     ensures answer { IsChanged result ⊎ IsRefused result }
     ensures members { IsChanged result → IsSetOf out.new.kept.set (values_of runs.now) }
     ensures refused { IsRefused result → out.new.kept.set ≡ out.old.kept.set }
+    ensures spared { runs.now ≡ [] → IsChanged result }
 {
+    if runs.is_empty() {
+        *out = Handle::empty(alloc);
+        return CHANGED;
+    }
     let made = set_of(alloc, runs);
     out.set_to(alloc, made)
 }

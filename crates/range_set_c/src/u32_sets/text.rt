@@ -1,7 +1,7 @@
 // Written by tools/c/narrow from src/u64_sets/text.rt.
 //! The text of a set, such as `1..=5, 10..=20`.
 
-ghost use Rattle.std.specs.Prelude.{◌≡◌, ◌⊎◌, ◌++◌, ◌<◌, drop, length, IfOk, IsFalse, IsTrue, MatchOption};
+ghost use Rattle.std.specs.Prelude.{◌≡◌, ◌⊎◌, ◌++◌, ◌<◌, [], drop, length, IfOk, IsFalse, IsTrue, MatchOption};
 ghost use Rattle.std.specs.String.{string_bytes};
 ghost use Rattle.range_set_c.specs.Answer.{HasNoRoom, IsBadText, IsChanged, IsRefused};
 ghost use Rattle.range_set_c.specs.SetText.{text_of, IsRead, IsUnread};
@@ -14,7 +14,8 @@ use std::str;
 
 /// Writes the text of a set to the front of a buffer, stores the length of the text in `needed`,
 /// and returns `CHANGED`. If the text does not fit, it returns `NO_ROOM`, and the buffer is
-/// unchanged. If an allocation fails, it returns `NO_MEMORY`, and `needed` is unchanged too.
+/// unchanged. If an allocation fails, it returns `NO_MEMORY`, and `needed` is unchanged too. It does
+/// not allocate if the set is empty.
 #[unsafe(no_mangle)]
 pub extern "C" fn rsb_u32_to_text(
     alloc: Global,
@@ -30,10 +31,16 @@ pub extern "C" fn rsb_u32_to_text(
         → length buffer.old < length (text_of set.old.kept.set) }
     ensures left { ¬ IsChanged result → buffer.new ≡ buffer.old }
     ensures refused { IsRefused result → needed.new ≡ needed.old }
+    ensures spared { set.old.kept.set ≡ [] → IsChanged result }
     ensures same { set.new.kept.set ≡ set.old.kept.set }
 {
     let empty = RangeSetBlaze::new(alloc);
-    let Ok(text) = text_of_set(alloc, set.set_or(&empty)) else {
+    let set = set.set_or(&empty);
+    if set.first().is_none() {
+        *needed = 0;
+        return CHANGED;
+    }
+    let Ok(text) = text_of_set(alloc, set) else {
         return NO_MEMORY;
     };
     let bytes = text.as_bytes();
@@ -46,14 +53,20 @@ pub extern "C" fn rsb_u32_to_text(
 
 /// Sets `out` to the values of the ranges that text lists, and returns `CHANGED`. The ranges may
 /// come in any order, and may overlap. If the text does not list ranges, it returns `BAD_TEXT`. If
-/// an allocation fails, it returns `NO_MEMORY`. In both cases, `out` is unchanged.
+/// an allocation fails, it returns `NO_MEMORY`. In both cases, `out` is unchanged. It does not
+/// allocate if the text is empty.
 #[unsafe(no_mangle)]
 pub extern "C" fn rsb_u32_from_text(alloc: Global, out: &mut Handle, text: &[u8]) -> u32
     ensures answer { IsChanged result ⊎ IsRefused result ⊎ IsBadText result }
     ensures read { IsChanged result → IsRead 32 text.now out.new.kept.set }
     ensures unread { IsBadText result → IsUnread 32 text.now }
     ensures left { ¬ IsChanged result → out.new.kept.set ≡ out.old.kept.set }
+    ensures spared { text.now ≡ [] → IsChanged result }
 {
+    if text.is_empty() {
+        *out = Handle::empty(alloc);
+        return CHANGED;
+    }
     let Ok(found) = read(alloc, text) else {
         return NO_MEMORY;
     };

@@ -1,0 +1,21 @@
+//! What a handle to a list points to. It uses no other type of this crate, so that the clauses of a
+//! handle can name the memory of the list.
+
+use range_set_blaze::RangeSetBlaze;
+use std::alloc::Global;
+use std::marker::Model;
+
+/// Sets, in the order in which they were added. Contracts see the list of the sets.
+#[derive(Drop)]
+pub struct Kept {
+    pub(super) sets: Vec<RangeSetBlaze<u64, Global>, Global>,
+}
+
+impl Model for Kept {
+    ghost use Rattle.std.specs.Prelude.{List};
+    ghost use Rattle.rsb_integer.specs.Runs.{Interval};
+
+    ghost Value = { List (List Interval) };
+
+    ghost view = { λ kept. kept.sets.items };
+}

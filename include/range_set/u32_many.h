@@ -1,0 +1,69 @@
+/* Written by tools/c/narrow from include/range_set/u64_many.h. */
+/* Calls on any number of sets of uint32_t at once. range_set.h includes this file.
+ *
+ * `sets` has `count` pointers to handles: `const rsb_u32 *sets[] = {&a, &b, &c};`. It may have the
+ * same handle several times, and `out` too. If `count` is 0, `sets` may be null. Each call returns
+ * RSB_CHANGED and frees what `out` held before, or returns RSB_NO_MEMORY and leaves `out`
+ * unchanged. It copies the sets into a list. To use a list for several calls, fill it yourself. */
+#ifndef RANGE_SET_U32_MANY_H
+#define RANGE_SET_U32_MANY_H
+
+/* Adds copies of sets to a list until an allocation fails. */
+RSB_INLINE uint32_t rsb_private_u32_listed(
+    rsb_u32_sets *list, const rsb_u32 *const *sets, size_t count) {
+    for (size_t i = 0; i < count; i++) {
+        if (rsb_u32_sets_add(list, sets[i]) == RSB_NO_MEMORY) {
+            return RSB_NO_MEMORY;
+        }
+    }
+    return RSB_CHANGED;
+}
+
+/* Sets `out` to the values in at least one of the sets. If there are no sets, it is empty. */
+RSB_INLINE uint32_t rsb_u32_union_of(rsb_u32 *out, const rsb_u32 *const *sets, size_t count) {
+    rsb_u32_sets list = RSB_EMPTY;
+    uint32_t status = rsb_private_u32_listed(&list, sets, count);
+    if (status == RSB_CHANGED) {
+        status = rsb_u32_sets_union(out, &list);
+    }
+    rsb_u32_sets_free(&list);
+    return status;
+}
+
+/* Sets `out` to the values in all of the sets. If there are no sets, it has every uint32_t. */
+RSB_INLINE uint32_t rsb_u32_intersection_of(
+    rsb_u32 *out, const rsb_u32 *const *sets, size_t count) {
+    rsb_u32_sets list = RSB_EMPTY;
+    uint32_t status = rsb_private_u32_listed(&list, sets, count);
+    if (status == RSB_CHANGED) {
+        status = rsb_u32_sets_intersection(out, &list);
+    }
+    rsb_u32_sets_free(&list);
+    return status;
+}
+
+/* Sets `out` to the values in an odd number of the sets. If there are no sets, it is empty. */
+RSB_INLINE uint32_t rsb_u32_symmetric_difference_of(
+    rsb_u32 *out, const rsb_u32 *const *sets, size_t count) {
+    rsb_u32_sets list = RSB_EMPTY;
+    uint32_t status = rsb_private_u32_listed(&list, sets, count);
+    if (status == RSB_CHANGED) {
+        status = rsb_u32_sets_symmetric_difference(out, &list);
+    }
+    rsb_u32_sets_free(&list);
+    return status;
+}
+
+/* Sets `out` to the values in at least k of the sets. If k is 0, it has every uint32_t. */
+RSB_INLINE uint32_t rsb_u32_at_least(
+    rsb_u32 *out, const rsb_u32 *const *sets, size_t count, size_t k) {
+    rsb_u32_sets list = RSB_EMPTY;
+    uint32_t status = rsb_private_u32_listed(&list, sets, count);
+    if (status == RSB_CHANGED) {
+        status = rsb_u32_sets_at_least(out, &list, k);
+    }
+    rsb_u32_sets_free(&list);
+    return status;
+}
+
+#endif
