@@ -3,7 +3,6 @@
 #![tactic(auto)]
 
 pub mod blocks;
-
 pub mod line;
 pub mod line_laws;
 pub mod list;
