@@ -1,0 +1,12 @@
+use Rattle.std.proofs.Common.{rules, ◌≡◌, List, [], sym, subst}
+use Rattle.rsb_integer.specs.Runs.{Interval}
+use Rattle.range_set_c.specs.SetText.{IsRead}
+use Rattle.range_set_c.proofs.SetText.{nothing-read}
+use Rattle.range_set_c.proofs.u64_sets.text.rsb_u64_from_text.Goals as goal
+
+-- Empty text lists no ranges.
+pub returns-then-is_empty-clause-read : goal.returns-then-is_empty-clause-read
+returns-then-is_empty-clause-read c changed =
+    let nothing : c.args.text.now ≡ [] = search rules in
+    subst (λ (set : List Interval). IsRead 64 c.args.text.now set) (sym c.empty.ensures)
+    (nothing-read 64 c.args.text.now nothing)
