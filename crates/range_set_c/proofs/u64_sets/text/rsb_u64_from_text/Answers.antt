@@ -1,4 +1,6 @@
-use Rattle.std.proofs.Common.{rules, ◌≡◌, List, [], sym, subst}
+use Rattle.std.proofs.Common.{◌∙◌, List, length, sym, subst}
+use Rattle.std.proofs.lemmas.Bool.{eqb-true}
+use Rattle.std.proofs.lemmas.List.{nil_from_length}
 use Rattle.rsb_integer.specs.Runs.{Interval}
 use Rattle.range_set_c.specs.SetText.{IsRead}
 use Rattle.range_set_c.proofs.SetText.{nothing-read}
@@ -7,6 +9,7 @@ use Rattle.range_set_c.proofs.u64_sets.text.rsb_u64_from_text.Goals as goal
 -- Empty text lists no ranges.
 pub returns-then-is_empty-clause-read : goal.returns-then-is_empty-clause-read
 returns-then-is_empty-clause-read c changed =
-    let nothing : c.args.text.now ≡ [] = search rules in
+    let none = eqb-true (length c.args.text.now) 0 (sym c.is_empty.ensures ∙ c.if-is_empty.true) in
+    let nothing = nil_from_length c.args.text.now none in
     subst (λ (set : List Interval). IsRead 64 c.args.text.now set) (sym c.empty.ensures)
     (nothing-read 64 c.args.text.now nothing)
