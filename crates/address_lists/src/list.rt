@@ -30,7 +30,7 @@ pub struct AddressList<A: Allocator = Global> {
 ///
 /// `BadLine` has the number of the first bad line; what follows that line is not read. `NoMemory`
 /// is returned if an allocation fails, in a read too. `Io` has the error of a read that fails. It
-/// is also returned if there are 2^64 lines or more.
+/// is also returned if there are 2^64 - 2 lines or more.
 pub fn read_list<A: Allocator + Copy, R: BufRead>(
     alloc: A,
     input: &mut R,

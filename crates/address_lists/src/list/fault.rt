@@ -15,7 +15,7 @@ pub enum ListFault {
     BadLine(u64),
     /// An allocation failed.
     NoMemory,
-    /// A read failed, or the list has 2^64 lines or more.
+    /// A read failed, or the list has 2^64 - 2 lines or more.
     Io(io::Error),
 }
 
