@@ -1,0 +1,62 @@
+//! What a command line asks for.
+
+use crate::stub::Operation;
+use std::net::IpAddr;
+
+/// How addresses are written.
+#[derive(Clone, Copy, Debug, PartialEq, Eq)]
+pub enum Form {
+    /// As the fewest blocks: `ADDRESS/LENGTH`, or `ADDRESS` for a single address.
+    Blocks,
+    /// As ranges that neither overlap nor touch: `ADDRESS-ADDRESS`.
+    Ranges,
+}
+
+/// Which families of addresses are written.
+#[derive(Clone, Copy, Debug, PartialEq, Eq)]
+pub enum Families {
+    /// IPv4 and IPv6.
+    Both,
+    /// Only IPv4.
+    V4,
+    /// Only IPv6.
+    V6,
+}
+
+impl Families {
+    /// Returns whether IPv4 addresses are written.
+    pub fn has_v4(self) -> bool {
+        self != Families::V6
+    }
+
+    /// Returns whether IPv6 addresses are written.
+    pub fn has_v6(self) -> bool {
+        self != Families::V4
+    }
+}
+
+/// What a command line asks for. The files are names, and `-` is standard input.
+#[derive(Clone, Copy, Debug)]
+pub enum Request<'a> {
+    /// How the program is called.
+    Help,
+    /// Its version.
+    Version,
+    /// What an operation selects from the lists.
+    Select {
+        operation: Operation,
+        form: Form,
+        families: Families,
+        files: &'a [&'a str],
+    },
+    /// How many addresses and blocks of each family are in some list.
+    Count {
+        families: Families,
+        files: &'a [&'a str],
+    },
+    /// Which lists have an address.
+    Has {
+        address: IpAddr,
+        files: &'a [&'a str],
+    },
+}

@@ -1,0 +1,108 @@
+//! Lists of addresses as text.
+
+use crate::request::{Families, Form};
+use crate::stub::AddressList;
+use address_lists::{Address, Block, IntoBlocks};
+use range_set_blaze::RangeSetBlaze;
+use std::alloc::Allocator;
+use std::fmt::Display;
+use std::io::{self, Write};
+use std::net::{Ipv4Addr, Ipv6Addr};
+use std::ops::RangeInclusive;
+
+/// Addresses that are written as text.
+pub trait AddressText: Address {
+    /// What writes an address.
+    type Shown: Display + Drop;
+
+    /// Returns the address as what writes it.
+    fn shown(self) -> Self::Shown;
+}
+
+impl AddressText for u32 {
+    type Shown = Ipv4Addr;
+
+    fn shown(self) -> Ipv4Addr {
+        Ipv4Addr::from_bits(self)
+    }
+}
+
+impl AddressText for u128 {
+    type Shown = Ipv6Addr;
+
+    fn shown(self) -> Ipv6Addr {
+        Ipv6Addr::from_bits(self)
+    }
+}
+
+/// Writes the addresses of a list: IPv4 and then IPv6, ascending, with a block or a range on each
+/// line.
+pub fn write_list<W: Write, A: Allocator>(
+    output: &mut W,
+    list: &AddressList<A>,
+    form: Form,
+    families: Families,
+) -> io::Result<()> {
+    if families.has_v4() {
+        write_set(output, &list.v4, form)?;
+    }
+    if families.has_v6() {
+        write_set(output, &list.v6, form)?;
+    }
+    Ok(())
+}
+
+// Writes the addresses of a set in a form.
+fn write_set<T: AddressText + 'static, W: Write, A: Allocator>(
+    output: &mut W,
+    set: &RangeSetBlaze<T, A>,
+    form: Form,
+) -> io::Result<()> {
+    match form {
+        Form::Blocks => write_blocks(output, set),
+        Form::Ranges => write_ranges(output, set),
+    }
+}
+
+// Writes the blocks of a set, each on a line.
+fn write_blocks<T: AddressText + 'static, W: Write, A: Allocator>(
+    output: &mut W,
+    set: &RangeSetBlaze<T, A>,
+) -> io::Result<()> {
+    for block in set.ranges().blocks() {
+        write_block(output, block)?;
+    }
+    Ok(())
+}
+
+// Writes a block, and a line feed. A block of one address is written as that address.
+fn write_block<T: AddressText, W: Write>(output: &mut W, block: Block<T>) -> io::Result<()> {
+    let length = block.length;
+    let first = block.first.shown();
+    if length == T::bits() {
+        return writeln!(output, "{first}");
+    }
+    writeln!(output, "{first}/{length}")
+}
+
+// Writes the ranges of a set, each on a line.
+fn write_ranges<T: AddressText + 'static, W: Write, A: Allocator>(
+    output: &mut W,
+    set: &RangeSetBlaze<T, A>,
+) -> io::Result<()> {
+    for range in set.ranges() {
+        write_range(output, range)?;
+    }
+    Ok(())
+}
+
+// Writes the first and the last address of a range with a dash between them, and a line feed.
+fn write_range<T: AddressText, W: Write>(
+    output: &mut W,
+    range: RangeInclusive<T>,
+) -> io::Result<()> {
+    let (first, last) = range.into_inner();
+    let first = first.shown();
+    let last = last.shown();
+    writeln!(output, "{first}-{last}")
+}
