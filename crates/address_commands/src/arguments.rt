@@ -2,7 +2,7 @@
 
 use crate::fault::{Fault, Misuse};
 use crate::request::{Families, Form, Request};
-use crate::stub::Operation;
+use address_lists::Operation;
 use std::alloc::Allocator;
 use std::convert::AsStr;
 use std::net::IpAddr;

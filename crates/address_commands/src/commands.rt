@@ -3,9 +3,10 @@
 use crate::fault::Fault;
 use crate::inputs::Inputs;
 use crate::request::{Families, Form, Request};
-use crate::stub::{AddressList, ListFault, Operation, combine, read_list};
-use crate::writing::{AddressText, write_list};
-use address_lists::{Address, IntoBlocks};
+use crate::writing::write_list;
+use address_lists::{
+    Address, AddressList, IntoBlocks, ListFault, Operation, combine, read_list,
+};
 use range_set_blaze::RangeSetBlaze;
 use std::alloc::Allocator;
 use std::fmt::Display;

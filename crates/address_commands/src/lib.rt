@@ -7,7 +7,6 @@ mod fault;
 mod inputs;
 mod program;
 mod request;
-mod stub;
 mod system;
 mod writing;
 
@@ -17,6 +16,5 @@ pub use crate::fault::{Fault, Misuse};
 pub use crate::inputs::Inputs;
 pub use crate::program::{finish, start};
 pub use crate::request::{Families, Form, Request};
-pub use crate::stub::{AddressList, ListFault, Operation, combine, read_list};
 pub use crate::system::SystemInputs;
 pub use crate::writing::{AddressText, write_list};

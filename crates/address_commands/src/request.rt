@@ -1,6 +1,6 @@
 //! What a command line asks for.
 
-use crate::stub::Operation;
+use address_lists::Operation;
 use std::net::IpAddr;
 
 /// How addresses are written.

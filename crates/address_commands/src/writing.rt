@@ -1,8 +1,7 @@
 //! Lists of addresses as text.
 
 use crate::request::{Families, Form};
-use crate::stub::AddressList;
-use address_lists::{Address, Block, IntoBlocks};
+use address_lists::{Address, AddressList, Block, IntoBlocks};
 use range_set_blaze::RangeSetBlaze;
 use std::alloc::Allocator;
 use std::fmt::Display;

@@ -2,5 +2,8 @@ pub mod Address
 pub mod AddressRange
 pub mod Blocks
 pub mod BlocksLeft
+pub mod Combine
 pub mod Line
 pub mod LineParts
+pub mod List
+pub mod ListFault
