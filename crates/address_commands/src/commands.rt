@@ -4,9 +4,7 @@ use crate::fault::Fault;
 use crate::inputs::Inputs;
 use crate::request::{Families, Form, Request};
 use crate::writing::write_list;
-use address_lists::{
-    Address, AddressList, IntoBlocks, ListFault, Operation, combine, read_list,
-};
+use address_lists::{Address, AddressList, IntoBlocks, ListFault, Operation, combine, read_list};
 use range_set_blaze::RangeSetBlaze;
 use std::alloc::Allocator;
 use std::fmt::Display;

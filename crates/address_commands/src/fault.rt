@@ -2,8 +2,7 @@
 
 use std::alloc::{AllocError, AllocFailed};
 use std::error::Error;
-use std::fmt;
-use std::io;
+use std::{fmt, io};
 
 /// What is wrong with a command line.
 #[derive(Clone, Copy, Debug, PartialEq, Eq)]
