@@ -1,5 +1,9 @@
 //! Why the program exits with a status of 2 or more.
 
+ghost use Rattle.std.specs.Prelude.{◌≡◌, Some};
+ghost use Rattle.address_commands.specs.declared.fault.Fault.TheVariants.{CommandLine, NoMemory};
+ghost use Rattle.address_commands.specs.Fault.{fault_status, fault_text, misuse_text};
+
 use std::alloc::{AllocError, AllocFailed};
 use std::error::Error;
 use std::{fmt, io};
@@ -22,6 +26,8 @@ pub enum Misuse<'a> {
 }
 
 impl fmt::Display for Misuse<'_> {
+    ghost output = { λ misuse. Some (misuse_text misuse) };
+
     fn fmt<W: fmt::Write>(&self, f: &mut fmt::Formatter<W>) -> fmt::Result {
         match self {
             Misuse::NoCommand => write!(f, "no command"),
@@ -51,7 +57,9 @@ pub enum Fault<'a> {
 
 impl Fault<'_> {
     /// Returns the exit status of the fault.
-    pub fn status(&self) -> u8 {
+    pub fn status(&self) -> u8
+        ensures { result ≡ fault_status self.now }
+    {
         match self {
             Fault::BadLine { .. } => 2,
             Fault::NoMemory => 3,
@@ -62,6 +70,8 @@ impl Fault<'_> {
 }
 
 impl fmt::Display for Fault<'_> {
+    ghost output = { fault_text };
+
     fn fmt<W: fmt::Write>(&self, f: &mut fmt::Formatter<W>) -> fmt::Result {
         match self {
             Fault::BadLine { file, line } => {
@@ -69,7 +79,7 @@ impl fmt::Display for Fault<'_> {
             }
             Fault::NotRead { file, error } => write!(f, "{file}: {error}"),
             Fault::NotWritten(error) => write!(f, "output: {error}"),
-            Fault::NoMemory => write!(f, "no memory"),
+            Fault::NoMemory => write!(f, "ip_lists: no memory"),
             Fault::CommandLine(misuse) => write!(f, "ip_lists: {misuse}"),
         }
     }
@@ -78,18 +88,24 @@ impl fmt::Display for Fault<'_> {
 impl Error for Fault<'_> {}
 
 impl<'a> From<Misuse<'a>> for Fault<'a> {
+    ghost from_gives = { λ misuse fault. fault ≡ CommandLine misuse };
+
     fn from(misuse: Misuse<'a>) -> Self {
         Fault::CommandLine(misuse)
     }
 }
 
 impl From<AllocError> for Fault<'_> {
+    ghost from_gives = { λ _ fault. fault ≡ NoMemory };
+
     fn from(_error: AllocError) -> Self {
         Fault::NoMemory
     }
 }
 
 impl<T: Drop> From<AllocFailed<T>> for Fault<'_> {
+    ghost from_gives = { λ _ fault. fault ≡ NoMemory };
+
     fn from(_error: AllocFailed<T>) -> Self {
         Fault::NoMemory
     }

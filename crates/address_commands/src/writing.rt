@@ -1,5 +1,11 @@
 //! Lists of addresses as text.
 
+ghost use Rattle.std.specs.Prelude.{◌≡◌, ℕ, List, OnOk, Some};
+ghost use Rattle.std.specs.Io.KnownBytes.{Appends};
+ghost use Rattle.std.specs.Range.{range_inclusive_start, range_inclusive_end};
+ghost use Rattle.address_lists.specs.Address.{v4_text, v6_text};
+ghost use Rattle.address_commands.specs.Text.{block_line, range_line};
+
 use crate::request::{Families, Form};
 use address_lists::{Address, AddressList, Block, IntoBlocks};
 use range_set_blaze::RangeSetBlaze;
@@ -11,14 +17,20 @@ use std::ops::RangeInclusive;
 
 /// Addresses that are written as text.
 pub trait AddressText: Address {
+    // The text of the address with a rank.
+    ghost text: { ℕ → List ℕ };
+
     /// What writes an address.
     type Shown: Display + Drop;
 
     /// Returns the address as what writes it.
-    fn shown(self) -> Self::Shown;
+    fn shown(self) -> Self::Shown
+        ensures { Self.Shown.output result ≡ Some (text (Self.rank self)) };
 }
 
 impl AddressText for u32 {
+    ghost text = { v4_text };
+
     type Shown = Ipv4Addr;
 
     fn shown(self) -> Ipv4Addr {
@@ -27,6 +39,8 @@ impl AddressText for u32 {
 }
 
 impl AddressText for u128 {
+    ghost text = { v6_text };
+
     type Shown = Ipv6Addr;
 
     fn shown(self) -> Ipv6Addr {
@@ -75,7 +89,10 @@ fn write_blocks<T: AddressText + 'static, W: Write, A: Allocator>(
 }
 
 // Writes a block, and a line feed. A block of one address is written as that address.
-fn write_block<T: AddressText, W: Write>(output: &mut W, block: Block<T>) -> io::Result<()> {
+fn write_block<T: AddressText, W: Write>(output: &mut W, block: Block<T>) -> io::Result<()>
+    ensures { OnOk result (Appends (W.contents output.old) (W.contents output.new)
+        (block_line T.text T.rank T.width block)) }
+{
     let length = block.length;
     let first = block.first.shown();
     if length == T::bits() {
@@ -96,10 +113,10 @@ fn write_ranges<T: AddressText + 'static, W: Write, A: Allocator>(
 }
 
 // Writes the first and the last address of a range with a dash between them, and a line feed.
-fn write_range<T: AddressText, W: Write>(
-    output: &mut W,
-    range: RangeInclusive<T>,
-) -> io::Result<()> {
+fn write_range<T: AddressText, W: Write>(output: &mut W, range: RangeInclusive<T>) -> io::Result<()>
+    ensures { OnOk result (Appends (W.contents output.old) (W.contents output.new)
+        (range_line T.text (T.rank (range_inclusive_start range)) (T.rank (range_inclusive_end range)))) }
+{
     let (first, last) = range.into_inner();
     let first = first.shown();
     let last = last.shown();
