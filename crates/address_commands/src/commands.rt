@@ -5,7 +5,7 @@ use crate::inputs::Inputs;
 use crate::request::{Families, Form, Request};
 use crate::writing::write_list;
 use address_lists::{Address, AddressList, IntoBlocks, ListFault, Operation, combine, read_list};
-use range_set_blaze::RangeSetBlaze;
+use range_set_blaze::{RangeSetBlaze, UIntPlusOne};
 use std::alloc::Allocator;
 use std::fmt::Display;
 use std::io::{self, ErrorKind, Write};
@@ -45,6 +45,9 @@ options: --blocks (the default), --ranges, -4, -6, --help, --version
 
 /// The program's name and version.
 pub const VERSION: &str = "ip_lists 0.1.0\n";
+
+// The number of all IPv6 addresses, which is 2^128.
+const ALL_V6: &str = "340282366920938463463374607431768211456";
 
 /// Reads all lists that a request names, in that order, and writes the answer to it.
 pub fn run<'a, A: Allocator + Copy, I: Inputs, W: Write>(
@@ -135,7 +138,11 @@ fn write_counts<W: Write, A: Allocator>(
         write_count(output, "IPv4", list.v4.len(), block_count(&list.v4))?;
     }
     if families.has_v6() {
-        write_count(output, "IPv6", list.v6.len(), block_count(&list.v6))?;
+        let blocks = block_count(&list.v6);
+        match list.v6.len() {
+            UIntPlusOne::UInt(addresses) => write_count(output, "IPv6", addresses, blocks)?,
+            UIntPlusOne::MaxPlusOne => write_count(output, "IPv6", ALL_V6, blocks)?,
+        }
     }
     Ok(())
 }
