@@ -1,7 +1,7 @@
 //! The command line.
 
 use crate::fault::{Fault, Misuse};
-use crate::request::{Families, Form, Request};
+use crate::request::{Families, Form, Request, Select};
 use address_lists::Operation;
 use std::alloc::Allocator;
 use std::convert::AsStr;
@@ -113,12 +113,12 @@ fn select<'a>(
     if files.is_empty() {
         return Err(Misuse::TooFewWords);
     }
-    Ok(Request::Select {
+    Ok(Request::Select(Select {
         operation,
         form: options.form,
         families: options.families,
         files,
-    })
+    }))
 }
 
 // Returns what `except` and the words after it ask for.

@@ -1,15 +1,24 @@
-//! The commands: each reads all of its lists, and then writes its answer.
+//! The commands. Each reads all of its lists, and then writes its answer.
 
+ghost use Rattle.std.specs.Prelude.{◌≡◌, ℕ, ◌^◌, Err, IfErr, IfOk, IsTrue, List, Ok, OnOk, map};
+ghost use Rattle.std.specs.Io.KnownBytes.{Appends};
+ghost use Rattle.address_commands.specs.Answer.{Answers};
+ghost use Rattle.address_commands.specs.Files.{IsFirstFault, KeepsUnlessWriting};
+ghost use Rattle.address_commands.specs.Request.{files_of};
+
+mod count;
+mod has;
+mod lists;
+mod select;
+
+use crate::commands::count::count;
+use crate::commands::has::has;
+use crate::commands::select::select;
 use crate::fault::Fault;
 use crate::inputs::Inputs;
-use crate::request::{Families, Form, Request};
-use crate::writing::write_list;
-use address_lists::{Address, AddressList, IntoBlocks, ListFault, Operation, combine, read_list};
-use range_set_blaze::{RangeSetBlaze, UIntPlusOne};
+use crate::request::Request;
 use std::alloc::Allocator;
-use std::fmt::Display;
-use std::io::{self, ErrorKind, Write};
-use std::net::IpAddr;
+use std::io::Write;
 
 /// How a command ended that met no fault.
 #[derive(Clone, Copy, Debug, PartialEq, Eq)]
@@ -46,143 +55,35 @@ options: --blocks (the default), --ranges, -4, -6, --help, --version
 /// The program's name and version.
 pub const VERSION: &str = "ip_lists 0.1.0\n";
 
-// The number of all IPv6 addresses, which is 2^128.
-const ALL_V6: &str = "340282366920938463463374607431768211456";
-
 /// Reads all lists that a request names, in that order, and writes the answer to it.
+///
+/// The first fault is returned. Nothing was written then, unless the fault is a failed write.
 pub fn run<'a, A: Allocator + Copy, I: Inputs, W: Write>(
     alloc: A,
     inputs: &I,
     request: Request<'a>,
     output: &mut W,
-) -> Result<Outcome, Fault<'a>> {
+) -> Result<Outcome, Fault<'a>>
+    ensures answers { IfOk result (λ outcome. Answers (I.bytes inputs.now) request.entry outcome
+        (W.contents output.old) (W.contents output.new)) }
+    ensures help { request.entry ≡ Request.Help
+        → OnOk result (Appends (W.contents output.old) (W.contents output.new) HELP.now) }
+    ensures version { request.entry ≡ Request.Version
+        → OnOk result (Appends (W.contents output.old) (W.contents output.new) VERSION.now) }
+    ensures first { IfErr result (IsFirstFault (I.bytes inputs.now) (files_of request.entry)) }
+    ensures keeps { IfErr result (λ fault.
+        KeepsUnlessWriting fault (W.contents output.old) (W.contents output.new)) }
+{
     match request {
-        Request::Help => written(output.write_all(HELP.as_bytes())),
-        Request::Version => written(output.write_all(VERSION.as_bytes())),
-        Request::Select {
-            operation,
-            form,
-            families,
-            files,
-        } => {
-            let lists = read_lists(alloc, inputs, files)?;
-            let list = combine(alloc, operation, &lists)?;
-            written(write_list(output, &list, form, families))
-        }
-        Request::Count { families, files } => {
-            let lists = read_lists(alloc, inputs, files)?;
-            let list = combine(alloc, Operation::Union, &lists)?;
-            written(write_counts(output, &list, families))
-        }
-        Request::Has { address, files } => {
-            let lists = read_lists(alloc, inputs, files)?;
-            has(address, files, &lists, output)
-        }
+        Request::Help => output
+            .write_all(HELP.as_bytes())
+            .map_err(Fault::NotWritten)?,
+        Request::Version => output
+            .write_all(VERSION.as_bytes())
+            .map_err(Fault::NotWritten)?,
+        Request::Select(it) => select(alloc, inputs, it, output)?,
+        Request::Count { families, files } => count(alloc, inputs, families, files, output)?,
+        Request::Has { address, files } => return has(alloc, inputs, address, files, output),
     }
-}
-
-// Returns how a command ends that wrote its answer, or failed to.
-fn written<'a>(ended: io::Result<()>) -> Result<Outcome, Fault<'a>> {
-    match ended {
-        Ok(()) => Ok(Outcome::Done),
-        Err(error) => Err(Fault::NotWritten(error)),
-    }
-}
-
-// Reads the lists of some files, in order.
-fn read_lists<'a, A: Allocator + Copy, I: Inputs>(
-    alloc: A,
-    inputs: &I,
-    files: &'a [&'a str],
-) -> Result<Vec<AddressList<A>, A>, Fault<'a>> {
-    let mut lists = Vec::new(alloc);
-    for file in files {
-        lists.push(read_file(alloc, inputs, *file)?)?;
-    }
-    Ok(lists)
-}
-
-// Reads the list of a file.
-fn read_file<'a, A: Allocator + Copy, I: Inputs>(
-    alloc: A,
-    inputs: &I,
-    file: &'a str,
-) -> Result<AddressList<A>, Fault<'a>> {
-    let mut input = match inputs.open(file) {
-        Ok(input) => input,
-        Err(error) => return Err(not_read(file, error)),
-    };
-    match read_list(alloc, &mut input) {
-        Ok(list) => Ok(list),
-        Err(ListFault::BadLine(line)) => Err(Fault::BadLine { file, line }),
-        Err(ListFault::NoMemory) => Err(Fault::NoMemory),
-        Err(ListFault::Io(error)) => Err(not_read(file, error)),
-    }
-}
-
-// Returns the fault of a file that could not be read.
-fn not_read<'a>(file: &'a str, error: io::Error) -> Fault<'a> {
-    match error.kind() {
-        ErrorKind::OutOfMemory => Fault::NoMemory,
-        _ => Fault::NotRead { file, error },
-    }
-}
-
-// Writes how many addresses and blocks of each family a list has.
-fn write_counts<W: Write, A: Allocator>(
-    output: &mut W,
-    list: &AddressList<A>,
-    families: Families,
-) -> io::Result<()> {
-    if families.has_v4() {
-        write_count(output, "IPv4", list.v4.len(), block_count(&list.v4))?;
-    }
-    if families.has_v6() {
-        let blocks = block_count(&list.v6);
-        match list.v6.len() {
-            UIntPlusOne::UInt(addresses) => write_count(output, "IPv6", addresses, blocks)?,
-            UIntPlusOne::MaxPlusOne => write_count(output, "IPv6", ALL_V6, blocks)?,
-        }
-    }
-    Ok(())
-}
-
-// Returns how many blocks a set has.
-fn block_count<T: Address + 'static, A: Allocator>(set: &RangeSetBlaze<T, A>) -> usize {
-    set.ranges().blocks().count()
-}
-
-// Writes the name of a family, and how many addresses and blocks of it a list has.
-fn write_count<W: Write, N: Display + Drop>(
-    output: &mut W,
-    family: &str,
-    addresses: N,
-    blocks: usize,
-) -> io::Result<()> {
-    writeln!(output, "{family} addresses: {addresses}, blocks: {blocks}")
-}
-
-// Writes the names of the files whose lists have an address, each on a line.
-fn has<'a, W: Write, A: Allocator>(
-    address: IpAddr,
-    files: &[&'a str],
-    lists: &[AddressList<A>],
-    output: &mut W,
-) -> Result<Outcome, Fault<'a>> {
-    let mut outcome = Outcome::InNone;
-    for (file, list) in files.iter().zip(lists) {
-        if has_address(list, address) {
-            written(writeln!(output, "{file}"))?;
-            outcome = Outcome::Done;
-        }
-    }
-    Ok(outcome)
-}
-
-// Returns whether a list has an address.
-fn has_address<A: Allocator>(list: &AddressList<A>, address: IpAddr) -> bool {
-    match address {
-        IpAddr::V4(address) => list.v4.contains(address.to_bits()),
-        IpAddr::V6(address) => list.v6.contains(address.to_bits()),
-    }
+    Ok(Outcome::Done)
 }

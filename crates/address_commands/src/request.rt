@@ -35,20 +35,29 @@ impl Families {
     }
 }
 
-/// What a command line asks for. The files are names, and `-` is standard input.
+/// What an operation selects from the lists of some files. The files are names, and `-` is standard
+/// input.
+#[derive(Clone, Copy, Debug)]
+pub struct Select<'a> {
+    /// The operation.
+    pub operation: Operation,
+    /// How the addresses are written.
+    pub form: Form,
+    /// Which of them are written.
+    pub families: Families,
+    /// The names of the files.
+    pub files: &'a [&'a str],
+}
+
+/// What a command line asks for.
 #[derive(Clone, Copy, Debug)]
 pub enum Request<'a> {
     /// How the program is called.
     Help,
     /// Its version.
     Version,
-    /// What an operation selects from the lists.
-    Select {
-        operation: Operation,
-        form: Form,
-        families: Families,
-        files: &'a [&'a str],
-    },
+    /// What an operation selects from lists.
+    Select(Select<'a>),
     /// How many addresses and blocks of each family are in some list.
     Count {
         families: Families,

@@ -4,7 +4,8 @@ ghost use Rattle.std.specs.Prelude.{◌≡◌, ℕ, List, OnOk, Some};
 ghost use Rattle.std.specs.Io.KnownBytes.{Appends};
 ghost use Rattle.std.specs.Range.{range_inclusive_start, range_inclusive_end};
 ghost use Rattle.address_lists.specs.Address.{v4_text, v6_text};
-ghost use Rattle.address_commands.specs.Text.{block_line, range_line};
+ghost use Rattle.range_set_blaze.specs.Runs.{members};
+ghost use Rattle.address_commands.specs.Text.{IsBlocksText, IsListText, IsSetText, block_line, kept_v4, kept_v6, range_line, ranges_text};
 
 use crate::request::{Families, Form};
 use address_lists::{Address, AddressList, Block, IntoBlocks};
@@ -49,13 +50,18 @@ impl AddressText for u128 {
 }
 
 /// Writes the addresses of a list: IPv4 and then IPv6, ascending, with a block or a range on each
-/// line.
+/// line. It does not allocate, unless the writer does. If a write fails, part of the text may have
+/// been written.
 pub fn write_list<W: Write, A: Allocator>(
     output: &mut W,
     list: &AddressList<A>,
     form: Form,
     families: Families,
-) -> io::Result<()> {
+) -> io::Result<()>
+    ensures { OnOk result ((text : List ℕ)
+        × IsListText form (kept_v4 families list.now.v4) (kept_v6 families list.now.v6) text
+        × Appends (W.contents output.old) (W.contents output.new) text) }
+{
     if families.has_v4() {
         write_set(output, &list.v4, form)?;
     }
@@ -70,7 +76,10 @@ fn write_set<T: AddressText + 'static, W: Write, A: Allocator>(
     output: &mut W,
     set: &RangeSetBlaze<T, A>,
     form: Form,
-) -> io::Result<()> {
+) -> io::Result<()>
+    ensures { OnOk result ((text : List ℕ) × IsSetText T.text T.rank T.width form set.now text
+        × Appends (W.contents output.old) (W.contents output.new) text) }
+{
     match form {
         Form::Blocks => write_blocks(output, set),
         Form::Ranges => write_ranges(output, set),
@@ -81,7 +90,11 @@ fn write_set<T: AddressText + 'static, W: Write, A: Allocator>(
 fn write_blocks<T: AddressText + 'static, W: Write, A: Allocator>(
     output: &mut W,
     set: &RangeSetBlaze<T, A>,
-) -> io::Result<()> {
+) -> io::Result<()>
+    ensures { OnOk result ((text : List ℕ)
+        × IsBlocksText T.text T.rank T.width (members set.now) text
+        × Appends (W.contents output.old) (W.contents output.new) text) }
+{
     for block in set.ranges().blocks() {
         write_block(output, block)?;
     }
@@ -105,7 +118,10 @@ fn write_block<T: AddressText, W: Write>(output: &mut W, block: Block<T>) -> io:
 fn write_ranges<T: AddressText + 'static, W: Write, A: Allocator>(
     output: &mut W,
     set: &RangeSetBlaze<T, A>,
-) -> io::Result<()> {
+) -> io::Result<()>
+    ensures { OnOk result (Appends (W.contents output.old) (W.contents output.new)
+        (ranges_text T.text set.now)) }
+{
     for range in set.ranges() {
         write_range(output, range)?;
     }
