@@ -1,2 +1,3 @@
 pub mod aligned
+pub mod listing
 pub mod spelling

@@ -1,5 +1,5 @@
 -- What a list of addresses selects, line by line.
-use Rattle.std.specs.Prelude.{◌≡◌, ◌↔◌, ℕ, ◌+◌, ◌≤◌, ◌++◌, All, Any, Bool, IsTrue, List, ◌∷◌, filter, length, map, nat_lt}
+use Rattle.std.specs.Prelude.{◌≡◌, ◌⊎◌, ◌↔◌, ℕ, ◌+◌, ◌≤◌, ◌++◌, All, Any, Bool, IsTrue, List, ◌∷◌, filter, length, map, nat_lt}
 use Rattle.std.specs.Str.Lines.{lines}
 use Rattle.range_set_blaze.specs.Selection.{Selection}
 use Rattle.address_lists.specs.declared.line.Line.{Line}
@@ -28,14 +28,20 @@ abbrev pub AreAddressesOf : (List ℕ → ℕ → ℕ → Type 0) → List (List
 AreAddressesOf Means list selected =
     (number : ℕ) → IsTrue (selected number) ↔ Any (HasAddress Means number) list
 
+-- Whether the new selection has the numbers of the old one, those of the addresses of a family that
+-- the line means, and no others.
+abbrev pub AddsAddressesOf : (List ℕ → ℕ → ℕ → Type 0) → List ℕ → Selection → Selection → Type 0
+AddsAddressesOf Means line old new = (number : ℕ)
+    → IsTrue (new number) ↔ (IsTrue (old number) ⊎ HasAddress Means number line)
+
 -- ---- files
 
 -- Whether each line of the bytes has a meaning, and together they mean exactly these IPv4 and IPv6
 -- addresses.
 pub record IsListOf (bytes : List ℕ) (v4 v6 : Selection) : Type 0 where
   pub good : All IsGoodLine (lines bytes)
-  pub v4 : AreAddressesOf MeansV4 (lines bytes) v4
-  pub v6 : AreAddressesOf MeansV6 (lines bytes) v6
+  pub v4_addresses : AreAddressesOf MeansV4 (lines bytes) v4
+  pub v6_addresses : AreAddressesOf MeansV6 (lines bytes) v6
 
 -- Whether the line with this number, counted from 1, is the first that has no meaning.
 pub record IsFirstBadLine (bytes : List ℕ) (number : ℕ) : Type 0 where

@@ -1,11 +1,10 @@
 //! A list of addresses, read line by line.
 
-ghost use Rattle.std.specs.Prelude.{◌≡◌, ◌⊎◌, ◌↔◌, ℕ, ◌+◌, ◌≤◌, [], Err, IfOk, IfSome, IsTrue, List, OnOk, length};
-ghost use Rattle.std.specs.Io.KnownBytes.{IsAtEnd};
+ghost use Rattle.std.specs.Prelude.{◌≡◌, ℕ, ◌+◌, ◌≤◌, [], Err, IfOk, IfSome, List, OnOk, Some, length};
 ghost use Rattle.std.specs.Str.Lines.{lines};
 ghost use Rattle.range_set_blaze.specs.Runs.{members};
 ghost use Rattle.address_lists.specs.Line.{IsLine, MeansV4, MeansV6};
-ghost use Rattle.address_lists.specs.List.{HasAddress, IsFirstBadLine, IsListOf};
+ghost use Rattle.address_lists.specs.List.{AddsAddressesOf, IsFirstBadLine, IsListOf};
 
 pub(crate) mod fault;
 mod laws;
@@ -40,7 +39,8 @@ pub fn read_list<A: Allocator + Copy, R: BufRead>(
         IsListOf bytes (members list.v4) (members list.v6))) }
     ensures run_count { IfOk result (λ list. IfSome (R.remaining input.old) (λ bytes.
         length list.v4 + length list.v6 ≤ length (lines bytes))) }
-    ensures end { OnOk result (IsAtEnd (R.remaining input.new)) }
+    ensures end { OnOk result (IfSome (R.remaining input.old) (λ bytes.
+        R.remaining input.new ≡ Some [])) }
     ensures bad_line { (number : ℕ) → result ≡ Err (ListFault.BadLine number)
         → IfSome (R.remaining input.old) (λ bytes. IsFirstBadLine bytes number) }
 {
@@ -73,12 +73,10 @@ impl<A: Allocator + Copy> AddressList<A> {
 
     // Adds the addresses that a line means.
     fn add(&mut self, meaning: Line) -> Result<(), AllocError>
-        ensures v4 { (line : List ℕ) → IsLine line meaning → OnOk result ((number : ℕ) →
-            IsTrue (members self.new.v4 number) ↔
-            (IsTrue (members self.old.v4 number) ⊎ HasAddress MeansV4 number line)) }
-        ensures v6 { (line : List ℕ) → IsLine line meaning → OnOk result ((number : ℕ) →
-            IsTrue (members self.new.v6 number) ↔
-            (IsTrue (members self.old.v6 number) ⊎ HasAddress MeansV6 number line)) }
+        ensures v4 { (line : List ℕ) → IsLine line meaning → OnOk result
+            (AddsAddressesOf MeansV4 line (members self.old.v4) (members self.new.v4)) }
+        ensures v6 { (line : List ℕ) → IsLine line meaning → OnOk result
+            (AddsAddressesOf MeansV6 line (members self.old.v6) (members self.new.v6)) }
         ensures run_count { length self.new.v4 + length self.new.v6
             ≤ length self.old.v4 + length self.old.v6 + 1 }
     {

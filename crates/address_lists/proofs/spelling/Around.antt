@@ -44,7 +44,7 @@ before_comment text comment none is =
     take_at text comment (position_or_len begins_comment (text ++ comment))
     (omega (arith, first, no_more comment is))
 
-blank_no_comment : (byte : ℕ) → is_ascii_whitespace byte ≡ true → begins_comment byte ≡ false
+pub blank_no_comment : (byte : ℕ) → is_ascii_whitespace byte ≡ true → begins_comment byte ≡ false
 blank_no_comment byte is = grind (arith, nat_tests)
 
 blanks_no_comment : (blanks : List ℕ) → AreBlanks blanks

@@ -14,7 +14,7 @@ use Rattle.address_lists.specs.LineParts.{parts, trimmed}
 use Rattle.address_lists.proofs.spelling.Addresses.{IsV4_unique, IsV6_unique}
 
 -- A range is determined by its ends.
-Spans_unique : (range other : RangeInclusive ℕ) (first last start end : ℕ)
+pub Spans_unique : (range other : RangeInclusive ℕ) (first last start end : ℕ)
     → Spans range first last → Spans other start end → first ≡ start → last ≡ end → range ≡ other
 Spans_unique range other first last start end h k starts ends =
     let at_start : range_inclusive_start range ≡ range_inclusive_start other =

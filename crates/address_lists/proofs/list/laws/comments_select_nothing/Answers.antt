@@ -1,0 +1,5 @@
+use Rattle.address_lists.proofs.listing.Contents.{same_list}
+use Rattle.address_lists.proofs.list.laws.comments_select_nothing.Goals as goal
+
+pub returns : goal.returns
+returns c = same_list
