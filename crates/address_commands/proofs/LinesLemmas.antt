@@ -1,10 +1,10 @@
 -- The lines of the ranges of a set.
-use Rattle.std.proofs.Common.{◌≡◌, ◌∙◌, ℕ, ◌+◌, ◌≤◌, Bool, true, false, List, [], ◌∷◌, ◌++◌, None, refl, ap, arith}
+use Rattle.std.proofs.Common.{◌≡◌, ◌∙◌, ℕ, ◌+◌, ◌≤◌, Bool, true, false, cond, List, [], ◌∷◌, ◌++◌, None, refl, sym, ap, subst, arith}
 use Rattle.std.specs.Iterator.{Yields, YieldsFirst}
 use Rattle.std.specs.List.{flat_map}
 use Rattle.std.specs.Range.{range_inclusive_start, range_inclusive_end, range_inclusive_exhausted}
 use Rattle.std.specs.declared.ops.RangeInclusive.{RangeInclusive}
-use Rattle.range_set_blaze.specs.Runs.{IsCanonicalFrom}
+use Rattle.range_set_blaze.specs.Runs.{from_to, Interval, IsCanonicalFrom}
 use Rattle.rsb_integer.specs.Rank.{intervals_of}
 use Rattle.address_commands.specs.Text.{range_line, ranges_text}
 
@@ -14,6 +14,11 @@ pub all-yielded : {S A : Type 0} (rest : S → List A) (items : List A) (s t u :
 all-yielded rest [] s t u calls end = ap rest calls ∙ end.0
 all-yielded rest (item ∷ items) s t u calls end =
     calls.1 ∙ ap (λ more. item ∷ more) (all-yielded rest items calls.0 t u calls.2 end)
+
+-- The ranks of a range that was not iterated.
+abbrev span : {T : Type 0} → (T → ℕ) → RangeInclusive T → Interval
+span rank range =
+    from_to (rank (range_inclusive_start range)) (rank (range_inclusive_end range))
 
 -- The line of a range of values.
 abbrev pub line_of : {T : Type 0} → (ℕ → List ℕ) → (T → ℕ) → RangeInclusive T → List ℕ
@@ -30,12 +35,21 @@ module _ {T : Type 0} (text : ℕ → List ℕ) (rank : T → ℕ) where
       → flat_map (line_of text rank) (range ∷ ranges)
       ≡ ranges_text text (intervals_of rank (range ∷ ranges))
   first-lines range ranges low true is canonical others =
-      let kept = rw is at canonical in
-      let bad : 1 ≤ 0 = kept.1.0 in
+      let Kept : Bool → Type 0 = λ test. IsCanonicalFrom low
+      (cond test (from_to 1 0) (span rank range) ∷ intervals_of rank ranges) in
+      let kept : Kept true = subst Kept is canonical in
+      let bad : 1 ≤ 0 = kept.1 in
       absurd (omega (arith, bad))
   first-lines range ranges low false is canonical others =
-      let kept = rw is at canonical in
-      rw is (ap (λ more. line_of text rank range ++ more) (others _ kept.1.1))
+      let Kept : Bool → Type 0 = λ test. IsCanonicalFrom low
+      (cond test (from_to 1 0) (span rank range) ∷ intervals_of rank ranges) in
+      let kept : Kept false = subst Kept is canonical in
+      let Same : Bool → Type 0 = λ test. flat_map (line_of text rank) (range ∷ ranges)
+      ≡ ranges_text text (cond test (from_to 1 0) (span rank range) ∷ intervals_of rank ranges) in
+      let same : Same false =
+      ap (λ more. line_of text rank range ++ more)
+      (others (rank (range_inclusive_end range) + 2) kept.2) in
+      subst Same (sym is) same
 
   -- The lines of ranges are those of their ranks.
   pub lines-of : (ranges : List (RangeInclusive T)) (low : ℕ)

@@ -63,6 +63,6 @@ kept_v6 V6 runs = runs
 pub record IsListText (form : Form) (v4 v6 : List Interval) (text : List ℕ) : Type 0 where
   pub v4_lines : List ℕ
   pub v6_lines : List ℕ
-  pub v4 : IsSetText v4_text (λ (number : ℕ). number) 32 form v4 v4_lines
-  pub v6 : IsSetText v6_text (λ (number : ℕ). number) 128 form v6 v6_lines
+  pub v4_written : IsSetText v4_text (λ (number : ℕ). number) 32 form v4 v4_lines
+  pub v6_written : IsSetText v6_text (λ (number : ℕ). number) 128 form v6 v6_lines
   pub whole : text ≡ v4_lines ++ v6_lines

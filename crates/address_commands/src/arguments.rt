@@ -1,7 +1,7 @@
 //! The command line.
 
 use crate::fault::{Fault, Misuse};
-use crate::request::{Families, Form, Request, Select};
+use crate::request::{Combination, Families, Form, Request};
 use address_lists::Operation;
 use std::alloc::Allocator;
 use std::convert::AsStr;
@@ -92,12 +92,12 @@ fn request_of<'a>(options: Options, operands: &'a [&'a str]) -> Result<Request<'
         return Err(Misuse::NoCommand);
     };
     match *command {
-        "union" => select(options, Operation::Union, words),
-        "common" => select(options, Operation::Common, words),
+        "union" => combination(options, Operation::Union, words),
+        "common" => combination(options, Operation::Common, words),
         "except" => except(options, words),
-        "odd" => select(options, Operation::Odd, words),
+        "odd" => combination(options, Operation::Odd, words),
         "at-least" => at_least(options, words),
-        "complement" => select(options, Operation::Complement, words),
+        "complement" => combination(options, Operation::Complement, words),
         "count" => count(options, words),
         "has" => has(words),
         _ => Err(Misuse::UnknownCommand(*command)),
@@ -105,7 +105,7 @@ fn request_of<'a>(options: Options, operands: &'a [&'a str]) -> Result<Request<'
 }
 
 // Returns what an operation on some files asks for.
-fn select<'a>(
+fn combination<'a>(
     options: Options,
     operation: Operation,
     files: &'a [&'a str],
@@ -113,7 +113,7 @@ fn select<'a>(
     if files.is_empty() {
         return Err(Misuse::TooFewWords);
     }
-    Ok(Request::Select(Select {
+    Ok(Request::Combine(Combination {
         operation,
         form: options.form,
         families: options.families,
@@ -126,7 +126,7 @@ fn except<'a>(options: Options, files: &'a [&'a str]) -> Result<Request<'a>, Mis
     if files.len() < 2 {
         return Err(Misuse::TooFewWords);
     }
-    select(options, Operation::Except, files)
+    combination(options, Operation::Except, files)
 }
 
 // Returns what `at-least` and the words after it ask for.
@@ -135,7 +135,7 @@ fn at_least<'a>(options: Options, words: &'a [&'a str]) -> Result<Request<'a>, M
         return Err(Misuse::TooFewWords);
     };
     match number.parse::<usize>() {
-        Ok(count) => select(options, Operation::AtLeast(count), files),
+        Ok(count) => combination(options, Operation::AtLeast(count), files),
         Err(_) => Err(Misuse::NoNumber(*number)),
     }
 }

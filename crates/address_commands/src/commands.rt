@@ -6,14 +6,14 @@ ghost use Rattle.address_commands.specs.Answer.{Answers};
 ghost use Rattle.address_commands.specs.Files.{IsFirstFault, KeepsUnlessWriting};
 ghost use Rattle.address_commands.specs.Request.{files_of};
 
+mod combination;
 mod count;
 mod has;
 mod lists;
-mod select;
 
-use crate::commands::count::count;
-use crate::commands::has::has;
-use crate::commands::select::select;
+use crate::commands::combination::write_combination;
+use crate::commands::count::write_counts;
+use crate::commands::has::write_names;
 use crate::fault::Fault;
 use crate::inputs::Inputs;
 use crate::request::Request;
@@ -75,15 +75,13 @@ pub fn run<'a, A: Allocator + Copy, I: Inputs, W: Write>(
         KeepsUnlessWriting fault (W.contents output.old) (W.contents output.new)) }
 {
     match request {
-        Request::Help => output
-            .write_all(HELP.as_bytes())
-            .map_err(Fault::NotWritten)?,
-        Request::Version => output
-            .write_all(VERSION.as_bytes())
-            .map_err(Fault::NotWritten)?,
-        Request::Select(it) => select(alloc, inputs, it, output)?,
-        Request::Count { families, files } => count(alloc, inputs, families, files, output)?,
-        Request::Has { address, files } => return has(alloc, inputs, address, files, output),
+        Request::Help => output.write_all(HELP.as_bytes())?,
+        Request::Version => output.write_all(VERSION.as_bytes())?,
+        Request::Combine(combination) => write_combination(alloc, inputs, combination, output)?,
+        Request::Count { families, files } => write_counts(alloc, inputs, families, files, output)?,
+        Request::Has { address, files } => {
+            return write_names(alloc, inputs, address, files, output);
+        }
     }
     Ok(Outcome::Done)
 }

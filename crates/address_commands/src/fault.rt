@@ -1,7 +1,7 @@
 //! Why the program exits with a status of 2 or more.
 
 ghost use Rattle.std.specs.Prelude.{◌≡◌, Some};
-ghost use Rattle.address_commands.specs.declared.fault.Fault.TheVariants.{CommandLine, NoMemory};
+ghost use Rattle.address_commands.specs.declared.fault.Fault.TheVariants.{CommandLine, NoMemory, NotWritten};
 ghost use Rattle.address_commands.specs.Fault.{fault_status, fault_text, misuse_text};
 
 use std::alloc::{AllocError, AllocFailed};
@@ -86,6 +86,15 @@ impl fmt::Display for Fault<'_> {
 }
 
 impl Error for Fault<'_> {}
+
+/// A write that failed.
+impl From<io::Error> for Fault<'_> {
+    ghost from_gives = { λ error fault. fault ≡ NotWritten error };
+
+    fn from(error: io::Error) -> Self {
+        Fault::NotWritten(error)
+    }
+}
 
 impl<'a> From<Misuse<'a>> for Fault<'a> {
     ghost from_gives = { λ misuse fault. fault ≡ CommandLine misuse };

@@ -15,6 +15,6 @@ pub use crate::commands::{HELP, Outcome, VERSION, run};
 pub use crate::fault::{Fault, Misuse};
 pub use crate::inputs::Inputs;
 pub use crate::program::{finish, start};
-pub use crate::request::{Families, Form, Request, Select};
+pub use crate::request::{Combination, Families, Form, Request};
 pub use crate::system::SystemInputs;
 pub use crate::writing::{AddressText, write_list};

@@ -25,18 +25,16 @@ pub fn start<A: Allocator + Copy, S: AsStr, I: Inputs, W: Write, E: Write>(
 }
 
 // Runs what the arguments ask for.
-fn answer<'a, A: Allocator + Copy, I: Inputs, W: Write>(
+fn answer<'s, 'a, A: Allocator + Copy, I: Inputs, W: Write>(
     alloc: A,
-    arguments: &'a Arguments<'a, A>,
+    arguments: &'s Arguments<'a, A>,
     inputs: &I,
     output: &mut W,
-) -> Result<Outcome, Fault<'a>> {
+) -> Result<Outcome, Fault<'s>> {
     let request = arguments.request()?;
     let outcome = run(alloc, inputs, request, output)?;
-    match output.flush() {
-        Ok(()) => Ok(outcome),
-        Err(error) => Err(Fault::NotWritten(error)),
-    }
+    output.flush()?;
+    Ok(outcome)
 }
 
 /// Returns the exit status of an outcome, and writes a line for a fault. If that line cannot be

@@ -23,22 +23,10 @@ pub enum Families {
     V6,
 }
 
-impl Families {
-    /// Returns whether IPv4 addresses are written.
-    pub fn has_v4(self) -> bool {
-        self != Families::V6
-    }
-
-    /// Returns whether IPv6 addresses are written.
-    pub fn has_v6(self) -> bool {
-        self != Families::V4
-    }
-}
-
 /// What an operation selects from the lists of some files. The files are names, and `-` is standard
 /// input.
 #[derive(Clone, Copy, Debug)]
-pub struct Select<'a> {
+pub struct Combination<'a> {
     /// The operation.
     pub operation: Operation,
     /// How the addresses are written.
@@ -57,7 +45,7 @@ pub enum Request<'a> {
     /// Its version.
     Version,
     /// What an operation selects from lists.
-    Select(Select<'a>),
+    Combine(Combination<'a>),
     /// How many addresses and blocks of each family are in some list.
     Count {
         families: Families,

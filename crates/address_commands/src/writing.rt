@@ -62,13 +62,14 @@ pub fn write_list<W: Write, A: Allocator>(
         × IsListText form (kept_v4 families list.now.v4) (kept_v6 families list.now.v6) text
         × Appends (W.contents output.old) (W.contents output.new) text) }
 {
-    if families.has_v4() {
-        write_set(output, &list.v4, form)?;
+    match families {
+        Families::Both => {
+            write_set(output, &list.v4, form)?;
+            write_set(output, &list.v6, form)
+        }
+        Families::V4 => write_set(output, &list.v4, form),
+        Families::V6 => write_set(output, &list.v6, form),
     }
-    if families.has_v6() {
-        write_set(output, &list.v6, form)?;
-    }
-    Ok(())
 }
 
 // Writes the addresses of a set in a form.

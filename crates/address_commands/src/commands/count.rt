@@ -1,5 +1,11 @@
 //! How many addresses and blocks the lists of files have.
 
+ghost use Rattle.std.specs.Prelude.{◌≡◌, ◌-◌, ◌^◌, ◌++◌, ℕ, List, OnOk, Some, codes, decimal, length, min};
+ghost use Rattle.std.specs.Io.KnownBytes.{Appends};
+ghost use Rattle.range_set_blaze.specs.Runs.{Interval, members};
+ghost use Rattle.address_lists.specs.Blocks.{AreMaximalBlocks};
+ghost use Rattle.address_commands.specs.Answer.{IsCountText};
+
 use crate::commands::lists::read_lists;
 use crate::fault::Fault;
 use crate::inputs::Inputs;
@@ -14,7 +20,7 @@ use std::io::{self, Write};
 const ALL_V6: &str = "340282366920938463463374607431768211456";
 
 /// Writes how many addresses and blocks of each family some list has.
-pub(crate) fn count<'a, A: Allocator + Copy, I: Inputs, W: Write>(
+pub(crate) fn write_counts<'a, A: Allocator + Copy, I: Inputs, W: Write>(
     alloc: A,
     inputs: &I,
     families: Families,
@@ -23,29 +29,47 @@ pub(crate) fn count<'a, A: Allocator + Copy, I: Inputs, W: Write>(
 ) -> Result<(), Fault<'a>> {
     let lists = read_lists(alloc, inputs, files)?;
     let list = combine(alloc, Operation::Union, &lists)?;
-    write_counts(output, &list, families).map_err(Fault::NotWritten)
+    write_list_counts(output, &list, families)?;
+    Ok(())
 }
 
 // Writes how many addresses and blocks of each family a list has.
-fn write_counts<W: Write, A: Allocator>(
+fn write_list_counts<W: Write, A: Allocator>(
     output: &mut W,
     list: &AddressList<A>,
     families: Families,
 ) -> io::Result<()> {
-    if families.has_v4() {
-        write_count(output, "IPv4", list.v4.len(), block_count(&list.v4))?;
+    match families {
+        Families::Both => {
+            write_v4_count(output, &list.v4)?;
+            write_v6_count(output, &list.v6)
+        }
+        Families::V4 => write_v4_count(output, &list.v4),
+        Families::V6 => write_v6_count(output, &list.v6),
     }
-    if families.has_v6() {
-        write_v6_count(output, &list.v6)?;
-    }
-    Ok(())
+}
+
+// Writes how many IPv4 addresses and blocks a set has.
+fn write_v4_count<W: Write, A: Allocator>(
+    output: &mut W,
+    set: &RangeSetBlaze<u32, A>,
+) -> io::Result<()>
+    ensures { OnOk result ((text : List ℕ)
+        × IsCountText (codes "IPv4") 32 (members set.now) text
+        × Appends (W.contents output.old) (W.contents output.new) text) }
+{
+    write_count(output, "IPv4", set.len(), block_count(set))
 }
 
 // Writes how many IPv6 addresses and blocks a set has.
 fn write_v6_count<W: Write, A: Allocator>(
     output: &mut W,
     set: &RangeSetBlaze<u128, A>,
-) -> io::Result<()> {
+) -> io::Result<()>
+    ensures { OnOk result ((text : List ℕ)
+        × IsCountText (codes "IPv6") 128 (members set.now) text
+        × Appends (W.contents output.old) (W.contents output.new) text) }
+{
     let blocks = block_count(set);
     match set.len() {
         UIntPlusOne::UInt(addresses) => write_count(output, "IPv6", addresses, blocks),
@@ -59,14 +83,22 @@ fn write_count<W: Write, N: Display + Drop>(
     family: &str,
     addresses: N,
     blocks: u64,
-) -> io::Result<()> {
+) -> io::Result<()>
+    ensures { OnOk result ((digits : List ℕ) → N.output addresses ≡ Some digits
+        → Appends (W.contents output.old) (W.contents output.new)
+        (family.now ++ codes " addresses: " ++ digits ++ codes ", blocks: " ++ decimal blocks
+        ++ codes "\n")) }
+{
     writeln!(output, "{family} addresses: {addresses}, blocks: {blocks}")
 }
 
 // Returns how many blocks a set has, or 2^64 - 1 if it has more.
-fn block_count<T: Address + 'static, A: Allocator>(set: &RangeSetBlaze<T, A>) -> u64 {
+fn block_count<T: Address + 'static, A: Allocator>(set: &RangeSetBlaze<T, A>) -> u64
+    ensures { (blocks : List Interval) × AreMaximalBlocks (members set.now) blocks
+        × (result ≡ min (length blocks) (2 ^ 64 - 1)) }
+{
     let mut count = 0u64;
-    for _ in set.ranges().blocks() {
+    for _block in set.ranges().blocks() {
         count = count.saturating_add(1);
     }
     count

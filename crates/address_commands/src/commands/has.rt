@@ -10,7 +10,7 @@ use std::io::Write;
 use std::net::IpAddr;
 
 /// Writes the names of the files whose lists have an address, each on a line.
-pub(crate) fn has<'a, A: Allocator + Copy, I: Inputs, W: Write>(
+pub(crate) fn write_names<'a, A: Allocator + Copy, I: Inputs, W: Write>(
     alloc: A,
     inputs: &I,
     address: IpAddr,
@@ -21,7 +21,7 @@ pub(crate) fn has<'a, A: Allocator + Copy, I: Inputs, W: Write>(
     let mut outcome = Outcome::InNone;
     for (file, list) in files.iter().zip(&lists) {
         if has_address(list, address) {
-            writeln!(output, "{file}").map_err(Fault::NotWritten)?;
+            writeln!(output, "{file}")?;
             outcome = Outcome::Done;
         }
     }
