@@ -50,7 +50,7 @@ fn combined<T: Integer, A: Allocator + Copy>(
     sets: Vec<&RangeSetBlaze<T, A>, A>,
 ) -> Result<RangeSetBlaze<T, A>, AllocError>
     ensures { IfOk result (λ set. IsMadeOf T.value_count (selected_by operation)
-        (map (λ lent. lent.now) sets.items) set) }
+        (map (λ lent. lent.now) sets.entry.items) set) }
 {
     match operation {
         Operation::Union => MultiwayRangeSetBlazeRef::union(sets, alloc),
@@ -68,7 +68,7 @@ fn first_only<T: Integer, A: Allocator + Copy>(
     sets: Vec<&RangeSetBlaze<T, A>, A>,
 ) -> Result<RangeSetBlaze<T, A>, AllocError>
     ensures { IfOk result (λ set. IsMadeOf T.value_count first_only
-        (map (λ lent. lent.now) sets.items) set) }
+        (map (λ lent. lent.now) sets.entry.items) set) }
 {
     let mut sets = sets.into_iter();
     let Some(first) = sets.next() else {
@@ -107,3 +107,6 @@ fn v6_sets<A: Allocator>(
     }
     Ok(sets)
 }
+
+#[cfg(test)]
+mod tests;

@@ -92,3 +92,6 @@ impl<A: Allocator + Copy> AddressList<A> {
         Ok(())
     }
 }
+
+#[cfg(test)]
+pub(crate) mod tests;

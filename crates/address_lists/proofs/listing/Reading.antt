@@ -27,14 +27,14 @@ pub record ReadsLine (before after : Option (List ℕ)) (line : List ℕ) : Type
 -- Whether the lines that were read have a meaning, and mean the addresses of these two sets. The
 -- number is that of the next line.
 pub record HasRead (start left : Option (List ℕ)) (number : ℕ) (v4 v6 : List Interval) : Type 0
-    where
-  pub front : List (List ℕ)
-  pub splits : Splits start left front
-  pub counted : number ≡ length front + 1
-  pub good : All IsGoodLine front
-  pub v4_addresses : AreAddressesOf MeansV4 front (members v4)
-  pub v6_addresses : AreAddressesOf MeansV6 front (members v6)
-  pub run_count : length v4 + length v6 ≤ length front
+  where
+    pub front : List (List ℕ)
+    pub splits : Splits start left front
+    pub counted : number ≡ length front + 1
+    pub good : All IsGoodLine front
+    pub v4_addresses : AreAddressesOf MeansV4 front (members v4)
+    pub v6_addresses : AreAddressesOf MeansV6 front (members v6)
+    pub run_count : length v4 + length v6 ≤ length front
 
 -- Nothing was read at the start.
 pub has_read_none : (start : Option (List ℕ)) (v4 v6 : List Interval) → v4 ≡ [] → v6 ≡ []

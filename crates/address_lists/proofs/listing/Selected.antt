@@ -117,17 +117,16 @@ module _ (family : RangeInclusive ℕ → Line)
   adds_range : (line : List ℕ) (range : RangeInclusive ℕ) (old new : Selection)
       → ((number : ℕ) → new number ≡ union old (ranks_of range) number)
       → IsLine line (family range) → AddsAddressesOf Means line old new
-  adds_range line range old new adds is number =
-    (
-      (λ h. elim (in_union (old number) range number (rw (adds number) at h)) [
-        | inl before ↦ inl before
-        | inr within ↦ inr (has_range line range is number within.0 within.1)
-      ]),
-      (λ h. rw (adds number) (to_union (old number) range number (elim h [
-        | inl before ↦ inl before
-        | inr has ↦ inr (in_range line range is number has)
-      ]))),
-    )
+  adds_range line range old new adds is number = (
+    (λ h. elim (in_union (old number) range number (rw (adds number) at h)) [
+      | inl before ↦ inl before
+      | inr within ↦ inr (has_range line range is number within.0 within.1)
+    ]),
+    (λ h. rw (adds number) (to_union (old number) range number (elim h [
+      | inl before ↦ inl before
+      | inr has ↦ inr (in_range line range is number has)
+    ]))),
+  )
 
   -- Nothing is inserted.
   adds_none : (line : List ℕ) (what : Line) (selected : Selection)
@@ -214,14 +213,18 @@ addresses_more Means list line old new are adds number =
   where
     Has : List ℕ → Type 0
     Has = HasAddress Means number
+
     first : IsTrue (old number) ⊎ Has line → Any Has (list ++ line ∷ [])
     first (inl h) = Any-more Has list line ((are number).0 h)
     first (inr h) = Any-push Has list line h
+
     to : IsTrue (new number) → Any Has (list ++ line ∷ [])
     to h = first ((adds number).0 h)
+
     later : Any Has list ⊎ Has line → IsTrue (old number) ⊎ Has line
     later (inl h) = inl ((are number).1 h)
     later (inr h) = inr h
+
     from : Any Has (list ++ line ∷ []) → IsTrue (new number)
     from h = (adds number).1 (later (Any-push_cases Has list line h))
 
@@ -232,5 +235,6 @@ addresses_none Means selected none number = (to, from)
   where
     to : IsTrue (selected number) → Any (HasAddress Means number) []
     to h = absurd cc (none number, h)
+
     from : Any (HasAddress Means number) [] → IsTrue (selected number)
     from h = absurd (omega (arith, h.2))

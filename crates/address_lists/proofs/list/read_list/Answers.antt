@@ -31,8 +31,12 @@ returns-in-None-clause-bad_line g c = λ number is.
     let raw = c.read_until.new.buf.items in
     let reads = reads_line before after c.clear.new.self.items raw c.clear.ensures.items
     c.in_ok-read_until.ensures.bytes c.in_ok-read_until.ensures.rest in
-    let some : 0 < length raw = omega (arith, c.in_ok-read_until.ensures.ok, c.if-branch-eq0.false,
-    c.read_until.new.buf.ok.0) in
+    let some : 0 < length raw = omega (
+      arith,
+      c.in_ok-read_until.ensures.ok,
+      c.if-branch-eq0.false,
+      c.read_until.new.buf.ok.0,
+    ) in
     let same : c.loop-number.number ≡ number = cc is in
     subst (λ n. IfSome start (λ bytes. IsFirstBadLine bytes n)) same
     (has_read_bad start before after c.loop-number.number c.loop-number.list.v4
@@ -48,8 +52,12 @@ loop-number-preserved g c =
     let raw = c.read_until.new.buf.items in
     let reads = reads_line before after c.clear.new.self.items raw c.clear.ensures.items
     c.in_ok-read_until.ensures.bytes c.in_ok-read_until.ensures.rest in
-    let some : 0 < length raw = omega (arith, c.in_ok-read_until.ensures.ok, c.if-branch-eq0.false,
-    c.read_until.new.buf.ok.0) in
+    let some : 0 < length raw = omega (
+      arith,
+      c.in_ok-read_until.ensures.ok,
+      c.if-branch-eq0.false,
+      c.read_until.new.buf.ok.0,
+    ) in
     has_read_more start before after c.loop-number.number c.loop-number.list.v4
     c.loop-number.list.v6 raw c.loop-number.invariant reads some c.in-Some.meaning
     (subst (λ bytes. IsLine bytes c.in-Some.meaning) c.deref.ensures.value c.in-Some.ensures)
