@@ -6,7 +6,8 @@ use Rattle.std.proofs.lemmas.List.Elements.{All-cons, All-nil}
 use Rattle.std.proofs.lemmas.Slice.Zip.{all_zipped_more}
 use Rattle.std.specs.Prelude.{IfSome}
 use Rattle.address_lists.specs.List.{IsFirstBadLine}
-use Rattle.address_commands.specs.Files.{AreFilesOf, IsFaultOf, IsFileOf, IsFirstBadFile, IsFirstFault, IsFirstFile, IsGoodFile, Selected, selected}
+use Rattle.address_commands.specs.Files.{AreFilesOf, IsFaultOf, IsFileOf, IsFirstBadFile, IsFirstFault, IsFirstFile, IsGoodFile, KeepsUnlessWriting, Selected, selected}
+use Rattle.address_commands.proofs.AppendsLemmas.{Keeps-itself}
 use Rattle.address_lists.specs.declared.list.AddressList.{AddressList}
 use Rattle.address_commands.specs.declared.fault.Fault.{Fault}
 use Rattle.address_commands.specs.declared.fault.Fault.TheVariants.{BadLine, CommandLine, NoMemory, NotRead, NotWritten}
@@ -84,3 +85,11 @@ pub files-all : {A : Type 0} (bytes : List ℕ → Option (List ℕ)) (names : L
 files-all bytes names at lists past before =
     subst (λ each. AreFilesOf bytes (map name_of each) (map selected lists))
     (take_all at names past) before
+
+-- If nothing changes, nothing was written.
+pub keeps-itself : (fault : Fault) (known : Option (List ℕ)) → KeepsUnlessWriting fault known known
+keeps-itself (BadLine file line) known = Keeps-itself known
+keeps-itself (NotRead file error) known = Keeps-itself known
+keeps-itself (NotWritten error) known = tt
+keeps-itself NoMemory known = Keeps-itself known
+keeps-itself (CommandLine misuse) known = Keeps-itself known

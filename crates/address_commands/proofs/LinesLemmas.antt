@@ -1,12 +1,19 @@
 -- The lines of the ranges of a set.
-use Rattle.std.proofs.Common.{◌≡◌, ◌∙◌, ℕ, ◌+◌, ◌≤◌, Bool, true, false, cond, List, [], ◌∷◌, ◌++◌, None, refl, sym, ap, subst, arith}
+use Rattle.std.proofs.Common.{◌≡◌, ◌∙◌, ℕ, ◌+◌, ◌^◌, ◌<◌, ◌≤◌, Bool, true, false, cond, List, [], ◌∷◌, ◌++◌, None, refl, sym, ap, subst, arith}
 use Rattle.std.specs.Iterator.{Yields, YieldsFirst}
 use Rattle.std.specs.List.{flat_map}
 use Rattle.std.specs.Range.{range_inclusive_start, range_inclusive_end, range_inclusive_exhausted}
 use Rattle.std.specs.declared.ops.RangeInclusive.{RangeInclusive}
-use Rattle.range_set_blaze.specs.Runs.{from_to, Interval, IsCanonicalFrom}
+use Rattle.range_set_blaze.specs.Runs.{from_to, members, Interval, IsCanonicalFrom, IsCanonicalIn}
 use Rattle.rsb_integer.specs.Rank.{intervals_of}
-use Rattle.address_commands.specs.Text.{range_line, ranges_text}
+use Rattle.std.proofs.lemmas.List.{append-nil}
+use Rattle.std.proofs.lemmas.List.Elements.{All-nil}
+use Rattle.address_lists.specs.Address.{v4_text, v6_text}
+use Rattle.address_lists.specs.Blocks.{IsMaximalBlock}
+use Rattle.address_lists.specs.BlocksLeft.{IsAligned}
+use Rattle.address_commands.specs.Text.{IsListText, IsSetText, range_line, ranges_text}
+use Rattle.address_commands.specs.declared.request.Form.{Form}
+use Rattle.address_commands.specs.declared.request.Form.TheVariants.{Blocks, Ranges}
 
 -- What calls gave until `None` is what the iterator had.
 pub all-yielded : {S A : Type 0} (rest : S → List A) (items : List A) (s t u : S)
@@ -59,3 +66,58 @@ module _ {T : Type 0} (text : ℕ → List ℕ) (rank : T → ℕ) where
   lines-of (range ∷ ranges) low canonical =
       first-lines range ranges low (range_inclusive_exhausted range) refl canonical
       (λ next rest. lines-of ranges next rest)
+
+-- ---- sets and lists
+
+-- The empty set has no text.
+no-lines : {T : Type 0} (text : ℕ → List ℕ) (rank : T → ℕ) (width many : ℕ) (form : Form)
+    → IsSetText text rank width many form [] []
+no-lines text rank width many Blocks = record {
+  canonical = (tt, All-nil (λ (run : Interval). run.last < many));
+  written = record {
+    blocks = [];
+    aligned = All-nil (IsAligned rank width);
+    fewest = record {
+      ascending = tt;
+      maximal = All-nil (IsMaximalBlock (members []));
+      exact = λ each. refl;
+    };
+    whole = refl;
+  };
+}
+no-lines text rank width many Ranges = record { canonical = (tt, All-nil (λ (run : Interval). run.last < many)); written = refl }
+
+module _ (form : Form) (v4 v6 : List Interval) (v4_lines v6_lines : List ℕ) where
+  -- Both families.
+  pub both-lines : IsSetText v4_text (λ (number : ℕ). number) 32 (2 ^ 32) form v4 v4_lines
+      → IsSetText v6_text (λ (number : ℕ). number) 128 (2 ^ 128) form v6 v6_lines
+      → IsListText form v4 v6 (v4_lines ++ v6_lines)
+  both-lines first last = record {
+    v4_lines = v4_lines;
+    v6_lines = v6_lines;
+    v4_written = first;
+    v6_written = last;
+    whole = refl;
+  }
+
+  -- Only IPv4.
+  pub v4-lines : IsSetText v4_text (λ (number : ℕ). number) 32 (2 ^ 32) form v4 v4_lines
+      → IsListText form v4 [] v4_lines
+  v4-lines first = record {
+    v4_lines = v4_lines;
+    v6_lines = [];
+    v4_written = first;
+    v6_written = no-lines v6_text (λ number. number) 128 (2 ^ 128) form;
+    whole = sym (append-nil v4_lines);
+  }
+
+  -- Only IPv6.
+  pub v6-lines : IsSetText v6_text (λ (number : ℕ). number) 128 (2 ^ 128) form v6 v6_lines
+      → IsListText form [] v6 v6_lines
+  v6-lines last = record {
+    v4_lines = [];
+    v6_lines = v6_lines;
+    v4_written = no-lines v4_text (λ number. number) 32 (2 ^ 32) form;
+    v6_written = last;
+    whole = refl;
+  }

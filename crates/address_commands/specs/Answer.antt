@@ -1,8 +1,8 @@
 -- The answers to requests.
 use Rattle.std.specs.Prelude.{◌≡◌, ℕ, ◌-◌, ◌^◌, List, [], ◌∷◌, ◌++◌, Bool, Option, if◌then◌else◌, codes, decimal, length, map, min}
 use Rattle.std.specs.Io.KnownBytes.{Appends}
-use Rattle.range_set_blaze.specs.Runs.{AreRuns, Interval}
-use Rattle.range_set_blaze.specs.Selection.{Selection, any_of, count}
+use Rattle.range_set_blaze.specs.Runs.{Interval, members}
+use Rattle.range_set_blaze.specs.Selection.{Agree, Selection, count}
 use Rattle.address_lists.specs.Blocks.{AreMaximalBlocks}
 use Rattle.address_lists.specs.Combine.{selected_by}
 use Rattle.address_lists.specs.declared.combine.Operation.{Operation}
@@ -65,8 +65,8 @@ module _ (bytes : List ℕ → Option (List ℕ)) where
     pub are : AreFilesOf bytes (map (λ name. name.now) combination.files.now) lists
     pub v4 : List Interval
     pub v6 : List Interval
-    pub v4_runs : AreRuns (2 ^ 32) (selected_by combination.operation (v4_of lists)) v4
-    pub v6_runs : AreRuns (2 ^ 128) (selected_by combination.operation (v6_of lists)) v6
+    pub v4_made : Agree (2 ^ 32) (members v4) (selected_by combination.operation (v4_of lists))
+    pub v6_made : Agree (2 ^ 128) (members v6) (selected_by combination.operation (v6_of lists))
     pub whole : IsListText combination.form (kept_v4 combination.families v4)
         (kept_v6 combination.families v6) text
 

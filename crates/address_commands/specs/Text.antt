@@ -1,6 +1,6 @@
 -- The text of blocks and ranges of addresses, and of lists of them.
-use Rattle.std.specs.Prelude.{◌≡◌, ℕ, List, [], ◌++◌, ◌==◌, All, if◌then◌else◌, codes, decimal, flat_map}
-use Rattle.range_set_blaze.specs.Runs.{Interval, members}
+use Rattle.std.specs.Prelude.{◌≡◌, ℕ, List, [], ◌++◌, ◌^◌, ◌==◌, All, if◌then◌else◌, codes, decimal, flat_map}
+use Rattle.range_set_blaze.specs.Runs.{Interval, IsCanonicalIn, members}
 use Rattle.range_set_blaze.specs.Selection.{Selection}
 use Rattle.address_lists.specs.Address.{v4_text, v6_text}
 use Rattle.address_lists.specs.Blocks.{AreMaximalBlocks}
@@ -39,11 +39,18 @@ pub record IsBlocksText {T : Type 0} (text : ℕ → List ℕ) (rank : T → ℕ
 abbrev pub ranges_text : (ℕ → List ℕ) → List Interval → List ℕ
 ranges_text text runs = flat_map (λ run. range_line text run.first run.last) runs
 
--- Whether the text is that of a set in a form.
-abbrev pub IsSetText : {T : Type 0} → (ℕ → List ℕ) → (T → ℕ) → ℕ → Form → List Interval → List ℕ
+-- Whether the text is that of these runs in a form.
+abbrev pub IsFormText : {T : Type 0} → (ℕ → List ℕ) → (T → ℕ) → ℕ → Form → List Interval → List ℕ
     → Type 0
-IsSetText text rank width Blocks runs lines = IsBlocksText text rank width (members runs) lines
-IsSetText text rank width Ranges runs lines = lines ≡ ranges_text text runs
+IsFormText text rank width Blocks runs lines = IsBlocksText text rank width (members runs) lines
+IsFormText text rank width Ranges runs lines = lines ≡ ranges_text text runs
+
+-- Whether the text is that of a set in a form. The runs neither overlap nor touch, and are within the
+-- number of addresses of the family.
+pub record IsSetText {T : Type 0} (text : ℕ → List ℕ) (rank : T → ℕ) (width many : ℕ) (form : Form)
+    (runs : List Interval) (lines : List ℕ) : Type 0 where
+  pub canonical : IsCanonicalIn many runs
+  pub written : IsFormText text rank width form runs lines
 
 -- ---- lists
 
@@ -63,6 +70,6 @@ kept_v6 V6 runs = runs
 pub record IsListText (form : Form) (v4 v6 : List Interval) (text : List ℕ) : Type 0 where
   pub v4_lines : List ℕ
   pub v6_lines : List ℕ
-  pub v4_written : IsSetText v4_text (λ (number : ℕ). number) 32 form v4 v4_lines
-  pub v6_written : IsSetText v6_text (λ (number : ℕ). number) 128 form v6 v6_lines
+  pub v4_written : IsSetText v4_text (λ (number : ℕ). number) 32 (2 ^ 32) form v4 v4_lines
+  pub v6_written : IsSetText v6_text (λ (number : ℕ). number) 128 (2 ^ 128) form v6 v6_lines
   pub whole : text ≡ v4_lines ++ v6_lines

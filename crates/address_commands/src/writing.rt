@@ -4,8 +4,7 @@ ghost use Rattle.std.specs.Prelude.{◌≡◌, ℕ, List, OnOk, Some};
 ghost use Rattle.std.specs.Io.KnownBytes.{Appends};
 ghost use Rattle.std.specs.Range.{range_inclusive_start, range_inclusive_end};
 ghost use Rattle.address_lists.specs.Address.{v4_text, v6_text};
-ghost use Rattle.range_set_blaze.specs.Runs.{members};
-ghost use Rattle.address_commands.specs.Text.{IsBlocksText, IsListText, IsSetText, block_line, kept_v4, kept_v6, range_line, ranges_text};
+ghost use Rattle.address_commands.specs.Text.{IsListText, IsSetText, block_line, kept_v4, kept_v6, range_line};
 
 use crate::request::{Families, Form};
 use address_lists::{Address, AddressList, Block, IntoBlocks};
@@ -78,7 +77,7 @@ fn write_set<T: AddressText + 'static, W: Write, A: Allocator>(
     set: &RangeSetBlaze<T, A>,
     form: Form,
 ) -> io::Result<()>
-    ensures { OnOk result ((text : List ℕ) × IsSetText T.text T.rank T.width form set.now text
+    ensures { OnOk result ((text : List ℕ) × IsSetText T.text T.rank T.width T.value_count form set.now text
         × Appends (W.contents output.old) (W.contents output.new) text) }
 {
     match form {
@@ -93,7 +92,7 @@ fn write_blocks<T: AddressText + 'static, W: Write, A: Allocator>(
     set: &RangeSetBlaze<T, A>,
 ) -> io::Result<()>
     ensures { OnOk result ((text : List ℕ)
-        × IsBlocksText T.text T.rank T.width (members set.now) text
+        × IsSetText T.text T.rank T.width T.value_count Form.Blocks set.now text
         × Appends (W.contents output.old) (W.contents output.new) text) }
 {
     for block in set.ranges().blocks() {
@@ -120,8 +119,9 @@ fn write_ranges<T: AddressText + 'static, W: Write, A: Allocator>(
     output: &mut W,
     set: &RangeSetBlaze<T, A>,
 ) -> io::Result<()>
-    ensures { OnOk result (Appends (W.contents output.old) (W.contents output.new)
-        (ranges_text T.text set.now)) }
+    ensures { OnOk result ((text : List ℕ)
+        × IsSetText T.text T.rank T.width T.value_count Form.Ranges set.now text
+        × Appends (W.contents output.old) (W.contents output.new) text) }
 {
     for range in set.ranges() {
         write_range(output, range)?;
