@@ -1,5 +1,7 @@
 -- Faults as lines and as exit statuses.
-use Rattle.std.specs.Prelude.{ℕ, List, ◌++◌, Option, Some, None, codes, decimal}
+use Rattle.std.specs.Prelude.{ℕ, List, ◌++◌, Option, Some, None, Result, Ok, Err, codes, decimal}
+use Rattle.address_commands.specs.declared.commands.Outcome.{Outcome}
+use Rattle.address_commands.specs.declared.commands.Outcome.TheVariants.{Done, InNone}
 use Rattle.address_commands.specs.declared.fault.Fault.{Fault}
 use Rattle.address_commands.specs.declared.fault.Fault.TheVariants.{BadLine, CommandLine, NoMemory, NotRead, NotWritten}
 use Rattle.address_commands.specs.declared.fault.Misuse.{Misuse}
@@ -31,3 +33,13 @@ fault_status NoMemory = 3
 fault_status (NotRead file error) = 4
 fault_status (NotWritten error) = 4
 fault_status (CommandLine misuse) = 64
+
+-- The exit status if there was no fault.
+abbrev pub outcome_status : Outcome → ℕ
+outcome_status Done = 0
+outcome_status InNone = 1
+
+-- The exit status of the program.
+abbrev pub status_after : Result Outcome Fault → ℕ
+status_after (Ok outcome) = outcome_status outcome
+status_after (Err fault) = fault_status fault

@@ -3,6 +3,7 @@
 ghost use Rattle.std.specs.Prelude.{◌≡◌, ℕ, ◌^◌, Err, IfErr, IfOk, IsTrue, List, Ok, OnOk, map};
 ghost use Rattle.std.specs.Io.KnownBytes.{Appends};
 ghost use Rattle.address_commands.specs.Answer.{Answers};
+ghost use Rattle.address_commands.specs.Fault.{outcome_status};
 ghost use Rattle.address_commands.specs.Files.{IsFirstFault, KeepsUnlessWriting};
 ghost use Rattle.address_commands.specs.Request.{files_of};
 
@@ -31,7 +32,9 @@ pub enum Outcome {
 
 impl Outcome {
     /// Returns the exit status: 0 or 1.
-    pub fn status(self) -> u8 {
+    pub fn status(self) -> u8
+        ensures { result ≡ outcome_status self }
+    {
         match self {
             Outcome::Done => 0,
             Outcome::InNone => 1,

@@ -1,5 +1,9 @@
 //! The program, from its command line and inputs to its output and exit status.
 
+ghost use Rattle.std.specs.Prelude.{◌≡◌};
+ghost use Rattle.std.specs.Process.{exit_status};
+ghost use Rattle.address_commands.specs.Fault.{status_after};
+
 use crate::arguments::Arguments;
 use crate::commands::{Outcome, run};
 use crate::fault::Fault;
@@ -39,7 +43,9 @@ fn answer<'s, 'a, A: Allocator + Copy, I: Inputs, W: Write>(
 
 /// Returns the exit status of an outcome, and writes a line for a fault. If that line cannot be
 /// written in full, the status is the same, as there is nowhere left to report it.
-pub fn finish<E: Write>(errors: &mut E, outcome: Result<Outcome, Fault<'_>>) -> ExitCode {
+pub fn finish<E: Write>(errors: &mut E, outcome: Result<Outcome, Fault<'_>>) -> ExitCode
+    ensures { exit_status result ≡ status_after outcome.entry }
+{
     match outcome {
         Ok(outcome) => ExitCode::from(outcome.status()),
         Err(fault) => {

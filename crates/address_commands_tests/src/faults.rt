@@ -11,22 +11,66 @@ type Row = (&'static [&'static str], u8, &'static str);
 
 /// Commands that meet a fault.
 static ROWS: [Row; 17] = [
-    (&["union", "a", "bad", "none"], 2, "bad:2: no address, block or range\n"),
-    (&["has", "10.0.0.1", "a", "bad"], 2, "bad:2: no address, block or range\n"),
+    (
+        &["union", "a", "bad", "none"],
+        2,
+        "bad:2: no address, block or range\n",
+    ),
+    (
+        &["has", "10.0.0.1", "a", "bad"],
+        2,
+        "bad:2: no address, block or range\n",
+    ),
     (&["count", "bad"], 2, "bad:2: no address, block or range\n"),
-    (&["union", "a", "none", "bad"], 4, "none: entity not found\n"),
+    (
+        &["union", "a", "none", "bad"],
+        4,
+        "none: entity not found\n",
+    ),
     (&[], 64, "ip_lists: no command\n"),
     (&["-4"], 64, "ip_lists: no command\n"),
     (&["unite", "a"], 64, "ip_lists: unknown command: unite\n"),
     (&["union", "-5", "a"], 64, "ip_lists: unknown option: -5\n"),
-    (&["union", "--range", "a"], 64, "ip_lists: unknown option: --range\n"),
-    (&["union"], 64, "ip_lists: too few words after the command\n"),
-    (&["except", "a"], 64, "ip_lists: too few words after the command\n"),
-    (&["at-least", "2"], 64, "ip_lists: too few words after the command\n"),
-    (&["at-least", "two", "a"], 64, "ip_lists: no number of lists: two\n"),
-    (&["has", "10.0.0.1"], 64, "ip_lists: too few words after the command\n"),
-    (&["has", "10.0.0.0/8", "a"], 64, "ip_lists: no address: 10.0.0.0/8\n"),
-    (&["count"], 64, "ip_lists: too few words after the command\n"),
+    (
+        &["union", "--range", "a"],
+        64,
+        "ip_lists: unknown option: --range\n",
+    ),
+    (
+        &["union"],
+        64,
+        "ip_lists: too few words after the command\n",
+    ),
+    (
+        &["except", "a"],
+        64,
+        "ip_lists: too few words after the command\n",
+    ),
+    (
+        &["at-least", "2"],
+        64,
+        "ip_lists: too few words after the command\n",
+    ),
+    (
+        &["at-least", "two", "a"],
+        64,
+        "ip_lists: no number of lists: two\n",
+    ),
+    (
+        &["has", "10.0.0.1"],
+        64,
+        "ip_lists: too few words after the command\n",
+    ),
+    (
+        &["has", "10.0.0.0/8", "a"],
+        64,
+        "ip_lists: no address: 10.0.0.0/8\n",
+    ),
+    (
+        &["count"],
+        64,
+        "ip_lists: too few words after the command\n",
+    ),
     (&["--", "-4", "a"], 64, "ip_lists: unknown command: -4\n"),
 ];
 
@@ -61,7 +105,9 @@ fn read_fails(alloc: Global, good: usize) -> bool {
     let mut output = Vec::new(alloc);
     let mut errors = Vec::new(alloc);
     let code = start(alloc, words, &inputs, &mut output, &mut errors);
-    code == ExitCode::from(4) && output.is_empty() && errors.as_slice() == b"a: timed out\n"
+    code == ExitCode::from(4)
+        && output.is_empty()
+        && errors.as_slice() == b"a: timed out\n".as_slice()
 }
 
 #[test]
@@ -90,7 +136,7 @@ fn write_fails(alloc: Global, room: usize) -> bool {
     let code = start(alloc, words, &inputs, &mut output, &mut errors);
     code == ExitCode::from(4)
         && output.taken.as_slice() == &UNION[..room]
-        && errors.as_slice() == b"output: no storage space\n"
+        && errors.as_slice() == b"output: no storage space\n".as_slice()
 }
 
 #[test]
@@ -114,7 +160,7 @@ fn status_stands(alloc: Global) -> bool {
         room: 3,
     };
     let code = start(alloc, words, &inputs, &mut output, &mut errors);
-    code == ExitCode::from(2) && output.is_empty() && errors.taken.as_slice() == b"bad"
+    code == ExitCode::from(2) && output.is_empty() && errors.taken.as_slice() == b"bad".as_slice()
 }
 
 #[test]

@@ -38,7 +38,7 @@ fn tried(alloc: Global, heap: &Heap, words: &[&str], allocations: usize) -> Opti
         return None;
     }
     if code == ExitCode::from(3) {
-        let is_told = errors.as_slice() == b"ip_lists: no memory\n";
+        let is_told = errors.as_slice() == b"ip_lists: no memory\n".as_slice();
         return (output.is_empty() && is_told).then_some(false);
     }
     (code == ExitCode::SUCCESS && errors.is_empty() && !output.is_empty()).then_some(true)
@@ -58,6 +58,9 @@ fn needed(alloc: Global, words: &[&str]) -> Option<usize> {
 #[test]
 fn each_allocation_fails_in_turn(rt: HostRuntime) {
     for words in &COMMANDS {
-        assert!(rt; matches!(needed(rt.alloc(), *words), Some(3..)), "{words:?}");
+        assert!(rt;
+            matches!(needed(rt.alloc(), *words), Some(3..)),
+            "{words:?}"
+        );
     }
 }
