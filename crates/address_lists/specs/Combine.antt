@@ -1,10 +1,8 @@
 -- What an operation on lists of addresses selects.
-use Rattle.std.specs.Prelude.{ℕ, false, List, [], ◌∷◌, map}
-use Rattle.range_set_blaze.specs.Multiway.{IsMadeOf}
-use Rattle.range_set_blaze.specs.Runs.{Interval}
+use Rattle.std.specs.Prelude.{false, List, [], ◌∷◌}
 use Rattle.range_set_blaze.specs.Selection.{Selection, all_of, any_of, at_least, complement, difference, odd_of}
-use Rattle.address_lists.specs.declared.combine.Operation.{Operation}
-use Rattle.address_lists.specs.declared.combine.Operation.TheVariants.{AtLeast, Common, Complement, Except, Odd, Union}
+use Rattle.address_lists.specs.declared.operations.Operation.{Operation}
+use Rattle.address_lists.specs.declared.operations.Operation.TheVariants.{AtLeast, Common, Complement, Except, Odd, Union}
 
 -- The addresses in the first of the sets and in none of the others. There are none if there are no
 -- sets.

@@ -3,20 +3,20 @@
 #![tactic(auto)]
 
 pub mod blocks;
-pub mod combine;
 pub mod line;
 pub mod line_laws;
 pub mod list;
+pub mod operations;
 pub mod text;
 
 pub use crate::blocks::{
     Address, Block, Blocks, IntoBlocks, blocks_of, maximal_blocks_are_fewest, set_blocks,
 };
-pub use crate::combine::{Operation, combine};
 pub use crate::line::{Line, parse_line};
 pub use crate::list::{
     AddressList, ListFault, comments_select_nothing, list_selects_one, read_list,
 };
+pub use crate::operations::{Operation, combine};
 pub use crate::text::{
     v4_block_text, v4_range_text, v4_text, v6_block_text, v6_range_text, v6_text,
 };

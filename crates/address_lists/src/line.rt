@@ -24,10 +24,10 @@ pub enum Line {
     V6(RangeInclusive<u128>),
 }
 
-/// Returns what a line means, or `None` if it is bad. The line has no line feed.
+/// Returns what a line means, or `None` if it is bad. It may have a line feed at its end.
 ///
-/// White space around it does not count, and so neither does a carriage return at its end. The
-/// first `#` or `;` begins a comment. In `ADDRESS/LENGTH`, the bits past the length are cleared. In
+/// White space around it does not count, and so neither does its line ending. The first `#` or `;`
+/// begins a comment. In `ADDRESS/LENGTH`, the bits past the length are cleared. In
 /// `ADDRESS-ADDRESS`, the two are of one family, and the second is not below the first.
 pub fn parse_line(line: &[u8]) -> Option<Line>
     ensures { Reads result (IsLine line.now) }

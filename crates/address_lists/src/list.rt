@@ -60,8 +60,8 @@ pub fn read_list<A: Allocator + Copy, R: BufRead>(
 }
 
 impl<A: Allocator + Copy> AddressList<A> {
-    /// Returns the list without addresses. Does not allocate.
-    pub fn new(alloc: A) -> Self
+    // Returns the list without addresses. Does not allocate.
+    fn new(alloc: A) -> Self
         ensures v4 { result.v4 ≡ [] }
         ensures v6 { result.v6 ≡ [] }
     {

@@ -1,7 +1,7 @@
 use Rattle.std.proofs.Common.{◌≡◌, map, take}
-use Rattle.address_lists.proofs.combine.v6_sets.Given as goal
+use Rattle.address_lists.proofs.operations.v4_sets.Given as goal
 
 -- The sets of the lists so far were pushed.
 abbrev pub invariant-loop-list : goal.invariant-loop-list
 invariant-loop-list g l =
-    map (λ lent. lent.now) l.sets.items ≡ map (λ list. list.v6) (take l.list-index l.lists)
+    map (λ lent. lent.now) l.sets.items ≡ map (λ list. list.v4) (take l.list-index l.lists)
