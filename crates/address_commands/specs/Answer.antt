@@ -5,7 +5,7 @@ use Rattle.range_set_blaze.specs.Runs.{Interval, members}
 use Rattle.range_set_blaze.specs.Selection.{Agree, Selection, count}
 use Rattle.address_lists.specs.Blocks.{AreMaximalBlocks}
 use Rattle.address_lists.specs.Combine.{selected_by}
-use Rattle.address_lists.specs.declared.combine.Operation.{Operation}
+use Rattle.address_lists.specs.declared.operations.Operation.{Operation}
 use Rattle.std.specs.Net.Addr.{ipv4_bits, ipv6_bits}
 use Rattle.std.specs.declared.net.ip_addr.IpAddr.{IpAddr}
 use Rattle.std.specs.declared.net.ip_addr.IpAddr.TheVariants.{V4, V6}
