@@ -5,6 +5,7 @@ use std::alloc::Global;
 use std::io::{self, BufReader, ErrorKind, Read, Write};
 
 /// Files in memory. Another name is not found.
+#[derive(Drop)]
 pub(crate) struct Held<'a> {
     pub(crate) alloc: Global,
     pub(crate) files: &'a [(&'a str, &'a [u8])],
