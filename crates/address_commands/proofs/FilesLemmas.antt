@@ -4,7 +4,7 @@ use Rattle.std.proofs.Common.{drop-cons}
 use Rattle.std.proofs.lemmas.List.{map-append, map_push, take-append-drop, take_all, take_more}
 use Rattle.std.proofs.lemmas.List.Elements.{All-cons, All-nil}
 use Rattle.std.proofs.lemmas.Slice.Zip.{all_zipped_more}
-use Rattle.std.specs.Prelude.{IfSome}
+use Rattle.std.specs.Prelude.{Err, IfErr, IfSome, IsErrAnd, Ok, Result}
 use Rattle.address_lists.specs.List.{IsFirstBadLine}
 use Rattle.address_commands.specs.Files.{AreFilesOf, IsFaultOf, IsFileOf, IsFirstBadFile, IsFirstFault, IsFirstFile, IsGoodFile, KeepsUnlessWriting, Selected, selected}
 use Rattle.address_commands.proofs.AppendsLemmas.{Keeps-itself}
@@ -93,3 +93,9 @@ keeps-itself (NotRead file error) known = Keeps-itself known
 keeps-itself (NotWritten error) known = tt
 keeps-itself NoMemory known = Keeps-itself known
 keeps-itself (CommandLine misuse) known = Keeps-itself known
+
+-- A fact about a fault holds of the fault that `?` returns.
+pub passed-on : {X : Type 0} (result : Result X Fault) (fault : Fault) (P : Fault → Type 0)
+    → IsErrAnd result (λ other. other ≡ fault) → P fault → IfErr result P
+passed-on (Ok done) fault P same is = tt
+passed-on (Err found) fault P same is = subst P (sym same) is

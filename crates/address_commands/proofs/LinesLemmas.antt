@@ -11,7 +11,12 @@ use Rattle.std.proofs.lemmas.List.Elements.{All-nil}
 use Rattle.address_lists.specs.Address.{v4_text, v6_text}
 use Rattle.address_lists.specs.Blocks.{IsMaximalBlock}
 use Rattle.address_lists.specs.BlocksLeft.{IsAligned}
-use Rattle.address_commands.specs.Text.{IsListText, IsSetText, range_line, ranges_text}
+use Rattle.std.specs.Io.KnownBytes.{Appends}
+use Rattle.std.specs.Prelude.{Err, Ok, OnOk, Option, Result}
+use Rattle.address_commands.proofs.AppendsLemmas.{Appends-then}
+use Rattle.address_commands.specs.Text.{IsListText, IsSetText, kept_v4, kept_v6, range_line, ranges_text}
+use Rattle.address_commands.specs.declared.request.Families.{Families}
+use Rattle.address_commands.specs.declared.request.Families.TheVariants.{Both, V4, V6}
 use Rattle.address_commands.specs.declared.request.Form.{Form}
 use Rattle.address_commands.specs.declared.request.Form.TheVariants.{Blocks, Ranges}
 
@@ -121,3 +126,54 @@ module _ (form : Form) (v4 v6 : List Interval) (v4_lines v6_lines : List ℕ) wh
     v6_written = last;
     whole = refl;
   }
+
+-- ---- what was written
+
+-- Whether a text of these IPv4 and IPv6 addresses was written.
+abbrev pub WritesList : Form → List Interval → List Interval → Option (List ℕ) → Option (List ℕ)
+    → Type 0
+WritesList form v4 v6 old new = (text : List ℕ) × IsListText form v4 v6 text × Appends old new text
+
+-- Whether a text of these IPv4 addresses was written.
+abbrev pub WritesV4 : Form → List Interval → Option (List ℕ) → Option (List ℕ) → Type 0
+WritesV4 form v4 old new = (text : List ℕ)
+    × IsSetText v4_text (λ (number : ℕ). number) 32 (2 ^ 32) form v4 text × Appends old new text
+
+-- Whether a text of these IPv6 addresses was written.
+abbrev pub WritesV6 : Form → List Interval → Option (List ℕ) → Option (List ℕ) → Type 0
+WritesV6 form v6 old new = (text : List ℕ)
+    × IsSetText v6_text (λ (number : ℕ). number) 128 (2 ^ 128) form v6 text × Appends old new text
+
+module _ {E : Type 0} (form : Form) (families : Families) (v4 v6 : List Interval) where
+  -- What is written of these families.
+  abbrev Kept : Families → Option (List ℕ) → Option (List ℕ) → Type 0
+  Kept which old new = WritesList form (kept_v4 which v4) (kept_v6 which v6) old new
+
+  pub both-written : (result : Result (Unit {0}) E) (old mid new : Option (List ℕ))
+      → families ≡ Both → WritesV4 form v4 old mid → OnOk result (WritesV6 form v6 mid new)
+      → OnOk result (Kept families old new)
+  both-written (Ok done) old mid new is first last =
+      let text = first.0 ++ last.0 in
+      let whole : Kept Both old new = (
+        text,
+        both-lines form v4 v6 first.0 last.0 first.1 last.1,
+        Appends-then old mid new first.0 last.0 first.2 last.2,
+      ) in
+      subst (λ which. Kept which old new) (sym is) whole
+  both-written (Err error) old mid new is first last = tt
+
+  pub v4-written : (result : Result (Unit {0}) E) (old new : Option (List ℕ)) → families ≡ V4
+      → OnOk result (WritesV4 form v4 old new) → OnOk result (Kept families old new)
+  v4-written (Ok done) old new is first =
+      let whole : Kept V4 old new =
+      (first.0, v4-lines form v4 v6 first.0 [] first.1, first.2) in
+      subst (λ which. Kept which old new) (sym is) whole
+  v4-written (Err error) old new is first = tt
+
+  pub v6-written : (result : Result (Unit {0}) E) (old new : Option (List ℕ)) → families ≡ V6
+      → OnOk result (WritesV6 form v6 old new) → OnOk result (Kept families old new)
+  v6-written (Ok done) old new is last =
+      let whole : Kept V6 old new =
+      (last.0, v6-lines form v4 v6 [] last.0 last.1, last.2) in
+      subst (λ which. Kept which old new) (sym is) whole
+  v6-written (Err error) old new is last = tt
