@@ -144,12 +144,12 @@ abbrev pub WritesV6 : Form → List Interval → Option (List ℕ) → Option (L
 WritesV6 form v6 old new = (text : List ℕ)
     × IsSetText v6_text (λ (number : ℕ). number) 128 (2 ^ 128) form v6 text × Appends old new text
 
-module _ {E : Type 0} (form : Form) (families : Families) (v4 v6 : List Interval) where
+module _ (form : Form) (families : Families) (v4 v6 : List Interval) where
   -- What is written of these families.
   abbrev Kept : Families → Option (List ℕ) → Option (List ℕ) → Type 0
   Kept which old new = WritesList form (kept_v4 which v4) (kept_v6 which v6) old new
 
-  pub both-written : (result : Result (Unit {0}) E) (old mid new : Option (List ℕ))
+  pub both-written : {E : Type 0} (result : Result (Unit {0}) E) (old mid new : Option (List ℕ))
       → families ≡ Both → WritesV4 form v4 old mid → OnOk result (WritesV6 form v6 mid new)
       → OnOk result (Kept families old new)
   both-written (Ok done) old mid new is first last =
@@ -162,7 +162,7 @@ module _ {E : Type 0} (form : Form) (families : Families) (v4 v6 : List Interval
       subst (λ which. Kept which old new) (sym is) whole
   both-written (Err error) old mid new is first last = tt
 
-  pub v4-written : (result : Result (Unit {0}) E) (old new : Option (List ℕ)) → families ≡ V4
+  pub v4-written : {E : Type 0} (result : Result (Unit {0}) E) (old new : Option (List ℕ)) → families ≡ V4
       → OnOk result (WritesV4 form v4 old new) → OnOk result (Kept families old new)
   v4-written (Ok done) old new is first =
       let whole : Kept V4 old new =
@@ -170,7 +170,7 @@ module _ {E : Type 0} (form : Form) (families : Families) (v4 v6 : List Interval
       subst (λ which. Kept which old new) (sym is) whole
   v4-written (Err error) old new is first = tt
 
-  pub v6-written : (result : Result (Unit {0}) E) (old new : Option (List ℕ)) → families ≡ V6
+  pub v6-written : {E : Type 0} (result : Result (Unit {0}) E) (old new : Option (List ℕ)) → families ≡ V6
       → OnOk result (WritesV6 form v6 old new) → OnOk result (Kept families old new)
   v6-written (Ok done) old new is last =
       let whole : Kept V6 old new =
