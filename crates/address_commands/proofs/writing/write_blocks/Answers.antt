@@ -1,7 +1,7 @@
 use Rattle.std.proofs.Common.{◌≡◌, ◌∙◌, refl, subst}
 use Rattle.std.specs.List.{flat_map}
 use Rattle.range_set_blaze.specs.Runs.{IsCanonicalIn, members}
-use Rattle.rsb_streams.specs.Stream.{listed_may_give}
+use Rattle.rsb_streams.specs.Listed.{listed_may_give}
 use Rattle.address_lists.specs.Blocks.{AreMaximalBlocks}
 use Rattle.address_lists.specs.BlocksLeft.{block_runs, blocks_may_give}
 use Rattle.address_lists.proofs.aligned.Left.{all-aligned, all-given}
