@@ -1,5 +1,5 @@
 -- The lines of the ranges of a set.
-use Rattle.std.proofs.Common.{◌≡◌, ◌∙◌, ℕ, ◌+◌, ◌^◌, ◌<◌, ◌≤◌, Bool, true, false, cond, List, [], ◌∷◌, ◌++◌, None, refl, sym, ap, subst, arith}
+use Rattle.std.proofs.Common.{◌≡◌, ◌∙◌, ℕ, ◌+◌, ◌^◌, ◌<◌, ◌≤◌, Bool, true, false, cond, List, [], ◌∷◌, ◌++◌, length, suc, None, refl, sym, ap, subst, arith}
 use Rattle.std.specs.Iterator.{Yields, YieldsFirst}
 use Rattle.std.specs.List.{flat_map}
 use Rattle.std.specs.Range.{range_inclusive_start, range_inclusive_end, range_inclusive_exhausted}
@@ -10,7 +10,8 @@ use Rattle.std.proofs.lemmas.List.{append-nil}
 use Rattle.std.proofs.lemmas.List.Elements.{All-nil}
 use Rattle.address_lists.specs.Address.{v4_text, v6_text}
 use Rattle.address_lists.specs.Blocks.{IsMaximalBlock}
-use Rattle.address_lists.specs.BlocksLeft.{IsAligned}
+use Rattle.address_lists.specs.BlocksLeft.{IsAligned, block_runs}
+use Rattle.address_lists.specs.declared.blocks.block.Block.{Block}
 use Rattle.std.specs.Io.KnownBytes.{Appends}
 use Rattle.std.specs.Prelude.{Err, Ok, OnOk, Option, Result}
 use Rattle.address_commands.proofs.AppendsLemmas.{Appends-then}
@@ -177,3 +178,11 @@ module _ (form : Form) (families : Families) (v4 v6 : List Interval) where
       (last.0, v6-lines form v4 v6 [] last.0 last.1, last.2) in
       subst (λ which. Kept which old new) (sym is) whole
   v6-written (Err error) old new is last = tt
+
+-- ---- counts
+
+-- There are as many blocks as intervals of their ranks.
+pub as-many : {T : Type 0} (rank : T → ℕ) (width : ℕ) (blocks : List (Block T))
+    → length blocks ≡ length (block_runs rank width blocks)
+as-many rank width [] = refl
+as-many rank width (block ∷ blocks) = ap (λ many. suc many) (as-many rank width blocks)

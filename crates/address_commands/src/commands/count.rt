@@ -1,10 +1,8 @@
 //! How many addresses and blocks the lists of files have.
 
-ghost use Rattle.std.specs.Prelude.{◌≡◌, ◌-◌, ◌^◌, ◌++◌, ℕ, List, OnOk, Some, codes, decimal, length, min};
-ghost use Rattle.std.specs.Io.KnownBytes.{Appends};
+ghost use Rattle.std.specs.Prelude.{◌≡◌, ◌-◌, ◌^◌, List, length, min};
 ghost use Rattle.range_set_blaze.specs.Runs.{Interval, members};
 ghost use Rattle.address_lists.specs.Blocks.{AreMaximalBlocks};
-ghost use Rattle.address_commands.specs.Answer.{IsCountText};
 
 use crate::commands::lists::read_lists;
 use crate::fault::Fault;
@@ -53,11 +51,7 @@ fn write_list_counts<W: Write, A: Allocator>(
 fn write_v4_count<W: Write, A: Allocator>(
     output: &mut W,
     set: &RangeSetBlaze<u32, A>,
-) -> io::Result<()>
-    ensures { OnOk result ((text : List ℕ)
-        × IsCountText (codes "IPv4") 32 (members set.now) text
-        × Appends (W.contents output.old) (W.contents output.new) text) }
-{
+) -> io::Result<()> {
     write_count(output, "IPv4", set.len(), block_count(set))
 }
 
@@ -65,11 +59,7 @@ fn write_v4_count<W: Write, A: Allocator>(
 fn write_v6_count<W: Write, A: Allocator>(
     output: &mut W,
     set: &RangeSetBlaze<u128, A>,
-) -> io::Result<()>
-    ensures { OnOk result ((text : List ℕ)
-        × IsCountText (codes "IPv6") 128 (members set.now) text
-        × Appends (W.contents output.old) (W.contents output.new) text) }
-{
+) -> io::Result<()> {
     let blocks = block_count(set);
     match set.len() {
         UIntPlusOne::UInt(addresses) => write_count(output, "IPv6", addresses, blocks),
@@ -83,12 +73,7 @@ fn write_count<W: Write, N: Display + Drop>(
     family: &str,
     addresses: N,
     blocks: u64,
-) -> io::Result<()>
-    ensures { OnOk result ((digits : List ℕ) → N.output addresses ≡ Some digits
-        → Appends (W.contents output.old) (W.contents output.new)
-        (family.now ++ codes " addresses: " ++ digits ++ codes ", blocks: " ++ decimal blocks
-        ++ codes "\n")) }
-{
+) -> io::Result<()> {
     writeln!(output, "{family} addresses: {addresses}, blocks: {blocks}")
 }
 
