@@ -1,0 +1,4 @@
+pub mod AnswerLemmas
+pub mod AppendsLemmas
+pub mod FilesLemmas
+pub mod LinesLemmas

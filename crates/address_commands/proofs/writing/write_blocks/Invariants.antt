@@ -1,0 +1,10 @@
+use Rattle.std.specs.Io.KnownBytes.{Appends}
+use Rattle.std.specs.List.{flat_map}
+use Rattle.address_commands.specs.Text.{block_line}
+use Rattle.address_commands.proofs.writing.write_blocks.Given as goal
+
+-- the lines of the blocks so far were written
+abbrev pub invariant-loop-block : goal.invariant-loop-block
+invariant-loop-block g l =
+    Appends (g.W.Write.contents l.initial.output) (g.W.Write.contents l.output)
+    (flat_map (block_line g.T.AddressText.text g.T.Integer.rank g.T.Address.width) l.yielded)

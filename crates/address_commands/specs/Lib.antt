@@ -1,0 +1,5 @@
+pub mod Answer
+pub mod Fault
+pub mod Files
+pub mod Request
+pub mod Text

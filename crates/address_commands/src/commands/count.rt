@@ -1,0 +1,90 @@
+//! How many addresses and blocks the lists of files have.
+
+ghost use Rattle.std.specs.Prelude.{◌≡◌, ◌-◌, ◌^◌, List, length, min};
+ghost use Rattle.range_set_blaze.specs.Runs.{Interval, members};
+ghost use Rattle.address_lists.specs.Blocks.{AreMaximalBlocks};
+
+use crate::commands::lists::read_lists;
+use crate::fault::Fault;
+use crate::inputs::Inputs;
+use crate::request::Families;
+use address_lists::{Address, AddressList, IntoBlocks, Operation, combine};
+use range_set_blaze::{RangeSetBlaze, UIntPlusOne};
+use std::alloc::Allocator;
+use std::fmt::Display;
+use std::io::{self, Write};
+
+// The number of all IPv6 addresses, which is 2^128.
+const ALL_V6: &str = "340282366920938463463374607431768211456";
+
+/// Writes how many addresses and blocks of each family some list has.
+pub(crate) fn write_counts<'a, A: Allocator + Copy, I: Inputs, W: Write>(
+    alloc: A,
+    inputs: &I,
+    families: Families,
+    files: &'a [&'a str],
+    output: &mut W,
+) -> Result<(), Fault<'a>> {
+    let lists = read_lists(alloc, inputs, files)?;
+    let list = combine(alloc, Operation::Union, &lists)?;
+    write_list_counts(output, &list, families)?;
+    Ok(())
+}
+
+// Writes how many addresses and blocks of each family a list has.
+fn write_list_counts<W: Write, A: Allocator>(
+    output: &mut W,
+    list: &AddressList<A>,
+    families: Families,
+) -> io::Result<()> {
+    match families {
+        Families::Both => {
+            write_v4_count(output, &list.v4)?;
+            write_v6_count(output, &list.v6)
+        }
+        Families::V4 => write_v4_count(output, &list.v4),
+        Families::V6 => write_v6_count(output, &list.v6),
+    }
+}
+
+// Writes how many IPv4 addresses and blocks a set has.
+fn write_v4_count<W: Write, A: Allocator>(
+    output: &mut W,
+    set: &RangeSetBlaze<u32, A>,
+) -> io::Result<()> {
+    write_count(output, "IPv4", set.len(), block_count(set))
+}
+
+// Writes how many IPv6 addresses and blocks a set has.
+fn write_v6_count<W: Write, A: Allocator>(
+    output: &mut W,
+    set: &RangeSetBlaze<u128, A>,
+) -> io::Result<()> {
+    let blocks = block_count(set);
+    match set.len() {
+        UIntPlusOne::UInt(addresses) => write_count(output, "IPv6", addresses, blocks),
+        UIntPlusOne::MaxPlusOne => write_count(output, "IPv6", ALL_V6, blocks),
+    }
+}
+
+// Writes the name of a family, and how many addresses and blocks of it there are.
+fn write_count<W: Write, N: Display + Drop>(
+    output: &mut W,
+    family: &str,
+    addresses: N,
+    blocks: u64,
+) -> io::Result<()> {
+    writeln!(output, "{family} addresses: {addresses}, blocks: {blocks}")
+}
+
+// Returns how many blocks a set has, or 2^64 - 1 if it has more.
+fn block_count<T: Address + 'static, A: Allocator>(set: &RangeSetBlaze<T, A>) -> u64
+    ensures { (blocks : List Interval) × AreMaximalBlocks (members set.now) blocks
+        × (result ≡ min (length blocks) (2 ^ 64 - 1)) }
+{
+    let mut count = 0u64;
+    for _block in set.ranges().blocks() {
+        count = count.saturating_add(1);
+    }
+    count
+}

@@ -1,0 +1,20 @@
+//! Commands on lists of IP addresses: from a command line and files to the text of an answer.
+#![tactic(auto)]
+
+mod arguments;
+mod commands;
+mod fault;
+mod inputs;
+mod program;
+mod request;
+mod system;
+mod writing;
+
+pub use crate::arguments::Arguments;
+pub use crate::commands::{HELP, Outcome, VERSION, run};
+pub use crate::fault::{Fault, Misuse};
+pub use crate::inputs::Inputs;
+pub use crate::program::{finish, start};
+pub use crate::request::{Combination, Families, Form, Request};
+pub use crate::system::SystemInputs;
+pub use crate::writing::{AddressText, write_list};
