@@ -107,8 +107,9 @@ fn operations_select_from_0_to_3_lists(rt: HostRuntime) -> Result<(), Fail> {
     let lists = lists(rt.alloc(), &TEXTS)?;
     for row in &ROWS {
         for (count, wanted) in row.selected.iter().enumerate() {
+            let given = lists.get(..count).unwrap_or(&[]);
             assert!(rt;
-                selects(rt.alloc(), row.operation, &lists[..count], wanted)?,
+                selects(rt.alloc(), row.operation, given, wanted)?,
                 "at {:?} of {count} lists",
                 row.operation
             );
