@@ -4,7 +4,8 @@
  * `sets` has `count` pointers to handles: `const rsb_u32 *sets[] = {&a, &b, &c};`. It may have the
  * same handle several times, and `out` too. If `count` is 0, `sets` may be null. Each call returns
  * RSB_CHANGED and frees what `out` held before, or returns RSB_NO_MEMORY and leaves `out`
- * unchanged. It copies the sets into a list. To use a list for several calls, fill it yourself. */
+ * unchanged. It first copies the sets into a list (docs/DECISIONS.md, many-by-lists). To use a
+ * list for several calls, fill it yourself. */
 #ifndef RANGE_SET_U32_MANY_H
 #define RANGE_SET_U32_MANY_H
 
