@@ -1,8 +1,9 @@
 //! How many addresses and blocks the lists of files have.
 
-ghost use Rattle.std.specs.Prelude.{◌≡◌, ◌-◌, ◌^◌, List, length, min};
+ghost use Rattle.std.specs.Prelude.{◌≡◌, ◌-◌, ◌^◌, IfErr, List, length, map, min};
 ghost use Rattle.range_set_blaze.specs.Runs.{Interval, members};
 ghost use Rattle.address_lists.specs.Blocks.{AreMaximalBlocks};
+ghost use Rattle.address_commands.specs.Files.{IsFirstFault, KeepsUnlessWriting};
 
 use crate::commands::lists::read_lists;
 use crate::fault::Fault;
@@ -24,7 +25,12 @@ pub(crate) fn write_counts<'a, A: Allocator + Copy, I: Inputs, W: Write>(
     families: Families,
     files: &'a [&'a str],
     output: &mut W,
-) -> Result<(), Fault<'a>> {
+) -> Result<(), Fault<'a>>
+    ensures first { IfErr result (IsFirstFault (I.bytes inputs.now)
+        (map (λ name. name.now) files.now)) }
+    ensures keeps { IfErr result (λ fault.
+        KeepsUnlessWriting fault (W.contents output.old) (W.contents output.new)) }
+{
     let lists = read_lists(alloc, inputs, files)?;
     let list = combine(alloc, Operation::Union, &lists)?;
     write_list_counts(output, &list, families)?;

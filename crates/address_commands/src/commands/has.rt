@@ -1,5 +1,8 @@
 //! Which lists have an address.
 
+ghost use Rattle.std.specs.Prelude.{IfErr, map};
+ghost use Rattle.address_commands.specs.Files.{IsFirstFault, KeepsUnlessWriting};
+
 use crate::commands::Outcome;
 use crate::commands::lists::read_lists;
 use crate::fault::Fault;
@@ -16,7 +19,12 @@ pub(crate) fn write_names<'a, A: Allocator + Copy, I: Inputs, W: Write>(
     address: IpAddr,
     files: &'a [&'a str],
     output: &mut W,
-) -> Result<Outcome, Fault<'a>> {
+) -> Result<Outcome, Fault<'a>>
+    ensures first { IfErr result (IsFirstFault (I.bytes inputs.now)
+        (map (λ name. name.now) files.now)) }
+    ensures keeps { IfErr result (λ fault.
+        KeepsUnlessWriting fault (W.contents output.old) (W.contents output.new)) }
+{
     let lists = read_lists(alloc, inputs, files)?;
     let mut outcome = Outcome::InNone;
     for (file, list) in files.iter().zip(&lists) {
