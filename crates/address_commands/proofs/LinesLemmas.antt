@@ -4,7 +4,7 @@ use Rattle.std.specs.Iterator.{Yields, YieldsFirst}
 use Rattle.std.specs.List.{flat_map}
 use Rattle.std.specs.Range.{range_inclusive_start, range_inclusive_end, range_inclusive_exhausted}
 use Rattle.std.specs.declared.ops.RangeInclusive.{RangeInclusive}
-use Rattle.range_set_blaze.specs.Runs.{from_to, members, Interval, IsCanonicalFrom, IsCanonicalIn}
+use Rattle.range_set_blaze.specs.Runs.{from_to, members, Interval, IsCanonicalFrom}
 use Rattle.rsb_integer.specs.Rank.{intervals_of}
 use Rattle.std.proofs.lemmas.List.{append-nil}
 use Rattle.std.proofs.lemmas.List.Elements.{All-nil}

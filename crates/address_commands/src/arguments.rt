@@ -1,4 +1,5 @@
-//! The command line.
+//! The command line. It is read here and not by `clap`, whose errors have several lines, and whose
+//! exact contracts cover only simple commands.
 
 use crate::fault::{Fault, Misuse};
 use crate::request::{Combination, Families, Form, Request};

@@ -1,14 +1,14 @@
 -- Lists with the same contents select the same.
-use Rattle.std.proofs.Common.{◌≡◌, ◌∙◌, ◌⊎◌, inl, inr, ◌↔◌, ℕ, zero, suc, ◌<◌, ◌≤◌, Bool, true, false, cond, List, [], ◌∷◌, length, filter, map, refl, sym, ap, subst, arith}
+use Rattle.std.proofs.Common.{◌≡◌, ◌⊎◌, inl, inr, ℕ, zero, suc, ◌<◌, ◌≤◌, Bool, true, false, cond, List, [], ◌∷◌, length, filter, map, refl, sym, ap, subst, arith}
 use Rattle.std.proofs.lemmas.Bool.{cases_lt, lt-ltb}
 use Rattle.std.proofs.lemmas.List.{nil_from_length}
 use Rattle.std.proofs.lemmas.List.Elements.{All-contains, All-contains_itself}
-use Rattle.std.specs.Prelude.{All, Any, Contains, IsTrue, slice_index_or}
+use Rattle.std.specs.Prelude.{All, Any, Contains, slice_index_or}
 use Rattle.std.specs.Str.Lines.{lines}
 use Rattle.range_set_blaze.specs.Selection.{Selection}
 use Rattle.address_lists.specs.declared.line.Line.TheVariants.{Nothing, V4, V6}
 use Rattle.address_lists.specs.Line.{MeansV4, MeansV6, content}
-use Rattle.address_lists.specs.List.{AreAddressesOf, HasAddress, IsGoodLine, IsListOf, contents, has_bytes}
+use Rattle.address_lists.specs.List.{HasAddress, IsGoodLine, IsListOf, contents, has_bytes}
 use Rattle.address_lists.proofs.listing.Reading.{same_meaning}
 use Rattle.address_lists.proofs.listing.Selected.{empty_v4, empty_v6}
 

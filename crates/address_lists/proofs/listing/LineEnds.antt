@@ -1,13 +1,12 @@
 -- White space at the end of a line does not count.
-use Rattle.std.proofs.Common.{◌≡◌, ◌∙◌, ◌⊎◌, inl, inr, ℕ, suc, ◌+◌, ◌-◌, ◌<◌, ◌≤◌, Bool, true, false, eqb, not, cond, List, [], ◌∷◌, ◌++◌, drop, length, take, get_or, refl, sym, ap, arith, length-append}
+use Rattle.std.proofs.Common.{◌≡◌, ◌∙◌, ◌⊎◌, inl, inr, ℕ, suc, ◌+◌, ◌-◌, ◌<◌, Bool, true, false, eqb, List, [], ◌∷◌, ◌++◌, drop, length, take, get_or, refl, sym, ap, arith, length-append}
 use Rattle.std.proofs.lemmas.Bool.{eqb-true}
-use Rattle.std.proofs.lemmas.List.{length-reverse, reverse-append, take-append-le, take_all, take_more}
-use Rattle.std.proofs.lemmas.List.Sums.{prefix_len-le-length}
+use Rattle.std.proofs.lemmas.List.{reverse-append, take-append-le, take_all, take_more}
 use Rattle.std.specs.Char.{is_ascii_whitespace}
 use Rattle.std.specs.List.{before_first, position_or_len, prefix_len, suffix_len}
 use Rattle.std.specs.Str.Lines.{strip_carriage_return}
 use Rattle.address_lists.specs.Line.{begins_comment, content}
-use Rattle.address_lists.specs.LineParts.{trimmed, without_first_blanks, without_last_blanks}
+use Rattle.address_lists.specs.LineParts.{trimmed, without_last_blanks}
 use Rattle.address_lists.proofs.spelling.Around.{blank_no_comment}
 
 one_more : (n : ℕ) → 1 + n ≡ suc n

@@ -1,10 +1,8 @@
 -- A list selects one set of addresses, or has one first bad line.
-use Rattle.std.proofs.Common.{◌≡◌, ◌∙◌, ◌↔◌, ℕ, suc, ◌+◌, Bool, true, false, List, [], ◌∷◌, ◌++◌, length, refl, sym, ap, subst}
+use Rattle.std.proofs.Common.{◌≡◌, ◌∙◌, ℕ, suc, ◌+◌, Bool, true, false, List, [], ◌∷◌, ◌++◌, length, refl, sym, ap, subst}
 use Rattle.std.proofs.lemmas.List.Elements.{All-head, All-tail}
-use Rattle.std.specs.Prelude.{All, Any, IsTrue}
-use Rattle.std.specs.Str.Lines.{lines}
+use Rattle.std.specs.Prelude.{All, IsTrue}
 use Rattle.range_set_blaze.specs.Selection.{Selection}
-use Rattle.address_lists.specs.Line.{MeansV4, MeansV6}
 use Rattle.address_lists.specs.List.{AreAddressesOf, IsBadLine, IsFirstBadLine, IsGoodLine, IsListOf}
 
 same_truth : (a b : Bool) → (IsTrue a → IsTrue b) → (IsTrue b → IsTrue a) → a ≡ b

@@ -1,5 +1,5 @@
 -- Lines that are read one after the other.
-use Rattle.std.proofs.Common.{◌≡◌, ◌∙◌, ℕ, ◌+◌, ◌<◌, ◌≤◌, List, [], ◌∷◌, ◌++◌, length, Option, Some, None, refl, sym, ap, subst, append_assoc, append-nil, arith, length-append}
+use Rattle.std.proofs.Common.{◌≡◌, ◌∙◌, ℕ, ◌+◌, ◌<◌, ◌≤◌, List, [], ◌∷◌, ◌++◌, length, Option, Some, None, refl, sym, ap, append_assoc, append-nil, arith, length-append}
 use Rattle.std.proofs.lemmas.List.Elements.{All-push}
 use Rattle.std.specs.Io.BufRead.{DropsThrough, drop_through, take_through}
 use Rattle.std.specs.Io.KnownBytes.{IsAtEnd}
@@ -9,7 +9,7 @@ use Rattle.range_set_blaze.specs.Runs.{Interval, members}
 use Rattle.address_lists.specs.declared.line.Line.{Line}
 use Rattle.address_lists.specs.declared.line.Line.TheVariants.{Nothing, V4, V6}
 use Rattle.address_lists.specs.Line.{IsLine, MeansV4, MeansV6, content}
-use Rattle.address_lists.specs.List.{AddsAddressesOf, AreAddressesOf, HasAddress, IsFirstBadLine, IsGoodLine, IsListOf}
+use Rattle.address_lists.specs.List.{AddsAddressesOf, AreAddressesOf, IsFirstBadLine, IsGoodLine, IsListOf}
 use Rattle.address_lists.proofs.listing.FirstLine.{first_line}
 use Rattle.address_lists.proofs.listing.Selected.{addresses_more, addresses_none}
 

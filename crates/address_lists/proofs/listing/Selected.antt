@@ -1,5 +1,5 @@
 -- The addresses that a line means, and those of lines one after the other.
-use Rattle.std.proofs.Common.{◌≡◌, ◌∙◌, ◌⊎◌, ◌↔◌, inl, inr, ℕ, zero, suc, ◌+◌, ◌≤◌, Bool, true, false, List, [], ◌∷◌, ◌++◌, refl, sym, ap, subst, arith}
+use Rattle.std.proofs.Common.{◌≡◌, ◌⊎◌, inl, inr, ℕ, zero, suc, ◌+◌, ◌≤◌, Bool, true, false, List, [], ◌∷◌, ◌++◌, refl, sym, ap, subst, arith}
 use Rattle.std.proofs.lemmas.Bool.Decides.{nat_tests}
 use Rattle.std.proofs.lemmas.List.Quantifiers.{Any-push}
 use Rattle.std.specs.Prelude.{Any, IsTrue, ◌&&◌, ◌||◌, nat_le, nat_lt}
@@ -8,7 +8,7 @@ use Rattle.std.specs.declared.ops.RangeInclusive.{RangeInclusive}
 use Rattle.range_set_blaze.specs.Selection.{Selection, union}
 use Rattle.address_lists.specs.declared.line.Line.{Line}
 use Rattle.address_lists.specs.declared.line.Line.TheVariants.{Nothing, V4, V6}
-use Rattle.address_lists.specs.AddressRange.{Spans, WritesOneOrBlock, WritesParts, WritesRange}
+use Rattle.address_lists.specs.AddressRange.{Spans, WritesOneOrBlock, WritesParts}
 use Rattle.address_lists.specs.Address.{IsV4, IsV6}
 use Rattle.address_lists.specs.Line.{IsLine, MeansV4, MeansV6, content}
 use Rattle.address_lists.specs.LineParts.{parts}

@@ -1,4 +1,3 @@
-use Rattle.std.proofs.Common.{rules}
 use Rattle.range_set_blaze.specs.Runs.{members}
 use Rattle.address_lists.proofs.listing.Selected.{adds_v4, adds_v6, fresh_v4, fresh_v6, no_v4, no_v6}
 use Rattle.address_lists.proofs.list.AddressList.add.Goals as goal
