@@ -1,5 +1,5 @@
--- The pieces of what lies deep in a sweep, one event after the other.
-use Rattle.std.proofs.Common.{◌≡◌, inl, inr, ℕ, ◌+◌, ◌<◌, ◌≤◌, Bool, true, false, ◌&&◌, ◌||◌, ◌^◌, nat_le, nat_lt, List, [], ◌∷◌, ◌++◌, map, refl, sym, ap, subst, ◌∙◌, arith, Option, Some, None}
+-- One draw of the pieces of a sweep: one event after the other is passed.
+use Rattle.std.proofs.Common.{◌≡◌, inl, inr, ℕ, ◌+◌, ◌<◌, ◌≤◌, Bool, true, false, ◌&&◌, ◌||◌, ◌^◌, nat_le, List, [], ◌∷◌, ◌++◌, map, refl, sym, subst, ◌∙◌, arith, Option, Some, None}
 use Rattle.std.proofs.lemmas.Bool.Decides.{nat_tests}
 use Rattle.std.proofs.lemmas.List.Sums.{sum_by-cons}
 use Rattle.std.specs.Iterator.{size, count_map, count_unless, Count, IsFinite, MakesProgress}
@@ -18,17 +18,18 @@ use Rattle.rsb_streams.specs.Stream.{◌⊆◌, unless, Outcomes}
 use Rattle.rsb_streams.specs.StreamLaws.{settled_le, settled_lt}
 use Rattle.rsb_streams.specs.declared.draw.Draw.{Ghosts as Stream}
 use Rattle.rsb_streams.proofs.odd.Ranks.{no-pieces}
-use Rattle.rsb_many.specs.DeepPieces.{crosses, crossing, deep_left, deep_may_give, deep_pieces, deep_telling, depth_after, end_count, start_count, unless_told, CanPass, DeepReady, IsDepth, PassesDepth}
-use Rattle.rsb_many.specs.MultiwaySweep.{events_left, stream_count, sweep_inputs, sweep_may_give, SweepReady, Sweeps}
+use Rattle.rsb_many.specs.MultiwaySweep.{events_left, stream_count, sweep_may_give, SweepReady, Sweeps}
+use Rattle.rsb_many.specs.Rule.{crosses, crossing, depth_after, end_count, start_count, CanPass, IsDepth}
 use Rattle.rsb_many.specs.Sweep.{event_of, End, Event, Start}
-use Rattle.rsb_many.specs.SweepPieces.{edge_in, edge_of, edges_of, low_of, odd_past, told_all, HasEdgesFrom, IsEventIn, PassesAll, PassesEdge, PassesSome, SomeEvents, Telling}
-use Rattle.rsb_many.specs.declared.deep_pieces.DeepPieces.{DeepPieces}
+use Rattle.rsb_many.specs.SweepPieces.{edge_of, edges_of, going_gives, going_telling, low_of, odd_past, pieces_left, pieces_may_give, pieces_telling, sweep_pieces, told_all, unless_told, HasEdgesFrom, IsEventIn, PassesAll, PassesEdge, PassesEvent, PassesSome, PiecesReady, Telling}
 use Rattle.rsb_many.specs.declared.multiway_sweep.MultiwaySweep.{MultiwaySweep}
 use Rattle.rsb_many.specs.declared.sweep_event.SweepEvent.{SweepEvent}
-use Rattle.rsb_many.proofs.events.Crossings.{crossing-edges, crossing-next}
+use Rattle.rsb_many.specs.declared.sweep_pieces.Rule.{Rule}
+use Rattle.rsb_many.specs.declared.sweep_pieces.SweepPieces.{SweepPieces}
+use Rattle.rsb_many.proofs.events.ByDepth.{crossing-edges, crossing-next, crossing-none}
 use Rattle.rsb_many.proofs.events.Depths.{some-depth, EndsOneMore}
-use Rattle.rsb_many.proofs.events.Edges.{edges-lower, pieces-begin, pieces-end, settled-event, start-next}
-use Rattle.rsb_many.proofs.pieces.Odd.{passes-end, passes-more, passes-none}
+use Rattle.rsb_many.proofs.events.Edges.{edge-ended, edges-lower, low-next, pieces-next, settled-event, start-next}
+use Rattle.rsb_many.proofs.pieces.Passing.{passes-end, passes-more, passes-none}
 
 -- An option has at most one value.
 len-most : {T : Type 0} (start : Option T) → option_len start ≤ 1
@@ -37,57 +38,11 @@ len-most (Some value) = omega arith
 
 -- ---- once an event is passed
 
-module _ {T : Type 0} (rank : T → ℕ) (n : ℕ) (event : Event) (events : List Event) where
-  -- A piece that begins starts at the edge.
-  edge-begun : (start : T) → rank start ∷ [] ≡ edge_in n (edge_of event)
-      → rank start ≡ edge_of event
-  edge-begun start is = elim (true_or_false (nat_lt (edge_of event) n)) [
-    | inl inside ↦
-        let here : rank start ∷ [] ≡ edge_of event ∷ [] = rw inside at is in
-        cc
-    | inr outside ↦ absurd (let none = rw outside at is in cc)
-  ]
-
-  -- No edge to come lies before the start of a piece that has begun now.
-  low-next : (old : Option T) (piece : Option (RangeInclusive T)) (new : Option T)
-      → PassesEdge rank n (edge_of event) old piece new
-      → HasEdgesFrom n (low_of rank old) (event ∷ events) → HasEdgesFrom n (low_of rank new) events
-  low-next None piece None passes edges =
-      edges-lower n (edge_of event) 0 events (omega arith) edges.2
-  low-next None piece (Some start) passes edges =
-      subst (λ low. HasEdgesFrom n low events) (sym (edge-begun start passes.1)) edges.2
-  low-next (Some begun) piece new passes edges =
-      subst (λ each. HasEdgesFrom n (low_of rank each) events) (sym passes.1)
-      (edges-lower n (edge_of event) 0 events (omega arith) edges.2)
-
-  -- The piece that ends at the edge, followed by the pieces after it, are pieces before it.
-  edge-pieces : (old : Option T) (piece : Option (RangeInclusive T)) (new : Option T)
-      (pieces : List Interval) → PassesEdge rank n (edge_of event) old piece new
-      → HasEdgesFrom n (low_of rank old) (event ∷ events)
-      → ArePieces n (odd_past (edges_of rank new ++ map edge_of events)) pieces
-      → ArePieces n (odd_past (edges_of rank old ++ map edge_of (event ∷ events)))
-      (held_list rank piece ++ pieces)
-  edge-pieces None piece new pieces passes edges all =
-      rw passes.0 (pieces-begin rank n (edge_of event) (map edge_of events) new pieces passes.1 all)
-  edge-pieces (Some start) piece new pieces passes edges all =
-      rw passes.0 (pieces-end n (rank start) event events pieces edges
-      (subst (λ each. ArePieces n (odd_past (edges_of rank each ++ map edge_of events)) pieces)
-      passes.1 all))
-
-  -- A piece that ends had begun before the event, and no piece has begun after it.
-  edge-ended : (old : Option T) (range : RangeInclusive T) (new : Option T)
-      → PassesEdge rank n (edge_of event) old (Some range) new
-      → (option_len old ≡ 1) × (option_len new ≡ 0)
-  edge-ended None range new passes = absurd (let none = passes.0 in cc)
-  edge-ended (Some start) range new passes = (refl, ap option_len passes.1)
-
--- ---- once an event is passed at which the depth may cross the bound
-
-module _ {T : Type 0} (rank : T → ℕ) (n least depth : ℕ) (event : Event) (old : Option T)
-    (piece : Option (RangeInclusive T)) (after : ℕ) (new : Option T)
-    (passes : PassesDepth rank n least depth event old piece after new) where
-  -- If the depth crosses the bound, the edge is passed; otherwise nothing changes.
-  passes-edge : (test : Bool) → crosses least depth event ≡ test
+module _ {T : Type 0} (rank : T → ℕ) (n : ℕ) (rule : Rule) (depth : ℕ) (event : Event)
+    (old : Option T) (piece : Option (RangeInclusive T)) (after : ℕ) (new : Option T)
+    (passes : PassesEvent rank n rule depth event old piece after new) where
+  -- If a piece begins or ends at the event, its edge is passed; otherwise nothing changes.
+  passes-edge : (test : Bool) → crosses rule depth event ≡ test
       → MatchBool test (PassesEdge rank n (edge_of event) old piece new)
       ((piece ≡ None) × (new ≡ old))
   passes-edge test is = subst (λ each. MatchBool each
@@ -96,7 +51,7 @@ module _ {T : Type 0} (rank : T → ℕ) (n least depth : ℕ) (event : Event) (
 
   -- A piece that has begun starts at a value.
   start-in : IfSome old (λ value. rank value < n) → IfSome new (λ value. rank value < n)
-  start-in within = elim (true_or_false (crosses least depth event)) [
+  start-in within = elim (true_or_false (crosses rule depth event)) [
     | inl edge ↦ begun new refl (passes-edge true edge)
     | inr none ↦ subst (λ each. IfSome each (λ value. rank value < n))
         (sym (passes-edge false none).1) within
@@ -112,7 +67,7 @@ module _ {T : Type 0} (rank : T → ℕ) (n least depth : ℕ) (event : Event) (
   -- No edge to come lies before the start of a piece that has begun.
   edges-next : (events : List Event) → HasEdgesFrom n (low_of rank old) (event ∷ events)
       → HasEdgesFrom n (low_of rank new) events
-  edges-next events edges = elim (true_or_false (crosses least depth event)) [
+  edges-next events edges = elim (true_or_false (crosses rule depth event)) [
     | inl edge ↦ low-next rank n event events old piece new (passes-edge true edge) edges
     | inr none ↦ subst (λ each. HasEdgesFrom n (low_of rank each) events)
         (sym (passes-edge false none).1)
@@ -121,25 +76,25 @@ module _ {T : Type 0} (rank : T → ℕ) (n least depth : ℕ) (event : Event) (
   ]
 
   -- The piece that ends at the event, followed by the pieces after it, are pieces before it.
-  pieces-deep : (events : List Event) (pieces : List Interval) → CanPass depth event
+  pieces-passed : (events : List Event) (pieces : List Interval) → CanPass depth event
       → HasEdgesFrom n (low_of rank old) (event ∷ events)
-      → ArePieces n (odd_past (edges_of rank new ++ map edge_of (crossing least after events))) pieces
+      → ArePieces n (odd_past (edges_of rank new ++ map edge_of (crossing rule after events))) pieces
       → ArePieces n (odd_past (edges_of rank old
-      ++ map edge_of (crossing least depth (event ∷ events)))) (held_list rank piece ++ pieces)
-  pieces-deep events pieces can edges all =
-      let later = crossing least (depth_after depth event) events in
+      ++ map edge_of (crossing rule depth (event ∷ events)))) (held_list rank piece ++ pieces)
+  pieces-passed events pieces can edges all =
+      let later = crossing rule (depth_after depth event) events in
       let now = subst (λ each. ArePieces n
-      (odd_past (edges_of rank new ++ map edge_of (crossing least each events))) pieces)
+      (odd_past (edges_of rank new ++ map edge_of (crossing rule each events))) pieces)
       passes.depth all in
-      let next = crossing-next least depth event events can in
+      let next = crossing-next rule depth event events can in
       subst (λ each. ArePieces n (odd_past (edges_of rank old ++ map edge_of each))
       (held_list rank piece ++ pieces)) (sym next)
-      (elim (true_or_false (crosses least depth event)) [
-        | inl edge ↦ rw edge (edge-pieces rank n event later old piece new pieces
+      (elim (true_or_false (crosses rule depth event)) [
+        | inl edge ↦ rw edge (pieces-next rank n event later old piece new pieces
             (passes-edge true edge) (
               edges.0,
               edges.1,
-              crossing-edges n (edge_of event) least (depth_after depth event) events edges.2,
+              crossing-edges n (edge_of event) rule (depth_after depth event) events edges.2,
             ) now)
         | inr none ↦
             let still = passes-edge false none in
@@ -150,7 +105,7 @@ module _ {T : Type 0} (rank : T → ℕ) (n least depth : ℕ) (event : Event) (
   -- A piece that ends had begun before the event, and no piece has begun after it.
   piece-ended : (range : RangeInclusive T) → piece ≡ Some range
       → (option_len old ≡ 1) × (option_len new ≡ 0)
-  piece-ended range is = elim (true_or_false (crosses least depth event)) [
+  piece-ended range is = elim (true_or_false (crosses rule depth event)) [
     | inl edge ↦ edge-ended rank n event [] old range new
         (subst (λ each. PassesEdge rank n (edge_of event) old each new) is (passes-edge true edge))
     | inr none ↦ absurd (let still = (passes-edge false none).0 in cc)
@@ -215,95 +170,90 @@ last-piece n start last inside is = record {
 module _ {T N I A : Type 0} (integer : Elements T N) (stream : Stream I T N) where
   open integer use {rank, value_count as n}
 
-  -- The pieces that may come if the stream is not done.
-  abbrev going_gives : DeepPieces T I A N → Outcomes
-  going_gives s pieces = SomeEvents (sweep_may_give integer stream s.sweep)
-      (λ events. ArePieces n (odd_past (edges_of rank s.start
-      ++ map edge_of (crossing s.least s.depth events))) pieces)
+  -- The inputs, and the events that may come, if the stream is not done.
+  abbrev telling : SweepPieces T I A N → Telling
+  telling s = going_telling integer stream s
 
-  -- The inputs and the events that may come, if the stream is not done.
-  abbrev going_telling : DeepPieces T I A N → Telling
-  going_telling s = record {
-    inputs = sweep_inputs integer stream s.sweep;
-    events = sweep_may_give integer stream s.sweep;
-  }
+  -- The pieces that may come then.
+  abbrev gives : SweepPieces T I A N → Outcomes
+  gives s = going_gives integer stream s
 
   -- How many pieces are left at most, if the stream is not done.
-  abbrev going_left : DeepPieces T I A N → ℕ
+  abbrev going_left : SweepPieces T I A N → ℕ
   going_left s = size (events_left integer stream s.sweep) + option_len s.start
 
   -- The same as a count, which is 0 once the stream is done.
-  abbrev left-by : Bool → DeepPieces T I A N → Count
+  abbrev left-by : Bool → SweepPieces T I A N → Count
   left-by done s = count_unless done (count_map (λ left. left + option_len s.start)
       (events_left integer stream s.sweep))
 
   -- If neither state is done, the count of pieces left decreases if `going_left` does.
-  lesser : (s t : DeepPieces T I A N) → s.done ≡ false → t.done ≡ false
+  lesser : (s t : SweepPieces T I A N) → s.done ≡ false → t.done ≡ false
       → going_left t < going_left s
-      → size (deep_left integer stream t) < size (deep_left integer stream s)
-  lesser s t undone also less = subst (λ done. size (left-by done t) < size (deep_left integer stream s))
+      → size (pieces_left integer stream t) < size (pieces_left integer stream s)
+  lesser s t undone also less = subst (λ done. size (left-by done t) < size (pieces_left integer stream s))
       (sym also) (subst (λ done. going_left t < size (left-by done s)) (sym undone) less)
 
   -- What holds of a draw that returns a range, if the stream is not done.
-  record GoesOn (s : DeepPieces T I A N) (range : RangeInclusive T) (t : DeepPieces T I A N) : Type 0
+  record GoesOn (s : SweepPieces T I A N) (range : RangeInclusive T) (t : SweepPieces T I A N) : Type 0
     where
-      pub answers : (rest : List Interval) → going_gives t rest
-          → going_gives s (interval_of rank range ∷ rest)
-      pub asks : PassesSome (going_telling s) (going_telling t)
+      pub answers : (rest : List Interval) → gives t rest
+          → gives s (interval_of rank range ∷ rest)
+      pub asks : PassesSome (telling s) (telling t)
 
   -- Then this is a draw of the pieces.
-  as-going : (s t : DeepPieces T I A N) (range : RangeInclusive T) → s.done ≡ false
+  as-going : (s t : SweepPieces T I A N) (range : RangeInclusive T) → s.done ≡ false
       → t.done ≡ false → GoesOn s range t
-      → (deep_pieces {A = A} integer stream).draw_gives s (Some range) t
+      → (sweep_pieces {A = A} integer stream).draw_gives s (Some range) t
   as-going s t range undone also goes = record {
-    answers = λ rest may. subst (λ done. unless done (going_gives s) (interval_of rank range ∷ rest))
+    answers = λ rest may. subst (λ done. unless done (gives s) (interval_of rank range ∷ rest))
         (sym undone) (goes.answers rest
-        (subst (λ done. unless done (going_gives t) rest) also may));
+        (subst (λ done. unless done (gives t) rest) also may));
     rests = tt;
-    asks = subst (λ done. PassesSome (unless_told done (going_telling s)) (deep_telling integer stream t))
-        (sym undone) (subst (λ done. PassesSome (going_telling s) (unless_told done (going_telling t)))
+    asks = subst (λ done. PassesSome (unless_told done (telling s)) (pieces_telling integer stream t))
+        (sym undone) (subst (λ done. PassesSome (telling s) (unless_told done (telling t)))
         (sym also) goes.asks);
   }
 
   -- What holds so far within a draw: what may come now might come at its entry, and some events
   -- were passed.
-  pub record DeepSoFar (entry now : DeepPieces T I A N) : Type 0 where
+  pub record SoFar (entry now : SweepPieces T I A N) : Type 0 where
     pub undone : now.done ≡ false
-    pub ready : DeepReady integer stream now
-    pub same : going_gives now ⊆ going_gives entry
-    pub passed : PassesSome (going_telling entry) (going_telling now)
+    pub ready : PiecesReady integer stream now
+    pub same : gives now ⊆ gives entry
+    pub passed : PassesSome (telling entry) (telling now)
     pub nearer : going_left now ≤ going_left entry
 
   -- At the entry no events were passed.
-  pub deep-nothing : (entry : DeepPieces T I A N) → entry.done ≡ false
-      → (entry.done ≡ false → DeepReady integer stream entry) → DeepSoFar entry entry
-  deep-nothing entry undone ready = record {
+  pub so_far-nothing : (entry : SweepPieces T I A N) → entry.done ≡ false
+      → (entry.done ≡ false → PiecesReady integer stream entry) → SoFar entry entry
+  so_far-nothing entry undone ready = record {
     undone = undone;
     ready = ready undone;
     same = λ pieces may. may;
-    passed = passes-none (going_telling entry)
+    passed = passes-none (telling entry)
         (λ place. let one = (ready undone).sweep.drawn.inputs.one place in omega (arith, one));
     nearer = omega arith;
   }
 
   -- Once the stream is done, a call that returns `None` and changes nothing is a draw of it.
-  pub deep-told : (s : DeepPieces T I A N) → s.done ≡ true
-      → (deep_pieces {A = A} integer stream).draw_gives s None s
-  deep-told s over = record {
-    answers = subst (λ done. unless done (going_gives s) []) (sym over) refl;
+  pub draw-over : (s : SweepPieces T I A N) → s.done ≡ true
+      → (sweep_pieces {A = A} integer stream).draw_gives s None s
+  draw-over s over = record {
+    answers = subst (λ done. unless done (gives s) []) (sym over) refl;
     rests = (
       λ going. absurd (let no = sym over ∙ going in cc),
-      λ runs may. subst (λ done. unless done (going_gives s) runs) over may,
+      λ runs may. subst (λ done. unless done (gives s) runs) over may,
     );
-    asks = subst (λ done. PassesAll (unless_told done (going_telling s))
-        (unless_told done (going_telling s))) (sym over) (record {
+    asks = subst (λ done. PassesAll (unless_told done (telling s))
+        (unless_told done (telling s))) (sym over) (record {
           passes = passes-none told_all (λ place. omega arith);
           over = λ place. record { held = refl; gives = λ runs none. none };
         });
   }
 
   -- ---- an event comes
-  module _ (entry was : DeepPieces T I A N) (so : DeepSoFar entry was) (j : MultiwaySweep T I A N)
+  module _ (entry was : SweepPieces T I A N) (so : SoFar entry was) (j : MultiwaySweep T I A N)
       (event : SweepEvent T) (call : Sweeps integer stream was.sweep (Some event) j)
       (goes : MakesProgress (SweepReady integer stream) (events_left integer stream) was.sweep
       (Some event) j) where
@@ -317,145 +267,151 @@ module _ {T N I A : Type 0} (integer : Elements T N) (stream : Stream I T N) whe
     edges events may = so.ready.edges (told ∷ events) (call.answers events may)
 
     -- The event lies in the type.
-    pub deep-event_in : IsEventIn n told
-    deep-event_in = settled-event n told
+    pub event-in : IsEventIn n told
+    event-in = settled-event n told
         (λ fails. goes.keeps.some (λ events may. fails (edges events may).1))
 
     -- It can be counted.
-    pub deep-can : CanPass was.depth told
-    deep-can = settled-pass was.depth told (λ fails. goes.keeps.some (λ events may.
+    pub event-can : CanPass was.depth told
+    event-can = settled-pass was.depth told (λ fails. goes.keeps.some (λ events may.
         let more = some-depth (stream_count j) _ _ events may in
         let fits = j.inputs.streams.small in
         fails (can-pass was.depth (stream_count j) told events (omega (arith, fits))
         (so.ready.deep (told ∷ events) (call.answers events may)) more)))
 
     -- Fewer events are left.
-    deep-less : size (events_left integer stream j) < size (events_left integer stream was.sweep)
-    deep-less = (goes.on so.ready.sweep.ends).2
+    event-less : size (events_left integer stream j) < size (events_left integer stream was.sweep)
+    event-less = (goes.on so.ready.sweep.ends).2
 
     -- ---- the event is passed
     module _ (piece : Option (RangeInclusive T)) (depth : ℕ) (start : Option T)
-        (passes : PassesDepth rank n was.least was.depth told was.start piece depth start) where
+        (passes : PassesEvent rank n was.rule was.depth told was.start piece depth start) where
       -- The stream after the event.
-      abbrev now : DeepPieces T I A N
+      abbrev now : SweepPieces T I A N
       now = record {
         sweep = j;
-        least = was.least;
+        rule = was.rule;
         depth = depth;
         start = start;
         done = was.done;
       }
 
       -- It is ready.
-      deep-ready : DeepReady integer stream now
-      deep-ready = record {
+      event-ready : PiecesReady integer stream now
+      event-ready = record {
         sweep = goes.keeps;
-        start = start-in rank n was.least was.depth told was.start piece depth start passes
+        start = start-in rank n was.rule was.depth told was.start piece depth start passes
             so.ready.start;
-        edges = λ events may. edges-next rank n was.least was.depth told was.start piece depth start
+        edges = λ events may. edges-next rank n was.rule was.depth told was.start piece depth start
             passes events (edges events may);
         deep = λ events may. subst (λ each. IsDepth each events) (sym passes.depth)
-            (depth-next was.depth told events deep-can
+            (depth-next was.depth told events event-can
             (so.ready.deep (told ∷ events) (call.answers events may)));
       }
 
       -- Some events were passed.
-      deep-passed : PassesSome (going_telling entry) (going_telling now)
-      deep-passed = passes-more (going_telling entry) (going_telling was) (going_telling now) told
+      event-passed : PassesSome (telling entry) (telling now)
+      event-passed = passes-more (telling entry) (telling was) (telling now) told
           so.passed call.answers call.asks call.holds
 
       -- The piece that ends, followed by what may come now, might come before the event.
-      deep-gives : (pieces : List Interval) → going_gives now pieces
-          → going_gives was (held_list rank piece ++ pieces)
-      deep-gives pieces may = λ nothing. may (λ events given all.
+      event-gives : (pieces : List Interval) → gives now pieces
+          → gives was (held_list rank piece ++ pieces)
+      event-gives pieces may = λ nothing. may (λ events given all.
           nothing (told ∷ events) (call.answers events given)
-          (pieces-deep rank n was.least was.depth told was.start piece depth start passes events
-          pieces deep-can (edges events given) all))
+          (pieces-passed rank n was.rule was.depth told was.start piece depth start passes events
+          pieces event-can (edges events given) all))
 
       -- If no piece ended, this holds so far.
-      pub deep-more : piece ≡ None → DeepSoFar entry now
-      deep-more none =
+      pub so_far-more : piece ≡ None → SoFar entry now
+      so_far-more none =
           let nearer = so.nearer in
-          let less = deep-less in
+          let less = event-less in
           let one = len-most start in
           record {
             undone = so.undone;
-            ready = deep-ready;
+            ready = event-ready;
             same = λ pieces may. so.same pieces
-                (subst (λ each. going_gives was (held_list rank each ++ pieces)) none
-                (deep-gives pieces may));
-            passed = deep-passed;
+                (subst (λ each. gives was (held_list rank each ++ pieces)) none
+                (event-gives pieces may));
+            passed = event-passed;
             nearer = omega arith;
           }
 
       -- If a piece ended, this is a draw that returns it.
-      pub deep-known : (range : RangeInclusive T) → piece ≡ Some range → entry.done ≡ false
-          → (deep_pieces {A = A} integer stream).draw_gives entry piece now
-      deep-known range is undone = subst
-          (λ each. (deep_pieces {A = A} integer stream).draw_gives entry each now) (sym is)
+      pub piece-known : (range : RangeInclusive T) → piece ≡ Some range → entry.done ≡ false
+          → (sweep_pieces {A = A} integer stream).draw_gives entry piece now
+      piece-known range is undone = subst
+          (λ each. (sweep_pieces {A = A} integer stream).draw_gives entry each now) (sym is)
           (as-going entry now range undone so.undone (record {
             answers = λ rest may. so.same (interval_of rank range ∷ rest)
-                (subst (λ each. going_gives was (held_list rank each ++ rest)) is
-                (deep-gives rest may));
-            asks = deep-passed;
+                (subst (λ each. gives was (held_list rank each ++ rest)) is
+                (event-gives rest may));
+            asks = event-passed;
           }))
 
       -- The draw makes progress.
-      pub deep-goes : (range : RangeInclusive T) → piece ≡ Some range → entry.done ≡ false
-          → MakesProgress (λ (s : DeepPieces T I A N). s.done ≡ false → DeepReady integer stream s)
-          (deep_left integer stream) entry piece now
-      deep-goes range is undone =
+      pub piece-goes : (range : RangeInclusive T) → piece ≡ Some range → entry.done ≡ false
+          → MakesProgress (λ (s : SweepPieces T I A N). s.done ≡ false → PiecesReady integer stream s)
+          (pieces_left integer stream) entry piece now
+      piece-goes range is undone =
           let nearer = so.nearer in
-          let less = deep-less in
-          let ended = piece-ended rank n was.least was.depth told was.start piece depth start passes
+          let less = event-less in
+          let ended = piece-ended rank n was.rule was.depth told was.start piece depth start passes
           range is in
           let had = ended.0 in
           let none = ended.1 in
           subst (λ each. MakesProgress
-          (λ (s : DeepPieces T I A N). s.done ≡ false → DeepReady integer stream s)
-          (deep_left integer stream) entry each now) (sym is) (record {
+          (λ (s : SweepPieces T I A N). s.done ≡ false → PiecesReady integer stream s)
+          (pieces_left integer stream) entry each now) (sym is) (record {
             on = λ finite. (
-              λ going. deep-ready,
+              λ going. event-ready,
               subst (λ done. IsFinite (left-by done now)) (sym so.undone) goes.keeps.ends,
               lesser entry now undone so.undone (omega arith),
             );
-            keeps = λ going. deep-ready;
+            keeps = λ going. event-ready;
             rests = λ finite. tt;
           })
 
   -- ---- the sweep ends
-  module _ (entry was : DeepPieces T I A N) (so : DeepSoFar entry was) (j : MultiwaySweep T I A N)
+  module _ (entry was : SweepPieces T I A N) (so : SoFar entry was) (j : MultiwaySweep T I A N)
       (call : Sweeps integer stream was.sweep None j) (undone : entry.done ≡ false)
       (left : Option T) where
     -- The stream afterwards.
-    abbrev ended : DeepPieces T I A N
+    abbrev ended : SweepPieces T I A N
     ended = record {
       sweep = j;
-      least = was.least;
+      rule = was.rule;
       depth = was.depth;
       start = left;
       done = true;
     }
 
     -- All events were passed.
-    deep-over : PassesAll (going_telling entry) told_all
-    deep-over = passes-end (going_telling entry) (going_telling was) told_all so.passed call.answers
+    all-passed : PassesAll (telling entry) told_all
+    all-passed = passes-end (telling entry) (telling was) told_all so.passed call.answers
         (λ place. record {
           uses = (call.asks place).uses;
           over = record { held = refl; gives = λ runs none. none };
         })
 
+    -- If these pieces may follow when no event is left, they might come at the entry.
+    no-more : (pieces : List Interval) → ArePieces n (odd_past (edges_of rank was.start ++ [])) pieces
+        → gives entry pieces
+    no-more pieces all = so.same pieces (λ nothing. nothing [] call.answers
+        (subst (λ events. ArePieces n (odd_past (edges_of rank was.start ++ map edge_of events))
+        pieces) (sym (crossing-none was.rule was.depth)) all))
+
     -- If no piece has begun, this is a draw that returns `None`.
-    pub deep-ends : was.start ≡ None
-        → (deep_pieces {A = A} integer stream).draw_gives entry None ended
-    deep-ends none = record {
-      answers = subst (λ done. unless done (going_gives entry) []) (sym undone)
-          (so.same [] (λ nothing. nothing [] call.answers
-          (subst (λ each. ArePieces n (odd_past (edges_of rank each ++ [])) []) (sym none)
-          (no-pieces n))));
+    pub draw-ends : was.start ≡ None
+        → (sweep_pieces {A = A} integer stream).draw_gives entry None ended
+    draw-ends none = record {
+      answers = subst (λ done. unless done (gives entry) []) (sym undone)
+          (no-more [] (subst (λ each. ArePieces n (odd_past (edges_of rank each ++ [])) [])
+          (sym none) (no-pieces n)));
       rests = (λ going. absurd (let no = going in cc), λ runs all. all);
-      asks = subst (λ done. PassesAll (unless_told done (going_telling entry)) told_all) (sym undone)
-          deep-over;
+      asks = subst (λ done. PassesAll (unless_told done (telling entry)) told_all) (sym undone)
+          all-passed;
     }
 
     -- If a piece has begun, it extends to the greatest value.
@@ -467,17 +423,17 @@ module _ {T N I A : Type 0} (integer : Elements T N) (stream : Stream I T N) whe
       last-in = subst (λ each. IfSome each (λ value. rank value < n)) begun so.ready.start
 
       -- This is a draw that returns the last piece.
-      pub deep-last : (deep_pieces {A = A} integer stream).draw_gives entry (Some range) ended
-      deep-last = record {
-        answers = λ rest all. subst (λ each. deep_may_give integer stream entry
+      pub draw-last : (sweep_pieces {A = A} integer stream).draw_gives entry (Some range) ended
+      draw-last = record {
+        answers = λ rest all. subst (λ each. pieces_may_give integer stream entry
             (interval_of rank range ∷ each)) (sym all)
-            (subst (λ done. unless done (going_gives entry) (interval_of rank range ∷ [])) (sym undone)
-            (so.same (interval_of rank range ∷ []) (λ nothing. nothing [] call.answers
+            (subst (λ done. unless done (gives entry) (interval_of rank range ∷ [])) (sym undone)
+            (no-more (interval_of rank range ∷ [])
             (subst (λ each. ArePieces n (odd_past (edges_of rank each ++ []))
             (interval_of rank range ∷ [])) (sym begun)
             (subst (λ each. ArePieces n (odd_past (rank start ∷ [])) (each ∷ [])) (sym told)
-            (last-piece n (rank start) (rank last) last-in is))))));
+            (last-piece n (rank start) (rank last) last-in is)))));
         rests = tt;
-        asks = subst (λ done. PassesSome (unless_told done (going_telling entry)) told_all)
-            (sym undone) deep-over.passes;
+        asks = subst (λ done. PassesSome (unless_told done (telling entry)) told_all)
+            (sym undone) all-passed.passes;
       }
