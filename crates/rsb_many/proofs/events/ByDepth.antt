@@ -1,5 +1,5 @@
 -- A rule selects a rank exactly if the number of crossing edges at or before the rank is odd.
-use Rattle.std.proofs.Common.{◌≡◌, inl, inr, ℕ, ◌+◌, ◌≤◌, cond, nat_eq, List, [], ◌∷◌, ◌++◌, map, refl, ap, ◌∙◌, arith, All, Option, Some, None}
+use Rattle.std.proofs.Common.{◌≡◌, inl, inr, ℕ, ◌+◌, cond, nat_eq, List, [], ◌∷◌, ◌++◌, map, refl, ap, ◌∙◌, arith, All, Option, Some, None}
 use Rattle.rsb_integer.specs.Runs.{Interval, members}
 use Rattle.rsb_integer.proofs.ListLemmas.{true_or_false}
 use Rattle.rsb_integer.proofs.RunsLemmas.{runs-along}

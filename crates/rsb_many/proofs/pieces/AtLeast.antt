@@ -1,13 +1,13 @@
 -- How many runs lie in at least a given number of streams: at most as many as all streams give.
-use Rattle.std.proofs.Common.{◌≡◌, ℕ, ◌+◌, ◌<◌, ◌≤◌, List, [], ◌∷◌, length, map, sym, subst, All, sum_by}
+use Rattle.std.proofs.Common.{ℕ, ◌+◌, ◌<◌, ◌≤◌, List, [], ◌∷◌, length, sym, subst, All, sum_by}
 use Rattle.std.proofs.lemmas.List.Elements.{All-cons, All-nil, All-weaker}
-use Rattle.rsb_integer.specs.Runs.{Interval, members, AreRuns, HasRanks}
+use Rattle.rsb_integer.specs.Runs.{Interval, HasRanks}
 use Rattle.rsb_integer.specs.Selection.{at_least}
 use Rattle.rsb_integer.proofs.RunCountLemmas.{runs-at_least, HaveRanks}
 use Rattle.rsb_streams.specs.Stream.{◌⊆◌, just, Outcomes}
 use Rattle.rsb_streams.specs.StreamLaws.{settled_le}
 use Rattle.rsb_streams.specs.Touching.{IsTouchingFrom, IsTouchingIn}
-use Rattle.rsb_many.specs.Many.{may_give_at, runs_by_all, SomeOfEach}
+use Rattle.rsb_many.specs.Many.{may_give_at, runs_by_all}
 use Rattle.rsb_many.specs.MultiwayAtLeast.{GivesRunsOfAllAtMost}
 use Rattle.rsb_many.proofs.calling.Results.{these-given, GiveThese}
 use Rattle.rsb_many.proofs.events.ByDepth.{all-touching}
@@ -18,7 +18,8 @@ have-ranks n low [] touching = All-nil HasRanks
 have-ranks n low (run ∷ runs) touching =
     All-cons HasRanks run runs touching.1 (have-ranks n (run.last + 1) runs touching.2)
 
--- If the lists of the streams are touching, at most as many runs are given as in all lists together.
+-- If the lists of the streams are touching, at most as many runs are given as in all lists
+-- together.
 pub few-runs : {S : Type 0} (n least : ℕ) (may_give : S → Outcomes) (streams : List S)
     → ((place : ℕ) → may_give_at may_give streams place ⊆ IsTouchingIn n) → 0 < least
     → (given : Outcomes)

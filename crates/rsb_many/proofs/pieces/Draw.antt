@@ -78,7 +78,8 @@ module _ {T : Type 0} (rank : T → ℕ) (n : ℕ) (rule : Rule) (depth : ℕ) (
   -- The piece that ends at the event, followed by the pieces after it, are pieces before it.
   pieces-passed : (events : List Event) (pieces : List Interval) → CanPass depth event
       → HasEdgesFrom n (low_of rank old) (event ∷ events)
-      → ArePieces n (odd_past (edges_of rank new ++ map edge_of (crossing rule after events))) pieces
+      → ArePieces n (odd_past (edges_of rank new ++ map edge_of (crossing rule after events)))
+      pieces
       → ArePieces n (odd_past (edges_of rank old
       ++ map edge_of (crossing rule depth (event ∷ events)))) (held_list rank piece ++ pieces)
   pieces-passed events pieces can edges all =
@@ -191,15 +192,16 @@ module _ {T N I A : Type 0} (integer : Elements T N) (stream : Stream I T N) whe
   lesser : (s t : SweepPieces T I A N) → s.done ≡ false → t.done ≡ false
       → going_left t < going_left s
       → size (pieces_left integer stream t) < size (pieces_left integer stream s)
-  lesser s t undone also less = subst (λ done. size (left-by done t) < size (pieces_left integer stream s))
-      (sym also) (subst (λ done. going_left t < size (left-by done s)) (sym undone) less)
+  lesser s t undone also less = subst
+      (λ done. size (left-by done t) < size (pieces_left integer stream s)) (sym also)
+      (subst (λ done. going_left t < size (left-by done s)) (sym undone) less)
 
   -- What holds of a draw that returns a range, if the stream is not done.
-  record GoesOn (s : SweepPieces T I A N) (range : RangeInclusive T) (t : SweepPieces T I A N) : Type 0
-    where
-      pub answers : (rest : List Interval) → gives t rest
-          → gives s (interval_of rank range ∷ rest)
-      pub asks : PassesSome (telling s) (telling t)
+  record GoesOn (s : SweepPieces T I A N) (range : RangeInclusive T) (t : SweepPieces T I A N)
+      : Type 0 where
+    pub answers : (rest : List Interval) → gives t rest
+        → gives s (interval_of rank range ∷ rest)
+    pub asks : PassesSome (telling s) (telling t)
 
   -- Then this is a draw of the pieces.
   as-going : (s t : SweepPieces T I A N) (range : RangeInclusive T) → s.done ≡ false
@@ -210,7 +212,8 @@ module _ {T N I A : Type 0} (integer : Elements T N) (stream : Stream I T N) whe
         (sym undone) (goes.answers rest
         (subst (λ done. unless done (gives t) rest) also may));
     rests = tt;
-    asks = subst (λ done. PassesSome (unless_told done (telling s)) (pieces_telling integer stream t))
+    asks = subst
+        (λ done. PassesSome (unless_told done (telling s)) (pieces_telling integer stream t))
         (sym undone) (subst (λ done. PassesSome (telling s) (unless_told done (telling t)))
         (sym also) goes.asks);
   }
@@ -352,7 +355,7 @@ module _ {T N I A : Type 0} (integer : Elements T N) (stream : Stream I T N) whe
 
       -- The draw makes progress.
       pub piece-goes : (range : RangeInclusive T) → piece ≡ Some range → entry.done ≡ false
-          → MakesProgress (λ (s : SweepPieces T I A N). s.done ≡ false → PiecesReady integer stream s)
+          → MakesProgress (sweep_pieces {A = A} integer stream).can_draw
           (pieces_left integer stream) entry piece now
       piece-goes range is undone =
           let nearer = so.nearer in
@@ -361,8 +364,7 @@ module _ {T N I A : Type 0} (integer : Elements T N) (stream : Stream I T N) whe
           range is in
           let had = ended.0 in
           let none = ended.1 in
-          subst (λ each. MakesProgress
-          (λ (s : SweepPieces T I A N). s.done ≡ false → PiecesReady integer stream s)
+          subst (λ each. MakesProgress (sweep_pieces {A = A} integer stream).can_draw
           (pieces_left integer stream) entry each now) (sym is) (record {
             on = λ finite. (
               λ going. event-ready,
@@ -396,8 +398,8 @@ module _ {T N I A : Type 0} (integer : Elements T N) (stream : Stream I T N) whe
         })
 
     -- If these pieces may follow when no event is left, they might come at the entry.
-    no-more : (pieces : List Interval) → ArePieces n (odd_past (edges_of rank was.start ++ [])) pieces
-        → gives entry pieces
+    no-more : (pieces : List Interval)
+        → ArePieces n (odd_past (edges_of rank was.start ++ [])) pieces → gives entry pieces
     no-more pieces all = so.same pieces (λ nothing. nothing [] call.answers
         (subst (λ events. ArePieces n (odd_past (edges_of rank was.start ++ map edge_of events))
         pieces) (sym (crossing-none was.rule was.depth)) all))

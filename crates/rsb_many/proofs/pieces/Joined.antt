@@ -16,7 +16,7 @@ use Rattle.rsb_many.specs.JoinedPieces.{joined_pieces, joined_telling, pieces_un
 use Rattle.rsb_many.specs.Many.{may_give_at, HoldOneAtMost, IsBegun}
 use Rattle.rsb_many.specs.MultiwaySweep.{sweep_inputs, sweep_may_give, SweepsOver}
 use Rattle.rsb_many.specs.Rule.{first_edge}
-use Rattle.rsb_many.specs.SweepPieces.{edges_of, low_of, pieces_may_give, pieces_telling, sweep_pieces, told_all, unless_told, HasEdgesFrom, PassesSome, PiecesReady, Telling}
+use Rattle.rsb_many.specs.SweepPieces.{edges_of, pieces_may_give, pieces_telling, sweep_pieces, told_all, unless_told, HasEdgesFrom, PassesSome, PiecesReady, Telling}
 use Rattle.rsb_many.specs.declared.multiway_sweep.MultiwaySweep.{MultiwaySweep}
 use Rattle.rsb_many.specs.declared.sweep_pieces.Rule.{Rule}
 use Rattle.rsb_many.specs.declared.sweep_pieces.SweepPieces.{SweepPieces}
