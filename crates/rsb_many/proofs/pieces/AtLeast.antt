@@ -1,5 +1,5 @@
 -- How many runs lie in at least a given number of streams: at most as many as all streams give.
-use Rattle.std.proofs.Common.{ℕ, ◌+◌, ◌<◌, ◌≤◌, List, [], ◌∷◌, length, sym, subst, All, sum_by}
+use Rattle.std.proofs.Common.{ℕ, ◌+◌, ◌<◌, ◌≤◌, List, [], ◌∷◌, length, refl, sym, subst, All, sum_by}
 use Rattle.std.proofs.lemmas.List.Elements.{All-cons, All-nil, All-weaker}
 use Rattle.rsb_integer.specs.Runs.{Interval, HasRanks}
 use Rattle.rsb_integer.specs.Selection.{at_least}

@@ -3,7 +3,9 @@ use Rattle.rsb_many.proofs.multiway_at_least.MultiwayAtLeast.of.Goals as goal
 
 -- The joined pieces are what lies in at least `least` of the streams.
 pub returns-clause-made : goal.returns-clause-made
-returns-clause-made g c streams over = c.joined.ensures.made streams over
+returns-clause-made g c streams over =
+    let made = c.joined.ensures.made streams over in
+    record { ready = made.ready; gives = made.gives; new = made.new }
 
 -- They are at most as many as the runs of all streams together.
 pub returns-clause-run_count : goal.returns-clause-run_count
