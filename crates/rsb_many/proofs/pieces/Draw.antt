@@ -2,7 +2,7 @@
 use Rattle.std.proofs.Common.{◌≡◌, inl, inr, ℕ, ◌+◌, ◌<◌, ◌≤◌, Bool, true, false, ◌&&◌, ◌||◌, ◌^◌, nat_le, List, [], ◌∷◌, ◌++◌, map, refl, sym, subst, ◌∙◌, arith, Option, Some, None}
 use Rattle.std.proofs.lemmas.Bool.Decides.{nat_tests}
 use Rattle.std.proofs.lemmas.List.Sums.{sum_by-cons}
-use Rattle.std.specs.Iterator.{size, count_map, count_unless, Count, IsFinite, MakesProgress}
+use Rattle.std.specs.Iterator.{size, MakesProgress}
 use Rattle.std.specs.Option.{option_len}
 use Rattle.std.specs.Prelude.{IfSome, MatchBool}
 use Rattle.std.specs.declared.ops.RangeInclusive.{RangeInclusive}
@@ -14,14 +14,14 @@ use Rattle.rsb_integer.proofs.ListLemmas.{true_or_false}
 use Rattle.rsb_integer.proofs.MembersLemmas.{members-cons}
 use Rattle.rsb_streams.specs.OddPieces.{ArePieces}
 use Rattle.rsb_streams.specs.PutBack.{held_list}
-use Rattle.rsb_streams.specs.Stream.{◌⊆◌, unless, Outcomes}
+use Rattle.rsb_streams.specs.Stream.{◌⊆◌, Outcomes}
 use Rattle.rsb_streams.specs.StreamLaws.{settled_le, settled_lt}
 use Rattle.rsb_streams.specs.declared.draw.Draw.{Ghosts as Stream}
 use Rattle.rsb_streams.proofs.odd.Ranks.{no-pieces}
 use Rattle.rsb_many.specs.MultiwaySweep.{events_left, stream_count, sweep_may_give, SweepReady, Sweeps}
 use Rattle.rsb_many.specs.Rule.{crosses, crossing, depth_after, end_count, start_count, CanPass, IsDepth}
 use Rattle.rsb_many.specs.Sweep.{event_of, End, Event, Start}
-use Rattle.rsb_many.specs.SweepPieces.{edge_of, edges_of, going_gives, going_telling, low_of, odd_past, pieces_left, pieces_may_give, pieces_telling, sweep_pieces, told_all, unless_told, HasEdgesFrom, IsEventIn, PassesAll, PassesEdge, PassesEvent, PassesSome, PiecesReady, Telling}
+use Rattle.rsb_many.specs.SweepPieces.{edge_of, edges_of, going_gives, going_telling, low_of, odd_past, pieces_left, sweep_pieces, told_all, HasEdgesFrom, IsEventIn, PassesAll, PassesEdge, PassesEvent, PassesSome, PiecesReady, Telling}
 use Rattle.rsb_many.specs.declared.multiway_sweep.MultiwaySweep.{MultiwaySweep}
 use Rattle.rsb_many.specs.declared.sweep_event.SweepEvent.{SweepEvent}
 use Rattle.rsb_many.specs.declared.sweep_pieces.Rule.{Rule}
@@ -183,41 +183,6 @@ module _ {T N I A : Type 0} (integer : Elements T N) (stream : Stream I T N) whe
   abbrev going_left : SweepPieces T I A N → ℕ
   going_left s = size (events_left integer stream s.sweep) + option_len s.start
 
-  -- The same as a count, which is 0 once the stream is done.
-  abbrev left-by : Bool → SweepPieces T I A N → Count
-  left-by done s = count_unless done (count_map (λ left. left + option_len s.start)
-      (events_left integer stream s.sweep))
-
-  -- If neither state is done, the count of pieces left decreases if `going_left` does.
-  lesser : (s t : SweepPieces T I A N) → s.done ≡ false → t.done ≡ false
-      → going_left t < going_left s
-      → size (pieces_left integer stream t) < size (pieces_left integer stream s)
-  lesser s t undone also less = subst
-      (λ done. size (left-by done t) < size (pieces_left integer stream s)) (sym also)
-      (subst (λ done. going_left t < size (left-by done s)) (sym undone) less)
-
-  -- What holds of a draw that returns a range, if the stream is not done.
-  record GoesOn (s : SweepPieces T I A N) (range : RangeInclusive T) (t : SweepPieces T I A N)
-      : Type 0 where
-    pub answers : (rest : List Interval) → gives t rest
-        → gives s (interval_of rank range ∷ rest)
-    pub asks : PassesSome (telling s) (telling t)
-
-  -- Then this is a draw of the pieces.
-  as-going : (s t : SweepPieces T I A N) (range : RangeInclusive T) → s.done ≡ false
-      → t.done ≡ false → GoesOn s range t
-      → (sweep_pieces {A = A} integer stream).draw_gives s (Some range) t
-  as-going s t range undone also goes = record {
-    answers = λ rest may. subst (λ done. unless done (gives s) (interval_of rank range ∷ rest))
-        (sym undone) (goes.answers rest
-        (subst (λ done. unless done (gives t) rest) also may));
-    rests = tt;
-    asks = subst
-        (λ done. PassesSome (unless_told done (telling s)) (pieces_telling integer stream t))
-        (sym undone) (subst (λ done. PassesSome (telling s) (unless_told done (telling t)))
-        (sym also) goes.asks);
-  }
-
   -- What holds so far within a draw: what may come now might come at its entry, and some events
   -- were passed.
   pub record SoFar (entry now : SweepPieces T I A N) : Type 0 where
@@ -242,18 +207,14 @@ module _ {T N I A : Type 0} (integer : Elements T N) (stream : Stream I T N) whe
   -- Once the stream is done, a call that returns `None` and changes nothing is a draw of it.
   pub draw-over : (s : SweepPieces T I A N) → s.done ≡ true
       → (sweep_pieces {A = A} integer stream).draw_gives s None s
-  draw-over s over = record {
-    answers = subst (λ done. unless done (gives s) []) (sym over) refl;
-    rests = (
-      λ going. absurd (let no = sym over ∙ going in cc),
-      λ runs may. subst (λ done. unless done (gives s) runs) over may,
-    );
-    asks = subst (λ done. PassesAll (unless_told done (telling s))
-        (unless_told done (telling s))) (sym over) (record {
-          passes = passes-none told_all (λ place. omega arith);
-          over = λ place. record { held = refl; gives = λ runs none. none };
-        });
-  }
+  draw-over s over = rw over (record {
+    answers = refl;
+    rests = (λ going. absurd (let no = going in cc), λ runs may. may);
+    asks = record {
+      passes = passes-none told_all (λ place. omega arith);
+      over = λ place. record { held = refl; gives = λ runs none. none };
+    };
+  })
 
   -- ---- an event comes
   module _ (entry was : SweepPieces T I A N) (so : SoFar entry was) (j : MultiwaySweep T I A N)
@@ -344,14 +305,12 @@ module _ {T N I A : Type 0} (integer : Elements T N) (stream : Stream I T N) whe
       -- If a piece ended, this is a draw that returns it.
       pub piece-known : (range : RangeInclusive T) → piece ≡ Some range → entry.done ≡ false
           → (sweep_pieces {A = A} integer stream).draw_gives entry piece now
-      piece-known range is undone = subst
-          (λ each. (sweep_pieces {A = A} integer stream).draw_gives entry each now) (sym is)
-          (as-going entry now range undone so.undone (record {
-            answers = λ rest may. so.same (interval_of rank range ∷ rest)
-                (subst (λ each. gives was (held_list rank each ++ rest)) is
-                (event-gives rest may));
-            asks = event-passed;
-          }))
+      piece-known range is undone = rw (is, undone, so.undone) (record {
+        answers = λ rest may. so.same (interval_of rank range ∷ rest)
+            (subst (λ each. gives was (held_list rank each ++ rest)) is (event-gives rest may));
+        rests = tt;
+        asks = event-passed;
+      })
 
       -- The draw makes progress.
       pub piece-goes : (range : RangeInclusive T) → piece ≡ Some range → entry.done ≡ false
@@ -364,14 +323,11 @@ module _ {T N I A : Type 0} (integer : Elements T N) (stream : Stream I T N) whe
           range is in
           let had = ended.0 in
           let none = ended.1 in
-          subst (λ each. MakesProgress (sweep_pieces {A = A} integer stream).can_draw
-          (pieces_left integer stream) entry each now) (sym is) (record {
-            on = λ finite. (
-              λ going. event-ready,
-              subst (λ done. IsFinite (left-by done now)) (sym so.undone) goes.keeps.ends,
-              lesser entry now undone so.undone (omega arith),
-            );
-            keeps = λ going. event-ready;
+          let fewer : going_left now < going_left entry = omega arith in
+          let ready = rw so.undone at event-ready in
+          rw (is, undone, so.undone) (record {
+            on = λ finite. (λ going. ready, goes.keeps.ends, fewer);
+            keeps = λ going. ready;
             rests = λ finite. tt;
           })
 
@@ -407,14 +363,12 @@ module _ {T N I A : Type 0} (integer : Elements T N) (stream : Stream I T N) whe
     -- If no piece has begun, this is a draw that returns `None`.
     pub draw-ends : was.start ≡ None
         → (sweep_pieces {A = A} integer stream).draw_gives entry None ended
-    draw-ends none = record {
-      answers = subst (λ done. unless done (gives entry) []) (sym undone)
-          (no-more [] (subst (λ each. ArePieces n (odd_past (edges_of rank each ++ [])) [])
-          (sym none) (no-pieces n)));
+    draw-ends none = rw undone (record {
+      answers = no-more [] (subst (λ each. ArePieces n (odd_past (edges_of rank each ++ [])) [])
+          (sym none) (no-pieces n));
       rests = (λ going. absurd (let no = going in cc), λ runs all. all);
-      asks = subst (λ done. PassesAll (unless_told done (telling entry)) told_all) (sym undone)
-          all-passed;
-    }
+      asks = all-passed;
+    })
 
     -- If a piece has begun, it extends to the greatest value.
     module _ (start last : T) (begun : was.start ≡ Some start) (is : rank last + 1 ≡ n)
@@ -426,16 +380,13 @@ module _ {T N I A : Type 0} (integer : Elements T N) (stream : Stream I T N) whe
 
       -- This is a draw that returns the last piece.
       pub draw-last : (sweep_pieces {A = A} integer stream).draw_gives entry (Some range) ended
-      draw-last = record {
-        answers = λ rest all. subst (λ each. pieces_may_give integer stream entry
-            (interval_of rank range ∷ each)) (sym all)
-            (subst (λ done. unless done (gives entry) (interval_of rank range ∷ [])) (sym undone)
+      draw-last = rw undone (record {
+        answers = λ rest all. subst (λ each. gives entry (interval_of rank range ∷ each)) (sym all)
             (no-more (interval_of rank range ∷ [])
             (subst (λ each. ArePieces n (odd_past (edges_of rank each ++ []))
             (interval_of rank range ∷ [])) (sym begun)
             (subst (λ each. ArePieces n (odd_past (rank start ∷ [])) (each ∷ [])) (sym told)
-            (last-piece n (rank start) (rank last) last-in is)))));
+            (last-piece n (rank start) (rank last) last-in is))));
         rests = tt;
-        asks = subst (λ done. PassesSome (unless_told done (telling entry)) told_all)
-            (sym undone) all-passed.passes;
-      }
+        asks = all-passed.passes;
+      })
