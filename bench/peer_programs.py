@@ -39,10 +39,11 @@ def built(peer, original=None):
 
 
 def made_room(folder, peer):
-    """The folder of a program `app`, a peer's `here.rattle` over copies of the libraries, made in a folder."""
+    """The folder of a program `app`, a peer's `here.rattle` over copies of the libraries, made in a folder. Those that
+    are built need not be proved again."""
     root = Path(HERE).parent
     for crate in (root / "crates").iterdir():
-        for part in ("src", "specs", "proofs"):
+        for part in ("src", "specs", "proofs", "out/rlib"):
             if (crate / part).is_dir():
                 shutil.copytree(crate / part, folder / "crates" / crate.name / part)
     shutil.copy(root / "HANDLES", folder)
