@@ -1,4 +1,5 @@
 pub mod AnswerLemmas
 pub mod AppendsLemmas
+pub mod CommandLineLemmas
 pub mod FilesLemmas
 pub mod LinesLemmas

@@ -1,4 +1,5 @@
 pub mod Answer
+pub mod CommandLine
 pub mod Fault
 pub mod Files
 pub mod Request

@@ -17,7 +17,7 @@ pub enum Misuse<'a> {
     UnknownCommand(&'a str),
     /// It has a word that is no option.
     UnknownOption(&'a str),
-    /// The word after `at-least` is no number from 1 to 2^64 - 1.
+    /// The word after `at-least` is no number from 0 to 2^64 - 1.
     NoNumber(&'a str),
     /// The word after `has` is no address.
     NoAddress(&'a str),
