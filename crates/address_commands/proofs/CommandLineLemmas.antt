@@ -259,10 +259,16 @@ pub no-command : (word : List ℕ) → word ≢ codes "union" → word ≢ codes
     → word ≢ codes "complement" → word ≢ codes "count" → word ≢ codes "has"
     → words_needed word ≡ None
 no-command word union common except odd at_least complement count has =
-    rw (not-same word (codes "union") union, not-same word (codes "common") common,
-    not-same word (codes "except") except, not-same word (codes "odd") odd,
-    not-same word (codes "at-least") at_least, not-same word (codes "complement") complement,
-    not-same word (codes "count") count, not-same word (codes "has") has) refl
+    rw (
+      not-same word (codes "union") union,
+      not-same word (codes "common") common,
+      not-same word (codes "except") except,
+      not-same word (codes "odd") odd,
+      not-same word (codes "at-least") at_least,
+      not-same word (codes "complement") complement,
+      not-same word (codes "count") count,
+      not-same word (codes "has") has,
+    ) refl
 
 -- ---- arguments with one more word
 

@@ -12,7 +12,7 @@ pub returns-then-self-clause-arguments : goal.returns-then-self-clause-arguments
 returns-then-self-clause-arguments g c words are =
     more-operand words c.args.word.now c.args.self.now _ are
     (elim c.then-self.branch [
-      then-self-via-then-self w ↦ inl w.if-self.true
+      | then-self-via-then-self w ↦ inl w.if-self.true
       | then-self-via-else-self+then-not-is_dashed w ↦
           inr (sym w.is_dashed.ensures ∙ w.if-not-is_dashed.true)
     ])

@@ -1,0 +1,30 @@
+use Rattle.std.proofs.Common.{◌^◌, map, subst}
+use Rattle.range_set_blaze.specs.Multiway.{IsMadeOf}
+use Rattle.range_set_blaze.specs.Runs.{members}
+use Rattle.range_set_blaze.specs.Selection.{Agree, any_of}
+use Rattle.address_commands.proofs.AnswerLemmas.{same-v4, same-v6}
+use Rattle.address_commands.specs.Files.{selected}
+use Rattle.address_commands.proofs.commands.count.write_counts.Goals as goal
+
+-- What some list has was counted.
+pub returns-clause-answer : goal.returns-clause-answer
+returns-clause-answer g c =
+    let lists = c.in_ok-lists.lists.items in
+    let list = c.in_ok-list.list in
+    let written = c.in_ok-write_list_counts.ensures in
+    let v4 = subst (λ each. IsMadeOf (2 ^ 32) any_of (map (λ list. list.v4) each) list.v4)
+    c.deref.ensures.value c.in_ok-list.ensures.v4 in
+    let v6 = subst (λ each. IsMadeOf (2 ^ 128) any_of (map (λ list. list.v6) each) list.v6)
+    c.deref.ensures.value c.in_ok-list.ensures.v6 in (
+      written.0,
+      record {
+        lists = map selected lists;
+        are = c.in_ok-lists.ensures.lists;
+        v4 = list.v4;
+        v6 = list.v6;
+        v4_made = subst (λ sets. Agree (2 ^ 32) (members list.v4) (any_of sets)) (same-v4 lists) v4;
+        v6_made = subst (λ sets. Agree (2 ^ 128) (members list.v6) (any_of sets)) (same-v6 lists) v6;
+        whole = written.1;
+      },
+      written.2,
+    )
