@@ -85,7 +85,7 @@ pub zip-yielded : {X Y : Type 0} (items : List (Bor X × Bor Y)) (s t u : Zip (I
 zip-yielded [] s t u calls end =
     elim (either_empty_from_Zip s u None refl
     (subst (λ each. zips fronts fronts each None u) (sym calls) end)) [
-      inl none ↦ sym (ap (λ xs. zip xs (iter_rest (zip_second s))) none)
+      | inl none ↦ sym (ap (λ xs. zip xs (iter_rest (zip_second s))) none)
       | inr none ↦ sym (ap (λ ys. zip (iter_rest (zip_first s)) ys) none
           ∙ zip-nil (iter_rest (zip_first s)))
     ]

@@ -1,16 +1,20 @@
 -- How the program ends.
-use Rattle.std.proofs.Common.{◌≡◌, ℕ, List, Option, Some, None, refl, subst, sym}
+use Rattle.std.proofs.Common.{All, ◌≡◌, ℕ, List, Option, Some, None, refl, subst, sym}
 use Rattle.std.specs.Io.KnownBytes.{Keeps}
 use Rattle.std.specs.Prelude.{Err, IsErrAnd, Ok, Result}
+use Rattle.std.proofs.lemmas.List.Elements.{All-nil}
+use Rattle.address_commands.specs.Answer.{Answers}
 use Rattle.address_commands.specs.CommandLine.{IsRequest, IsWordFault}
-use Rattle.address_commands.specs.Files.{IsFirstFault, KeepsUnlessWriting}
+use Rattle.address_commands.specs.Files.{IsFirstFault, IsGoodFile, KeepsUnlessWriting}
 use Rattle.address_commands.specs.Program.{Ends, EndsInFault}
 use Rattle.address_commands.specs.Request.{files_of}
 use Rattle.address_commands.proofs.AppendsLemmas.{Keeps-itself}
+use Rattle.address_commands.proofs.FilesLemmas.{all-good}
 use Rattle.address_commands.specs.declared.commands.Outcome.{Outcome}
 use Rattle.address_commands.specs.declared.fault.Fault.{Fault}
 use Rattle.address_commands.specs.declared.fault.Fault.TheVariants.{BadLine, CommandLine, NoMemory, NotRead, NotWritten}
 use Rattle.address_commands.specs.declared.request.Request.{Request}
+use Rattle.address_commands.specs.declared.request.Request.TheVariants.{Combine, Count, Has, Help, Version}
 
 module _ (bytes : List ℕ → Option (List ℕ)) (words : List (List ℕ)) (old new : Option (List ℕ)) where
   -- The first fault in what the words ask for.
@@ -19,9 +23,21 @@ module _ (bytes : List ℕ → Option (List ℕ)) (words : List (List ℕ)) (old
       → EndsInFault bytes words old new fault
   request-fault request (BadLine file line) asked first keeps = (request, asked, first, keeps)
   request-fault request (NotRead file error) asked first keeps = (request, asked, first, keeps)
-  request-fault request (NotWritten error) asked first keeps = (request, asked)
+  request-fault request (NotWritten error) asked first keeps = (request, asked, first)
   request-fault request NoMemory asked first keeps = keeps
   request-fault request (CommandLine misuse) asked first keeps = absurd first
+
+  -- A request that was answered named lists only.
+  pub answered-good : (request : Request) (outcome : Outcome)
+      → Answers bytes request outcome old new → All (IsGoodFile bytes) (files_of request)
+  answered-good Help outcome answer = All-nil (IsGoodFile bytes)
+  answered-good Version outcome answer = All-nil (IsGoodFile bytes)
+  answered-good (Combine it) outcome answer =
+      all-good bytes (files_of (Combine it)) answer.1.1.lists answer.1.1.are
+  answered-good (Count families files) outcome answer =
+      all-good bytes (files_of (Count families files)) answer.1.1.lists answer.1.1.are
+  answered-good (Has address files) outcome answer =
+      all-good bytes (files_of (Has address files)) answer.1.lists answer.1.are
 
   -- The fault that `?` returns.
   pub ends-in : (result : Result Outcome Fault) (fault : Fault)

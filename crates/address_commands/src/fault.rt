@@ -40,7 +40,7 @@ impl fmt::Display for Misuse<'_> {
     }
 }
 
-/// The first fault that was met.
+/// The first fault.
 #[derive(Debug, Drop)]
 pub enum Fault<'a> {
     /// A line of a list is no address, block or range, and not blank. Lines are counted from 1.

@@ -9,8 +9,8 @@ use std::process::ExitCode;
 /// A command line, its exit status, and the line that it reports.
 type Row = (&'static [&'static str], u8, &'static str);
 
-/// Commands that meet a fault.
-static ROWS: [Row; 17] = [
+/// Commands with a fault.
+static ROWS: [Row; 24] = [
     (
         &["union", "a", "bad", "none"],
         2,
@@ -57,6 +57,22 @@ static ROWS: [Row; 17] = [
         "ip_lists: no number of lists: two\n",
     ),
     (
+        &["at-least", "two"],
+        64,
+        "ip_lists: too few words after the command\n",
+    ),
+    (
+        &["at-least", "--", "-1", "a"],
+        64,
+        "ip_lists: no number of lists: -1\n",
+    ),
+    (
+        &["at-least", "18446744073709551616", "a"],
+        64,
+        "ip_lists: no number of lists: 18446744073709551616\n",
+    ),
+    (&["has"], 64, "ip_lists: too few words after the command\n"),
+    (
         &["has", "10.0.0.1"],
         64,
         "ip_lists: too few words after the command\n",
@@ -72,6 +88,13 @@ static ROWS: [Row; 17] = [
         "ip_lists: too few words after the command\n",
     ),
     (&["--", "-4", "a"], 64, "ip_lists: unknown command: -4\n"),
+    (&["-"], 64, "ip_lists: unknown command: -\n"),
+    (
+        &["--help", "-x", "unite", "-y"],
+        64,
+        "ip_lists: unknown option: -x\n",
+    ),
+    (&["--", "--help"], 64, "ip_lists: unknown command: --help\n"),
 ];
 
 /// Whether the program ends with this status and this line, and writes nothing else.

@@ -3,7 +3,9 @@ use Rattle.range_set_blaze.specs.Multiway.{IsMadeOf}
 use Rattle.range_set_blaze.specs.Runs.{members}
 use Rattle.range_set_blaze.specs.Selection.{Agree, any_of}
 use Rattle.address_commands.proofs.AnswerLemmas.{same-v4, same-v6}
-use Rattle.address_commands.specs.Files.{selected}
+use Rattle.address_commands.specs.Files.{IsFirstFault, selected}
+use Rattle.address_commands.proofs.FilesLemmas.{all-good, name_of, passed-on}
+use Rattle.address_commands.specs.declared.fault.Fault.TheVariants.{NotWritten}
 use Rattle.address_commands.proofs.commands.count.write_counts.Goals as goal
 
 -- What some list has was counted.
@@ -28,3 +30,13 @@ returns-clause-answer g c =
       },
       written.2,
     )
+
+-- A write failed after all files were read.
+pub returns-in_err-write_list_counts-clause-first : goal.returns-in_err-write_list_counts-clause-first
+returns-in_err-write_list_counts-clause-first g c =
+    let bytes = g.I.Inputs.bytes c.args.inputs.now in
+    let names = map name_of c.args.files.now in
+    passed-on c.from_residual-in_err-write_list_counts.result
+    (NotWritten c.in_err-write_list_counts.field-0.0) (IsFirstFault bytes names)
+    c.from_residual-in_err-write_list_counts.ensures.1
+    (all-good bytes names (map selected c.in_ok-lists.lists.items) c.in_ok-lists.ensures.lists)

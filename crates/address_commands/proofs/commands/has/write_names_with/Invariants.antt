@@ -10,6 +10,6 @@ invariant-loop-file g l =
     let names = names_of (has_address l.address) (map pair_of l.yielded) in
     record {
       written : Appends (g.W.Write.contents l.initial.output) (g.W.Write.contents l.output)
-      (names_text names);
+          (names_text names);
       ends : l.outcome ≡ found_outcome names;
     }
