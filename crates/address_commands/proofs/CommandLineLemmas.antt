@@ -32,10 +32,6 @@ decided-false false decides differ = refl
 pub not-same : (xs ys : List ℕ) → xs ≢ ys → bytes_eq xs ys ≡ false
 not-same xs ys differ = decided-false (bytes_eq xs ys) (bytes_eq-Decides xs ys) differ
 
--- Equal texts are found equal.
-pub same : (xs ys : List ℕ) → xs ≡ ys → bytes_eq xs ys ≡ true
-same xs ys is = (bytes_eq-Decides xs ys).1 is
-
 -- A word that is no option is not `--`.
 pub no-mark : (word : List ℕ) → is_dashed word ≡ false → is_mark word ≡ false
 no-mark word plain =
@@ -48,7 +44,7 @@ neither false right none = (refl, none)
 
 -- ---- words before and after `--`
 
--- Words without `--` stand before what follows them.
+-- Words without `--` are before it, whatever follows them.
 pub before-unmarked : (words more : List (List ℕ)) → list_any is_mark words ≡ false
     → before_mark (words ++ more) ≡ words ++ before_mark more
 before-unmarked [] more none = refl
@@ -126,7 +122,8 @@ module _ (words more : List (List ℕ)) where
       let own : operands_of words ≡ filter is_plain words =
       ap (λ each. filter is_plain each ++ after_mark words) all
       ∙ ap (λ each. filter is_plain words ++ each) rest ∙ append-nil (filter is_plain words) in
-      ap (λ each. filter is_plain each ++ after_mark (words ++ more)) (before-unmarked words more none)
+      ap (λ each. filter is_plain each ++ after_mark (words ++ more))
+      (before-unmarked words more none)
       ∙ ap (λ each. filter is_plain (words ++ before_mark more) ++ each)
       (after-unmarked words more none)
       ∙ ap (λ each. each ++ after_mark more) (filter-append is_plain words (before_mark more))
@@ -175,7 +172,8 @@ module _ (word : List ℕ) where
 -- Whether some word is `--`, with one more word.
 pub one-more : (words : List (List ℕ)) (word : List ℕ)
     → list_any is_mark (words ++ word ∷ []) ≡ (list_any is_mark words || is_mark word)
-one-more [] word = elim (is_mark word) as (λ mark. (mark || false) ≡ mark) [ true ↦ refl | false ↦ refl ]
+one-more [] word =
+    elim (is_mark word) as (λ mark. (mark || false) ≡ mark) [ true ↦ refl | false ↦ refl ]
 one-more (first ∷ words) word =
     ap (λ rest. is_mark first || rest) (one-more words word)
     ∙ or-assoc (is_mark first) (list_any is_mark words) (is_mark word)
@@ -248,8 +246,8 @@ of-operation form families operands command files (Err misuse) parts needs asks 
       command,
       map (λ name. name.now) files,
       parts,
-      subst (λ needed. IsSomeAnd needed (λ many. length (map (λ (name : Bor (List ℕ)). name.now) files)
-          < many)) (sym needs) none,
+      subst (λ needed. IsSomeAnd needed
+          (λ many. length (map (λ (name : Bor (List ℕ)). name.now) files) < many)) (sym needs) none,
     ) in
     subst (IsMisuseOfOperands operands) (sym few.0) whole
 
@@ -298,7 +296,7 @@ or-none true right is = refl
 or-none false right is = is
 
 module _ (words : List (List ℕ)) (word : List ℕ) where
-  -- What is asked for is the same if the options are.
+  -- The words with one more.
   abbrev all_words : List (List ℕ)
   all_words = words ++ word ∷ []
 
@@ -408,16 +406,19 @@ module _ (words : List (List ℕ)) (word : List ℕ) where
         ∙ ap (λ each. options_of words ++ each) (dashed-option word [] other dashed) in
         record {
           known = ap (λ each. find (λ (option : List ℕ). not (is_known option)) each) more
-              ∙ find-append (λ (option : List ℕ). not (is_known option)) (options_of words) (word ∷ [])
+              ∙ find-append (λ (option : List ℕ). not (is_known option)) (options_of words)
+              (word ∷ [])
               ∙ ap (λ each. option_or each (cond (not (is_known word)) (Some word) None)) are.known
               ∙ known-passes word (is_known word) known;
           form = form ∙ ap (λ each. unwrap_or (form_asked word) each) are.form
               ∙ sym (ap (λ each. unwrap_or (last_or None (filter_map form_asked each)) Blocks) more
-              ∙ ap (λ each. unwrap_or each Blocks) (last-more form_asked None (options_of words) word)
+              ∙ ap (λ each. unwrap_or each Blocks)
+              (last-more form_asked None (options_of words) word)
               ∙ either-default (form_asked word)
               (last_or None (filter_map form_asked (options_of words))) Blocks);
           families = families ∙ ap (λ each. unwrap_or (families_asked word) each) are.families
-              ∙ sym (ap (λ each. unwrap_or (last_or None (filter_map families_asked each)) Both) more
+              ∙ sym (ap (λ each. unwrap_or (last_or None (filter_map families_asked each)) Both)
+              more
               ∙ ap (λ each. unwrap_or each Both)
               (last-more families_asked None (options_of words) word)
               ∙ either-default (families_asked word)
@@ -448,52 +449,3 @@ module _ (words : List (List ℕ)) (word : List ℕ) where
         ∙ ap (λ each. option_or each (cond (not (is_known word)) (Some word)
         (find test (options_of after)))) are.known
         ∙ unknown-found word (find test (options_of after)) (is_known word) unknown
-
--- ---- what arguments ask for
-
--- What is wrong with the operands is what is wrong with the words.
-pub of-operands : (words : List (List ℕ)) (misuse : Misuse) → first_unknown words ≡ None
-    → question_of words ≡ None → IsMisuseOfOperands (operands_of words) misuse
-    → IsMisuse words misuse
-of-operands words NoCommand known question is = (known, question, is)
-of-operands words (UnknownCommand word) known question is = (known, question, is)
-of-operands words (UnknownOption word) known question is = absurd is
-of-operands words (NoNumber word) known question is = (known, question, is)
-of-operands words (NoAddress word) known question is = (known, question, is)
-of-operands words TooFewWords known question is = (known, question, is)
-
-module _ {A : Type 0} (words : List (List ℕ)) (arguments : Arguments A)
-    (are : AreArguments words arguments) where
-  -- What the operands ask for, if no question is asked.
-  pub asked : (result : Result Request Misuse) → arguments.options.question ≡ None
-      → MatchResult result (IsRequestWith arguments.options.form arguments.options.families
-      (map (λ word. word.now) arguments.operands.items))
-      (IsMisuseOfOperands (map (λ word. word.now) arguments.operands.items))
-      → MatchResult result (IsRequest words) (IsMisuse words)
-  asked (Ok request) no-question is =
-      let question : question_of words ≡ None = sym are.question ∙ no-question in
-      let form = subst (λ each. IsRequestWith each arguments.options.families
-      (map (λ word. word.now) arguments.operands.items) request) are.form is in
-      let families = subst (λ each. IsRequestWith (form_of words) each
-      (map (λ word. word.now) arguments.operands.items) request) are.families form in
-      let operands = subst (λ each. IsRequestWith (form_of words) (families_of words) each request)
-      are.operands families in (
-        are.known,
-        subst (λ each. Asks each words request) (sym question) operands,
-      )
-  asked (Err misuse) no-question is =
-      of-operands words misuse are.known (sym are.question ∙ no-question)
-      (subst (λ each. IsMisuseOfOperands each misuse) are.operands is)
-
-  -- A question is answered whatever the operands are.
-  pub help-asked : arguments.options.question ≡ Some Asked.Help → IsRequest words Help
-  help-asked is = (
-    are.known,
-    subst (λ each. Asks each words Help) (sym (sym are.question ∙ is)) refl,
-  )
-
-  pub version-asked : arguments.options.question ≡ Some Asked.Version → IsRequest words Version
-  version-asked is = (
-    are.known,
-    subst (λ each. Asks each words Version) (sym (sym are.question ∙ is)) refl,
-  )

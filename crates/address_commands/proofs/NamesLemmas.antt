@@ -28,35 +28,36 @@ names_of test pairs = map (λ (pair : List ℕ × Selected). pair.0)
 
 -- ---- one more file
 
-module _ (test : Selected → Bool) (pairs : List (List ℕ × Selected)) (pair : List ℕ × Selected) where
-  -- The names with one more file.
-  names-more : names_of test (pairs ++ pair ∷ [])
-      ≡ names_of test pairs ++ names_of test (pair ∷ [])
-  names-more =
-      ap (map (λ (each : List ℕ × Selected). each.0))
-      (filter-append (λ (each : List ℕ × Selected). test each.1) pairs (pair ∷ []))
-      ∙ map-append (λ (each : List ℕ × Selected). each.0)
-      (filter (λ (each : List ℕ × Selected). test each.1) pairs)
-      (filter (λ (each : List ℕ × Selected). test each.1) (pair ∷ []))
+module _ (test : Selected → Bool) (pairs : List (List ℕ × Selected)) (pair : List ℕ × Selected)
+  where
+    -- The names with one more file.
+    names-more : names_of test (pairs ++ pair ∷ [])
+        ≡ names_of test pairs ++ names_of test (pair ∷ [])
+    names-more =
+        ap (map (λ (each : List ℕ × Selected). each.0))
+        (filter-append (λ (each : List ℕ × Selected). test each.1) pairs (pair ∷ []))
+        ∙ map-append (λ (each : List ℕ × Selected). each.0)
+        (filter (λ (each : List ℕ × Selected). test each.1) pairs)
+        (filter (λ (each : List ℕ × Selected). test each.1) (pair ∷ []))
 
-  -- Its list passes the test.
-  pub names-found : test pair.1 ≡ true
-      → names_of test (pairs ++ pair ∷ []) ≡ names_of test pairs ++ pair.0 ∷ []
-  names-found passes =
-      let One : Bool → Type 0 = λ each. map (λ (each : List ℕ × Selected). each.0)
-      (cond each (pair ∷ []) []) ≡ pair.0 ∷ [] in
-      let found : One true = refl in
-      names-more ∙ ap (λ names. names_of test pairs ++ names) (subst One (sym passes) found)
+    -- Its list passes the test.
+    pub names-found : test pair.1 ≡ true
+        → names_of test (pairs ++ pair ∷ []) ≡ names_of test pairs ++ pair.0 ∷ []
+    names-found passes =
+        let One : Bool → Type 0 = λ each. map (λ (each : List ℕ × Selected). each.0)
+        (cond each (pair ∷ []) []) ≡ pair.0 ∷ [] in
+        let found : One true = refl in
+        names-more ∙ ap (λ names. names_of test pairs ++ names) (subst One (sym passes) found)
 
-  -- Its list fails the test.
-  pub names-lacking : test pair.1 ≡ false
-      → names_of test (pairs ++ pair ∷ []) ≡ names_of test pairs
-  names-lacking fails =
-      let One : Bool → Type 0 = λ each. map (λ (each : List ℕ × Selected). each.0)
-      (cond each (pair ∷ []) []) ≡ [] in
-      let lacking : One false = refl in
-      names-more ∙ ap (λ names. names_of test pairs ++ names) (subst One (sym fails) lacking)
-      ∙ append-nil (names_of test pairs)
+    -- Its list fails the test.
+    pub names-lacking : test pair.1 ≡ false
+        → names_of test (pairs ++ pair ∷ []) ≡ names_of test pairs
+    names-lacking fails =
+        let One : Bool → Type 0 = λ each. map (λ (each : List ℕ × Selected). each.0)
+        (cond each (pair ∷ []) []) ≡ [] in
+        let lacking : One false = refl in
+        names-more ∙ ap (λ names. names_of test pairs ++ names) (subst One (sym fails) lacking)
+        ∙ append-nil (names_of test pairs)
 
 -- If there is one more name, there is one.
 pub found-more : (names : List (List ℕ)) (name : List ℕ) → found_outcome (names ++ name ∷ []) ≡ Done
@@ -108,6 +109,7 @@ names-all {A = A} test files lists items same =
     let pairs : map pair_of items ≡ zip (map (λ (name : Bor (List ℕ)). name.now) files)
     (map selected lists) =
     sym (map-map name_list
-    (λ (pair : Bor (Bor (List ℕ)) × Bor (AddressList A)). (pair.0.now, pair.1.now)) items) ∙ ap (map name_list) same
+    (λ (pair : Bor (Bor (List ℕ)) × Bor (AddressList A)). (pair.0.now, pair.1.now)) items)
+    ∙ ap (map name_list) same
     ∙ sym (zip-map (λ (name : Bor (List ℕ)). name.now) selected files lists) in
     ap (names_of test) pairs

@@ -34,9 +34,9 @@ abbrev pub count_line : List ℕ → ℕ → ℕ → List ℕ
 count_line family addresses blocks = family ++ codes " addresses: " ++ decimal addresses
     ++ codes ", blocks: " ++ decimal blocks ++ codes "\n"
 
--- Whether the text counts the addresses of these runs, and the fewest blocks that have exactly these
--- addresses. A count of 2^64 - 1 blocks means at least so many. The runs neither overlap nor touch,
--- and are within a family of addresses with the given number of bits.
+-- Whether the text has the number of addresses in these runs, and the number of the fewest blocks
+-- that have exactly these addresses, or 2^64 - 1 if there are more. The runs neither overlap nor
+-- touch, and are within a family of addresses with the given number of bits.
 pub record IsCountText (family : List ℕ) (width : ℕ) (runs : List Interval) (text : List ℕ)
     : Type 0 where
   pub canonical : IsCanonicalIn (2 ^ width) runs

@@ -45,8 +45,8 @@ module _ (bytes : List ℕ → Option (List ℕ)) where
     pub first : IsFirstFile files file
     pub bad : IfSome (bytes file) (λ all. IsFirstBadLine all line)
 
-  -- Whether the fault is the first one, if it is about a file. A write can fail only after each of the
-  -- files was read as a list, and no fault here is about the command line.
+  -- Whether the fault is the first one, if it is about a file. A write can fail only after each of
+  -- the files was read as a list, and no fault here is about the command line.
   abbrev pub IsFirstFault : List (List ℕ) → Fault → Type 0
   IsFirstFault files (BadLine file line) = IsFirstBadFile files file.now line
   IsFirstFault files (NotRead file error) = IsFirstFile files file.now

@@ -10,23 +10,25 @@ use Rattle.address_commands.specs.declared.fault.Fault.{Fault}
 use Rattle.address_commands.specs.declared.fault.Fault.TheVariants.{BadLine, CommandLine, NoMemory, NotRead, NotWritten}
 use Rattle.address_commands.specs.declared.request.Request.{Request}
 
--- `bytes` are those of the file with a name, `old` and `new` those of the output, if they are known.
-module _ (bytes : List ℕ → Option (List ℕ)) (words : List (List ℕ)) (old new : Option (List ℕ)) where
-  -- Whether the words ask for something, and the fault is the first one in it. Nothing was written
-  -- then, unless the fault is a failed write; that comes only after each file was read as a list.
-  abbrev pub EndsInFault : Fault → Type 0
-  EndsInFault (BadLine file line) = (request : Request) × IsRequest words request
-      × IsFirstBadFile bytes (files_of request) file.now line × Keeps old new
-  EndsInFault (NotRead file error) = (request : Request) × IsRequest words request
-      × IsFirstFile bytes (files_of request) file.now × Keeps old new
-  EndsInFault (NotWritten error) = (request : Request) × IsRequest words request
-      × All (IsGoodFile bytes) (files_of request)
-  EndsInFault NoMemory = Keeps old new
-  EndsInFault (CommandLine misuse) = IsMisuse words misuse × Keeps old new
+-- `bytes` are those of the file with a name, and `old` and `new` those of the output, if they are
+-- known.
+module _ (bytes : List ℕ → Option (List ℕ)) (words : List (List ℕ)) (old new : Option (List ℕ))
+  where
+    -- Whether the words ask for something, and the fault is the first one in it. Nothing was
+    -- written then, unless a write failed. A write comes only after each file was read as a list.
+    abbrev pub EndsInFault : Fault → Type 0
+    EndsInFault (BadLine file line) = (request : Request) × IsRequest words request
+        × IsFirstBadFile bytes (files_of request) file.now line × Keeps old new
+    EndsInFault (NotRead file error) = (request : Request) × IsRequest words request
+        × IsFirstFile bytes (files_of request) file.now × Keeps old new
+    EndsInFault (NotWritten error) = (request : Request) × IsRequest words request
+        × All (IsGoodFile bytes) (files_of request)
+    EndsInFault NoMemory = Keeps old new
+    EndsInFault (CommandLine misuse) = IsMisuse words misuse × Keeps old new
 
-  -- Whether a run on these words ends like this: what they ask for was answered, or there was a
-  -- fault.
-  abbrev pub Ends : Result Outcome Fault → Type 0
-  Ends (Ok outcome) =
-      (request : Request) × IsRequest words request × Answers bytes request outcome old new
-  Ends (Err fault) = EndsInFault fault
+    -- Whether a run on these words ends like this: what they ask for was answered, or there was a
+    -- fault.
+    abbrev pub Ends : Result Outcome Fault → Type 0
+    Ends (Ok outcome) =
+        (request : Request) × IsRequest words request × Answers bytes request outcome old new
+    Ends (Err fault) = EndsInFault fault

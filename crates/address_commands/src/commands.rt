@@ -60,8 +60,8 @@ pub const VERSION: &str = "ip_lists 0.1.0\n";
 
 /// Reads all lists that a request names, in order, and then writes the answer.
 ///
-/// Returns the first fault. Nothing was written then, unless the fault is a failed write; that comes
-/// only after all lists were read.
+/// Returns the first fault. Nothing was written then, unless a write failed. A write comes only
+/// after all lists were read.
 pub fn run<'a, A: Allocator + Copy, I: Inputs, W: Write>(
     alloc: A,
     inputs: &I,

@@ -27,7 +27,7 @@ pub fn start<A: Allocator + Copy, S: AsStr, I: Inputs, W: Write, E: Write>(
     output: &mut W,
     errors: &mut E,
 ) -> ExitCode
-    ensures { (end : Result Outcome Fault)
+    ensures ends { (end : Result Outcome Fault)
         × Ends (I.bytes inputs.now) (map S.text words.now) (W.contents output.old)
         (W.contents output.new) end
         × (exit_status result ≡ status_after end)

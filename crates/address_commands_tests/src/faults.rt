@@ -140,17 +140,30 @@ fn each_read_fails_in_turn(rt: HostRuntime) {
     }
 }
 
-/// What the union of `a` and `b` writes.
-static UNION: &[u8] = b"10.0.0.0/29\n2001:db8::/127\n2001:db8::2\n";
+/// Command lines, and what each of them writes.
+static WRITTEN: [(&[&str], &[u8]); 4] = [
+    (
+        &["union", "a", "b"],
+        b"10.0.0.0/29\n2001:db8::/127\n2001:db8::2\n",
+    ),
+    (
+        &["union", "--ranges", "a", "b"],
+        b"10.0.0.0-10.0.0.7\n2001:db8::-2001:db8::2\n",
+    ),
+    (
+        &["count", "a", "b"],
+        b"IPv4 addresses: 8, blocks: 1\nIPv6 addresses: 3, blocks: 2\n",
+    ),
+    (&["has", "10.0.0.6", "a", "b"], b"a\nb\n"),
+];
 
 /// Whether a write that fails after so many bytes is reported, and what came before it is written.
-fn write_fails(alloc: Global, room: usize) -> bool {
+fn write_fails(alloc: Global, words: &[&str], written: &[u8], room: usize) -> bool {
     let inputs = Held {
         alloc,
         files: &FILES,
         good: usize::MAX,
     };
-    let words: &[&str] = &["union", "a", "b"];
     let mut output = Filling {
         taken: Vec::new(alloc),
         room,
@@ -159,14 +172,24 @@ fn write_fails(alloc: Global, room: usize) -> bool {
     let code = start(alloc, words, &inputs, &mut output, &mut errors);
     code == ExitCode::from(4)
         && output.taken.len() == room
-        && UNION.starts_with(&output.taken)
+        && written.starts_with(&output.taken)
         && errors.as_slice() == b"output: no storage space\n".as_slice()
+}
+
+/// Whether each write of a command fails as it should.
+fn writes_fail(alloc: Global, words: &[&str], written: &[u8]) -> bool {
+    for room in 0..written.len() {
+        if !write_fails(alloc, words, written, room) {
+            return false;
+        }
+    }
+    true
 }
 
 #[test]
 fn each_write_fails_in_turn(rt: HostRuntime) {
-    for room in 0..UNION.len() {
-        assert!(rt; write_fails(rt.alloc(), room), "after {room} bytes");
+    for (words, written) in &WRITTEN {
+        assert!(rt; writes_fail(rt.alloc(), *words, *written), "{words:?}");
     }
 }
 

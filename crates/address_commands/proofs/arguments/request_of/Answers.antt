@@ -12,8 +12,9 @@ pub returns-in-union : goal.returns-in-union
 returns-in-union c =
     let parts = first-rest (λ word. word.now) c.args.operands.now _ c.in-len1-up.len_at_least
     ∙ ap (λ command. command ∷ map (λ word. word.now) (rest c.args.operands.now)) c.in-union.is in
-    of-operation c.args.options.form c.args.options.families _ (codes "union") (rest c.args.operands.now)
-    c.combination.result parts refl (c.combination.ensures.request _ parts) c.combination.ensures.misuse
+    of-operation c.args.options.form c.args.options.families _ (codes "union")
+    (rest c.args.operands.now) c.combination.result parts refl
+    (c.combination.ensures.request _ parts) c.combination.ensures.misuse
 
 -- The operation `common`.
 pub returns-in-common : goal.returns-in-common
@@ -29,8 +30,9 @@ pub returns-in-odd : goal.returns-in-odd
 returns-in-odd c =
     let parts = first-rest (λ word. word.now) c.args.operands.now _ c.in-len1-up.len_at_least
     ∙ ap (λ command. command ∷ map (λ word. word.now) (rest c.args.operands.now)) c.in-odd.is in
-    of-operation c.args.options.form c.args.options.families _ (codes "odd") (rest c.args.operands.now)
-    c.combination-in-odd.result parts refl (c.combination-in-odd.ensures.request _ parts)
+    of-operation c.args.options.form c.args.options.families _ (codes "odd")
+    (rest c.args.operands.now) c.combination-in-odd.result parts refl
+    (c.combination-in-odd.ensures.request _ parts)
     c.combination-in-odd.ensures.misuse
 
 -- The operation `complement`.
@@ -50,5 +52,6 @@ returns-in_default-command c = (
   first-rest (λ word. word.now) c.args.operands.now _ c.in-len1-up.len_at_least,
   no-command _ c.in_default-command.not-union c.in_default-command.not-common
       c.in_default-command.not-except c.in_default-command.not-odd c.in_default-command.not-text
-      c.in_default-command.not-complement c.in_default-command.not-count c.in_default-command.not-has,
+      c.in_default-command.not-complement c.in_default-command.not-count
+      c.in_default-command.not-has,
 )

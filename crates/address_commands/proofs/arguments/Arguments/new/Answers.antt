@@ -14,7 +14,8 @@ returns-in_err-add-clause-fault g c =
     let after = map text (drop (suc at) words) in
     let parts : map text words ≡ before ++ c.as_str.result.now ∷ after =
     ap (map text) (sym (take-append-drop at words)
-    ∙ ap (λ more. take at words ++ more) (drop-cons words at c.word-item.result c.loop-word-test.true))
+    ∙ ap (λ more. take at words ++ more)
+    (drop-cons words at c.word-item.result c.loop-word-test.true))
     ∙ map-append text (take at words) (_ ∷ drop (suc at) words)
     ∙ ap (λ word. before ++ word ∷ after) (ap text (sym c.word-item.is) ∙ sym c.as_str.ensures) in
     passed-on c.from_residual.result _ (IsWordFault (map text words)) c.from_residual.ensures.1

@@ -27,5 +27,6 @@ returns-clause-count g c =
     let runs : at.0 ≡ c.args.set.now = at.1 ∙ c.ranges-2.ensures.ranges in (
       runs_of items,
       subst (λ each. AreMaximalBlocks (members each) (runs_of items)) runs at.2,
-      c.loop-block.invariant ∙ ap (λ many. min many (2 ^ 64 - 1)) (as-many rank g.T.Address.width items),
+      c.loop-block.invariant
+          ∙ ap (λ many. min many (2 ^ 64 - 1)) (as-many rank g.T.Address.width items),
     )

@@ -25,14 +25,16 @@ returns-clause-answer g c =
         v4 = list.v4;
         v6 = list.v6;
         v4_made = subst (λ sets. Agree (2 ^ 32) (members list.v4) (any_of sets)) (same-v4 lists) v4;
-        v6_made = subst (λ sets. Agree (2 ^ 128) (members list.v6) (any_of sets)) (same-v6 lists) v6;
+        v6_made = subst (λ sets. Agree (2 ^ 128) (members list.v6) (any_of sets)) (same-v6 lists)
+            v6;
         whole = written.1;
       },
       written.2,
     )
 
 -- A write failed after all files were read.
-pub returns-in_err-write_list_counts-clause-first : goal.returns-in_err-write_list_counts-clause-first
+pub returns-in_err-write_list_counts-clause-first
+    : goal.returns-in_err-write_list_counts-clause-first
 returns-in_err-write_list_counts-clause-first g c =
     let bytes = g.I.Inputs.bytes c.args.inputs.now in
     let names = map name_of c.args.files.now in
