@@ -117,7 +117,8 @@ fn each_fault_is_reported(rt: HostRuntime) {
     }
 }
 
-/// Whether a read of `a` that fails after so many bytes is reported, and nothing is written.
+/// Whether a read of `a` that fails after the given number of bytes is reported, and nothing is
+/// written.
 fn read_fails(alloc: Global, good: usize) -> bool {
     let inputs = Held {
         alloc,
@@ -157,7 +158,8 @@ static WRITTEN: [(&[&str], &[u8]); 4] = [
     (&["has", "10.0.0.6", "a", "b"], b"a\nb\n"),
 ];
 
-/// Whether a write that fails after so many bytes is reported, and what came before it is written.
+/// Whether a write that fails after the given number of bytes is reported, and what came before it
+/// is written.
 fn write_fails(alloc: Global, words: &[&str], written: &[u8], room: usize) -> bool {
     let inputs = Held {
         alloc,
@@ -193,8 +195,8 @@ fn each_write_fails_in_turn(rt: HostRuntime) {
     }
 }
 
-/// Whether the status stands if the line of a fault cannot be written.
-fn status_stands(alloc: Global) -> bool {
+/// Whether the status is the same if the line of a fault cannot be written.
+fn status_is_kept(alloc: Global) -> bool {
     let inputs = Held {
         alloc,
         files: &FILES,
@@ -212,5 +214,5 @@ fn status_stands(alloc: Global) -> bool {
 
 #[test]
 fn an_unreported_fault_keeps_its_status(rt: HostRuntime) {
-    assert!(rt; status_stands(rt.alloc()));
+    assert!(rt; status_is_kept(rt.alloc()));
 }
