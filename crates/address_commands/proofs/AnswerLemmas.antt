@@ -11,13 +11,13 @@ use Rattle.address_commands.specs.Text.{IsListText, kept_v4, kept_v6}
 use Rattle.address_commands.specs.declared.request.Combination.{Combination}
 
 -- The IPv4 addresses of lists.
-same-v4 : {A : Type 0} (lists : List (AddressList A))
+pub same-v4 : {A : Type 0} (lists : List (AddressList A))
     → map members (map (λ list. list.v4) lists) ≡ v4_of (map selected lists)
 same-v4 [] = refl
 same-v4 (list ∷ lists) = ap (λ others. members list.v4 ∷ others) (same-v4 lists)
 
 -- The IPv6 addresses of lists.
-same-v6 : {A : Type 0} (lists : List (AddressList A))
+pub same-v6 : {A : Type 0} (lists : List (AddressList A))
     → map members (map (λ list. list.v6) lists) ≡ v6_of (map selected lists)
 same-v6 [] = refl
 same-v6 (list ∷ lists) = ap (λ others. members list.v6 ∷ others) (same-v6 lists)

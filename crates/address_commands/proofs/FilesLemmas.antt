@@ -77,23 +77,6 @@ module _ {A : Type 0} (bytes : List ℕ → Option (List ℕ)) (names : List (Bo
       first-fault bytes (map name_of names) (map name_of first) (map name_of rest) (name_of last)
       fault parts (all-good bytes (map name_of first) (map selected lists) before) is
 
--- All files were read.
-pub files-all : {A : Type 0} (bytes : List ℕ → Option (List ℕ)) (names : List (Bor (List ℕ)))
-    (at : ℕ) (lists : List (AddressList A)) → length names ≤ at
-    → AreFilesOf bytes (map name_of (take at names)) (map selected lists)
-    → AreFilesOf bytes (map name_of names) (map selected lists)
-files-all bytes names at lists past before =
-    subst (λ each. AreFilesOf bytes (map name_of each) (map selected lists))
-    (take_all at names past) before
-
--- If nothing changes, nothing was written.
-pub keeps-itself : (fault : Fault) (known : Option (List ℕ)) → KeepsUnlessWriting fault known known
-keeps-itself (BadLine file line) known = Keeps-itself known
-keeps-itself (NotRead file error) known = Keeps-itself known
-keeps-itself (NotWritten error) known = tt
-keeps-itself NoMemory known = Keeps-itself known
-keeps-itself (CommandLine misuse) known = Keeps-itself known
-
 -- A fact about a fault holds of the fault that `?` returns.
 pub passed-on : {X : Type 0} (result : Result X Fault) (fault : Fault) (P : Fault → Type 0)
     → IsErrAnd result (λ other. other ≡ fault) → P fault → IfErr result P

@@ -91,7 +91,10 @@ no-lines text rank width many Blocks = record {
     whole = refl;
   };
 }
-no-lines text rank width many Ranges = record { canonical = (tt, All-nil (λ (run : Interval). run.last < many)); written = refl }
+no-lines text rank width many Ranges = record {
+  canonical = (tt, All-nil (λ (run : Interval). run.last < many));
+  written = refl;
+}
 
 module _ (form : Form) (v4 v6 : List Interval) (v4_lines v6_lines : List ℕ) where
   -- Both families.
@@ -163,16 +166,16 @@ module _ (form : Form) (families : Families) (v4 v6 : List Interval) where
       subst (λ which. Kept which old new) (sym is) whole
   both-written (Err error) old mid new is first last = tt
 
-  pub v4-written : {E : Type 0} (result : Result (Unit {0}) E) (old new : Option (List ℕ)) → families ≡ V4
-      → OnOk result (WritesV4 form v4 old new) → OnOk result (Kept families old new)
+  pub v4-written : {E : Type 0} (result : Result (Unit {0}) E) (old new : Option (List ℕ))
+      → families ≡ V4 → OnOk result (WritesV4 form v4 old new) → OnOk result (Kept families old new)
   v4-written (Ok done) old new is first =
       let whole : Kept V4 old new =
       (first.0, v4-lines form v4 v6 first.0 [] first.1, first.2) in
       subst (λ which. Kept which old new) (sym is) whole
   v4-written (Err error) old new is first = tt
 
-  pub v6-written : {E : Type 0} (result : Result (Unit {0}) E) (old new : Option (List ℕ)) → families ≡ V6
-      → OnOk result (WritesV6 form v6 old new) → OnOk result (Kept families old new)
+  pub v6-written : {E : Type 0} (result : Result (Unit {0}) E) (old new : Option (List ℕ))
+      → families ≡ V6 → OnOk result (WritesV6 form v6 old new) → OnOk result (Kept families old new)
   v6-written (Ok done) old new is last =
       let whole : Kept V6 old new =
       (last.0, v6-lines form v4 v6 [] last.0 last.1, last.2) in

@@ -16,8 +16,8 @@ misuse_text (NoNumber word) = codes "no number of lists: " ++ word.now
 misuse_text (NoAddress word) = codes "no address: " ++ word.now
 misuse_text TooFewWords = codes "too few words after the command"
 
--- The line that reports a fault, without its line feed. The system's words for a failed read or write
--- are not known.
+-- The line that reports a fault, without its line feed. The system's words for a failed read or
+-- write are not known.
 abbrev pub fault_text : Fault → Option (List ℕ)
 fault_text (BadLine file line) =
     Some (file.now ++ codes ":" ++ decimal line ++ codes ": no address, block or range")

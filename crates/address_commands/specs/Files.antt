@@ -45,13 +45,14 @@ module _ (bytes : List ℕ → Option (List ℕ)) where
     pub first : IsFirstFile files file
     pub bad : IfSome (bytes file) (λ all. IsFirstBadLine all line)
 
-  -- Whether the fault is the first one in the files, if it is about a file.
+  -- Whether the fault is the first one, if it is about a file. A write can fail only after each of
+  -- the files was read as a list, and no fault here is about the command line.
   abbrev pub IsFirstFault : List (List ℕ) → Fault → Type 0
   IsFirstFault files (BadLine file line) = IsFirstBadFile files file.now line
   IsFirstFault files (NotRead file error) = IsFirstFile files file.now
-  IsFirstFault files (NotWritten error) = Unit {0}
+  IsFirstFault files (NotWritten error) = All IsGoodFile files
   IsFirstFault files NoMemory = Unit {0}
-  IsFirstFault files (CommandLine misuse) = Unit {0}
+  IsFirstFault files (CommandLine misuse) = ⊥
 
   -- Whether the fault is one of this file, if it is about a file.
   abbrev pub IsFaultOf : List ℕ → Fault → Type 0

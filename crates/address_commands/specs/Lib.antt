@@ -1,5 +1,7 @@
 pub mod Answer
+pub mod CommandLine
 pub mod Fault
 pub mod Files
+pub mod Program
 pub mod Request
 pub mod Text

@@ -26,8 +26,8 @@ range_line text first last = text first ++ codes "-" ++ text last ++ codes "\n"
 
 -- ---- sets of one family
 
--- Whether the text has a line for each of the fewest blocks that have exactly the selected addresses,
--- in ascending order.
+-- Whether the text has a line for each of the fewest blocks that have exactly the selected
+-- addresses, in ascending order.
 pub record IsBlocksText {T : Type 0} (text : ℕ → List ℕ) (rank : T → ℕ) (width : ℕ)
     (selected : Selection) (lines : List ℕ) : Type 0 where
   pub blocks : List (Block T)
@@ -45,8 +45,8 @@ abbrev pub IsFormText : {T : Type 0} → (ℕ → List ℕ) → (T → ℕ) → 
 IsFormText text rank width Blocks runs lines = IsBlocksText text rank width (members runs) lines
 IsFormText text rank width Ranges runs lines = lines ≡ ranges_text text runs
 
--- Whether the text is that of a set in a form. The runs neither overlap nor touch, and are within the
--- number of addresses of the family.
+-- Whether the text is that of a set in a form. The runs neither overlap nor touch, and are within
+-- the number of addresses of the family.
 pub record IsSetText {T : Type 0} (text : ℕ → List ℕ) (rank : T → ℕ) (width many : ℕ) (form : Form)
     (runs : List Interval) (lines : List ℕ) : Type 0 where
   pub canonical : IsCanonicalIn many runs
@@ -66,7 +66,8 @@ kept_v6 Both runs = runs
 kept_v6 V4 runs = []
 kept_v6 V6 runs = runs
 
--- Whether the text is that of these IPv4 addresses in a form, and then that of these IPv6 addresses.
+-- Whether the text is that of these IPv4 addresses in a form, and then that of these IPv6
+-- addresses.
 pub record IsListText (form : Form) (v4 v6 : List Interval) (text : List ℕ) : Type 0 where
   pub v4_lines : List ℕ
   pub v6_lines : List ℕ

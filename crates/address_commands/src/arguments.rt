@@ -1,6 +1,23 @@
 //! The command line. It is read here and not by `clap`, whose errors have several lines, and whose
 //! exact contracts cover only simple commands.
 
+ghost use Rattle.std.specs.Prelude.{◌≡◌, ℕ, [], ◌∷◌, ◌++◌, IfErr, IfOk, IsFalse, IsTrue, List, MatchResult, OnOk, codes, map, unwrap_or};
+ghost use Rattle.std.specs.Option.{option_or};
+ghost use Rattle.address_commands.specs.CommandLine.{
+  AreArguments,
+  IsMisuse,
+  IsRequest,
+  IsMisuseOfOperands,
+  IsOperation,
+  IsRequestWith,
+  IsWordFault,
+  families_asked,
+  form_asked,
+  is_dashed,
+  is_known,
+  question_asked,
+};
+
 use crate::fault::{Fault, Misuse};
 use crate::request::{Combination, Families, Form, Request};
 use address_lists::Operation;
@@ -14,9 +31,11 @@ pub struct Arguments<'a, A: Allocator> {
     // The words that are no options.
     operands: Vec<&'a str, A>,
     options: Options,
+    // Whether `--` came. No word after it is an option.
+    is_ended: bool,
 }
 
-// What the options say.
+// What the options ask for.
 #[derive(Clone, Copy)]
 struct Options {
     form: Form,
@@ -36,29 +55,51 @@ impl<'a, A: Allocator> Arguments<'a, A> {
     ///
     /// A word that begins with a dash is an option, and may be anywhere. But `-` is an operand, and
     /// so is each word after `--`. Of options that exclude each other, the last one counts.
-    pub fn new<S: AsStr>(alloc: A, words: &'a [S]) -> Result<Self, Fault<'a>> {
-        let mut options = Options {
-            form: Form::Blocks,
-            families: Families::Both,
-            question: None,
+    ///
+    /// The error is the first option that is unknown, or a failed allocation.
+    pub fn new<S: AsStr>(alloc: A, words: &'a [S]) -> Result<Self, Fault<'a>>
+        ensures arguments { IfOk result (AreArguments (map S.text words.now)) }
+        ensures fault { IfErr result (IsWordFault (map S.text words.now)) }
+    {
+        let mut arguments = Arguments {
+            operands: Vec::new(alloc),
+            options: Options {
+                form: Form::Blocks,
+                families: Families::Both,
+                question: None,
+            },
+            is_ended: false,
         };
-        let mut operands = Vec::new(alloc);
-        let mut is_ended = false;
         for word in words {
-            let word = word.as_str();
-            if is_ended || !is_option(word) {
-                operands.push(word)?;
-            } else if word == "--" {
-                is_ended = true;
-            } else {
-                options = with_option(options, word)?;
-            }
+            arguments.add(word.as_str())?;
         }
-        Ok(Arguments { operands, options })
+        Ok(arguments)
+    }
+
+    // Adds the next word.
+    fn add(&mut self, word: &'a str) -> Result<(), Fault<'a>>
+        ensures arguments { (words : List (List ℕ)) → AreArguments words self.old
+            → OnOk result (AreArguments (words ++ word.now ∷ []) self.new) }
+        ensures fault { (before after : List (List ℕ)) → AreArguments before self.old
+            → IfErr result (IsWordFault (before ++ word.now ∷ after)) }
+    {
+        if self.is_ended || !is_dashed(word) {
+            self.operands.push(word)?;
+            return Ok(());
+        }
+        if word == "--" {
+            self.is_ended = true;
+            return Ok(());
+        }
+        self.options = with_option(self.options, word)?;
+        Ok(())
     }
 
     /// Returns what the arguments ask for.
-    pub fn request(&self) -> Result<Request<'_>, Misuse<'_>> {
+    pub fn request(&self) -> Result<Request<'_>, Misuse<'_>>
+        ensures { (words : List (List ℕ)) → AreArguments words self.now
+            → MatchResult result (IsRequest words) (IsMisuse words) }
+    {
         match self.options.question {
             Some(Question::Help) => Ok(Request::Help),
             Some(Question::Version) => Ok(Request::Version),
@@ -67,13 +108,24 @@ impl<'a, A: Allocator> Arguments<'a, A> {
     }
 }
 
-// Returns whether a word is an option, or `--`.
-fn is_option(word: &str) -> bool {
-    word.starts_with('-') && word != "-"
+// Returns whether a word is an option or `--`: a dash and more.
+fn is_dashed(word: &str) -> bool
+    ensures { result ≡ is_dashed word.now }
+{
+    matches!(word.as_bytes(), [b'-', _, ..])
 }
 
 // Returns the options with one more.
-fn with_option<'a>(options: Options, word: &'a str) -> Result<Options, Misuse<'a>> {
+fn with_option<'a>(options: Options, word: &'a str) -> Result<Options, Misuse<'a>>
+    ensures form { IfOk result (λ new. new.form ≡ unwrap_or (form_asked word.now) options.form) }
+    ensures families { IfOk result (λ new.
+        new.families ≡ unwrap_or (families_asked word.now) options.families) }
+    ensures question { IfOk result (λ new.
+        new.question ≡ option_or (question_asked word.now) options.question) }
+    ensures known { IfOk result (λ new. IsTrue (is_known word.now)) }
+    ensures unknown { IfErr result (λ misuse. IsFalse (is_known word.now)
+        × (misuse ≡ Misuse.UnknownOption word.entry)) }
+{
     let mut options = options;
     match word {
         "--blocks" => options.form = Form::Blocks,
@@ -88,7 +140,11 @@ fn with_option<'a>(options: Options, word: &'a str) -> Result<Options, Misuse<'a
 }
 
 // Returns what a command and the words after it ask for.
-fn request_of<'a>(options: Options, operands: &'a [&'a str]) -> Result<Request<'a>, Misuse<'a>> {
+fn request_of<'a>(options: Options, operands: &'a [&'a str]) -> Result<Request<'a>, Misuse<'a>>
+    ensures { MatchResult result
+        (IsRequestWith options.form options.families (map (λ word. word.now) operands.now))
+        (IsMisuseOfOperands (map (λ word. word.now) operands.now)) }
+{
     let [command, words @ ..] = operands else {
         return Err(Misuse::NoCommand);
     };
@@ -100,7 +156,7 @@ fn request_of<'a>(options: Options, operands: &'a [&'a str]) -> Result<Request<'
         "at-least" => at_least(options, words),
         "complement" => combination(options, Operation::Complement, words),
         "count" => count(options, words),
-        "has" => has(words),
+        "has" => has(options, words),
         _ => Err(Misuse::UnknownCommand(*command)),
     }
 }
@@ -110,7 +166,13 @@ fn combination<'a>(
     options: Options,
     operation: Operation,
     files: &'a [&'a str],
-) -> Result<Request<'a>, Misuse<'a>> {
+) -> Result<Request<'a>, Misuse<'a>>
+    ensures request { (operands : List (List ℕ))
+        → IsOperation operands operation (map (λ name. name.now) files.now)
+        → IfOk result (IsRequestWith options.form options.families operands) }
+    ensures misuse { IfErr result (λ misuse. (misuse ≡ Misuse.TooFewWords)
+        × (files.now ≡ [])) }
+{
     if files.is_empty() {
         return Err(Misuse::TooFewWords);
     }
@@ -123,7 +185,12 @@ fn combination<'a>(
 }
 
 // Returns what `except` and the words after it ask for.
-fn except<'a>(options: Options, files: &'a [&'a str]) -> Result<Request<'a>, Misuse<'a>> {
+fn except<'a>(options: Options, files: &'a [&'a str]) -> Result<Request<'a>, Misuse<'a>>
+    ensures request { IfOk result (IsRequestWith options.form options.families
+        (codes "except" ∷ map (λ name. name.now) files.now)) }
+    ensures misuse { IfErr result (IsMisuseOfOperands
+        (codes "except" ∷ map (λ name. name.now) files.now)) }
+{
     if files.len() < 2 {
         return Err(Misuse::TooFewWords);
     }
@@ -131,10 +198,18 @@ fn except<'a>(options: Options, files: &'a [&'a str]) -> Result<Request<'a>, Mis
 }
 
 // Returns what `at-least` and the words after it ask for.
-fn at_least<'a>(options: Options, words: &'a [&'a str]) -> Result<Request<'a>, Misuse<'a>> {
+fn at_least<'a>(options: Options, words: &'a [&'a str]) -> Result<Request<'a>, Misuse<'a>>
+    ensures request { IfOk result (IsRequestWith options.form options.families
+        (codes "at-least" ∷ map (λ word. word.now) words.now)) }
+    ensures misuse { IfErr result (IsMisuseOfOperands
+        (codes "at-least" ∷ map (λ word. word.now) words.now)) }
+{
     let [number, files @ ..] = words else {
         return Err(Misuse::TooFewWords);
     };
+    if files.is_empty() {
+        return Err(Misuse::TooFewWords);
+    }
     match number.parse::<usize>() {
         Ok(count) => combination(options, Operation::AtLeast(count), files),
         Err(_) => Err(Misuse::NoNumber(*number)),
@@ -142,7 +217,12 @@ fn at_least<'a>(options: Options, words: &'a [&'a str]) -> Result<Request<'a>, M
 }
 
 // Returns what `count` and the words after it ask for.
-fn count<'a>(options: Options, files: &'a [&'a str]) -> Result<Request<'a>, Misuse<'a>> {
+fn count<'a>(options: Options, files: &'a [&'a str]) -> Result<Request<'a>, Misuse<'a>>
+    ensures request { IfOk result (IsRequestWith options.form options.families
+        (codes "count" ∷ map (λ name. name.now) files.now)) }
+    ensures misuse { IfErr result (IsMisuseOfOperands
+        (codes "count" ∷ map (λ name. name.now) files.now)) }
+{
     if files.is_empty() {
         return Err(Misuse::TooFewWords);
     }
@@ -153,7 +233,12 @@ fn count<'a>(options: Options, files: &'a [&'a str]) -> Result<Request<'a>, Misu
 }
 
 // Returns what `has` and the words after it ask for.
-fn has<'a>(words: &'a [&'a str]) -> Result<Request<'a>, Misuse<'a>> {
+fn has<'a>(options: Options, words: &'a [&'a str]) -> Result<Request<'a>, Misuse<'a>>
+    ensures request { IfOk result (IsRequestWith options.form options.families
+        (codes "has" ∷ map (λ word. word.now) words.now)) }
+    ensures misuse { IfErr result (IsMisuseOfOperands
+        (codes "has" ∷ map (λ word. word.now) words.now)) }
+{
     let [text, files @ ..] = words else {
         return Err(Misuse::TooFewWords);
     };

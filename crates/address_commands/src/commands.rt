@@ -21,12 +21,12 @@ use crate::request::Request;
 use std::alloc::Allocator;
 use std::io::Write;
 
-/// How a command ended that met no fault.
+/// How a command without a fault ended.
 #[derive(Clone, Copy, Debug, PartialEq, Eq)]
 pub enum Outcome {
     /// It wrote its answer.
     Done,
-    /// No list has the address that was asked for.
+    /// No list has the address.
     InNone,
 }
 
@@ -58,9 +58,10 @@ options: --blocks (the default), --ranges, -4, -6, --help, --version
 /// The program's name and version.
 pub const VERSION: &str = "ip_lists 0.1.0\n";
 
-/// Reads all lists that a request names, in that order, and writes the answer to it.
+/// Reads all lists that a request names, in order, and then writes the answer.
 ///
-/// The first fault is returned. Nothing was written then, unless the fault is a failed write.
+/// Returns the first fault. Nothing was written then, unless a write failed. A write comes only
+/// after all lists were read.
 pub fn run<'a, A: Allocator + Copy, I: Inputs, W: Write>(
     alloc: A,
     inputs: &I,

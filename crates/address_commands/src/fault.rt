@@ -17,7 +17,7 @@ pub enum Misuse<'a> {
     UnknownCommand(&'a str),
     /// It has a word that is no option.
     UnknownOption(&'a str),
-    /// The word after `at-least` is no number from 1 to 2^64 - 1.
+    /// The word after `at-least` is no number from 0 to 2^64 - 1.
     NoNumber(&'a str),
     /// The word after `has` is no address.
     NoAddress(&'a str),
@@ -40,7 +40,7 @@ impl fmt::Display for Misuse<'_> {
     }
 }
 
-/// The first fault that was met.
+/// The first fault.
 #[derive(Debug, Drop)]
 pub enum Fault<'a> {
     /// A line of a list is no address, block or range, and not blank. Lines are counted from 1.

@@ -46,7 +46,7 @@ pub enum Request<'a> {
     Version,
     /// What an operation selects from lists.
     Combine(Combination<'a>),
-    /// How many addresses and blocks of each family are in some list.
+    /// How many addresses and blocks of each family some list has.
     Count {
         families: Families,
         files: &'a [&'a str],

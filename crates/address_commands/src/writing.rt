@@ -77,7 +77,8 @@ fn write_set<T: AddressText + 'static, W: Write, A: Allocator>(
     set: &RangeSetBlaze<T, A>,
     form: Form,
 ) -> io::Result<()>
-    ensures { OnOk result ((text : List ℕ) × IsSetText T.text T.rank T.width T.value_count form set.now text
+    ensures { OnOk result ((text : List ℕ)
+        × IsSetText T.text T.rank T.width T.value_count form set.now text
         × Appends (W.contents output.old) (W.contents output.new) text) }
 {
     match form {
@@ -132,7 +133,8 @@ fn write_ranges<T: AddressText + 'static, W: Write, A: Allocator>(
 // Writes the first and the last address of a range with a dash between them, and a line feed.
 fn write_range<T: AddressText, W: Write>(output: &mut W, range: RangeInclusive<T>) -> io::Result<()>
     ensures { OnOk result (Appends (W.contents output.old) (W.contents output.new)
-        (range_line T.text (T.rank (range_inclusive_start range)) (T.rank (range_inclusive_end range)))) }
+        (range_line T.text (T.rank (range_inclusive_start range))
+        (T.rank (range_inclusive_end range)))) }
 {
     let (first, last) = range.into_inner();
     let first = first.shown();

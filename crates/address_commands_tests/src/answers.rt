@@ -6,7 +6,7 @@ use std::alloc::Global;
 use std::process::ExitCode;
 
 /// The files of the rows.
-pub(crate) static FILES: [(&str, &[u8]); 7] = [
+pub(crate) static FILES: [(&str, &[u8]); 8] = [
     (
         "a",
         b"10.0.0.0/30\n10.0.0.4 - 10.0.0.6 # tail\n2001:db8::/127\n",
@@ -20,13 +20,14 @@ pub(crate) static FILES: [(&str, &[u8]); 7] = [
     ("empty", b""),
     ("odd bits", b"10.1.2.3/8\n2001:db8::1/32\n"),
     ("bad", b"10.0.0.1\n10.0.0\n10.0.0.0/33\n"),
+    ("-", b"10.9.8.7\n"),
 ];
 
 /// A command line, its exit status, and what it writes.
 type Row = (&'static [&'static str], u8, &'static str);
 
-/// Commands that meet no fault.
-static ROWS: [Row; 34] = [
+/// Commands without a fault.
+static ROWS: [Row; 46] = [
     (
         &["union", "a", "b"],
         0,
@@ -44,6 +45,9 @@ static ROWS: [Row; 34] = [
         "2001:db8::/127\n2001:db8::2\n",
     ),
     (&["union", "-4", "-6", "b"], 0, "2001:db8::2\n"),
+    (&["union", "-6", "-4", "b"], 0, "10.0.0.6/31\n"),
+    (&["union", "-"], 0, "10.9.8.7\n"),
+    (&["union", "--", "-"], 0, "10.9.8.7\n"),
     (
         &["union", "--ranges", "--blocks", "-4", "b"],
         0,
@@ -75,6 +79,7 @@ static ROWS: [Row; 34] = [
     ),
     (&["except", "b", "a", "empty"], 0, "10.0.0.7\n2001:db8::2\n"),
     (&["except", "a", "all"], 0, ""),
+    (&["except", "a", "a"], 0, ""),
     (
         &["odd", "-4", "a", "b"],
         0,
@@ -92,6 +97,8 @@ static ROWS: [Row; 34] = [
         0,
         "10.0.0.6/31\n2001:db8::2\n",
     ),
+    (&["at-least", "+2", "-4", "b", "b"], 0, "10.0.0.6/31\n"),
+    (&["at-least", "3", "b", "b"], 0, ""),
     (&["at-least", "3", "a", "b"], 0, ""),
     (&["at-least", "0", "empty"], 0, "0.0.0.0/0\n::/0\n"),
     (
@@ -111,9 +118,24 @@ static ROWS: [Row; 34] = [
         "IPv4 addresses: 8, blocks: 1\nIPv6 addresses: 3, blocks: 2\n",
     ),
     (
+        &["count", "a", "a"],
+        0,
+        "IPv4 addresses: 7, blocks: 3\nIPv6 addresses: 2, blocks: 1\n",
+    ),
+    (
+        &["count", "empty"],
+        0,
+        "IPv4 addresses: 0, blocks: 0\nIPv6 addresses: 0, blocks: 0\n",
+    ),
+    (
         &["count", "-4", "empty"],
         0,
         "IPv4 addresses: 0, blocks: 0\n",
+    ),
+    (
+        &["count", "-4", "--ranges", "-6", "ends"],
+        0,
+        "IPv6 addresses: 2, blocks: 2\n",
     ),
     (
         &["count", "-6", "all"],
@@ -127,8 +149,11 @@ static ROWS: [Row; 34] = [
     ),
     (&["has", "10.0.0.6", "a", "empty", "b"], 0, "a\nb\n"),
     (&["has", "2001:DB8:0::2", "a", "b", "all"], 0, "b\nall\n"),
+    (&["has", "10.0.0.6", "a", "empty", "a"], 0, "a\na\n"),
+    (&["has", "::ffff:10.0.0.6", "a", "b"], 1, ""),
     (&["has", "10.0.0.8", "a", "b"], 1, ""),
     (&["--help"], 0, HELP),
+    (&["--version", "unite", "--help"], 0, HELP),
     (&["union", "--version"], 0, VERSION),
 ];
 

@@ -9,8 +9,8 @@ use std::process::ExitCode;
 /// A command line, its exit status, and the line that it reports.
 type Row = (&'static [&'static str], u8, &'static str);
 
-/// Commands that meet a fault.
-static ROWS: [Row; 17] = [
+/// Commands with a fault.
+static ROWS: [Row; 24] = [
     (
         &["union", "a", "bad", "none"],
         2,
@@ -57,6 +57,22 @@ static ROWS: [Row; 17] = [
         "ip_lists: no number of lists: two\n",
     ),
     (
+        &["at-least", "two"],
+        64,
+        "ip_lists: too few words after the command\n",
+    ),
+    (
+        &["at-least", "--", "-1", "a"],
+        64,
+        "ip_lists: no number of lists: -1\n",
+    ),
+    (
+        &["at-least", "18446744073709551616", "a"],
+        64,
+        "ip_lists: no number of lists: 18446744073709551616\n",
+    ),
+    (&["has"], 64, "ip_lists: too few words after the command\n"),
+    (
         &["has", "10.0.0.1"],
         64,
         "ip_lists: too few words after the command\n",
@@ -72,6 +88,13 @@ static ROWS: [Row; 17] = [
         "ip_lists: too few words after the command\n",
     ),
     (&["--", "-4", "a"], 64, "ip_lists: unknown command: -4\n"),
+    (&["-"], 64, "ip_lists: unknown command: -\n"),
+    (
+        &["--help", "-x", "unite", "-y"],
+        64,
+        "ip_lists: unknown option: -x\n",
+    ),
+    (&["--", "--help"], 64, "ip_lists: unknown command: --help\n"),
 ];
 
 /// Whether the program ends with this status and this line, and writes nothing else.
@@ -94,7 +117,8 @@ fn each_fault_is_reported(rt: HostRuntime) {
     }
 }
 
-/// Whether a read of `a` that fails after so many bytes is reported, and nothing is written.
+/// Whether a read of `a` that fails after the given number of bytes is reported, and nothing is
+/// written.
 fn read_fails(alloc: Global, good: usize) -> bool {
     let inputs = Held {
         alloc,
@@ -117,17 +141,31 @@ fn each_read_fails_in_turn(rt: HostRuntime) {
     }
 }
 
-/// What the union of `a` and `b` writes.
-static UNION: &[u8] = b"10.0.0.0/29\n2001:db8::/127\n2001:db8::2\n";
+/// Command lines, and what each of them writes.
+static WRITTEN: [(&[&str], &[u8]); 4] = [
+    (
+        &["union", "a", "b"],
+        b"10.0.0.0/29\n2001:db8::/127\n2001:db8::2\n",
+    ),
+    (
+        &["union", "--ranges", "a", "b"],
+        b"10.0.0.0-10.0.0.7\n2001:db8::-2001:db8::2\n",
+    ),
+    (
+        &["count", "a", "b"],
+        b"IPv4 addresses: 8, blocks: 1\nIPv6 addresses: 3, blocks: 2\n",
+    ),
+    (&["has", "10.0.0.6", "a", "b"], b"a\nb\n"),
+];
 
-/// Whether a write that fails after so many bytes is reported, and what came before it is written.
-fn write_fails(alloc: Global, room: usize) -> bool {
+/// Whether a write that fails after the given number of bytes is reported, and what came before it
+/// is written.
+fn write_fails(alloc: Global, words: &[&str], written: &[u8], room: usize) -> bool {
     let inputs = Held {
         alloc,
         files: &FILES,
         good: usize::MAX,
     };
-    let words: &[&str] = &["union", "a", "b"];
     let mut output = Filling {
         taken: Vec::new(alloc),
         room,
@@ -136,19 +174,29 @@ fn write_fails(alloc: Global, room: usize) -> bool {
     let code = start(alloc, words, &inputs, &mut output, &mut errors);
     code == ExitCode::from(4)
         && output.taken.len() == room
-        && UNION.starts_with(&output.taken)
+        && written.starts_with(&output.taken)
         && errors.as_slice() == b"output: no storage space\n".as_slice()
+}
+
+/// Whether each write of a command fails as it should.
+fn writes_fail(alloc: Global, words: &[&str], written: &[u8]) -> bool {
+    for room in 0..written.len() {
+        if !write_fails(alloc, words, written, room) {
+            return false;
+        }
+    }
+    true
 }
 
 #[test]
 fn each_write_fails_in_turn(rt: HostRuntime) {
-    for room in 0..UNION.len() {
-        assert!(rt; write_fails(rt.alloc(), room), "after {room} bytes");
+    for (words, written) in &WRITTEN {
+        assert!(rt; writes_fail(rt.alloc(), *words, *written), "{words:?}");
     }
 }
 
-/// Whether the status stands if the line of a fault cannot be written.
-fn status_stands(alloc: Global) -> bool {
+/// Whether the status is the same if the line of a fault cannot be written.
+fn status_is_kept(alloc: Global) -> bool {
     let inputs = Held {
         alloc,
         files: &FILES,
@@ -166,5 +214,5 @@ fn status_stands(alloc: Global) -> bool {
 
 #[test]
 fn an_unreported_fault_keeps_its_status(rt: HostRuntime) {
-    assert!(rt; status_stands(rt.alloc()));
+    assert!(rt; status_is_kept(rt.alloc()));
 }

@@ -38,8 +38,8 @@ fn tried(alloc: Global, heap: &Heap, words: &[&str], allocations: usize) -> Opti
         return None;
     }
     if code == ExitCode::from(3) {
-        let is_told = errors.as_slice() == b"ip_lists: no memory\n".as_slice();
-        return (output.is_empty() && is_told).then_some(false);
+        let is_reported = errors.as_slice() == b"ip_lists: no memory\n".as_slice();
+        return (output.is_empty() && is_reported).then_some(false);
     }
     (code == ExitCode::SUCCESS && errors.is_empty() && !output.is_empty()).then_some(true)
 }

@@ -1,8 +1,10 @@
 //! How many addresses and blocks the lists of files have.
 
-ghost use Rattle.std.specs.Prelude.{◌≡◌, ◌-◌, ◌^◌, IfErr, List, length, map, min};
-ghost use Rattle.range_set_blaze.specs.Runs.{Interval, members};
+ghost use Rattle.std.specs.Prelude.{◌≡◌, ℕ, ◌++◌, ◌-◌, ◌^◌, IfErr, IfSome, List, OnOk, codes, decimal, length, map, min};
+ghost use Rattle.std.specs.Io.KnownBytes.{Appends};
+ghost use Rattle.range_set_blaze.specs.Runs.{Interval, IsCanonicalIn, members};
 ghost use Rattle.address_lists.specs.Blocks.{AreMaximalBlocks};
+ghost use Rattle.address_commands.specs.Answer.{AreCounts, IsCountText, IsCounted};
 ghost use Rattle.address_commands.specs.Files.{IsFirstFault, KeepsUnlessWriting};
 
 use crate::commands::lists::read_lists;
@@ -26,6 +28,9 @@ pub(crate) fn write_counts<'a, A: Allocator + Copy, I: Inputs, W: Write>(
     files: &'a [&'a str],
     output: &mut W,
 ) -> Result<(), Fault<'a>>
+    ensures answer { OnOk result ((text : List ℕ)
+        × IsCounted (I.bytes inputs.now) families (map (λ name. name.now) files.now) text
+        × Appends (W.contents output.old) (W.contents output.new) text) }
     ensures first { IfErr result (IsFirstFault (I.bytes inputs.now)
         (map (λ name. name.now) files.now)) }
     ensures keeps { IfErr result (λ fault.
@@ -42,7 +47,10 @@ fn write_list_counts<W: Write, A: Allocator>(
     output: &mut W,
     list: &AddressList<A>,
     families: Families,
-) -> io::Result<()> {
+) -> io::Result<()>
+    ensures { OnOk result ((text : List ℕ) × AreCounts families list.now.v4 list.now.v6 text
+        × Appends (W.contents output.old) (W.contents output.new) text) }
+{
     match families {
         Families::Both => {
             write_v4_count(output, &list.v4)?;
@@ -57,7 +65,10 @@ fn write_list_counts<W: Write, A: Allocator>(
 fn write_v4_count<W: Write, A: Allocator>(
     output: &mut W,
     set: &RangeSetBlaze<u32, A>,
-) -> io::Result<()> {
+) -> io::Result<()>
+    ensures { OnOk result ((text : List ℕ) × IsCountText (codes "IPv4") 32 set.now text
+        × Appends (W.contents output.old) (W.contents output.new) text) }
+{
     write_count(output, "IPv4", set.len(), block_count(set))
 }
 
@@ -65,7 +76,10 @@ fn write_v4_count<W: Write, A: Allocator>(
 fn write_v6_count<W: Write, A: Allocator>(
     output: &mut W,
     set: &RangeSetBlaze<u128, A>,
-) -> io::Result<()> {
+) -> io::Result<()>
+    ensures { OnOk result ((text : List ℕ) × IsCountText (codes "IPv6") 128 set.now text
+        × Appends (W.contents output.old) (W.contents output.new) text) }
+{
     let blocks = block_count(set);
     match set.len() {
         UIntPlusOne::UInt(addresses) => write_count(output, "IPv6", addresses, blocks),
@@ -79,13 +93,19 @@ fn write_count<W: Write, N: Display + Drop>(
     family: &str,
     addresses: N,
     blocks: u64,
-) -> io::Result<()> {
+) -> io::Result<()>
+    ensures { OnOk result (IfSome (N.output addresses) (λ digits.
+        Appends (W.contents output.old) (W.contents output.new)
+        (family.now ++ codes " addresses: " ++ digits ++ codes ", blocks: " ++ decimal blocks
+        ++ codes "\n"))) }
+{
     writeln!(output, "{family} addresses: {addresses}, blocks: {blocks}")
 }
 
 // Returns how many blocks a set has, or 2^64 - 1 if it has more.
 fn block_count<T: Address + 'static, A: Allocator>(set: &RangeSetBlaze<T, A>) -> u64
-    ensures { (blocks : List Interval) × AreMaximalBlocks (members set.now) blocks
+    ensures canonical { IsCanonicalIn T.value_count set.now }
+    ensures count { (blocks : List Interval) × AreMaximalBlocks (members set.now) blocks
         × (result ≡ min (length blocks) (2 ^ 64 - 1)) }
 {
     let mut count = 0u64;

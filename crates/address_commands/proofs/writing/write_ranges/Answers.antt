@@ -22,13 +22,14 @@ pub returns : goal.returns
 returns g c =
     let rank = g.T.Integer.rank in
     let items = c.loop-range.yielded in
-    let all : c.ranges-range-items.result ≡ items = sym c.into_iter-range-iterator.ensures.into_iter_gives
+    let all : c.ranges-range-items.result ≡ items =
+    sym c.into_iter-range-iterator.ensures.into_iter_gives
     ∙ all-yielded (λ s. s) items c.into_iter-range-iterator.result c.loop-range.range-iterator
     c.next.new.self c.loop-range.yielded_by c.in-None.ensures.steps in
     let runs : intervals_of rank items ≡ c.args.set.now =
     ap (intervals_of rank) (sym all) ∙ c.ranges-range-items.ensures.ranges in
-    let canonical = subst (IsCanonicalIn g.T.Integer.value_count) c.ranges-range-items.ensures.ranges
-    c.ranges-range-items.ensures.ready in
+    let canonical = subst (IsCanonicalIn g.T.Integer.value_count)
+    c.ranges-range-items.ensures.ranges c.ranges-range-items.ensures.ready in
     let lines = lines-of g.T.AddressText.text rank items 0
     (subst IsCanonical (sym runs) canonical.0) in (
       flat_map (line_of g.T.AddressText.text rank) items,

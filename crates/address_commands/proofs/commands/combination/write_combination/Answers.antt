@@ -1,7 +1,10 @@
 use Rattle.std.proofs.Common.{◌^◌, map, subst}
 use Rattle.range_set_blaze.specs.Multiway.{IsMadeOf}
 use Rattle.address_lists.specs.Combine.{selected_by}
+use Rattle.address_commands.specs.Files.{IsFirstFault, selected}
 use Rattle.address_commands.proofs.AnswerLemmas.{combined}
+use Rattle.address_commands.proofs.FilesLemmas.{all-good, name_of, passed-on}
+use Rattle.address_commands.specs.declared.fault.Fault.TheVariants.{NotWritten}
 use Rattle.address_commands.proofs.commands.combination.write_combination.Goals as goal
 
 -- The text of what the operation selects was written.
@@ -20,3 +23,12 @@ returns-clause-answer g c =
           c.in_ok-lists.ensures.lists v4 v6 written.1,
       written.2,
     )
+
+-- A write failed after all files were read.
+pub returns-in_err-write_list-clause-first : goal.returns-in_err-write_list-clause-first
+returns-in_err-write_list-clause-first g c =
+    let bytes = g.I.Inputs.bytes c.args.inputs.now in
+    let names = map name_of c.args.combination.files.now in
+    passed-on c.from_residual-in_err-write_list.result (NotWritten c.in_err-write_list.field-0.0)
+    (IsFirstFault bytes names) c.from_residual-in_err-write_list.ensures.1
+    (all-good bytes names (map selected c.in_ok-lists.lists.items) c.in_ok-lists.ensures.lists)

@@ -1,5 +1,5 @@
 use Rattle.std.proofs.Common.{◌≡◌, ◌∙◌, ◌-◌, ◌^◌, ap, min, subst}
-use Rattle.range_set_blaze.specs.Runs.{members}
+use Rattle.range_set_blaze.specs.Runs.{IsCanonicalIn, members}
 use Rattle.rsb_streams.specs.Listed.{listed_may_give}
 use Rattle.address_lists.specs.Blocks.{AreMaximalBlocks}
 use Rattle.address_lists.specs.BlocksLeft.{block_runs, blocks_may_give}
@@ -7,9 +7,14 @@ use Rattle.address_lists.proofs.aligned.Left.{all-given}
 use Rattle.address_commands.proofs.LinesLemmas.{as-many}
 use Rattle.address_commands.proofs.commands.count.block_count.Goals as goal
 
+-- The runs of a set neither overlap nor touch.
+pub returns-clause-canonical : goal.returns-clause-canonical
+returns-clause-canonical g c =
+    subst (IsCanonicalIn g.T.Integer.value_count) c.ranges-2.ensures.ranges c.ranges-2.ensures.ready
+
 -- The blocks that came are those of the set.
-pub returns : goal.returns
-returns g c =
+pub returns-clause-count : goal.returns-clause-count
+returns-clause-count g c =
     let rank = g.T.Integer.rank in
     let runs_of = block_runs rank g.T.Address.width in
     let items = c.loop-block.yielded in
@@ -22,5 +27,6 @@ returns g c =
     let runs : at.0 ≡ c.args.set.now = at.1 ∙ c.ranges-2.ensures.ranges in (
       runs_of items,
       subst (λ each. AreMaximalBlocks (members each) (runs_of items)) runs at.2,
-      c.loop-block.invariant ∙ ap (λ many. min many (2 ^ 64 - 1)) (as-many rank g.T.Address.width items),
+      c.loop-block.invariant
+          ∙ ap (λ many. min many (2 ^ 64 - 1)) (as-many rank g.T.Address.width items),
     )
