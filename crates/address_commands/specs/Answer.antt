@@ -3,7 +3,7 @@ use Rattle.std.specs.Prelude.{◌≡◌, ℕ, ◌^◌, List, Option, map}
 use Rattle.std.specs.Io.KnownBytes.{Appends}
 use Rattle.range_set_blaze.specs.Runs.{Interval, members}
 use Rattle.range_set_blaze.specs.Selection.{Agree, Selection}
-use Rattle.address_lists.specs.Combine.{selected_by}
+use Rattle.address_lists.specs.Operation.{selected_by}
 use Rattle.address_commands.specs.Files.{AreFilesOf, Selected}
 use Rattle.address_commands.specs.Text.{IsListText, kept_v4, kept_v6}
 use Rattle.address_commands.specs.declared.commands.Outcome.{Outcome}
