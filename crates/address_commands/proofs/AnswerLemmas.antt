@@ -3,7 +3,7 @@ use Rattle.std.proofs.Common.{◌≡◌, ℕ, ◌^◌, List, [], ◌∷◌, map,
 use Rattle.range_set_blaze.specs.Multiway.{IsMadeOf}
 use Rattle.range_set_blaze.specs.Runs.{members}
 use Rattle.range_set_blaze.specs.Selection.{Agree}
-use Rattle.address_lists.specs.Combine.{selected_by}
+use Rattle.address_lists.specs.Operation.{selected_by}
 use Rattle.address_lists.specs.declared.list.AddressList.{AddressList}
 use Rattle.address_commands.specs.Answer.{IsCombined, v4_of, v6_of}
 use Rattle.address_commands.specs.Files.{AreFilesOf, selected}

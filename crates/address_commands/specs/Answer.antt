@@ -7,7 +7,7 @@ use Rattle.std.specs.declared.net.ip_addr.IpAddr.TheVariants as Ip
 use Rattle.range_set_blaze.specs.Runs.{Interval, IsCanonicalIn, members}
 use Rattle.range_set_blaze.specs.Selection.{Agree, Selection, any_of, count}
 use Rattle.address_lists.specs.Blocks.{AreMaximalBlocks}
-use Rattle.address_lists.specs.Combine.{selected_by}
+use Rattle.address_lists.specs.Operation.{selected_by}
 use Rattle.address_commands.specs.Files.{AreFilesOf, Selected}
 use Rattle.address_commands.specs.Text.{IsListText, kept_v4, kept_v6}
 use Rattle.address_commands.specs.declared.commands.Outcome.{Outcome}

@@ -1,4 +1,5 @@
 pub mod Biggest
+pub mod FewRuns
 pub mod Fewest
 pub mod Left
 pub mod Meeting

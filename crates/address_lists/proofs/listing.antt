@@ -1,6 +1,9 @@
+pub mod Buffered
 pub mod Contents
 pub mod FirstLine
+pub mod Known
 pub mod LineEnds
+pub mod LineFeeds
 pub mod OneSelection
 pub mod Reading
 pub mod Selected

@@ -8,4 +8,5 @@ pub mod Means
 pub mod OneMeaning
 pub mod Parts
 pub mod Ranges
+pub mod Read
 pub mod Written

@@ -10,6 +10,14 @@ pub record Spans (range : RangeInclusive ℕ) (first last : ℕ) : Type 0 where
   pub end : range_inclusive_end range ≡ last
   pub fresh : range_inclusive_exhausted range ≡ false
 
+-- The range with the numbers of its addresses.
+abbrev pub numbers : {T : Type 0} → (T → ℕ) → RangeInclusive T → RangeInclusive ℕ
+numbers number range = record {
+  start = number (range_inclusive_start range);
+  end = number (range_inclusive_end range);
+  exhausted = range_inclusive_exhausted range;
+}
+
 -- How many addresses of `bits` bits have the same first `length` bits.
 abbrev pub block_size : ℕ → ℕ → ℕ
 block_size bits length = 2 ^ (bits - length)

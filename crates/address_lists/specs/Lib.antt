@@ -1,9 +1,11 @@
 pub mod Address
+pub mod AddressLaws
 pub mod AddressRange
 pub mod Blocks
 pub mod BlocksLeft
-pub mod Combine
+pub mod Gathering
 pub mod Line
 pub mod LineParts
 pub mod List
 pub mod ListFault
+pub mod Operation

@@ -1,5 +1,5 @@
 -- What a line of a list means.
-use Rattle.std.specs.Prelude.{◌≡◌, ℕ, ◌-◌, ◌<◌, ◌==◌, ◌||◌, All, Bool, IsFalse, IsTrue, List, [], ◌∷◌, length, slice_index}
+use Rattle.std.specs.Prelude.{◌≡◌, ℕ, ◌-◌, ◌<◌, ◌==◌, ◌||◌, All, Bool, IsFalse, IsTrue, List, [], ◌∷◌, length, nat_lt, slice_index}
 use Rattle.std.specs.Char.{is_ascii_whitespace}
 use Rattle.std.specs.List.{before_first}
 use Rattle.std.specs.declared.ops.RangeInclusive.{RangeInclusive}
@@ -12,6 +12,10 @@ use Rattle.address_lists.specs.LineParts.{trimmed}
 -- Whether the byte is `#` or `;`, which begins a comment.
 abbrev pub begins_comment : ℕ → Bool
 begins_comment byte = (byte == 35) || (byte == 59)
+
+-- Whether the byte stands in no address, as each that has a meaning of its own in a line does not.
+abbrev pub is_mark : ℕ → Bool
+is_mark byte = nat_lt byte 46 || (byte == 47) || (byte == 59)
 
 -- What a line has before its comment, without the white space around it. A carriage return is white
 -- space.

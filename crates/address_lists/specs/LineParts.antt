@@ -33,3 +33,8 @@ AreParts More separator text =
 -- Whether the result is a value that the fact holds of, or `None` if there is no such value.
 abbrev pub Reads : {X : Type 0} → Option X → (X → Type 0) → Type 0
 Reads {X} result Holds = MatchOption result ((x : X) → ¬ Holds x) Holds
+
+-- Whether the result is a value whose rank the fact holds of, or `None` if it holds of no number.
+abbrev pub ReadsNumber : {X : Type 0} → (X → ℕ) → Option X → (ℕ → Type 0) → Type 0
+ReadsNumber rank result Holds =
+    MatchOption result ((number : ℕ) → ¬ Holds number) (λ x. Holds (rank x))

@@ -1,5 +1,5 @@
 -- What a list of addresses selects, line by line.
-use Rattle.std.specs.Prelude.{◌≡◌, ◌⊎◌, ◌↔◌, ℕ, ◌+◌, ◌≤◌, ◌++◌, All, Any, Bool, IsTrue, List, ◌∷◌, filter, length, map, nat_lt}
+use Rattle.std.specs.Prelude.{◌≡◌, ◌⊎◌, ◌↔◌, ℕ, ◌+◌, ◌≤◌, ◌++◌, All, Any, Bool, IsTrue, List, ◌∷◌, Option, Some, filter, length, map, nat_lt}
 use Rattle.std.specs.Str.Lines.{lines}
 use Rattle.range_set_blaze.specs.Selection.{Selection}
 use Rattle.address_lists.specs.declared.line.Line.{Line}
@@ -52,6 +52,17 @@ pub record IsFirstBadLine (bytes : List ℕ) (number : ℕ) : Type 0 where
   pub counted : number ≡ length before + 1
   pub bad : IsBadLine line
   pub first : All IsGoodLine before
+
+-- Whether the line with this number is the first that has no meaning, and the last bytes, the rest,
+-- are the lines after it.
+abbrev pub IsPastBadLine : List ℕ → List ℕ → ℕ → Type 0
+IsPastBadLine bytes rest number =
+    (bad : IsFirstBadLine bytes number) × (bad.after ≡ lines rest)
+
+-- Whether the bytes that are left are the lines after the first bad one, which has this number.
+abbrev pub LeavesPastBadLine : List ℕ → Option (List ℕ) → ℕ → Type 0
+LeavesPastBadLine bytes left number =
+    (rest : List ℕ) × (left ≡ Some rest) × IsPastBadLine bytes rest number
 
 -- ---- what does not count
 

@@ -5,12 +5,13 @@ ghost use Rattle.std.specs.List.{position};
 ghost use Rattle.address_lists.specs.Line.{IsLine, begins_comment, content};
 ghost use Rattle.address_lists.specs.LineParts.{Reads};
 
+pub(crate) mod family;
 pub(crate) mod parts;
 pub(crate) mod prefix;
-pub(crate) mod v4;
-pub(crate) mod v6;
+pub(crate) mod range;
 
 use crate::line::parts::trimmed;
+use crate::line::range::{plain_range, range};
 use std::ops::RangeInclusive;
 
 /// What a line means. A range goes from its first address to its last, as numbers.
@@ -32,14 +33,20 @@ pub enum Line {
 pub fn parse_line(line: &[u8]) -> Option<Line>
     ensures { Reads result (IsLine line.now) }
 {
+    if let Some(range) = plain_range(line) {
+        return Some(Line::V4(range));
+    }
+    if let Some(range) = plain_range(line) {
+        return Some(Line::V6(range));
+    }
     let text = content(line);
     if text.is_empty() {
         return Some(Line::Nothing);
     }
-    if let Some(range) = v4::range(text) {
+    if let Some(range) = range(text) {
         return Some(Line::V4(range));
     }
-    let range = v6::range(text)?;
+    let range = range(text)?;
     Some(Line::V6(range))
 }
 

@@ -2,7 +2,7 @@
 
 ghost use Rattle.std.specs.Prelude.{◌≡◌, ◌^◌, IfOk, map};
 ghost use Rattle.range_set_blaze.specs.Multiway.{IsMadeOf};
-ghost use Rattle.address_lists.specs.Combine.{first_only, selected_by};
+ghost use Rattle.address_lists.specs.Operation.{first_only, selected_by};
 
 use crate::list::AddressList;
 use range_set_blaze::{Integer, MultiwayRangeSetBlazeRef, RangeSetBlaze};

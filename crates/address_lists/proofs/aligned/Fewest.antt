@@ -33,7 +33,7 @@ test-between : (low high first : ℕ) → low ≤ first → first < high
 test-between low high first from before = grind (arith, nat_tests)
 
 -- There are at most as many as the list has intervals.
-starts-length : (low : ℕ) (runs : List Interval) → starts_from low runs ≤ length runs
+pub starts-length : (low : ℕ) (runs : List Interval) → starts_from low runs ≤ length runs
 starts-length low [] = omega arith
 starts-length low (run ∷ runs) =
     let first = test-most low run.first in
@@ -71,12 +71,12 @@ starts-fewer low high (other ∷ runs) run found less from before =
 -- ---- each block of the shortest list has a start of each other list
 
 -- Whether one of the others starts in the block.
-abbrev HasStart : List Interval → Interval → Type 0
+abbrev pub HasStart : List Interval → Interval → Type 0
 HasStart others block = (other : Interval) × Contains others other
     × (block.first ≤ other.first) × (other.first ≤ block.last)
 
 -- If one of the others starts in each of the blocks, there are at least as many of them.
-length-starts : (low : ℕ) (blocks others : List Interval) → AscendsFrom low blocks
+pub length-starts : (low : ℕ) (blocks others : List Interval) → AscendsFrom low blocks
     → All (HasStart others) blocks → length blocks ≤ starts_from low others
 length-starts low [] others ascending starts = omega arith
 length-starts low (block ∷ blocks) others ascending starts =

@@ -1,11 +1,15 @@
 -- The addresses that a line means, and those of lines one after the other.
-use Rattle.std.proofs.Common.{◌≡◌, ◌⊎◌, inl, inr, ℕ, zero, suc, ◌+◌, ◌≤◌, Bool, true, false, List, [], ◌∷◌, ◌++◌, refl, sym, ap, subst, arith}
+use Rattle.std.proofs.Common.{◌≡◌, ◌⊎◌, inl, inr, ℕ, zero, suc, ◌+◌, ◌≤◌, Bool, true, false, cond, List, [], ◌∷◌, ◌++◌, refl, sym, ap, subst, ◌∙◌, arith}
 use Rattle.std.proofs.lemmas.Bool.Decides.{nat_tests}
+use Rattle.std.proofs.lemmas.List.{map-append}
 use Rattle.std.proofs.lemmas.List.Quantifiers.{Any-push}
 use Rattle.std.specs.Prelude.{Any, IsTrue, ◌&&◌, ◌||◌, nat_le, nat_lt}
 use Rattle.std.specs.Range.{range_inclusive_start, range_inclusive_end, range_inclusive_exhausted}
 use Rattle.std.specs.declared.ops.RangeInclusive.{RangeInclusive}
+use Rattle.range_set_blaze.specs.Rank.{interval_of, intervals_of}
+use Rattle.range_set_blaze.specs.Runs.{members}
 use Rattle.range_set_blaze.specs.Selection.{Selection, union}
+use Rattle.range_set_blaze.proofs.MembersLemmas.{members-append}
 use Rattle.address_lists.specs.declared.line.Line.{Line}
 use Rattle.address_lists.specs.declared.line.Line.TheVariants.{Nothing, V4, V6}
 use Rattle.address_lists.specs.AddressRange.{Spans, WritesOneOrBlock, WritesParts}
@@ -146,7 +150,34 @@ V4_injective a b is = cc is
 V6_injective : (a b : RangeInclusive ℕ) → V6 a ≡ V6 b → a ≡ b
 V6_injective a b is = cc is
 
--- ---- what is inserted for a line
+-- ---- ranges that are gathered
+
+-- The addresses of one range.
+single : (range : RangeInclusive ℕ) (number : ℕ) → range_inclusive_exhausted range ≡ false
+    → members (interval_of (λ address. address) range ∷ []) number ≡ ranks_of range number
+single range number fresh =
+    rw fresh (by (nat_le (range_inclusive_start range) number) (nat_le number (range_inclusive_end range)) refl)
+  where
+    by : (from to : Bool) → nat_le number (range_inclusive_end range) ≡ to
+        → nat_lt 0 (cond (from && to) 1 0 + 0) ≡ (from && nat_lt number (range_inclusive_end range + 1))
+    by true true is = grind (arith, nat_tests)
+    by true false is = grind (arith, nat_tests)
+    by false to is = refl
+
+-- One more range adds its addresses.
+pub pushed : (old new : List (RangeInclusive ℕ)) (range : RangeInclusive ℕ)
+    → range_inclusive_exhausted range ≡ false → new ≡ old ++ range ∷ [] → (number : ℕ)
+    → members (intervals_of (λ address. address) new) number
+    ≡ union (members (intervals_of (λ address. address) old)) (ranks_of range) number
+pushed old new range fresh is number =
+    let interval = interval_of (λ (address : ℕ). address) in
+    let before = intervals_of (λ (address : ℕ). address) old in
+    ap (λ ranges. members (intervals_of (λ (address : ℕ). address) ranges) number) is
+    ∙ ap (λ intervals. members intervals number) (map-append interval old (range ∷ []))
+    ∙ members-append before (interval range ∷ []) number
+    ∙ ap (λ last. members before number || last) (single range number fresh)
+
+-- ---- what is added for a line
 
 pub adds_v4 : (line : List ℕ) (range : RangeInclusive ℕ) (old new : Selection)
     → ((number : ℕ) → new number ≡ union old (ranks_of range) number)

@@ -1,7 +1,6 @@
--- A text writes one address at most, and the text of an address writes it.
+-- The text of an address writes that address.
 use Rattle.std.proofs.Common.{◌≡◌, ◌∙◌, ℕ, ◌^◌, ◌<◌, List, refl, sym, ap}
 use Rattle.std.proofs.NetLemmas.Texts.{IsDotted-ipv4_text, IsColonHex-ipv6_text}
-use Rattle.std.proofs.NetLemmas.Theorems.{IsIpv4Text_unique, IsIpv6Text_unique}
 use Rattle.std.proofs.lemmas.Nat.{from_be_bytes-to_be_bytes_4}
 use Rattle.std.specs.Int.{w32, w128, from_be_bytes, to_be_bytes}
 use Rattle.std.specs.Net.Addr.{IsIpv4OfBits, IsIpv6OfBits, ipv4_bits, ipv6_bits, octets_of, segments_of}
@@ -9,18 +8,6 @@ use Rattle.std.specs.declared.net.ipv4_addr.Ipv4Addr.{Ipv4Addr}
 use Rattle.std.specs.declared.net.ipv6_addr.Ipv6Addr.{Ipv6Addr}
 use Rattle.address_lists.specs.Address.{IsV4, IsV6, v4_text, v6_text}
 use Rattle.address_lists.proofs.spelling.Bytes.{byte_fits, from_be_bytes-to_be_bytes_16, octets_of-segments_of, segment_fits}
-
--- ---- one address to a text
-
-pub IsV4_unique : (text : List ℕ) (m n : ℕ) → IsV4 text m → IsV4 text n → m ≡ n
-IsV4_unique text m n h k =
-    h.2 ∙ ap ipv4_bits (IsIpv4Text_unique text h.0 k.0 h.1 k.1) ∙ sym k.2
-
-pub IsV6_unique : (text : List ℕ) (m n : ℕ) → IsV6 text m → IsV6 text n → m ≡ n
-IsV6_unique text m n h k =
-    h.2 ∙ ap ipv6_bits (IsIpv6Text_unique text h.0 k.0 h.1 k.1) ∙ sym k.2
-
--- ---- the text of an address
 
 pub IsV4-v4_text : (address : Ipv4Addr) (n : ℕ) → n < 2 ^ 32 → IsIpv4OfBits address n
     → IsV4 (v4_text n) n

@@ -1,6 +1,7 @@
 -- Blocks of addresses fit their type.
-use Rattle.std.proofs.Common.{◌≡◌, ℕ, ◌+◌, ◌-◌, ◌*◌, ◌/◌, ◌%◌, ◌^◌, ◌<◌, ◌≤◌, ◌↔◌, ap, ◌∙◌, arith}
-use Rattle.std.proofs.lemmas.Nat.{pow-add, pow_below, pow_pos, shr_below, shr_split, mul-le, div-add-mod', div_below, le-div, mod_below}
+use Rattle.std.proofs.Common.{◌≡◌, ℕ, ◌+◌, ◌-◌, ◌*◌, ◌/◌, ◌%◌, ◌^◌, ◌<◌, ◌≤◌, ◌↔◌, ap, refl, ◌∙◌, arith}
+use Rattle.std.proofs.Math.Nat.{mod-eq_of_lt}
+use Rattle.std.proofs.lemmas.Nat.{one_shl, pow-add, pow_below, pow_pos, shr_below, shr_split, mul-le, div-add-mod', div_below, le-div, mod_below}
 use Rattle.address_lists.specs.AddressRange.{SharesBits, block_end, block_size, block_start}
 
 -- A block that does not have all addresses has fewer than the type.
@@ -58,3 +59,36 @@ block_members bits length address other =
           let within = from_quotient size q other some is in
           (omega (arith, start, within.0), omega (arith, start, within.1))),
     )
+
+-- A shifted 1 is the size of a block that does not have all addresses.
+pub shifted_size : (width length bits : ℕ) → bits ≡ width → width ≤ 128 → 0 < length
+    → length ≤ width → 1 * 2 ^ (bits - length) % 2 ^ 128 ≡ block_size width length
+shifted_size width length bits is fits some within =
+    one_shl (bits - length) 128 (omega (arith, is)) ∙ ap (λ n. 2 ^ (n - length)) is
+
+-- The last address of a block is an address.
+pub last_fits : (width length number size : ℕ) → length ≤ width → number < 2 ^ width
+    → size ≡ block_size width length → number - number % size + (size - 1) < 2 ^ width
+last_fits width length number size within below is =
+    let fits = block_fits width length number within below in
+    let some = pow_pos (width - length) in
+    rw is (omega (arith, fits, some))
+
+-- If no bit is given, the block has all addresses.
+whole_size : (width length : ℕ) → length ≡ 0 → block_size width length ≡ 2 ^ width
+whole_size width length none =
+    let same : width - length ≡ width = omega (arith, none) in
+    ap (λ n. 2 ^ n) same
+
+pub whole_start : (width length number : ℕ) → length ≡ 0 → number < 2 ^ width
+    → block_start width length number ≡ 0
+whole_start width length number none below =
+    let rest = mod-eq_of_lt below in
+    ap (λ n. number - number % n) (whole_size width length none) ∙ omega (arith, rest)
+
+pub whole_end : (width length number last : ℕ) → length ≡ 0 → number < 2 ^ width
+    → last + 1 ≡ 2 ^ width → last ≡ block_end width length number
+whole_end width length number last none below is =
+    let start = whole_start width length number none below in
+    let size = whole_size width length none in
+    omega (arith, start, size, is)

@@ -8,10 +8,10 @@ use Rattle.std.specs.declared.ops.RangeInclusive.{RangeInclusive}
 use Rattle.address_lists.specs.declared.line.Line.{Line}
 use Rattle.address_lists.specs.declared.line.Line.TheVariants.{Nothing, V4, V6}
 use Rattle.address_lists.specs.Address.{IsV4, IsV6}
+use Rattle.address_lists.specs.AddressLaws.{one_v4, one_v6}
 use Rattle.address_lists.specs.AddressRange.{Spans, WritesOne, WritesBlock, WritesSpan, WritesOneOrBlock, WritesParts, WritesRange, block_size, block_start}
 use Rattle.address_lists.specs.Line.{IsLine, content}
 use Rattle.address_lists.specs.LineParts.{parts, trimmed}
-use Rattle.address_lists.proofs.spelling.Addresses.{IsV4_unique, IsV6_unique}
 
 -- A range is determined by its ends.
 pub Spans_unique : (range other : RangeInclusive ℕ) (first last start end : ℕ)
@@ -137,11 +137,11 @@ IsLine_unique line Nothing (V4 b) h k = absurd (no_range 32 IsV4 (content line) 
 IsLine_unique line Nothing (V6 b) h k = absurd (no_range 128 IsV6 (content line) b v6_empty h k)
 IsLine_unique line (V4 a) Nothing h k = absurd (no_range 32 IsV4 (content line) a v4_empty k h)
 IsLine_unique line (V4 a) (V4 b) h k =
-    ap V4 (in_parts 32 (omega arith) IsV4 IsV4_unique (parts 45 (content line)) a b h k)
+    ap V4 (in_parts 32 (omega arith) IsV4 one_v4 (parts 45 (content line)) a b h k)
 IsLine_unique line (V4 a) (V6 b) h k =
     absurd (apart_parts 32 128 IsV4 IsV6 IsV4-not_v6 (parts 45 (content line)) a b h k)
 IsLine_unique line (V6 a) Nothing h k = absurd (no_range 128 IsV6 (content line) a v6_empty k h)
 IsLine_unique line (V6 a) (V4 b) h k =
     absurd (apart_parts 32 128 IsV4 IsV6 IsV4-not_v6 (parts 45 (content line)) b a k h)
 IsLine_unique line (V6 a) (V6 b) h k =
-    ap V6 (in_parts 128 (omega arith) IsV6 IsV6_unique (parts 45 (content line)) a b h k)
+    ap V6 (in_parts 128 (omega arith) IsV6 one_v6 (parts 45 (content line)) a b h k)

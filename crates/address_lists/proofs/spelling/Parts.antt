@@ -1,12 +1,13 @@
 -- Texts that are split at the first byte that passes a test.
-use Rattle.std.proofs.Common.{◌≡◌, ◌∙◌, ℕ, ◌+◌, ◌≤◌, Bool, true, false, cond, ltb, List, [], ◌∷◌, length, take, drop, Some, None, refl, ap, subst, arith}
+use Rattle.std.proofs.Common.{◌≡◌, ◌∙◌, ℕ, suc, ◌+◌, ◌<◌, ◌≤◌, Bool, true, false, cond, ltb, List, [], ◌∷◌, ◌++◌, get_or, length, take, drop, Some, None, refl, ap, subst, arith}
 use Rattle.std.proofs.lemmas.Bool.{ltb-true, ltb-false}
-use Rattle.std.proofs.lemmas.List.{take_all}
+use Rattle.std.proofs.Math.Seq.{split_at}
+use Rattle.std.proofs.lemmas.List.{get_or-take, length-take, take_all}
 use Rattle.std.proofs.lemmas.List.Elements.{All-from_get_or}
 use Rattle.std.proofs.lemmas.List.Splits.{slice_split_first, slice_split_none, length-slice_split}
 use Rattle.std.proofs.lemmas.List.Sums.{fails_before_first}
 use Rattle.std.proofs.lemmas.Option.{cond_some}
-use Rattle.std.specs.List.{before_first, slice_split, position, position_or_len}
+use Rattle.std.specs.List.{All, before_first, slice_split, position, position_or_len}
 
 -- If no place is found, the test fails.
 not_found : (passes : Bool) (n : ℕ) → cond passes (Some n) None ≡ None → passes ≡ false
@@ -35,12 +36,35 @@ module _ (test : ℕ → Bool) (text : List ℕ) where
       → before_first test text ≡ take i text
   before_first-Some i is = ap (λ n. take n text) (at i is).1
 
+  -- If no place is found, no byte passes.
+  pub none_passes : position test text ≡ None → All (λ byte. test byte ≡ false) text
+  none_passes is =
+      let end = past is in
+      All-from_get_or (λ x. test x ≡ false) text 0
+      (λ k within. fails_before_first test text k 0 (omega (arith, end, within)))
+
+  -- No byte before the first one that passes does.
+  pub none_before : (i : ℕ) → position test text ≡ Some i
+      → All (λ byte. test byte ≡ false) (take i text)
+  none_before i is =
+      let first = (at i is).1 in
+      All-from_get_or (λ byte. test byte ≡ false) (take i text) 0 (λ k within.
+      let below : k < i = omega (arith, within, length-take i text) in
+      ap test (get_or-take i text k 0 below)
+      ∙ fails_before_first test text k 0 (omega (arith, first, below)))
+
+  -- The first byte that passes splits the text.
+  pub split_first : (i : ℕ) → position test text ≡ Some i
+      → text ≡ take i text ++ get_or text i 0 ∷ drop (i + 1) text
+  split_first i is =
+      let found = at i is in
+      let within : i < length text = omega (arith, ltb-true _ _ found.0, found.1) in
+      let next : suc i ≡ i + 1 = omega arith in
+      split_at text i 0 within ∙ ap (λ n. take i text ++ get_or text i 0 ∷ drop n text) next
+
   -- A text without a byte that passes is one part.
   pub one_part : position test text ≡ None → slice_split test text ≡ text ∷ []
-  one_part is =
-      let end = past is in
-      slice_split_none test text (All-from_get_or (λ x. test x ≡ false) text 0
-      (λ k within. fails_before_first test text k 0 (omega (arith, end, within))))
+  one_part is = slice_split_none test text (none_passes is)
 
   -- The first part ends at the first byte that passes.
   pub first_part : (i : ℕ) → position test text ≡ Some i

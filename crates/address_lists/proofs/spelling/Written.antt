@@ -18,7 +18,7 @@ use Rattle.std.specs.Str.{bytes_eq}
 use Rattle.std.specs.declared.ops.RangeInclusive.{RangeInclusive}
 use Rattle.address_lists.specs.Address.{v4_text, v6_text}
 use Rattle.address_lists.specs.AddressRange.{IsBlockAround, Spans, WritesRange}
-use Rattle.address_lists.specs.Line.{begins_comment, content}
+use Rattle.address_lists.specs.Line.{begins_comment, content, is_mark}
 use Rattle.address_lists.specs.LineParts.{parts, trimmed, without_first_blanks}
 use Rattle.address_lists.proofs.spelling.Bytes.{byte_fits, segment_fits}
 
@@ -28,6 +28,19 @@ pub record IsPlain (byte : ℕ) : Type 0 where
   no_blank : is_ascii_whitespace byte ≡ false
   no_dash : eqb byte 45 ≡ false
   no_slash : eqb byte 47 ≡ false
+
+-- A byte that stands in no text but that of an address is plain.
+unmarked : (byte : ℕ) → is_mark byte ≡ false → IsPlain byte
+unmarked byte is = record {
+  no_comment = grind (arith, nat_tests);
+  no_blank = grind (arith, nat_tests);
+  no_dash = grind (arith, nat_tests);
+  no_slash = grind (arith, nat_tests);
+}
+
+pub plain_unmarked : (text : List ℕ) → All (λ byte. is_mark byte ≡ false) text → All IsPlain text
+plain_unmarked text all =
+    All-weaker (λ byte. is_mark byte ≡ false) IsPlain unmarked text all
 
 -- ---- texts of plain bytes
 
@@ -82,7 +95,7 @@ quiet_plain : (text : List ℕ) → All IsPlain text → All IsQuiet text
 quiet_plain text plain = All-weaker IsPlain IsQuiet
     (λ byte is. record { no_comment = is.no_comment; no_blank = is.no_blank }) text plain
 
-no_blanks_plain : (text : List ℕ) → All IsPlain text → trimmed text ≡ text
+pub no_blanks_plain : (text : List ℕ) → All IsPlain text → trimmed text ≡ text
 no_blanks_plain text plain = trimmed_plain text
     (All-weaker IsPlain (λ byte. is_ascii_whitespace byte ≡ false) (λ byte is. is.no_blank) text
     plain)

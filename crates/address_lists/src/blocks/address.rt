@@ -16,7 +16,8 @@ pub trait Address: Integer {
 
     /// Returns the address as a number.
     fn number(self) -> u128
-        ensures { result ≡ Self.rank self };
+        ensures rank { result ≡ Self.rank self }
+        ensures fits { result < Self.value_count };
 
     /// Returns the address with the given number.
     fn from_number(number: u128) -> Self

@@ -108,6 +108,69 @@ fn nothing_is_read_past_a_bad_line(rt: HostRuntime) {
     assert_eq!(rt; input.len(), 8);
 }
 
+#[test]
+fn a_line_may_cross_parts_of_the_input(rt: HostRuntime) -> Result<(), Fail> {
+    let text = "0.0.0.4\n0.0.0.5-0.0.0.6\r\n\n::1 # a comment\n0.0.0.9";
+    for capacity in 1..64usize {
+        let mut input = BufReader::with_capacity(rt.alloc(), capacity, text.as_bytes())?;
+        match read_list(rt.alloc(), &mut input) {
+            Ok(list) => {
+                assert!(rt; are(&list.v4, &[(4, 6), (9, 9)]), "at {capacity}");
+                assert!(rt; are(&list.v6, &[(1, 1)]), "at {capacity}");
+            }
+            Err(_) => assert!(rt; false, "at {capacity}"),
+        }
+    }
+    Ok(())
+}
+
+#[test]
+fn bad_lines_are_counted_over_parts_of_the_input(rt: HostRuntime) -> Result<(), Fail> {
+    let text = "0.0.0.4\n0.0.0.5\n\nx\n0.0.0.9\n";
+    for capacity in 1..32usize {
+        let mut input = BufReader::with_capacity(rt.alloc(), capacity, text.as_bytes())?;
+        assert!(rt;
+            matches!(
+                read_list(rt.alloc(), &mut input),
+                Err(ListFault::BadLine(4))
+            ),
+            "at {capacity}"
+        );
+    }
+    Ok(())
+}
+
+/// A reader that is interrupted before each read.
+#[derive(Drop)]
+struct Interrupted<'a> {
+    bytes: &'a [u8],
+    was_interrupted: bool,
+}
+
+impl<'a> Read for Interrupted<'a> {
+    fn read(&mut self, buffer: &mut [u8]) -> io::Result<usize> {
+        self.was_interrupted = !self.was_interrupted;
+        if self.was_interrupted {
+            return Err(io::Error::from(ErrorKind::Interrupted));
+        }
+        self.bytes.read(buffer)
+    }
+}
+
+#[test]
+fn an_interrupted_read_is_tried_again(rt: HostRuntime) -> Result<(), Fail> {
+    let reader = Interrupted {
+        bytes: b"0.0.0.4\n0.0.0.5\n",
+        was_interrupted: false,
+    };
+    let mut input = BufReader::with_capacity(rt.alloc(), 10, reader)?;
+    match read_list(rt.alloc(), &mut input) {
+        Ok(list) => assert!(rt; are(&list.v4, &[(4, 5)])),
+        Err(_) => assert!(rt; false),
+    }
+    Ok(())
+}
+
 /// A reader that always fails.
 #[derive(Drop)]
 struct Failing(ErrorKind);

@@ -1,65 +1,144 @@
-use Rattle.std.proofs.Common.{◌≡◌, ◌<◌, arith, length, subst}
+use Rattle.std.proofs.Common.{◌≡◌, ◌∙◌, ◌+◌, ◌<◌, ◌≤◌, [], Err, Some, ap, arith, length, subst, sym}
 use Rattle.std.specs.Option.{IfSome}
-use Rattle.address_lists.specs.Line.{IsLine}
-use Rattle.address_lists.specs.List.{IsFirstBadLine}
-use Rattle.address_lists.proofs.listing.Reading.{has_read_all, has_read_bad, has_read_more, has_read_none, reads_line}
+use Rattle.std.specs.Str.Lines.{lines}
+use Rattle.range_set_blaze.specs.Runs.{members}
+use Rattle.address_lists.specs.Gathering.{AreGatheredTo}
+use Rattle.address_lists.specs.Line.{IsLine, content}
+use Rattle.address_lists.specs.List.{IsFirstBadLine, IsListOf, LeavesPastBadLine}
+use Rattle.address_lists.proofs.listing.Known.{IfSome-then, all_read, few_read, known_start, read_bad, read_next, read_none, same_fault}
 use Rattle.address_lists.proofs.list.read_list.Goals as goal
 
 -- Nothing was read at the start.
-pub loop-number-init : goal.loop-number-init
-loop-number-init g c = has_read_none (g.R.Read.remaining c.args.input.now) c.new-list.result.v4
-    c.new-list.result.v6 c.new-list.ensures.v4 c.new-list.ensures.v6
+pub loop-init : goal.loop-init
+loop-init g c = known_start (g.R.Read.remaining c.args.input.now) c.new-gathered.result
+    c.new-gathered.ensures
+
+-- A line of the buffer is the first bad one.
+pub returns-in_err-add_buffered-clause-bad_line : goal.returns-in_err-add_buffered-clause-bad_line
+returns-in_err-add_buffered-clause-bad_line g c = λ number is.
+    IfSome-then (g.R.Read.remaining c.args.input.now)
+    (λ bytes. AreGatheredTo bytes (g.R.Read.remaining c.loop.input) c.loop.gathered)
+    (λ bytes. IsFirstBadLine bytes number) c.loop.invariant
+    (λ bytes has. (c.in_err-add_buffered.ensures.bad_line bytes number has
+    (ap (λ fault. Err fault) (same_fault c.from_residual.result c.in_err-add_buffered.field-0.0 _ is
+    c.from_residual.ensures.1))).2.0)
+
+pub returns-in_err-add_buffered-clause-left : goal.returns-in_err-add_buffered-clause-left
+returns-in_err-add_buffered-clause-left g c = λ number is.
+    IfSome-then (g.R.Read.remaining c.args.input.now)
+    (λ bytes. AreGatheredTo bytes (g.R.Read.remaining c.loop.input) c.loop.gathered)
+    (λ bytes. LeavesPastBadLine bytes (g.R.Read.remaining c.add_buffered.new.input) number)
+    c.loop.invariant
+    (λ bytes has. c.in_err-add_buffered.ensures.bad_line bytes number has
+    (ap (λ fault. Err fault) (same_fault c.from_residual.result c.in_err-add_buffered.field-0.0 _ is
+    c.from_residual.ensures.1)))
 
 -- There are no more lines.
 pub returns-then-branch-eq0-clause-list : goal.returns-then-branch-eq0-clause-list
 returns-then-branch-eq0-clause-list g c =
-    let before = g.R.Read.remaining c.loop-number.input in
-    let after = g.R.Read.remaining c.read_until.new.self in
-    let raw = c.read_until.new.buf.items in
-    let reads = reads_line before after c.clear.new.self.items raw c.clear.ensures.items
-    c.in_ok-read_until.ensures.bytes c.in_ok-read_until.ensures.rest in
-    has_read_all (g.R.Read.remaining c.args.input.now) before after c.loop-number.number
-    c.loop-number.list.v4 c.loop-number.list.v6 raw c.loop-number.invariant reads
-    (c.in_ok-read_until.ensures.end c.if-branch-eq0.true)
+    let before = g.R.Read.remaining c.add_buffered.new.input in
+    let end = c.in_ok-read_until.ensures.end c.if-branch-eq0.true in
+    IfSome-then (g.R.Read.remaining c.args.input.now)
+    (λ bytes. AreGatheredTo bytes (g.R.Read.remaining c.loop.input) c.loop.gathered)
+    (λ bytes. IsListOf bytes (members c.in_ok-list.field-0.v4) (members c.in_ok-list.field-0.v6))
+    c.loop.invariant
+    (λ bytes has.
+    all_read bytes before c.add_buffered.new.self (c.in_ok-add_buffered.ensures.gathered bytes has)
+    end c.in_ok-list.field-0.v4 c.in_ok-list.field-0.v6 c.in_ok-list.ensures.v4
+    c.in_ok-list.ensures.v6)
 
--- The line that was read last is the first bad one.
-pub returns-in-None-clause-bad_line : goal.returns-in-None-clause-bad_line
-returns-in-None-clause-bad_line g c = λ number is.
-    let start = g.R.Read.remaining c.args.input.now in
-    let before = g.R.Read.remaining c.loop-number.input in
+pub returns-then-branch-eq0-clause-run_count : goal.returns-then-branch-eq0-clause-run_count
+returns-then-branch-eq0-clause-run_count g c =
+    let before = g.R.Read.remaining c.add_buffered.new.input in
+    let end = c.in_ok-read_until.ensures.end c.if-branch-eq0.true in
+    IfSome-then (g.R.Read.remaining c.args.input.now)
+    (λ bytes. AreGatheredTo bytes (g.R.Read.remaining c.loop.input) c.loop.gathered)
+    (λ bytes. length c.in_ok-list.field-0.v4 + length c.in_ok-list.field-0.v6
+    ≤ length (lines bytes))
+    c.loop.invariant
+    (λ bytes has.
+    few_read bytes before c.add_buffered.new.self (c.in_ok-add_buffered.ensures.gathered bytes has)
+    end c.in_ok-list.field-0.v4 c.in_ok-list.field-0.v6 c.in_ok-list.ensures.run_count)
+
+pub returns-then-branch-eq0-clause-end : goal.returns-then-branch-eq0-clause-end
+returns-then-branch-eq0-clause-end g c =
+    let before = g.R.Read.remaining c.add_buffered.new.input in
     let after = g.R.Read.remaining c.read_until.new.self in
-    let raw = c.read_until.new.buf.items in
-    let reads = reads_line before after c.clear.new.self.items raw c.clear.ensures.items
-    c.in_ok-read_until.ensures.bytes c.in_ok-read_until.ensures.rest in
-    let some : 0 < length raw = omega (
+    let end = c.in_ok-read_until.ensures.end c.if-branch-eq0.true in
+    IfSome-then (g.R.Read.remaining c.args.input.now)
+    (λ bytes. AreGatheredTo bytes (g.R.Read.remaining c.loop.input) c.loop.gathered)
+    (λ bytes. after ≡ Some []) c.loop.invariant
+    (λ bytes has.
+    read_none bytes before after c.clear.new.self.items c.read_until.new.buf.items
+    c.add_buffered.new.self (c.in_ok-add_buffered.ensures.gathered bytes has)
+    c.clear.ensures.items c.in_ok-read_until.ensures.bytes c.in_ok-read_until.ensures.rest end)
+
+-- The line that was read is the first bad one.
+pub returns-in_err-add_line-clause-bad_line : goal.returns-in_err-add_line-clause-bad_line
+returns-in_err-add_line-clause-bad_line g c = λ number is.
+    let before = g.R.Read.remaining c.add_buffered.new.input in
+    let after = g.R.Read.remaining c.read_until.new.self in
+    let some : 0 < length c.read_until.new.buf.items = omega (
       arith,
       c.in_ok-read_until.ensures.ok,
       c.if-branch-eq0.false,
       c.read_until.new.buf.ok.0,
     ) in
-    let same : c.loop-number.number ≡ number = cc is in
-    subst (λ n. IfSome start (λ bytes. IsFirstBadLine bytes n)) same
-    (has_read_bad start before after c.loop-number.number c.loop-number.list.v4
-    c.loop-number.list.v6 raw c.loop-number.invariant reads some
-    (subst (λ bytes. (what : _) → ¬ IsLine bytes what) c.deref.ensures.value c.in-None.ensures))
+    let bad = c.in_err-add_line.ensures.bad_line number
+    (ap (λ fault. Err fault) (same_fault c.from_residual-in_err-add_line.result
+    c.in_err-add_line.field-0.0 _ is c.from_residual-in_err-add_line.ensures.1)) in
+    IfSome-then (g.R.Read.remaining c.args.input.now)
+    (λ bytes. AreGatheredTo bytes (g.R.Read.remaining c.loop.input) c.loop.gathered)
+    (λ bytes. IsFirstBadLine bytes number) c.loop.invariant
+    (λ bytes has.
+    (read_bad bytes before after c.clear.new.self.items c.read_until.new.buf.items
+    c.add_buffered.new.self (c.in_ok-add_buffered.ensures.gathered bytes has)
+    c.clear.ensures.items c.in_ok-read_until.ensures.bytes c.in_ok-read_until.ensures.rest some
+    number bad.0
+    (subst (λ all. (what : _) → ¬ IsLine all what) c.deref.ensures.value bad.1)).2.0)
 
--- One more line was read, and its addresses were added.
-pub loop-number-preserved : goal.loop-number-preserved
-loop-number-preserved g c =
-    let start = g.R.Read.remaining c.args.input.now in
-    let before = g.R.Read.remaining c.loop-number.input in
+pub returns-in_err-add_line-clause-left : goal.returns-in_err-add_line-clause-left
+returns-in_err-add_line-clause-left g c = λ number is.
+    let before = g.R.Read.remaining c.add_buffered.new.input in
     let after = g.R.Read.remaining c.read_until.new.self in
-    let raw = c.read_until.new.buf.items in
-    let reads = reads_line before after c.clear.new.self.items raw c.clear.ensures.items
-    c.in_ok-read_until.ensures.bytes c.in_ok-read_until.ensures.rest in
-    let some : 0 < length raw = omega (
+    let some : 0 < length c.read_until.new.buf.items = omega (
       arith,
       c.in_ok-read_until.ensures.ok,
       c.if-branch-eq0.false,
       c.read_until.new.buf.ok.0,
     ) in
-    has_read_more start before after c.loop-number.number c.loop-number.list.v4
-    c.loop-number.list.v6 raw c.loop-number.invariant reads some c.in-Some.meaning
-    (subst (λ bytes. IsLine bytes c.in-Some.meaning) c.deref.ensures.value c.in-Some.ensures)
-    c.add.new.self.v4 c.add.new.self.v6 c.in_ok-add-in-Some.ensures.v4
-    c.in_ok-add-in-Some.ensures.v6 c.add.ensures.run_count
+    let bad = c.in_err-add_line.ensures.bad_line number
+    (ap (λ fault. Err fault) (same_fault c.from_residual-in_err-add_line.result
+    c.in_err-add_line.field-0.0 _ is c.from_residual-in_err-add_line.ensures.1)) in
+    IfSome-then (g.R.Read.remaining c.args.input.now)
+    (λ bytes. AreGatheredTo bytes (g.R.Read.remaining c.loop.input) c.loop.gathered)
+    (λ bytes. LeavesPastBadLine bytes after number) c.loop.invariant
+    (λ bytes has.
+    read_bad bytes before after c.clear.new.self.items c.read_until.new.buf.items
+    c.add_buffered.new.self (c.in_ok-add_buffered.ensures.gathered bytes has)
+    c.clear.ensures.items c.in_ok-read_until.ensures.bytes c.in_ok-read_until.ensures.rest some
+    number bad.0
+    (subst (λ all. (what : _) → ¬ IsLine all what) c.deref.ensures.value bad.1))
+
+-- One more line was gathered.
+pub loop-preserved : goal.loop-preserved
+loop-preserved g c =
+    let before = g.R.Read.remaining c.add_buffered.new.input in
+    let after = g.R.Read.remaining c.read_until.new.self in
+    let some : 0 < length c.read_until.new.buf.items = omega (
+      arith,
+      c.in_ok-read_until.ensures.ok,
+      c.if-branch-eq0.false,
+      c.read_until.new.buf.ok.0,
+    ) in
+    IfSome-then (g.R.Read.remaining c.args.input.now)
+    (λ bytes. AreGatheredTo bytes (g.R.Read.remaining c.loop.input) c.loop.gathered)
+    (λ bytes. AreGatheredTo bytes after c.add_line.new.self) c.loop.invariant
+    (λ bytes has.
+    read_next bytes before after c.clear.new.self.items c.read_until.new.buf.items
+    c.add_buffered.new.self (c.in_ok-add_buffered.ensures.gathered bytes has)
+    c.clear.ensures.items c.in_ok-read_until.ensures.bytes c.in_ok-read_until.ensures.rest some
+    c.add_line.new.self
+    (λ before other same are.
+    c.in_ok-add_line.ensures.gathered before other (same ∙ sym (ap content c.deref.ensures.value))
+    are))

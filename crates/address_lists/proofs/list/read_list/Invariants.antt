@@ -1,7 +1,9 @@
-use Rattle.address_lists.proofs.listing.Reading.{HasRead}
+use Rattle.std.proofs.Common.{List}
+use Rattle.std.specs.Prelude.{IfSome}
+use Rattle.address_lists.specs.Gathering.{AreGatheredTo}
 use Rattle.address_lists.proofs.list.read_list.Given as goal
 
--- The lines before the one with this number were read.
-abbrev pub invariant-loop-number : goal.invariant-loop-number
-invariant-loop-number g l = HasRead (g.R.Read.remaining l.initial.input)
-    (g.R.Read.remaining l.input) l.number l.list.v4 l.list.v6
+-- The lines that were read are gathered.
+abbrev pub invariant-loop : goal.invariant-loop
+invariant-loop g l = IfSome (g.R.Read.remaining l.initial.input)
+    (λ bytes. AreGatheredTo bytes (g.R.Read.remaining l.input) l.gathered)

@@ -1,6 +1,6 @@
 use Rattle.std.proofs.Common.{◌^◌, map, subst}
 use Rattle.range_set_blaze.specs.Multiway.{IsMadeOf}
-use Rattle.address_lists.specs.Combine.{selected_by}
+use Rattle.address_lists.specs.Operation.{selected_by}
 use Rattle.address_commands.specs.Files.{IsFirstFault, selected}
 use Rattle.address_commands.proofs.AnswerLemmas.{combined}
 use Rattle.address_commands.proofs.FilesLemmas.{all-good, name_of, passed-on}
