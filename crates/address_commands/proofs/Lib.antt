@@ -2,3 +2,4 @@ pub mod AnswerLemmas
 pub mod AppendsLemmas
 pub mod FilesLemmas
 pub mod LinesLemmas
+pub mod ReadBackLemmas

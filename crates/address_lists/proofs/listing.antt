@@ -4,3 +4,4 @@ pub mod LineEnds
 pub mod OneSelection
 pub mod Reading
 pub mod Selected
+pub mod WrittenLines
