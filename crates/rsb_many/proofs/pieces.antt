@@ -1,4 +1,4 @@
 pub mod AtLeast
-pub mod Deep
-pub mod Odd
-pub mod SymmetricDifference
+pub mod Draw
+pub mod Joined
+pub mod Passing

@@ -1,5 +1,3 @@
-pub mod DeepPieces
-pub mod DeepPiecesLaws
 pub mod Drawn
 pub mod DynSortedDisjoint
 pub mod HandedIn
@@ -7,6 +5,7 @@ pub mod Heads
 pub mod HeapOrder
 pub mod Inputs
 pub mod InputsLaws
+pub mod JoinedPieces
 pub mod KMerge
 pub mod KMergeLaws
 pub mod Keys
@@ -19,6 +18,7 @@ pub mod MultiwayResults
 pub mod MultiwaySweep
 pub mod MultiwaySymmetricDifference
 pub mod MultiwayUnion
+pub mod Rule
 pub mod StreamList
 pub mod Sweep
 pub mod SweepPieces

@@ -6,8 +6,7 @@ use Rattle.rsb_streams.specs.Rows.{IsDisjoint, IsSorted}
 use Rattle.rsb_streams.specs.StreamLaws.{disjoint-sorted}
 use Rattle.rsb_streams.specs.UnionIterLaws.{union_iter-disjoint}
 use Rattle.rsb_streams.specs.declared.draw.Draw.{Ghosts as Stream}
-use Rattle.rsb_many.specs.DeepPieces.{deep_pieces}
-use Rattle.rsb_many.specs.DeepPiecesLaws.{deep_pieces-sorted}
+use Rattle.rsb_many.specs.JoinedPieces.{joined_pieces}
 use Rattle.rsb_many.specs.KMerge.{kmerge}
 use Rattle.rsb_many.specs.KMergeLaws.{kmerge-sorted}
 use Rattle.rsb_many.specs.MultiwayAtLeast.{multiway_at_least}
@@ -34,17 +33,22 @@ multiway_intersection-disjoint integer stream sorted s =
     (multiway_union-disjoint integer gaps (disjoint-sorted integer gaps
     (not_iter-disjoint integer stream sorted)))) s.iter
 
+-- The joined pieces of a sweep are canonical.
+joined_pieces-disjoint : {T N I A : Type 0} (integer : Elements T N) (stream : Stream I T N)
+    → IsDisjoint integer (joined_pieces {A = A} integer stream)
+joined_pieces-disjoint integer stream s ready =
+    union_iter-disjoint integer (sweep_pieces integer stream) (sweep_pieces-sorted integer stream) s
+    ready.union
+
 -- What lies in an odd number of streams is canonical.
 pub multiway_symmetric_difference-disjoint : {T N I A : Type 0} (integer : Elements T N)
     (stream : Stream I T N)
     → IsDisjoint integer (multiway_symmetric_difference {A = A} integer stream)
 multiway_symmetric_difference-disjoint integer stream s ready =
-    union_iter-disjoint integer (sweep_pieces integer stream)
-    (sweep_pieces-sorted integer stream) s.iter ready.joined
+    joined_pieces-disjoint integer stream s.iter ready
 
 -- What lies in at least a given number of streams is canonical.
 pub multiway_at_least-disjoint : {T N I A : Type 0} (integer : Elements T N) (stream : Stream I T N)
     → IsDisjoint integer (multiway_at_least {A = A} integer stream)
 multiway_at_least-disjoint integer stream s ready =
-    union_iter-disjoint integer (deep_pieces integer stream) (deep_pieces-sorted integer stream) s.iter
-    ready.joined
+    joined_pieces-disjoint integer stream s.iter ready

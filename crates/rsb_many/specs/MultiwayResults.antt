@@ -8,9 +8,9 @@ use Rattle.rsb_streams.specs.Results.{MakesComplement}
 use Rattle.rsb_streams.specs.Stream.{◌⊆◌, IsMade, Outcomes}
 use Rattle.rsb_streams.specs.declared.draw.Draw.{Ghosts as Stream}
 use Rattle.rsb_streams.specs.declared.not_iter.NotIter.{NotIter}
+use Rattle.rsb_many.specs.JoinedPieces.{joined_telling}
 use Rattle.rsb_many.specs.Many.{may_give_at, runs_by_all, IsBegun}
 use Rattle.rsb_many.specs.MultiwayIntersection.{multiway_intersection_inputs}
-use Rattle.rsb_many.specs.MultiwaySymmetricDifference.{odd_inputs}
 use Rattle.rsb_many.specs.MultiwayUnion.{multiway_union_inputs}
 use Rattle.rsb_many.specs.declared.multiway_sym_diff_set.MultiwaySymmetricDifference.{MultiwaySymmetricDifference}
 use Rattle.rsb_many.specs.declared.operation_results.multiway_intersection.MultiwayIntersection.{MultiwayIntersection}
@@ -66,4 +66,4 @@ module _ {T N I : Type 0} (integer : Elements T N) (stream : Stream I T N) where
     MakesMultiwaySymmetricDifference made streams result = IsMade made.can_draw result
         (GivesByAll odd_of integer.value_count stream.may_give streams (made.may_give result))
         ((place : ℕ) → IsBegun (may_give_at stream.may_give streams place)
-        (odd_inputs integer stream result place))
+        ((joined_telling integer stream result.iter).inputs place))

@@ -1,5 +1,7 @@
--- The pieces of what lies in an odd number of the inputs of a sweep.
-use Rattle.std.specs.Prelude.{◌≡◌, ◌⊎◌, ℕ, ◌+◌, ◌-◌, ◌<◌, ◌≤◌, true, false, cond, nat_eq, nat_le, nat_lt, List, [], ◌∷◌, ◌++◌, map, Option, Some, None, IfSome, MatchOption}
+-- The pieces of what a rule selects from the inputs of a sweep.
+use Rattle.std.specs.Prelude.{◌≡◌, ℕ, ◌+◌, ◌-◌, ◌<◌, ◌≤◌, Bool, false, cond, nat_eq, nat_le, nat_lt, List, [], ◌∷◌, ◌++◌, map, Option, Some, None, IfSome, MatchBool, MatchOption}
+use Rattle.std.specs.Iterator.{Count, count_map, count_unless}
+use Rattle.std.specs.Option.{option_len}
 use Rattle.std.specs.declared.ops.RangeInclusive.{RangeInclusive}
 use Rattle.rsb_integer.specs.Runs.{Interval}
 use Rattle.rsb_integer.specs.Selection.{Selection, odd_of}
@@ -8,11 +10,14 @@ use Rattle.rsb_streams.specs.Lookahead.{undrawn, HasEnded, Input, Uses}
 use Rattle.rsb_streams.specs.OddPieces.{ArePieces}
 use Rattle.rsb_streams.specs.PutBack.{held_list}
 use Rattle.rsb_streams.specs.Rows.{asking}
-use Rattle.rsb_streams.specs.Stream.{just, Outcomes}
+use Rattle.rsb_streams.specs.Stream.{just, unless, Outcomes}
+use Rattle.rsb_streams.specs.UnionIter.{unless_ended}
 use Rattle.rsb_streams.specs.declared.draw.Draw.{Ghosts as Stream}
 use Rattle.rsb_many.specs.Many.{HoldOneAtMost}
 use Rattle.rsb_many.specs.MultiwaySweep.{events_left, sweep_inputs, sweep_may_give, EventOutcomes, SweepReady}
+use Rattle.rsb_many.specs.Rule.{crosses, crossing, depth_after, IsDepth}
 use Rattle.rsb_many.specs.Sweep.{End, Event, Start}
+use Rattle.rsb_many.specs.declared.sweep_pieces.Rule.{Rule}
 use Rattle.rsb_many.specs.declared.sweep_pieces.SweepPieces.{SweepPieces}
 
 -- ---- edges
@@ -66,23 +71,10 @@ HasEdgesFrom n low [] = Unit {0}
 HasEdgesFrom n low (event ∷ events) =
     (low ≤ edge_of event) × IsEventIn n event × HasEdgesFrom n (edge_of event) events
 
--- Whether each piece will end. If one has begun, an odd number of edges is to come. Otherwise an
--- even number is to come, or all edges lie past the end of the type.
-abbrev pub IsClosed : {T : Type 0} → ℕ → Option T → List Event → Type 0
-IsClosed n (Some start) events = odd_past (map edge_of events) n ≡ true
-IsClosed n None events = (odd_past (map edge_of events) n ≡ false) ⊎ HasEdgesFrom n n events
-
 -- The rank before which no edge lies: the start of the piece that has begun, or 0 if none has.
 abbrev pub low_of : {T : Type 0} → (T → ℕ) → Option T → ℕ
 low_of rank None = 0
 low_of rank (Some start) = rank start
-
--- Whether the edges never fall, from the start of the piece that has begun, and each piece will
--- end.
-pub record IsWhole {T : Type 0} (rank : T → ℕ) (n : ℕ) (start : Option T) (events : List Event)
-    : Type 0 where
-  pub edges : HasEdgesFrom n (low_of rank start) events
-  pub closed : IsClosed n start events
 
 -- Whether the fact holds of some list of events that may come. “Some” means “not none”.
 abbrev pub SomeEvents : EventOutcomes → (List Event → Type 0) → Type 0
@@ -130,36 +122,64 @@ abbrev pub AsksToPass : {T : Type 0} → Telling → Option (RangeInclusive T) �
 AsksToPass before item now =
     MatchOption item (PassesAll before now) (λ _. PassesSome before now)
 
+-- The given inputs and events. Once the stream is done, all inputs have ended and no event comes.
+abbrev pub unless_told : Bool → Telling → Telling
+unless_told done telling = record {
+  inputs = λ place. unless_ended done (telling.inputs place);
+  events = λ events. MatchBool done (events ≡ []) (telling.events events);
+}
+
 -- ---- the pieces
+
+-- Whether passing an event counts it, and passes its edge exactly if a piece begins or ends there.
+pub record PassesEvent {T : Type 0} (rank : T → ℕ) (n : ℕ) (rule : Rule) (before : ℕ)
+    (event : Event) (old : Option T) (piece : Option (RangeInclusive T)) (after : ℕ)
+    (new : Option T) : Type 0 where
+  pub depth : after ≡ depth_after before event
+  pub edge : MatchBool (crosses rule before event)
+      (PassesEdge rank n (edge_of event) old piece new) ((piece ≡ None) × (new ≡ old))
 
 module _ {T N I A : Type 0} (integer : Elements T N) (stream : Stream I T N) where
   open integer use {rank, value_count as n}
 
-  -- The inputs of the sweep, by their places from 0.
-  abbrev pub pieces_inputs : SweepPieces T I A N → ℕ → Input
-  pieces_inputs s = sweep_inputs integer stream s.sweep
-
-  -- These inputs, and the events that the sweep may still give.
-  abbrev pub pieces_telling : SweepPieces T I A N → Telling
-  pieces_telling s = record {
-    inputs = pieces_inputs s;
+  -- The inputs of the sweep and the events that it may still give, if it has not ended.
+  abbrev pub going_telling : SweepPieces T I A N → Telling
+  going_telling s = record {
+    inputs = sweep_inputs integer stream s.sweep;
     events = sweep_may_give integer stream s.sweep;
   }
 
-  -- Whether the sweep is ready, a piece that has begun starts at a value, and each piece will end.
-  pub record TellsPieces (s : SweepPieces T I A N) : Type 0 where
+  -- The same, or none once the sweep has ended.
+  abbrev pub pieces_telling : SweepPieces T I A N → Telling
+  pieces_telling s = unless_told s.done (going_telling s)
+
+  -- Whether the sweep is ready, a piece that has begun starts at a value, no edge to come lies
+  -- before that, and every range that has started will end.
+  pub record PiecesReady (s : SweepPieces T I A N) : Type 0 where
     pub sweep : SweepReady integer stream s.sweep
     pub start : IfSome s.start (λ value. rank value < n)
-    pub whole : (events : List Event) → sweep_may_give integer stream s.sweep events
-        → IsWhole rank n s.start events
+    pub edges : (events : List Event) → sweep_may_give integer stream s.sweep events
+        → HasEdgesFrom n (low_of rank s.start) events
+    pub deep : (events : List Event) → sweep_may_give integer stream s.sweep events
+        → IsDepth s.depth events
 
-  -- The pieces that may come: those of the ranks that have an odd number of edges at or before
-  -- them.
+  -- The pieces that may come if the sweep has not ended: those of the ranks that have an odd number
+  -- of crossing edges at or before them.
+  abbrev pub going_gives : SweepPieces T I A N → Outcomes
+  going_gives s pieces = SomeEvents (sweep_may_give integer stream s.sweep)
+      (λ events. ArePieces n (odd_past (edges_of rank s.start
+      ++ map edge_of (crossing s.rule s.depth events))) pieces)
+
+  -- The same, or none once the sweep has ended.
   abbrev pub pieces_may_give : SweepPieces T I A N → Outcomes
-  pieces_may_give s pieces = SomeEvents (sweep_may_give integer stream s.sweep)
-      (λ events. ArePieces n (odd_past (edges_of rank s.start ++ map edge_of events)) pieces)
+  pieces_may_give s = unless s.done (going_gives s)
+
+  -- The greatest number of pieces left: one for each event to come, and the one that has begun.
+  abbrev pub pieces_left : SweepPieces T I A N → Count
+  pieces_left s = count_unless s.done (count_map (λ left. left + option_len s.start)
+      (events_left integer stream s.sweep))
 
   -- The stream of pieces. A draw passes some events.
   abbrev pub sweep_pieces : Stream (SweepPieces T I A N) T N
   sweep_pieces = asking integer (λ s item t. AsksToPass (pieces_telling s) item (pieces_telling t))
-      TellsPieces (λ s. events_left integer stream s.sweep) pieces_may_give
+      (λ s. s.done ≡ false → PiecesReady s) pieces_left pieces_may_give

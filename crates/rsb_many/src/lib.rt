@@ -1,7 +1,6 @@
 //! Merges, sweeps and set algebra over any number of streams.
 #![tactic(auto)]
 
-pub(crate) mod deep_pieces;
 pub(crate) mod drawn;
 pub mod dyn_sorted_disjoint;
 pub(crate) mod heads;

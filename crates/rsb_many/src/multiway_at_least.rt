@@ -10,8 +10,8 @@ ghost use Rattle.rsb_many.specs.MultiwayAtLeast.{
 ghost use Rattle.rsb_many.specs.MultiwayLaws.{multiway_at_least-disjoint};
 ghost use Rattle.rsb_many.specs.MultiwaySweep.{SweepsOver};
 
-use crate::deep_pieces::DeepPieces;
 use crate::multiway_sweep::MultiwaySweep;
+use crate::sweep_pieces::{Rule, SweepPieces};
 use rsb_integer::Integer;
 use rsb_streams::{Draw, DrawDisjoint, SortedDisjoint, SortedStarts, UnionIter};
 use std::alloc::{Allocator, Global};
@@ -23,7 +23,7 @@ use std::ops::RangeInclusive;
 /// most one range of each. It allocates only when it is built. Not in range-set-blaze.
 #[derive(Debug, Drop)]
 pub struct MultiwayAtLeast<T: Integer, I, A: Allocator = Global> {
-    iter: UnionIter<T, DeepPieces<T, I, A>>,
+    iter: UnionIter<T, SweepPieces<T, I, A>>,
 }
 
 impl<T: Integer, I: Draw<T>, A: Allocator> MultiwayAtLeast<T, I, A> {
@@ -40,7 +40,7 @@ impl<T: Integer, I: Draw<T>, A: Allocator> MultiwayAtLeast<T, I, A> {
             (⟦<MultiwayAtLeast<T, I, A> as Draw<T>>⟧.may_give result) }
     {
         MultiwayAtLeast {
-            iter: UnionIter::new(DeepPieces::over(sweep, least)),
+            iter: SweepPieces::joined(sweep, Rule::AtLeast(least)),
         }
     }
 }

@@ -10,7 +10,7 @@ ghost use Rattle.rsb_many.specs.MultiwaySweep.{SweepsOver};
 ghost use Rattle.rsb_many.specs.MultiwaySymmetricDifference.{multiway_symmetric_difference};
 
 use crate::multiway_sweep::MultiwaySweep;
-use crate::sweep_pieces::SweepPieces;
+use crate::sweep_pieces::{Rule, SweepPieces};
 use rsb_integer::Integer;
 use rsb_streams::{Draw, DrawDisjoint, SortedDisjoint, SortedStarts, SortedTouching, UnionIter};
 use std::alloc::{AllocError, Allocator, Global};
@@ -55,7 +55,7 @@ impl<T: Integer, I: Draw<T>, A: Allocator> MultiwaySymmetricDifference<T, I, A> 
             ⟦<MultiwaySymmetricDifference<T, I, A> as Draw<T>>⟧ streams result }
     {
         MultiwaySymmetricDifference {
-            iter: UnionIter::new(SweepPieces::over(sweep)),
+            iter: SweepPieces::joined(sweep, Rule::Odd),
         }
     }
 }

@@ -1,33 +1,115 @@
-//! The values in an odd number of streams, as pieces that may touch.
+//! The values that a rule selects by the number of streams that have them, as pieces that may
+//! touch.
 
-ghost use Rattle.std.specs.Prelude.{◌≡◌, ◌+◌, ◌<◌, IfSome, None};
+ghost use Rattle.std.specs.Prelude.{◌≡◌, ◌+◌, ◌<◌, false, IfSome, List};
+ghost use Rattle.rsb_many.specs.JoinedPieces.{joined_pieces, MakesJoined};
+ghost use Rattle.rsb_many.specs.MultiwaySweep.{SweepsOver};
+ghost use Rattle.rsb_many.specs.Rule.{crosses, depth_after, first_edge, turns_at, CanPass};
 ghost use Rattle.rsb_many.specs.Sweep.{event_of};
-ghost use Rattle.rsb_many.specs.SweepPieces.{edge_of, sweep_pieces, IsEventIn, PassesEdge};
+ghost use Rattle.rsb_many.specs.SweepPieces.{
+  edge_of,
+  edges_of,
+  sweep_pieces,
+  IsEventIn,
+  PassesEdge,
+  PassesEvent,
+};
 ghost use Rattle.rsb_many.specs.SweepPiecesLaws.{sweep_pieces-sorted};
 
 use crate::multiway_sweep::MultiwaySweep;
 use crate::sweep_event::SweepEvent;
 use rsb_integer::Integer;
-use rsb_streams::Draw;
+use rsb_streams::{Draw, UnionIter};
 use std::alloc::{Allocator, Global};
 use std::ops::RangeInclusive;
 
-/// The values in an odd number of the streams of a sweep, as pieces that may touch. Each event ends
-/// a piece or begins one.
+/// In how many streams a value must be.
+#[derive(Clone, Copy, Debug)]
+pub(crate) enum Rule {
+    /// In an odd number of streams.
+    Odd,
+    /// In at least this many streams.
+    AtLeast(usize),
+}
+
+impl Rule {
+    /// Returns whether a piece begins or ends at an event. `depth` is the greater of the numbers of
+    /// ranges that have started and not ended, just before the event and just after it.
+    fn turns_at(self, depth: usize) -> bool
+        ensures { result ≡ turns_at self depth }
+    {
+        match self {
+            Rule::Odd => true,
+            Rule::AtLeast(least) => least == depth,
+        }
+    }
+}
+
+/// The values that a rule selects from the streams of a sweep, as pieces that may touch. A piece
+/// begins or ends where the rule says so, by the number of ranges that have started and not ended.
 #[derive(Debug, Drop)]
 pub(crate) struct SweepPieces<T: Integer, I, A: Allocator = Global> {
     sweep: MultiwaySweep<T, I, A>,
+    rule: Rule,
+    // The number of ranges that have started and not ended.
+    depth: usize,
     // The start of the piece that has begun, if one has.
     start: Option<T>,
+    // Whether the sweep has ended.
+    done: bool,
 }
 
 impl<T: Integer, I: Draw<T>, A: Allocator> SweepPieces<T, I, A> {
-    /// Returns the pieces of a sweep, with no piece begun.
-    pub(crate) fn over(sweep: MultiwaySweep<T, I, A>) -> Self
+    /// Returns the pieces of a sweep, with no event passed. If the rule selects what is in no
+    /// stream, a piece begins at the least value. Otherwise none has begun.
+    pub(crate) fn over(sweep: MultiwaySweep<T, I, A>, rule: Rule) -> Self
         ensures sweep { result.sweep ≡ sweep }
-        ensures start { result.start ≡ None }
+        ensures rule { result.rule ≡ rule }
+        ensures depth { result.depth ≡ 0 }
+        ensures start { edges_of T.rank result.start ≡ first_edge rule }
+        ensures done { result.done ≡ false }
     {
-        SweepPieces { sweep, start: None }
+        let start = match rule {
+            Rule::AtLeast(0) => Some(T::min_value()),
+            _ => None,
+        };
+        SweepPieces {
+            sweep,
+            rule,
+            depth: 0,
+            start,
+            done: false,
+        }
+    }
+
+    /// Returns the values that the rule selects from the streams of a sweep that was just built. It
+    /// draws nothing more.
+    pub(crate) fn joined(sweep: MultiwaySweep<T, I, A>, rule: Rule) -> UnionIter<T, Self>
+        requires { (streams : List I) × SweepsOver T.Integer.own I.Draw streams sweep }
+        ensures ready { (joined_pieces T.Integer.own I.Draw).can_draw result }
+        ensures made { (streams : List I) → SweepsOver T.Integer.own I.Draw streams sweep
+            → MakesJoined T.Integer.own I.Draw rule streams result }
+    {
+        UnionIter::new(SweepPieces::over(sweep, rule))
+    }
+}
+
+/// Counts a range that starts or ends. Returns whether a piece begins or ends there.
+fn counts<T: Integer>(rule: Rule, depth: &mut usize, event: &SweepEvent<T>) -> bool
+    requires { CanPass depth.old (event_of T.rank event.now) }
+    ensures depth { depth.new ≡ depth_after depth.old (event_of T.rank event.now) }
+    ensures crosses { result ≡ crosses rule depth.old (event_of T.rank event.now) }
+{
+    match event {
+        SweepEvent::Start { .. } => {
+            *depth += 1;
+            rule.turns_at(*depth)
+        }
+        SweepEvent::End { .. } => {
+            let before = *depth;
+            *depth -= 1;
+            rule.turns_at(before)
+        }
     }
 }
 
@@ -67,11 +149,8 @@ fn pass_end<T: Integer>(start: &mut Option<T>, last: T) -> Option<RangeInclusive
     }
 }
 
-/// Passes an event and returns the piece that ends there, if one does.
-pub(crate) fn pass<T: Integer>(
-    start: &mut Option<T>,
-    event: SweepEvent<T>,
-) -> Option<RangeInclusive<T>>
+/// Passes the edge of an event and returns the piece that ends there, if one does.
+fn pass_edge<T: Integer>(start: &mut Option<T>, event: SweepEvent<T>) -> Option<RangeInclusive<T>>
     requires start { IfSome start.old (λ value. T.rank value < T.value_count) }
     requires event { IsEventIn T.value_count (event_of T.rank event) }
     ensures { PassesEdge T.rank T.value_count (edge_of (event_of T.rank event)) start.old result
@@ -80,6 +159,26 @@ pub(crate) fn pass<T: Integer>(
     match event {
         SweepEvent::Start { range, .. } => pass_start(start, *range.start()),
         SweepEvent::End { at, .. } => pass_end(start, at),
+    }
+}
+
+/// Passes an event and returns the piece that ends there, if one does.
+fn pass<T: Integer>(
+    rule: Rule,
+    depth: &mut usize,
+    start: &mut Option<T>,
+    event: SweepEvent<T>,
+) -> Option<RangeInclusive<T>>
+    requires depth { CanPass depth.old (event_of T.rank event) }
+    requires start { IfSome start.old (λ value. T.rank value < T.value_count) }
+    requires event { IsEventIn T.value_count (event_of T.rank event) }
+    ensures { PassesEvent T.rank T.value_count rule depth.old (event_of T.rank event) start.old
+        result depth.new start.new }
+{
+    if counts(rule, depth, &event) {
+        pass_edge(start, event)
+    } else {
+        None
     }
 }
 
@@ -93,12 +192,17 @@ impl<T: Integer, I: Draw<T>, A: Allocator> Draw<T> for SweepPieces<T, I, A> {
     ghost may_give = { (sweep_pieces T.Integer.own I.Draw).may_give };
 
     fn draw(&mut self) -> Option<RangeInclusive<T>> {
+        if self.done {
+            return None;
+        }
         while let Some(event) = self.sweep.next() {
-            if let Some(piece) = pass(&mut self.start, event) {
+            if let Some(piece) = pass(self.rule, &mut self.depth, &mut self.start, event) {
                 return Some(piece);
             }
         }
-        None
+        self.done = true;
+        let start = self.start.take()?;
+        Some(start..=T::max_value())
     }
 
     ghost answers = { λ s t item gives. gives.answers };

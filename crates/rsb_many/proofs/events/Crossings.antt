@@ -10,8 +10,9 @@ use Rattle.rsb_integer.specs.Runs.{Interval, members, AllEndBelow}
 use Rattle.rsb_integer.specs.Selection.{at_least, exclusive_or, how_many}
 use Rattle.rsb_integer.proofs.ListLemmas.{true_or_false}
 use Rattle.rsb_integer.proofs.MembersLemmas.{members-cons}
-use Rattle.rsb_many.specs.DeepPieces.{crosses, crossing, depth_after, first_edge, CanPass}
+use Rattle.rsb_many.specs.Rule.{deep_crossing, deepest, depth_after, first_edge, CanPass}
 use Rattle.rsb_many.specs.Sweep.{all_events, events_from, events_of, AreEvents, End, Event, Start}
+use Rattle.rsb_many.specs.declared.sweep_pieces.Rule.TheVariants.{AtLeast}
 use Rattle.rsb_streams.specs.Touching.{IsTouchingFrom, IsTouchingIn}
 use Rattle.rsb_many.specs.SweepPieces.{edge_of, odd_past, HasEdgesFrom}
 use Rattle.rsb_many.proofs.events.Edges.{edges-lower, odd-before}
@@ -26,7 +27,7 @@ both-more one other = grind (arith, nat_tests)
 -- If one more range has started and the bound is one higher, the depth crosses it at the same
 -- events.
 crossing-shift : (least depth : ℕ) (events : List Event)
-    → crossing (least + 1) (depth + 1) events ≡ crossing least depth events
+    → deep_crossing (least + 1) (depth + 1) events ≡ deep_crossing least depth events
 crossing-shift least depth [] = refl
 crossing-shift least depth (Start range input ∷ events) =
     let rest = crossing-shift least (depth + 1) events in
@@ -39,42 +40,43 @@ crossing-shift least depth (End last input ∷ events) =
 
 -- So lowering the depth by one has the same effect as raising the bound by one.
 crossing-end : (least depth : ℕ) (events : List Event) → 1 ≤ depth
-    → crossing (least + 1) depth events ≡ crossing least (depth - 1) events
+    → deep_crossing (least + 1) depth events ≡ deep_crossing least (depth - 1) events
 crossing-end least zero events some = absurd (omega (arith, some))
 crossing-end least (suc depth) events some =
     let same : suc depth ≡ depth + 1 = omega arith in
     let less : depth ≡ suc depth - 1 = omega arith in
-    ap (λ each. crossing (least + 1) each events) same
+    ap (λ each. deep_crossing (least + 1) each events) same
     ∙ crossing-shift least depth events
-    ∙ ap (λ each. crossing least each events) less
+    ∙ ap (λ each. deep_crossing least each events) less
 
 -- The first event crosses the bound or does not, and the others continue from the depth after it.
-pub crossing-next : (least depth : ℕ) (event : Event) (events : List Event) → CanPass depth event
-    → crossing least depth (event ∷ events)
-    ≡ cond (crosses least depth event) (event ∷ crossing least (depth_after depth event) events)
-    (crossing least (depth_after depth event) events)
-crossing-next least depth (Start range input) events can = refl
-crossing-next least depth (End last input) events can =
+pub deep-next : (least depth : ℕ) (event : Event) (events : List Event) → CanPass depth event
+    → deep_crossing least depth (event ∷ events)
+    ≡ cond (nat_eq least (deepest depth event))
+    (event ∷ deep_crossing least (depth_after depth event) events)
+    (deep_crossing least (depth_after depth event) events)
+deep-next least depth (Start range input) events can = refl
+deep-next least depth (End last input) events can =
     let rest = crossing-end least depth events can in
     λ i. cond (nat_eq least depth) (End last input ∷ rest i) (rest i)
 
 -- The edges of the crossing events never fall.
-pub crossing-edges : (n low least depth : ℕ) (events : List Event) → HasEdgesFrom n low events
-    → HasEdgesFrom n low (crossing least depth events)
-crossing-edges n low least depth [] edges = tt
-crossing-edges n low least depth (Start range input ∷ events) edges =
-    let rest = crossing-edges n range.first least (depth + 1) events edges.2 in
+pub deep-edges : (n low least depth : ℕ) (events : List Event) → HasEdgesFrom n low events
+    → HasEdgesFrom n low (deep_crossing least depth events)
+deep-edges n low least depth [] edges = tt
+deep-edges n low least depth (Start range input ∷ events) edges =
+    let rest = deep-edges n range.first least (depth + 1) events edges.2 in
     elim (true_or_false (nat_eq least (depth + 1))) [
       | inl edge ↦ rw edge (edges.0, edges.1, rest)
       | inr passes ↦ rw passes (edges-lower n range.first low
-          (crossing least (depth + 1) events) edges.0 rest)
+          (deep_crossing least (depth + 1) events) edges.0 rest)
     ]
-crossing-edges n low least depth (End last input ∷ events) edges =
-    let rest = crossing-edges n (last + 1) (least + 1) depth events edges.2 in
+deep-edges n low least depth (End last input ∷ events) edges =
+    let rest = deep-edges n (last + 1) (least + 1) depth events edges.2 in
     elim (true_or_false (nat_eq least depth)) [
       | inl edge ↦ rw edge (edges.0, edges.1, rest)
-      | inr passes ↦ rw passes (edges-lower n (last + 1) low (crossing (least + 1) depth events)
-          edges.0 rest)
+      | inr passes ↦ rw passes (edges-lower n (last + 1) low
+          (deep_crossing (least + 1) depth events) edges.0 rest)
     ]
 
 -- ---- starts and ends up to a rank
@@ -163,7 +165,8 @@ more-none count more none = omega (arith, none)
 -- changes up to there.
 abbrev IsCrossed : ℕ → ℕ → ℕ → List Event → Type 0
 IsCrossed rank least depth events =
-    exclusive_or (nat_le least depth) (odd_past (map edge_of (crossing least depth events)) rank)
+    exclusive_or (nat_le least depth)
+    (odd_past (map edge_of (deep_crossing least depth events)) rank)
     ≡ nat_le (least + ends_by rank events) (depth + starts_by rank events)
 
 -- This holds at a rank before all edges.
@@ -172,8 +175,8 @@ crossed-before : (n least depth : ℕ) (event : Event) (events : List Event) (ra
     → IsCrossed rank least depth (event ∷ events)
 crossed-before n least depth event events rank edges under =
     let none = none-before n (edge_of event) (event ∷ events) rank edges under in
-    let odd = odd-before n (edge_of event) (crossing least depth (event ∷ events)) rank
-    (crossing-edges n (edge_of event) least depth (event ∷ events) edges) under in
+    let odd = odd-before n (edge_of event) (deep_crossing least depth (event ∷ events)) rank
+    (deep-edges n (edge_of event) least depth (event ∷ events) edges) under in
     ap (λ test. exclusive_or (nat_le least depth) test) odd
     ∙ (xor-false (nat_le least depth)
     ∙ (λ i. nat_le (more-none least (ends_by rank (event ∷ events)) none.1 i)
@@ -184,7 +187,7 @@ crossed-start : (least depth : ℕ) (range : Interval) (input : ℕ) (events : L
     → range.first ≤ rank → IsCrossed rank least (depth + 1) events
     → IsCrossed rank least depth (Start range input ∷ events)
 crossed-start least depth range input events rank past after =
-    let others = odd_past (map edge_of (crossing least (depth + 1) events)) rank in
+    let others = odd_past (map edge_of (deep_crossing least (depth + 1) events)) rank in
     let test : nat_le range.first rank ≡ true = grind (arith, nat_tests) in
     let one : start_by rank (Start range input) ≡ 1 = rw test refl in
     let starts = sum_by-cons (start_by rank) (Start range input) events in
@@ -208,7 +211,7 @@ crossed-end : (least depth last input : ℕ) (events : List Event) (rank : ℕ) 
     → IsCrossed rank (least + 1) depth events
     → IsCrossed rank least depth (End last input ∷ events)
 crossed-end least depth last input events rank past after =
-    let others = odd_past (map edge_of (crossing (least + 1) depth events)) rank in
+    let others = odd_past (map edge_of (deep_crossing (least + 1) depth events)) rank in
     let test : nat_le (last + 1) rank ≡ true = grind (arith, nat_tests) in
     let one : end_by rank (End last input) ≡ 1 = rw test refl in
     let starts = sum_by-cons (start_by rank) (End last input) events in
@@ -328,7 +331,7 @@ deep-lists n input (runs ∷ lists) rank all =
 -- cover the rank. If `least` is 0, it is even instead.
 pub deep-events : (n least : ℕ) (lists : List (List Interval)) (events : List Event) (rank : ℕ)
     → All (IsTouchingIn n) lists → AreEvents lists events → HasEdgesFrom n 0 events
-    → exclusive_or (nat_le least 0) (odd_past (map edge_of (crossing least 0 events)) rank)
+    → exclusive_or (nat_le least 0) (odd_past (map edge_of (deep_crossing least 0 events)) rank)
     ≡ at_least least (map members lists) rank
 deep-events n least lists events rank all are edges =
     let starts = sum_by-IsPermutation (start_by rank) (all_events lists) events are.all in
@@ -345,7 +348,7 @@ deep-events n least lists events rank all are edges =
 
 -- If `least` is 0, a piece begins at the first rank.
 pub first-odd : (least : ℕ) (edges : List ℕ) (rank : ℕ)
-    → odd_past (first_edge least ++ edges) rank
+    → odd_past (first_edge (AtLeast least) ++ edges) rank
     ≡ exclusive_or (nat_le least 0) (odd_past edges rank)
 first-odd least edges rank = elim (true_or_false (nat_eq least 0)) [
   | inl none ↦

@@ -3,6 +3,7 @@
 use Rattle.std.proofs.Common.{◌≡◌, inl, inr, ℕ, ◌-◌, ◌<◌, ◌≤◌, Bool, true, false, ◌||◌, nat_le, nat_lt, List, [], ◌∷◌, ◌++◌, map, refl, sym, ap, subst, ◌∙◌, arith, Option, Some, None}
 use Rattle.std.proofs.lemmas.Bool.{cases_lt}
 use Rattle.std.proofs.lemmas.Bool.Decides.{nat_tests}
+use Rattle.std.specs.Option.{option_len}
 use Rattle.std.specs.declared.ops.RangeInclusive.{RangeInclusive}
 use Rattle.rsb_integer.specs.Runs.{Interval, covers, members}
 use Rattle.rsb_integer.specs.Selection.{exclusive_or}
@@ -14,12 +15,12 @@ use Rattle.rsb_streams.specs.Stream.{HasSortedStartsFrom}
 use Rattle.rsb_streams.specs.StreamLaws.{settled_le, settled_lt}
 use Rattle.rsb_streams.proofs.odd.Ranks.{pieces-along}
 use Rattle.rsb_many.specs.Sweep.{End, Event, Start}
-use Rattle.rsb_many.specs.SweepPieces.{edge_in, edge_of, edges_of, odd_past, piece_up_to, HasEdgesFrom, IsEventIn, IsWhole, PassesEdge}
+use Rattle.rsb_many.specs.SweepPieces.{edge_in, edge_of, edges_of, low_of, odd_past, piece_up_to, HasEdgesFrom, IsEventIn, PassesEdge}
 
 -- ---- edges
 
 -- If an event lies in a type of n values, its edge is at most n.
-pub edge-within : (n : ℕ) (event : Event) → IsEventIn n event → edge_of event ≤ n
+edge-within : (n : ℕ) (event : Event) → IsEventIn n event → edge_of event ≤ n
 edge-within n (Start range input) within = let low = within.0 in let high = within.1 in omega arith
 edge-within n (End last input) within = omega (arith, within)
 
@@ -65,7 +66,7 @@ odd-before n low (event ∷ events) rank edges below =
 -- ---- pieces
 
 -- The pieces start no earlier than the first edge.
-pub pieces-from : (n low : ℕ) (events : List Event) (pieces : List Interval)
+pieces-from : (n low : ℕ) (events : List Event) (pieces : List Interval)
     → HasEdgesFrom n low events → ArePieces n (odd_past (map edge_of events)) pieces
     → HasSortedStartsFrom n low pieces
 pieces-from n low events [] edges all = tt
@@ -95,7 +96,7 @@ edge-begins n edge edges rank below = elim (true_or_false (nat_lt edge n)) [
 ]
 
 -- So the pieces afterwards are also those before the edge.
-pub pieces-begin : {T : Type 0} (rank : T → ℕ) (n edge : ℕ) (edges : List ℕ) (new : Option T)
+pieces-begin : {T : Type 0} (rank : T → ℕ) (n edge : ℕ) (edges : List ℕ) (new : Option T)
     (pieces : List Interval) → edges_of rank new ≡ edge_in n edge
     → ArePieces n (odd_past (edges_of rank new ++ edges)) pieces
     → ArePieces n (odd_past (edge ∷ edges)) pieces
@@ -128,7 +129,7 @@ between-edges start edge rank others less before = elim (cases_lt rank edge) [
 ]
 
 -- A piece that has begun ends before the edge, and the other pieces follow.
-pub pieces-end : (n start : ℕ) (event : Event) (events : List Event) (pieces : List Interval)
+pieces-end : (n start : ℕ) (event : Event) (events : List Event) (pieces : List Interval)
     → HasEdgesFrom n start (event ∷ events) → ArePieces n (odd_past (map edge_of events)) pieces
     → ArePieces n (odd_past (start ∷ map edge_of (event ∷ events)))
     (piece_up_to start (edge_of event) ++ pieces)
@@ -165,78 +166,40 @@ pieces-end n start event events pieces edges all =
 
 -- ---- once an event is passed
 
--- If the number of edges up to `n` is even, that of all but the first is odd.
-closed-begin : (n edge : ℕ) (others : Bool) → edge ≤ n
-    → exclusive_or (nat_le edge n) others ≡ false → others ≡ true
-closed-begin n edge true most is = refl
-closed-begin n edge false most is =
-    let inside : nat_le edge n ≡ true = grind (arith, nat_tests) in absurd (let no = rw inside at is in cc)
-
--- If the number of edges up to `n` is odd, that of all but the first is even.
-closed-end : (n edge : ℕ) (others : Bool) → edge ≤ n
-    → exclusive_or (nat_le edge n) others ≡ true → others ≡ false
-closed-end n edge false most is = refl
-closed-end n edge true most is =
-    let inside : nat_le edge n ≡ true = grind (arith, nat_tests) in absurd (let no = rw inside at is in cc)
-
 module _ {T : Type 0} (rank : T → ℕ) (n : ℕ) (event : Event) (events : List Event) where
-  -- After the first event each piece will end, if none had begun.
-  whole-begin : (new : Option T) → edges_of rank new ≡ edge_in n (edge_of event)
-      → IsWhole rank n None (event ∷ events) → IsWhole rank n new events
-  whole-begin None is whole =
-      let past : n ≤ edge_of event = elim (true_or_false (nat_lt (edge_of event) n)) [
-        | inl inside ↦ absurd (let some = rw inside at is in cc)
-        | inr outside ↦ grind (arith, nat_tests)
-      ] in
-      record {
-        edges = edges-lower n (edge_of event) 0 events (omega arith) whole.edges.2;
-        closed = inr (edges-lower n (edge_of event) n events past whole.edges.2);
-      }
-  whole-begin (Some start) is whole =
-      let inside : edge_of event < n = elim (true_or_false (nat_lt (edge_of event) n)) [
-        | inl inside ↦ grind (arith, nat_tests)
-        | inr outside ↦ absurd (let none = rw outside at is in cc)
-      ] in
-      let test : nat_lt (edge_of event) n ≡ true = grind (arith, nat_tests) in
-      let here : rank start ∷ [] ≡ edge_of event ∷ [] = rw test at is in
-      let same : rank start ≡ edge_of event = cc in
-      record {
-        edges = subst (λ low. HasEdgesFrom n low events) (sym same) whole.edges.2;
-        closed = elim whole.closed [
-          | inl even ↦ closed-begin n (edge_of event) (odd_past (map edge_of events) n)
-              (edge-within n event whole.edges.1) even
-          | inr past ↦ absurd (let late = past.0 in omega (arith, late, inside))
-        ];
-      }
+  -- A piece that begins starts at the edge.
+  edge-begun : (start : T) → rank start ∷ [] ≡ edge_in n (edge_of event)
+      → rank start ≡ edge_of event
+  edge-begun start is = elim (true_or_false (nat_lt (edge_of event) n)) [
+    | inl inside ↦
+        let here : rank start ∷ [] ≡ edge_of event ∷ [] = rw inside at is in
+        cc
+    | inr outside ↦ absurd (let none = rw outside at is in cc)
+  ]
 
-  -- After the first event each piece will end, if one had begun.
-  whole-end : (start : T) → IsWhole rank n (Some start) (event ∷ events)
-      → IsWhole rank n None events
-  whole-end start whole = record {
-    edges = edges-lower n (edge_of event) 0 events (omega arith) whole.edges.2;
-    closed = inl (closed-end n (edge_of event) (odd_past (map edge_of events) n)
-        (edge-within n event whole.edges.1) whole.closed);
-  }
-
-  -- After the first event each piece will end.
-  pub whole-next : (old : Option T) (piece : Option (RangeInclusive T)) (new : Option T)
-      → PassesEdge rank n (edge_of event) old piece new → IsWhole rank n old (event ∷ events)
-      → IsWhole rank n new events
-  whole-next None piece new passes whole = whole-begin new passes.1 whole
-  whole-next (Some start) piece new passes whole =
-      subst (λ each. IsWhole rank n each events) (sym passes.1) (whole-end start whole)
+  -- No edge to come lies before the start of a piece that has begun now.
+  pub low-next : (old : Option T) (piece : Option (RangeInclusive T)) (new : Option T)
+      → PassesEdge rank n (edge_of event) old piece new
+      → HasEdgesFrom n (low_of rank old) (event ∷ events) → HasEdgesFrom n (low_of rank new) events
+  low-next None piece None passes edges =
+      edges-lower n (edge_of event) 0 events (omega arith) edges.2
+  low-next None piece (Some start) passes edges =
+      subst (λ low. HasEdgesFrom n low events) (sym (edge-begun start passes.1)) edges.2
+  low-next (Some begun) piece new passes edges =
+      subst (λ each. HasEdgesFrom n (low_of rank each) events) (sym passes.1)
+      (edges-lower n (edge_of event) 0 events (omega arith) edges.2)
 
   -- The piece that ends at the first event, followed by the pieces after it, are pieces before it.
   pub pieces-next : (old : Option T) (piece : Option (RangeInclusive T)) (new : Option T)
       (pieces : List Interval) → PassesEdge rank n (edge_of event) old piece new
-      → IsWhole rank n old (event ∷ events)
+      → HasEdgesFrom n (low_of rank old) (event ∷ events)
       → ArePieces n (odd_past (edges_of rank new ++ map edge_of events)) pieces
       → ArePieces n (odd_past (edges_of rank old ++ map edge_of (event ∷ events)))
       (held_list rank piece ++ pieces)
-  pieces-next None piece new pieces passes whole all =
+  pieces-next None piece new pieces passes edges all =
       rw passes.0 (pieces-begin rank n (edge_of event) (map edge_of events) new pieces passes.1 all)
-  pieces-next (Some start) piece new pieces passes whole all =
-      rw passes.0 (pieces-end n (rank start) event events pieces whole.edges
+  pieces-next (Some start) piece new pieces passes edges all =
+      rw passes.0 (pieces-end n (rank start) event events pieces edges
       (subst (λ each. ArePieces n (odd_past (edges_of rank each ++ map edge_of events)) pieces)
       passes.1 all))
 
@@ -252,8 +215,9 @@ module _ {T : Type 0} (rank : T → ℕ) (n : ℕ) (event : Event) (events : Lis
   ]
   start-next (Some old) piece start passes = absurd (let none = passes.1 in cc)
 
--- If no events are left, no piece has begun.
-pub whole-over : {T : Type 0} (rank : T → ℕ) (n : ℕ) (start : Option T)
-    → IsWhole rank n start [] → start ≡ None
-whole-over rank n None whole = refl
-whole-over rank n (Some start) whole = absurd (let odd = whole.closed in cc)
+  -- A piece that ends had begun before the event, and no piece has begun after it.
+  pub edge-ended : (old : Option T) (range : RangeInclusive T) (new : Option T)
+      → PassesEdge rank n (edge_of event) old (Some range) new
+      → (option_len old ≡ 1) × (option_len new ≡ 0)
+  edge-ended None range new passes = absurd (let none = passes.0 in cc)
+  edge-ended (Some start) range new passes = (refl, ap option_len passes.1)

@@ -1,5 +1,5 @@
 -- A rank lies in an odd number of lists exactly if the number of edges at or before it is odd.
-use Rattle.std.proofs.Common.{◌≡◌, inl, ℕ, zero, suc, ◌+◌, ◌-◌, ◌<◌, ◌≤◌, Bool, true, false, not, cond, ◌||◌, nat_le, List, [], ◌∷◌, ◌++◌, map, refl, sym, ap, ◌∙◌, arith, All, AllPairs, sum_by, IsPermutation, None}
+use Rattle.std.proofs.Common.{◌≡◌, ℕ, zero, suc, ◌+◌, ◌-◌, ◌<◌, ◌≤◌, Bool, true, false, not, cond, ◌||◌, nat_le, List, [], ◌∷◌, ◌++◌, map, refl, sym, ap, ◌∙◌, arith, All, AllPairs, sum_by, IsPermutation}
 use Rattle.std.proofs.lemmas.Bool.Decides.{nat_tests}
 use Rattle.std.proofs.lemmas.List.{map-append}
 use Rattle.std.proofs.lemmas.List.Elements.{All-append, All-cons, All-head, All-nil, All-tail, All-weaker}
@@ -8,19 +8,12 @@ use Rattle.std.proofs.lemmas.List.Sums.{sum_by-cons}
 use Rattle.rsb_integer.specs.Runs.{Interval, covers, members, AllEndBelow}
 use Rattle.rsb_integer.specs.Selection.{exclusive_or, odd_of}
 use Rattle.rsb_integer.proofs.ListLemmas.{AllPairs-tail}
-use Rattle.rsb_integer.proofs.MembersLemmas.{members-cons, members-end}
-use Rattle.rsb_integer.proofs.RunsLemmas.{runs-along}
-use Rattle.rsb_streams.specs.Stream.{◌⊆◌, joined, Outcomes}
+use Rattle.rsb_integer.proofs.MembersLemmas.{members-cons}
 use Rattle.rsb_streams.specs.Touching.{IsTouchingFrom, IsTouchingIn}
-use Rattle.rsb_streams.proofs.calling.Results.{settled-same}
-use Rattle.rsb_streams.specs.OddPieces.{ArePieces}
-use Rattle.rsb_many.specs.Many.{runs_by_all, OneOfEach, SomeOfEach}
-use Rattle.rsb_many.specs.MultiwaySweep.{EventOutcomes}
 use Rattle.rsb_many.specs.Sweep.{all_events, events_from, events_of, AreEvents, End, Event, Precedes, Start}
-use Rattle.rsb_many.specs.SweepPieces.{edge_of, odd_past, HasEdgesFrom, IsEventIn, IsWhole, SomeEvents}
+use Rattle.rsb_many.specs.SweepPieces.{edge_of, odd_past, HasEdgesFrom, IsEventIn}
 use Rattle.rsb_many.proofs.events.Ascending.{AllPairs-head}
-use Rattle.rsb_many.proofs.events.Edges.{between-edges, odd-before, settled-edges}
-use Rattle.rsb_many.proofs.inputs.Rests.{one_of_each-all}
+use Rattle.rsb_many.proofs.events.Edges.{between-edges, odd-before}
 
 -- ---- an odd number of edges, in any order
 
@@ -136,16 +129,6 @@ pub odd-events : (n : ℕ) (lists : List (List Interval)) (events : List Event) 
 odd-events n lists events rank all are =
     odd-permutation (all_events lists) events rank are.all ∙ odd-lists n 0 lists rank all
 
--- No list has a member past the end of the type.
-odd-past_end : (n : ℕ) (lists : List (List Interval)) → All (IsTouchingIn n) lists
-    → odd_of (map members lists) n ≡ false
-odd-past_end n [] all = refl
-odd-past_end n (runs ∷ lists) all =
-    let own = All-head (IsTouchingIn n) runs lists all in
-    ap (λ test. exclusive_or test (odd_of (map members lists) n))
-    (members-end n runs n own.1 (omega arith))
-    ∙ odd-past_end n lists (All-tail (IsTouchingIn n) runs lists all)
-
 -- ---- the events of lists in a type
 
 -- The events of a touching list lie in the type.
@@ -161,7 +144,7 @@ events-in n low input (run ∷ runs) touching below =
     (All-tail (λ (each : Interval). each.last < n) run runs below)))
 
 -- So do the events of several lists.
-pub lists-in : (n input : ℕ) (lists : List (List Interval)) → All (IsTouchingIn n) lists
+lists-in : (n input : ℕ) (lists : List (List Interval)) → All (IsTouchingIn n) lists
     → All (IsEventIn n) (events_from input lists)
 lists-in n input [] all = All-nil (IsEventIn n)
 lists-in n input (runs ∷ lists) all =
@@ -171,14 +154,14 @@ lists-in n input (runs ∷ lists) all =
     (lists-in n (input + 1) lists (All-tail (IsTouchingIn n) runs lists all))
 
 -- If an event comes before another, its edge is not greater.
-pub precedes-edge : (one other : Event) → Precedes one other → edge_of one ≤ edge_of other
+precedes-edge : (one other : Event) → Precedes one other → edge_of one ≤ edge_of other
 precedes-edge (Start run input) (Start next place) before = grind (arith, nat_tests)
 precedes-edge (Start run input) (End last place) before = grind (arith, nat_tests)
 precedes-edge (End last input) (Start next place) before = grind (arith, nat_tests)
 precedes-edge (End last input) (End next place) before = grind (arith, nat_tests)
 
 -- If events ascend, their edges never fall.
-pub ascending-edges : (n low : ℕ) (events : List Event) → All (λ event. low ≤ edge_of event) events
+ascending-edges : (n low : ℕ) (events : List Event) → All (λ event. low ≤ edge_of event) events
     → All (IsEventIn n) events → AllPairs Precedes events → HasEdgesFrom n low events
 ascending-edges n low [] past all pairs = tt
 ascending-edges n low (event ∷ events) past all pairs = (
@@ -191,46 +174,14 @@ ascending-edges n low (event ∷ events) past all pairs = (
 )
 
 -- No edge lies before rank 0.
-pub edges-any : (events : List Event) → All (λ event. 0 ≤ edge_of event) events
+edges-any : (events : List Event) → All (λ event. 0 ≤ edge_of event) events
 edges-any [] = All-nil (λ event. 0 ≤ edge_of event)
 edges-any (event ∷ events) =
     All-cons (λ each. 0 ≤ edge_of each) event events (omega arith) (edges-any events)
 
--- ---- the events of what streams may give
-
-module _ (n count : ℕ) (may_give : ℕ → Outcomes)
-    (touching : (place : ℕ) → may_give place ⊆ IsTouchingIn n) where
-  -- Each of the lists is touching and lies in the type.
-  pub all-touching : (lists : List (List Interval)) → OneOfEach count may_give lists
-      → All (IsTouchingIn n) lists
-  all-touching lists each = one_of_each-all count may_give (IsTouchingIn n) lists
-      (λ place less. touching place) each
-
-  -- If the events are those of lists that the streams may give, each piece will end.
-  pub whole-events : {T : Type 0} (rank : T → ℕ) (events : List Event)
-      → SomeOfEach count may_give (λ lists. AreEvents lists events) → IsWhole rank n None events
-  whole-events rank events some = record {
-    edges = settled-edges n 0 events (λ fails. some (λ lists each are.
-        let all = all-touching lists each in
-        fails (ascending-edges n 0 events (edges-any events)
-        (All-permutation (IsEventIn n) (all_events lists) events are.all (lists-in n 0 lists all))
-        are.ascending)));
-    closed = inl (settled-same (odd_past (map edge_of events) n) false
-        (λ fails. some (λ lists each are.
-        let all = all-touching lists each in
-        fails (odd-events n lists events n all are ∙ odd-past_end n lists all))));
-  }
-
-  -- The pieces, joined, are the runs of what lies in an odd number of the lists.
-  pub joined-odd : (told : EventOutcomes)
-      → ((events : List Event) → told events
-      → SomeOfEach count may_give (λ lists. AreEvents lists events))
-      → joined n (λ pieces. SomeEvents told
-      (λ events. ArePieces n (odd_past (map edge_of events)) pieces))
-      ⊆ runs_by_all n odd_of count may_give
-  joined-odd told gives runs may = λ nothing. may (λ pieces given all.
-      given (λ events at are_pieces.
-      gives events at (λ lists each are.
-      nothing lists each (runs-along n (members pieces) (odd_of (map members lists)) runs
-      (λ rank below. are_pieces.same rank below
-      ∙ odd-events n lists events rank (all-touching lists each) are) all))))
+-- So the edges of the events of touching lists never fall.
+pub lists-edges : (n : ℕ) (lists : List (List Interval)) (events : List Event)
+    → All (IsTouchingIn n) lists → AreEvents lists events → HasEdgesFrom n 0 events
+lists-edges n lists events all are = ascending-edges n 0 events (edges-any events)
+    (All-permutation (IsEventIn n) (all_events lists) events are.all (lists-in n 0 lists all))
+    are.ascending
