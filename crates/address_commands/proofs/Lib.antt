@@ -3,3 +3,4 @@ pub mod AppendsLemmas
 pub mod FilesLemmas
 pub mod LinesLemmas
 pub mod ReadBackLemmas
+pub mod SameTextLemmas

@@ -1,6 +1,6 @@
 //! Laws of what is written. Each function does nothing, and its clauses are the law.
 
-ghost use Rattle.std.specs.Prelude.{ℕ, [], List, Option, Some};
+ghost use Rattle.std.specs.Prelude.{◌≡◌, ℕ, [], List, Option, Some};
 ghost use Rattle.range_set_blaze.specs.Runs.{Interval, members};
 ghost use Rattle.address_lists.specs.List.{IsListOf};
 ghost use Rattle.address_commands.specs.Answer.{Answers, IsCombined};
@@ -15,6 +15,16 @@ ghost use Rattle.address_commands.specs.declared.request.Request.TheVariants.{Co
 pub fn output_reads_back()
     ensures { (form : Form) (v4 v6 : List Interval) (text : List ℕ)
         → IsListText form v4 v6 text → IsListOf text (members v4) (members v6) }
+{}
+
+/// A set of addresses has one text in each form. So a list that is read from what was written, and
+/// is written again in the same form, has the same text.
+pub fn output_is_written_again()
+    ensures one { (form : Form) (v4 v6 : List Interval) (text other : List ℕ)
+        → IsListText form v4 v6 text → IsListText form v4 v6 other → other ≡ text }
+    ensures again { (form : Form) (v4 v6 other4 other6 : List Interval) (text other : List ℕ)
+        → IsListText form v4 v6 text → IsListOf text (members other4) (members other6)
+        → IsListText form other4 other6 other → other ≡ text }
 {}
 
 /// What `run` writes for an operation is a list that selects what the operation selects, in each
