@@ -142,7 +142,7 @@ module _ {T : Type 0} (text : ℕ → List ℕ) (rank : T → ℕ) (width : ℕ)
 
   -- ---- a set has one text
 
-  same-set : (form : Form) (runs others : List Interval) (lines more : List ℕ) (many : ℕ)
+  pub same-set : (form : Form) (runs others : List Interval) (lines more : List ℕ) (many : ℕ)
       → IsSetText text rank width many form runs lines
       → IsSetText text rank width many form others more
       → ((number : ℕ) → members runs number ≡ members others number) → lines ≡ more

@@ -1,5 +1,6 @@
--- What the answer to an operation selects, if it is read as a list.
-use Rattle.std.specs.Prelude.{ℕ, ◌^◌, false, List, Option, map}
+-- The answer to an operation: what it selects if it is read as a list, and what determines it.
+use Rattle.std.specs.Option.{IsSome}
+use Rattle.std.specs.Prelude.{ℕ, ◌^◌, false, All, List, Option, map}
 use Rattle.range_set_blaze.specs.Selection.{Agree, Selection}
 use Rattle.address_lists.specs.Combine.{selected_by}
 use Rattle.address_lists.specs.List.{IsListOf}
@@ -35,3 +36,7 @@ pub record ReadsAsCombined (bytes : List ℕ → Option (List ℕ)) (combination
       (written_v4 combination.families (selected_by combination.operation (v4_of lists)))
   pub v6_selected : Agree (2 ^ 128) v6
       (written_v6 combination.families (selected_by combination.operation (v6_of lists)))
+
+-- Whether the bytes of each of these files are known.
+abbrev pub AreKnown : (List ℕ → Option (List ℕ)) → List (List ℕ) → Type 0
+AreKnown bytes files = All (λ file. IsSome (bytes file)) files

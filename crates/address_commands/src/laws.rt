@@ -1,10 +1,10 @@
 //! Laws of what is written. Each function does nothing, and its clauses are the law.
 
-ghost use Rattle.std.specs.Prelude.{◌≡◌, ℕ, [], List, Option, Some};
+ghost use Rattle.std.specs.Prelude.{◌≡◌, ℕ, [], List, Option, Some, map};
 ghost use Rattle.range_set_blaze.specs.Runs.{Interval, members};
 ghost use Rattle.address_lists.specs.List.{IsListOf};
 ghost use Rattle.address_commands.specs.Answer.{Answers, IsCombined};
-ghost use Rattle.address_commands.specs.ReadBack.{ReadsAsCombined};
+ghost use Rattle.address_commands.specs.ReadBack.{AreKnown, ReadsAsCombined};
 ghost use Rattle.address_commands.specs.Text.{IsListText};
 ghost use Rattle.address_commands.specs.declared.commands.Outcome.{Outcome};
 ghost use Rattle.address_commands.specs.declared.request.Combination.{Combination};
@@ -38,4 +38,11 @@ pub fn answer_reads_back()
         (outcome : Outcome) (text : List ℕ)
         → Answers bytes (Combine combination) outcome (Some []) (Some text)
         → ReadsAsCombined bytes combination text }
+{}
+
+/// The answer to an operation is determined by the bytes of the files, if these are known.
+pub fn answer_is_unique()
+    ensures { (bytes : List ℕ → Option (List ℕ)) (combination : Combination) (text other : List ℕ)
+        → AreKnown bytes (map (λ name. name.now) combination.files.now)
+        → IsCombined bytes combination text → IsCombined bytes combination other → text ≡ other }
 {}
