@@ -5,4 +5,7 @@ pub mod CountLemmas
 pub mod FilesLemmas
 pub mod LinesLemmas
 pub mod NamesLemmas
+pub mod OneAnswerLemmas
 pub mod ProgramLemmas
+pub mod ReadBackLemmas
+pub mod SameTextLemmas

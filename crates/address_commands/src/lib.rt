@@ -5,6 +5,7 @@ mod arguments;
 mod commands;
 mod fault;
 mod inputs;
+mod laws;
 mod program;
 mod request;
 mod system;
@@ -14,6 +15,9 @@ pub use crate::arguments::Arguments;
 pub use crate::commands::{HELP, Outcome, VERSION, run};
 pub use crate::fault::{Fault, Misuse};
 pub use crate::inputs::Inputs;
+pub use crate::laws::{
+    answer_is_unique, answer_reads_back, output_is_written_again, output_reads_back,
+};
 pub use crate::program::{finish, start};
 pub use crate::request::{Combination, Families, Form, Request};
 pub use crate::system::SystemInputs;

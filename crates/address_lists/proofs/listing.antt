@@ -7,3 +7,4 @@ pub mod LineFeeds
 pub mod OneSelection
 pub mod Reading
 pub mod Selected
+pub mod WrittenLines

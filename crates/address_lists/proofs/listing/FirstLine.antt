@@ -52,7 +52,7 @@ first_cut (byte ∷ bytes) = by (eqb byte 10) refl (first_cut bytes)
     )
 
 -- A part that others follow is a line, without the carriage return at its end.
-then_others : (front : List ℕ) (others : List (List ℕ)) → 0 < length others
+pub then_others : (front : List ℕ) (others : List (List ℕ)) → 0 < length others
     → lines_of_parts (front ∷ others) ≡ strip_carriage_return front ∷ lines_of_parts others
 then_others front [] some = absurd (omega (arith, some))
 then_others front (part ∷ others) some = refl

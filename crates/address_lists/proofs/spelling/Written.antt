@@ -25,7 +25,7 @@ use Rattle.address_lists.proofs.spelling.Bytes.{byte_fits, segment_fits}
 -- Whether the byte has no meaning of its own in a line.
 pub record IsPlain (byte : ℕ) : Type 0 where
   no_comment : begins_comment byte ≡ false
-  no_blank : is_ascii_whitespace byte ≡ false
+  pub no_blank : is_ascii_whitespace byte ≡ false
   no_dash : eqb byte 45 ≡ false
   no_slash : eqb byte 47 ≡ false
 

@@ -1,0 +1,5 @@
+use Rattle.address_commands.proofs.ReadBackLemmas.{reads_back}
+use Rattle.address_commands.proofs.laws.output_reads_back.Goals as goal
+
+pub returns : goal.returns
+returns c = reads_back
