@@ -1,8 +1,5 @@
 mod Arrays
+mod NullableBoxForm
 mod SetText
-mod U32Box
-mod U32ListBox
-mod U64Box
-mod U64ListBox
 mod UnboxedForm
 mod Walk

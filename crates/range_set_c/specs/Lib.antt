@@ -1,13 +1,10 @@
 pub mod Answer
+pub mod NullableBox
 pub mod SetText
 pub mod U32Handle
 pub mod U32ListHandle
-pub mod U32ListOpened
-pub mod U32Opened
 pub mod U32Runs
 pub mod U64Handle
 pub mod U64ListHandle
-pub mod U64ListOpened
-pub mod U64Opened
 pub mod U64Runs
 pub mod Walk

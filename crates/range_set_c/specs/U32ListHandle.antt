@@ -1,22 +1,22 @@
 -- Written by tools/c/narrow from specs/U64ListHandle.antt.
--- What a handle to a list of sets of `u32` owns.
-use base.Fml.{Fml, feq}
-use base.Stored.{Coded}
-use denote.RawPtr.{Ptr, block_ptr, null_ptr}
-use Rattle.std.specs.Prelude.{List, []}
-use Rattle.std.specs.Box.Ownership.{box_owns}
-use Rattle.std.specs.Global.{Global}
-use Rattle.std.specs.contracts.impls.GlobalAllocator.TheImpl.{ghosts}
-use Rattle.rsb_integer.specs.Runs.{Interval}
-use Rattle.range_set_c.specs.contracts.u32_lists.kept.Kept.{the_row}
+-- What a handle to a list of sets of `u32` is after a borrow.
+use mathlib.Core.Option.{none}
+use Rattle.std.specs.Borrow.{Fml, Lends, MutBor, follows_so}
+use Rattle.std.specs.Prelude.{◌≡◌, ⊤}
+use Rattle.range_set_c.specs.contracts.nullable_box.NullableBox.{the_row as box_row}
+use Rattle.range_set_c.specs.contracts.u32_lists.handle.Handle.{the_row as handle_row}
+use Rattle.range_set_c.specs.contracts.u32_lists.kept.Kept.{the_row as kept_row}
+use Rattle.range_set_c.specs.contracts.u32_lists.kept.KeptEmpty.TheImpl.{ghosts}
 
--- How the ghost field of a handle stores the list.
-abbrev pub kept_coded : Coded the_row.Denot
-kept_coded = the_row.coded
+-- The handle with the pointer and the list of a nullable box.
+abbrev pub handle_of : (box_row kept_row ghosts).Denot → handle_row.Denot
+handle_of boxed = record { at = boxed.at; alloc = boxed.alloc; kept = boxed.value }
 
--- A boxed list and the right to free its memory. If the pointer is null, the list is empty and
--- there is no memory.
-abbrev pub handle_owns : Global → Ptr → the_row.Denot → Fml
-handle_owns alloc (block_ptr b o) kept =
-    box_owns (ghosts.dealloc_token alloc) the_row (block_ptr b o) kept
-handle_owns alloc null_ptr kept = feq (List (List Interval)) kept []
+-- Whether the handle ends as the nullable box behind the borrow.
+abbrev pub EndsAsBox : MutBor handle_row.Denot → MutBor (box_row kept_row ghosts).Denot → Fml
+EndsAsBox handle boxed = Lends handle_row (box_row kept_row ghosts) handle boxed handle_of
+
+-- Whether the handle ends with the list that it had.
+abbrev pub EndsAsItWas : MutBor handle_row.Denot → Fml
+EndsAsItWas handle = follows_so handle_row handle_row handle.ghost_name none (λ _ _. ⊤)
+    (λ now. now.kept ≡ handle.now.kept)

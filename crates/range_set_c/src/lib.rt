@@ -6,6 +6,7 @@
 //! its handles are different sets (docs/DECISIONS.md, handles-apart).
 #![tactic(auto)]
 
+mod nullable_box;
 mod status;
 mod u32_lists;
 mod u32_sets;

@@ -4,4 +4,3 @@
 mod handle;
 mod kept;
 mod many;
-mod open;

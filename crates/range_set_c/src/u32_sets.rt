@@ -9,7 +9,6 @@ pub(crate) mod handle;
 mod in_place;
 mod kept;
 mod look_up;
-mod open;
 mod run;
 mod runs;
 mod text;

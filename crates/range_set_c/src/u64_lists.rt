@@ -3,4 +3,3 @@
 mod handle;
 mod kept;
 mod many;
-mod open;

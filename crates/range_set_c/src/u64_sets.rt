@@ -8,7 +8,6 @@ pub(crate) mod handle;
 mod in_place;
 mod kept;
 mod look_up;
-mod open;
 mod run;
 mod runs;
 mod text;

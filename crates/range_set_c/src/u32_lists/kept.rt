@@ -2,6 +2,9 @@
 //! What a handle to a list points to. It uses no other type of this crate, so that the clauses of a
 //! handle can name the memory of the list.
 
+ghost use Rattle.std.specs.Prelude.{◌≡◌, []};
+
+use crate::nullable_box::Empty;
 use range_set_blaze::RangeSetBlaze;
 use std::alloc::Global;
 use std::marker::Model;
@@ -19,4 +22,14 @@ impl Model for Kept {
     ghost Value = { List (List Interval) };
 
     ghost view = { λ kept. kept.sets.items };
+}
+
+impl Empty for Kept {
+    ghost empty = { [] };
+
+    fn new(alloc: Global) -> Kept {
+        Kept {
+            sets: Vec::new(alloc),
+        }
+    }
 }

@@ -9,6 +9,7 @@ ghost use Rattle.range_set_c.specs.U32Runs.{interval_of_run, values_of};
 
 use super::handle::Handle;
 use super::run::Run;
+use crate::nullable_box::NullableBox;
 use crate::status::CHANGED;
 use range_set_blaze::RangeSetBlaze;
 use std::alloc::{AllocError, Global};
@@ -25,7 +26,7 @@ pub extern "C" fn rsb_u32_from_runs(alloc: Global, out: &mut Handle, runs: &[Run
     ensures spared { runs.now ≡ [] → IsChanged result }
 {
     if runs.is_empty() {
-        *out = Handle::empty(alloc);
+        *out.as_box() = NullableBox::empty(alloc);
         return CHANGED;
     }
     let made = set_of(alloc, runs);

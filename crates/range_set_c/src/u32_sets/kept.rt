@@ -2,6 +2,9 @@
 //! What a handle points to. It uses no other type of this crate, so that the clauses of a handle
 //! can name the memory of the set.
 
+ghost use Rattle.std.specs.Prelude.{◌≡◌, []};
+
+use crate::nullable_box::Empty;
 use range_set_blaze::RangeSetBlaze;
 use std::alloc::Global;
 
@@ -9,4 +12,14 @@ use std::alloc::Global;
 #[derive(Drop)]
 pub struct Kept {
     pub set: RangeSetBlaze<u32, Global>,
+}
+
+impl Empty for Kept {
+    ghost empty = { record { set = [] } };
+
+    fn new(alloc: Global) -> Kept {
+        Kept {
+            set: RangeSetBlaze::new(alloc),
+        }
+    }
 }

@@ -11,6 +11,7 @@ ghost use Rattle.range_set_c.specs.Answer.{IsChanged, IsRefused};
 
 use super::handle::Handle;
 use super::kept::Kept;
+use crate::nullable_box::{Empty, NullableBox};
 use crate::status::{CHANGED, NO_MEMORY};
 use crate::u64_sets::handle::Handle as SetHandle;
 use range_set_blaze::{MultiwayRangeSetBlazeRef, RangeSetBlaze};
@@ -30,14 +31,14 @@ pub extern "C" fn rsb_u64_sets_add(alloc: Global, list: &mut Handle, set: &mut S
     let Ok(copy) = set.set_or(&empty).clone() else {
         return NO_MEMORY;
     };
-    let Ok(mut kept) = list.take_or_make(alloc) else {
+    let Ok(mut kept) = list.as_box().take_or_make(alloc) else {
         return NO_MEMORY;
     };
     let answer = match kept.add(copy) {
         Ok(()) => CHANGED,
         Err(_) => NO_MEMORY,
     };
-    *list = Handle::of(kept);
+    *list.as_box() = NullableBox::of(kept);
     answer
 }
 
@@ -120,19 +121,10 @@ pub extern "C" fn rsb_u64_sets_at_least(
 pub extern "C" fn rsb_u64_sets_free(alloc: Global, list: &mut Handle)
     ensures { list.new.kept ≡ [] }
 {
-    *list = Handle::empty(alloc);
+    *list.as_box() = NullableBox::empty(alloc);
 }
 
 impl Kept {
-    /// Returns the empty list, which owns no memory.
-    pub(super) fn new(alloc: Global) -> Kept
-        ensures { result ≡ [] }
-    {
-        Kept {
-            sets: Vec::new(alloc),
-        }
-    }
-
     // Adds a set at the end. If allocation fails, the list is unchanged and the set is dropped.
     fn add(&mut self, set: RangeSetBlaze<u64, Global>) -> Result<(), AllocError>
         ensures added { OnOk result (self.new ≡ self.old ++ set ∷ []) }

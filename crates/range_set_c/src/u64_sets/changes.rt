@@ -12,6 +12,7 @@ ghost use Rattle.range_set_blaze.specs.Set.{only, Adds, IsReached, Removes};
 ghost use Rattle.range_set_c.specs.Answer.{IsChanged, IsRefused, IsStatus, IsUnchanged, Succeeds};
 
 use super::handle::Handle;
+use crate::nullable_box::NullableBox;
 use crate::status::{CHANGED, NO_MEMORY, UNCHANGED};
 use std::alloc::Global;
 
@@ -38,7 +39,7 @@ pub extern "C" fn rsb_u64_insert_range(
     if last < first {
         return UNCHANGED;
     }
-    let Ok(mut kept) = set.take_or_make(alloc) else {
+    let Ok(mut kept) = set.as_box().take_or_make(alloc) else {
         return NO_MEMORY;
     };
     let answer = match kept.set.ranges_insert(first..=last) {
@@ -46,7 +47,7 @@ pub extern "C" fn rsb_u64_insert_range(
         Ok(false) => UNCHANGED,
         Err(_) => NO_MEMORY,
     };
-    *set = Handle::of(kept);
+    *set.as_box() = NullableBox::of(kept);
     answer
 }
 
@@ -61,7 +62,7 @@ pub extern "C" fn rsb_u64_insert(alloc: Global, set: &mut Handle, value: u64) ->
     ensures spared { IsTrue (members set.old.kept.set value) → IsUnchanged result }
     ensures reached { IsReached set.old.kept.set value → Succeeds result }
 {
-    let Ok(mut kept) = set.take_or_make(alloc) else {
+    let Ok(mut kept) = set.as_box().take_or_make(alloc) else {
         return NO_MEMORY;
     };
     let answer = match kept.set.insert(value) {
@@ -69,7 +70,7 @@ pub extern "C" fn rsb_u64_insert(alloc: Global, set: &mut Handle, value: u64) ->
         Ok(false) => UNCHANGED,
         Err(_) => NO_MEMORY,
     };
-    *set = Handle::of(kept);
+    *set.as_box() = NullableBox::of(kept);
     answer
 }
 
@@ -83,7 +84,7 @@ pub extern "C" fn rsb_u64_remove(set: &mut Handle, value: u64) -> u32
     ensures refused { IsRefused result → set.new.kept.set ≡ set.old.kept.set }
     ensures spared { IsFalse (members set.old.kept.set value) → IsUnchanged result }
 {
-    let Some(kept) = set.open() else {
+    let Some(kept) = set.as_box().open() else {
         return UNCHANGED;
     };
     match kept.set.remove(value) {
@@ -110,7 +111,7 @@ pub extern "C" fn rsb_u64_remove_range(set: &mut Handle, first: u64, last: u64) 
         (covers (from_to first last))) → IsUnchanged result }
     ensures spared { Lacks (2 ^ 64) set.old.kept.set (last + 1) → Succeeds result }
 {
-    let Some(kept) = set.open() else {
+    let Some(kept) = set.as_box().open() else {
         return UNCHANGED;
     };
     match kept.set.ranges_remove(first..=last) {
@@ -125,7 +126,7 @@ pub extern "C" fn rsb_u64_remove_range(set: &mut Handle, first: u64, last: u64) 
 pub extern "C" fn rsb_u64_clear(set: &mut Handle)
     ensures { set.new.kept.set ≡ [] }
 {
-    if let Some(kept) = set.open() {
+    if let Some(kept) = set.as_box().open() {
         kept.set.clear();
     }
 }
@@ -135,5 +136,5 @@ pub extern "C" fn rsb_u64_clear(set: &mut Handle)
 pub extern "C" fn rsb_u64_free(alloc: Global, set: &mut Handle)
     ensures { set.new.kept.set ≡ [] }
 {
-    *set = Handle::empty(alloc);
+    *set.as_box() = NullableBox::empty(alloc);
 }

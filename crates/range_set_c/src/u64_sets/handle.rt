@@ -1,60 +1,50 @@
 //! The handle that C holds (docs/DECISIONS.md, handle-one-pointer).
 
-ghost use Rattle.std.specs.Prelude.{◌≡◌, ◌⊎◌, ◌<◌, [], IfOk, IsOk, MatchOption, OnErr};
+ghost use Rattle.std.specs.Prelude.{◌≡◌, ◌⊎◌, [], IfOk, IsOk};
 ghost use Rattle.range_set_c.specs.Answer.{IsChanged, IsRefused};
-ghost use Rattle.range_set_c.specs.U64Handle.{handle_owns, kept_coded};
+ghost use Rattle.range_set_c.specs.NullableBox.{nullable_owns};
+ghost use Rattle.range_set_c.specs.contracts.u64_sets.kept.Kept.{the_row};
+ghost use Rattle.range_set_c.specs.contracts.u64_sets.kept.KeptEmpty.TheImpl.{ghosts};
 ghost use Rattle.range_set_c.specs.declared.u64_sets.kept.Kept.{Kept};
 
 use super::kept::Kept;
+use crate::nullable_box::NullableBox;
 use crate::status::{CHANGED, NO_MEMORY};
-use crate::unboxed::Unboxed;
 use range_set_blaze::RangeSetBlaze;
 use std::alloc::{AllocError, Global};
 use std::marker::Model;
-use std::mem;
 
 /// A set of `u64`. C sees a struct with one pointer. If it is null, the set is empty.
 #[repr(C)]
 pub struct Handle {
-    pub(super) at: *mut u8,
+    at: *mut u8,
     alloc: Global,
-    pub ghost kept: { Kept } by { kept_coded },
+    pub ghost kept: { Kept } by { the_row.coded },
 }
 
 impl Model for Handle {
-    ghost also_owns = { λ handle. handle_owns handle.alloc handle.at handle.kept };
+    ghost also_owns = { λ handle.
+        nullable_owns the_row ghosts.empty handle.alloc handle.at handle.kept };
 }
 
 impl Handle {
-    /// Returns the null handle.
-    pub(crate) fn empty(alloc: Global) -> Handle
-        ensures { result.kept.set ≡ [] }
-    {
-        Handle {
-            at: std::ptr::null_mut(),
-            alloc,
-        }
-    }
+    ghost use Rattle.range_set_c.specs.U64Handle.{EndsAsBox, EndsAsItWas};
+    ghost use types.Logic.{sem};
 
-    /// Returns a handle to a set.
-    pub(crate) fn of(kept: Box<Kept>) -> Handle
-        ensures { result.kept ≡ kept.value }
+    /// Returns the set, or the given empty set if the handle is null. It writes to neither the
+    /// handle nor the set.
+    pub(crate) fn set_or<'a>(
+        &'a mut self,
+        empty: &'a RangeSetBlaze<u64, Global>,
+    ) -> &'a RangeSetBlaze<u64, Global>
+        requires { empty.now ≡ [] }
+        ensures* same { sem 𝓛 (EndsAsItWas self.entry) }
+        ensures set { result.now ≡ self.old.kept.set }
     {
-        Handle::of_parts(Unboxed::of(kept))
-    }
-
-    /// Takes the set out, leaves a null handle, and returns the set. If the handle is null, it
-    /// returns a new empty set. If its allocation fails, the handle was null and stays null.
-    pub(crate) fn take_or_make(&mut self, alloc: Global) -> Result<Box<Kept>, AllocError>
-        ensures taken { IfOk result (λ kept. kept.value.set ≡ self.old.kept.set) }
-        ensures left { self.new.kept.set ≡ [] }
-        ensures err { OnErr result (self.old.kept.set ≡ []) }
-    {
-        if let Some(kept) = self.take(alloc) {
-            return Ok(kept);
+        match self.as_box().open() {
+            Some(kept) => &kept.set,
+            None => empty,
         }
-        let set = RangeSetBlaze::new(alloc);
-        Ok(Box::new(alloc, Kept { set })?)
     }
 
     /// Replaces the set with the one in `made` and returns `CHANGED`. If `made` is an error or an
@@ -75,55 +65,16 @@ impl Handle {
         let Ok(kept) = Box::new(alloc, Kept { set }) else {
             return NO_MEMORY;
         };
-        *self = Handle::of(kept);
+        *self.as_box() = NullableBox::of(kept);
         CHANGED
     }
 
-    // Takes the set out, leaves a null handle, and returns the set, or `None` if the handle was
-    // null.
-    fn take(&mut self, alloc: Global) -> Option<Box<Kept>>
-        ensures taken { MatchOption result (self.old.kept.set ≡ [])
-            (λ kept. kept.value ≡ self.old.kept) }
-        ensures left { self.new.kept.set ≡ [] }
+    /// Returns the same memory as the type that all handles share (docs/DECISIONS.md,
+    /// handle-by-cast).
+    pub(crate) fn as_box(&mut self) -> &mut NullableBox<Kept>
+        ensures* writes_back { sem 𝓛 (EndsAsBox self.entry result) }
+        ensures kept { result.now.value ≡ self.old.kept }
     {
-        mem::replace(self, Handle::empty(alloc)).into_box()
-    }
-
-    // Returns the set, or `None` if the handle is null.
-    fn into_box(self) -> Option<Box<Kept>>
-        ensures { MatchOption result (self.kept.set ≡ []) (λ kept. kept.value ≡ self.kept) }
-    {
-        let parts = self.into_parts()?;
-        Some(parts.into_box())
-    }
-
-    fn of_parts(parts: Unboxed<Kept, Global>) -> Handle
-        ensures { result.kept ≡ parts.value }
-    {
-        let Unboxed { at, alloc } = parts;
-        Handle {
-            at: at.cast(),
-            alloc,
-        }
-    }
-
-    fn into_parts(self) -> Option<Unboxed<Kept, Global>>
-        ensures { MatchOption result (self.kept.set ≡ []) (λ parts. parts.value ≡ self.kept) }
-    {
-        let Handle { at, alloc } = self;
-        if at.is_null() {
-            return None;
-        }
-        Some(Unboxed {
-            at: at.cast(),
-            alloc,
-        })
-    }
-}
-
-// Frees the set and its memory.
-impl Drop for Handle {
-    fn drop(self) {
-        drop(self.into_box());
+        unsafe { &mut *(&raw mut *self).cast::<NullableBox<Kept>>() }
     }
 }

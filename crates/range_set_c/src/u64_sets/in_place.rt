@@ -11,6 +11,7 @@ ghost use Rattle.range_set_blaze.specs.Set.{Adds, IsSetOf, Removes};
 ghost use Rattle.range_set_c.specs.Answer.{IsChanged, IsRefused, IsStatus, IsUnchanged, Succeeds};
 
 use super::handle::Handle;
+use crate::nullable_box::NullableBox;
 use crate::status::{CHANGED, NO_MEMORY, UNCHANGED};
 use range_set_blaze::RangeSetBlaze;
 use std::alloc::Global;
@@ -61,7 +62,7 @@ pub extern "C" fn rsb_u64_intersect_with(alloc: Global, set: &mut Handle, other:
 {
     let nothing = RangeSetBlaze::new(alloc);
     let other = other.set_or(&nothing);
-    let Some(kept) = set.open() else {
+    let Some(kept) = set.as_box().open() else {
         return UNCHANGED;
     };
     if kept.set.is_subset(other) {
@@ -92,7 +93,7 @@ pub extern "C" fn rsb_u64_subtract(alloc: Global, set: &mut Handle, other: &mut 
 {
     let nothing = RangeSetBlaze::new(alloc);
     let other = other.set_or(&nothing);
-    let Some(kept) = set.open() else {
+    let Some(kept) = set.as_box().open() else {
         return UNCHANGED;
     };
     if kept.set.is_disjoint(other) {
@@ -123,13 +124,13 @@ pub extern "C" fn rsb_u64_xor_with(alloc: Global, set: &mut Handle, other: &mut 
     if other.is_empty() {
         return UNCHANGED;
     }
-    let Ok(mut kept) = set.take_or_make(alloc) else {
+    let Ok(mut kept) = set.as_box().take_or_make(alloc) else {
         return NO_MEMORY;
     };
     let answer = match kept.set.bitxor_assign(other) {
         Ok(()) => CHANGED,
         Err(_) => NO_MEMORY,
     };
-    *set = Handle::of(kept);
+    *set.as_box() = NullableBox::of(kept);
     answer
 }

@@ -6,6 +6,7 @@ ghost use Rattle.range_set_c.specs.Answer.{HasNoRoom, IsBadText, IsChanged, IsRe
 ghost use Rattle.range_set_c.specs.SetText.{text_of, IsRead, IsUnread};
 
 use super::handle::Handle;
+use crate::nullable_box::NullableBox;
 use crate::status::{BAD_TEXT, CHANGED, NO_MEMORY, NO_ROOM};
 use range_set_blaze::{ParseError, RangeSetBlaze};
 use std::alloc::{AllocError, Global};
@@ -63,7 +64,7 @@ pub extern "C" fn rsb_u64_from_text(alloc: Global, out: &mut Handle, text: &[u8]
     ensures spared { text.now ≡ [] → IsChanged result }
 {
     if text.is_empty() {
-        *out = Handle::empty(alloc);
+        *out.as_box() = NullableBox::empty(alloc);
         return CHANGED;
     }
     let Ok(found) = read(alloc, text) else {
