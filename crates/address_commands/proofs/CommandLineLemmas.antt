@@ -1,25 +1,23 @@
 -- Command lines, word by word.
-use Rattle.std.proofs.Common.{drop-cons, get_or, inl, inr, ◌+◌, ◌⊎◌, ◌≡◌, ◌≢◌, ◌∙◌, ℕ, ◌-◌, ◌<◌, ◌≤◌, suc, Bool, true, false, not, ◌||◌, cond, Bor, List, [], ◌∷◌, ◌++◌, length, map, take, drop, Option, Some, None, refl, sym, ap, subst, append_assoc, true≢false, arith, lit<}
+use Rattle.std.proofs.Common.{◌⊎◌, inl, inr, ◌≡◌, ◌≢◌, ◌∙◌, ℕ, ◌-◌, ◌<◌, ◌≤◌, suc, Bool, true, false, not, ◌||◌, cond, Bor, List, [], ◌∷◌, ◌++◌, length, map, take, drop, Option, Some, None, refl, sym, ap, subst, append_assoc, true≢false, arith, lit<}
 use Rattle.std.proofs.lemmas.Bool.Decides.{nat_tests}
-use Rattle.std.proofs.lemmas.List.{append-nil, length-map, map-append, map_push, take-append-drop, take_all}
-use Rattle.std.proofs.lemmas.List.Elements.{filter-append, filter_map-append}
+use Rattle.std.proofs.lemmas.List.{append-nil, length-map, take_all}
+use Rattle.std.proofs.lemmas.List.Elements.{filter-append}
 use Rattle.std.proofs.lemmas.List.Folds.{find-append}
 use Rattle.std.proofs.lemmas.Slice.Eq.{bytes_eq-Decides}
 use Rattle.std.specs.Bool.{Decides}
 use Rattle.std.specs.List.{filter, filter_map, find, last_or, list_any}
 use Rattle.std.specs.Option.{IsSomeAnd, option_or}
-use Rattle.std.specs.Prelude.{Err, IfErr, IfOk, MatchResult, Ok, Result, ◌==◌, IsErrAnd, IsFalse, IsTrue, bytes_eq, codes, if◌then◌else◌, slice_index_or, unwrap_or}
-use Rattle.address_commands.specs.CommandLine.{AreArguments, Asks, IsMisuse, IsMisuseOfOperands, IsRequest, IsRequestWith, IsWordFault, after_mark, before_mark, families_asked, families_of, first_unknown, form_asked, form_of, is_dashed, is_known, is_mark, operands_of, options_of, question_asked, question_of, words_needed}
+use Rattle.std.specs.Prelude.{Err, IfErr, IfOk, MatchResult, Ok, Result, ◌==◌, bytes_eq, codes, if◌then◌else◌, slice_index_or, unwrap_or}
+use Rattle.address_commands.specs.CommandLine.{AreArguments, IsMisuseOfOperands, IsRequestWith, after_mark, before_mark, families_asked, first_unknown, form_asked, is_dashed, is_known, is_mark, operands_of, options_of, question_asked, words_needed}
 use Rattle.address_commands.specs.declared.arguments.Arguments.{Arguments}
 use Rattle.address_commands.specs.declared.fault.Misuse.{Misuse}
-use Rattle.address_commands.specs.declared.fault.Misuse.TheVariants.{NoAddress, NoCommand, NoNumber, TooFewWords, UnknownCommand, UnknownOption}
+use Rattle.address_commands.specs.declared.fault.Misuse.TheVariants.{TooFewWords}
 use Rattle.address_commands.specs.declared.request.Families.{Families}
-use Rattle.address_commands.specs.declared.arguments.Question.TheVariants as Asked
 use Rattle.address_commands.specs.declared.request.Families.TheVariants.{Both}
 use Rattle.address_commands.specs.declared.request.Form.{Form}
 use Rattle.address_commands.specs.declared.request.Form.TheVariants.{Blocks}
 use Rattle.address_commands.specs.declared.request.Request.{Request}
-use Rattle.address_commands.specs.declared.request.Request.TheVariants.{Help, Version}
 
 -- ---- tests on words
 

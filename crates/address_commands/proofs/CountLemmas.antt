@@ -1,5 +1,5 @@
 -- The lines that count addresses and blocks.
-use Rattle.std.proofs.Common.{◌≡◌, ◌∙◌, ℕ, ◌-◌, ◌^◌, ◌+◌, ◌<◌, ◌≤◌, List, ◌++◌, length, Option, Some, None, refl, sym, ap, append_assoc, subst, min}
+use Rattle.std.proofs.Common.{◌≡◌, ◌∙◌, ℕ, ◌-◌, ◌^◌, List, ◌++◌, length, Option, Some, None, refl, sym, ap, append_assoc, subst, min}
 use Rattle.std.specs.Fmt.{decimal, digits, option_append}
 use Rattle.std.specs.Io.KnownBytes.{Appends}
 use Rattle.std.specs.Prelude.{Err, IfSome, Ok, OnOk, Result, codes}
@@ -9,7 +9,7 @@ use Rattle.address_lists.specs.Blocks.{AreMaximalBlocks}
 use Rattle.address_commands.specs.Answer.{AreCounts, IsCountText, count_line}
 use Rattle.address_commands.proofs.AppendsLemmas.{Appends-then}
 use Rattle.address_commands.specs.declared.request.Families.{Families}
-use Rattle.address_commands.specs.declared.request.Families.TheVariants.{Both, V4, V6}
+use Rattle.address_commands.specs.declared.request.Families.TheVariants.{Both}
 
 -- The decimals of the number of all IPv6 addresses.
 pub all-v6 : decimal (2 ^ 128) ≡ codes "340282366920938463463374607431768211456"

@@ -1,13 +1,12 @@
 -- The lists of files, one file after the other.
-use Rattle.std.proofs.Common.{◌≡◌, ◌∙◌, ℕ, ◌+◌, ◌<◌, ◌≤◌, suc, Bor, All, List, [], ◌∷◌, ◌++◌, length, map, take, drop, get_or, Option, sym, ap, subst}
+use Rattle.std.proofs.Common.{◌≡◌, ◌∙◌, ℕ, ◌+◌, ◌<◌, suc, Bor, All, List, [], ◌∷◌, ◌++◌, length, map, take, drop, get_or, Option, sym, ap, subst}
 use Rattle.std.proofs.Common.{drop-cons}
-use Rattle.std.proofs.lemmas.List.{map-append, map_push, take-append-drop, take_all, take_more}
+use Rattle.std.proofs.lemmas.List.{map-append, map_push, take-append-drop, take_more}
 use Rattle.std.proofs.lemmas.List.Elements.{All-cons, All-nil}
 use Rattle.std.proofs.lemmas.Slice.Zip.{all_zipped_more}
 use Rattle.std.specs.Prelude.{Err, IfErr, IfSome, IsErrAnd, Ok, Result}
 use Rattle.address_lists.specs.List.{IsFirstBadLine}
-use Rattle.address_commands.specs.Files.{AreFilesOf, IsFaultOf, IsFileOf, IsFirstFault, IsFirstFile, IsGoodFile, KeepsUnlessWriting, Selected, selected}
-use Rattle.address_commands.proofs.AppendsLemmas.{Keeps-itself}
+use Rattle.address_commands.specs.Files.{AreFilesOf, IsFaultOf, IsFileOf, IsFirstFault, IsFirstFile, IsGoodFile, Selected, selected}
 use Rattle.address_lists.specs.declared.list.AddressList.{AddressList}
 use Rattle.address_commands.specs.declared.fault.Fault.{Fault}
 use Rattle.address_commands.specs.declared.fault.Fault.TheVariants.{BadLine, CommandLine, NoMemory, NotRead, NotWritten}

@@ -1,5 +1,5 @@
 -- The names of the files whose list has an address.
-use Rattle.std.proofs.Common.{◌≡◌, ◌∙◌, ℕ, Bool, true, false, cond, Bor, List, [], ◌∷◌, ◌++◌, map, Option, Some, None, refl, sym, ap, subst, inl, inr}
+use Rattle.std.proofs.Common.{◌≡◌, ◌∙◌, ℕ, Bool, true, false, cond, Bor, List, [], ◌∷◌, ◌++◌, map, Some, None, refl, sym, ap, subst, inl, inr}
 use Rattle.std.proofs.lemmas.Iterator.{zips}
 use Rattle.std.proofs.iter.Yields.{fronts}
 use Rattle.std.proofs.lemmas.List.{append-nil, map-append}

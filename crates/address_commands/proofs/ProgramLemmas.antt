@@ -1,6 +1,5 @@
 -- How the program ends.
-use Rattle.std.proofs.Common.{All, ◌≡◌, ℕ, List, Option, Some, None, refl, subst, sym}
-use Rattle.std.specs.Io.KnownBytes.{Keeps}
+use Rattle.std.proofs.Common.{All, ◌≡◌, ℕ, List, Option, subst, sym}
 use Rattle.std.specs.Prelude.{Err, IsErrAnd, Ok, Result}
 use Rattle.std.proofs.lemmas.List.Elements.{All-nil}
 use Rattle.address_commands.specs.Answer.{Answers}

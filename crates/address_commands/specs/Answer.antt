@@ -71,7 +71,7 @@ names_with test files lists =
 abbrev pub names_text : List (List ℕ) → List ℕ
 names_text names = flat_map (λ (name : List ℕ). name ++ codes "\n") names
 
--- How the search for lists ends that found these names.
+-- The outcome of a search that found these names.
 abbrev pub found_outcome : List (List ℕ) → Outcome
 found_outcome [] = InNone
 found_outcome (name ∷ names) = Done

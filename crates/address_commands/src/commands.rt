@@ -1,6 +1,6 @@
 //! The commands. Each reads all of its lists, and then writes its answer.
 
-ghost use Rattle.std.specs.Prelude.{◌≡◌, ℕ, ◌^◌, Err, IfErr, IfOk, IsTrue, List, Ok, OnOk, map};
+ghost use Rattle.std.specs.Prelude.{◌≡◌, IfErr, IfOk, OnOk};
 ghost use Rattle.std.specs.Io.KnownBytes.{Appends};
 ghost use Rattle.address_commands.specs.Answer.{Answers};
 ghost use Rattle.address_commands.specs.Fault.{outcome_status};

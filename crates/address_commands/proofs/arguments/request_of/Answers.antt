@@ -1,5 +1,5 @@
-use Rattle.std.proofs.Common.{◌≡◌, ◌∙◌, ℕ, ◌-◌, ◌∷◌, Bor, List, drop, length, map, refl, ap, take}
-use Rattle.std.specs.Prelude.{codes, slice_index_or}
+use Rattle.std.proofs.Common.{◌∙◌, ℕ, ◌-◌, ◌∷◌, Bor, List, drop, length, map, refl, ap, take}
+use Rattle.std.specs.Prelude.{codes}
 use Rattle.address_commands.proofs.CommandLineLemmas.{first-rest, no-command, of-operation}
 use Rattle.address_commands.proofs.arguments.request_of.Goals as goal
 

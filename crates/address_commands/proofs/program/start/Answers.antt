@@ -7,10 +7,10 @@ use Rattle.address_commands.proofs.program.start.Goals as goal
 pub returns-in-Err : goal.returns-in-Err
 returns-in-Err g c = record {
   ends = (
-      Err c.in-Err.fault,
-      word-fault (g.I.Inputs.bytes c.args.inputs.now) (map g.S.AsStr.text c.args.words.now)
-          (g.W.Write.contents c.args.output.now) c.in-Err.fault c.in-Err.ensures.fault,
-      c.finish-in-Err.ensures.status,
-      c.finish-in-Err.ensures.quiet,
-    );
+    Err c.in-Err.fault,
+    word-fault (g.I.Inputs.bytes c.args.inputs.now) (map g.S.AsStr.text c.args.words.now)
+        (g.W.Write.contents c.args.output.now) c.in-Err.fault c.in-Err.ensures.fault,
+    c.finish-in-Err.ensures.status,
+    c.finish-in-Err.ensures.quiet,
+  );
 }

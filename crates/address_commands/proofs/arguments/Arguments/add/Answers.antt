@@ -1,6 +1,5 @@
 use Rattle.std.proofs.Common.{◌∙◌, ◌∷◌, ◌++◌, inl, inr, map, sym, ap, refl, subst}
 use Rattle.std.proofs.lemmas.List.{map_push}
-use Rattle.std.specs.Prelude.{codes}
 use Rattle.address_commands.specs.CommandLine.{IsMisuse, IsWordFault}
 use Rattle.address_commands.proofs.CommandLineLemmas.{first-unknown, more-mark, more-operand, more-option}
 use Rattle.address_commands.proofs.FilesLemmas.{passed-on}
