@@ -1,6 +1,6 @@
 -- A set has at most as many runs as any list of intervals with its members: an interval starts where
 -- each run does.
-use Rattle.std.proofs.Common.{◌≡◌, ◌∙◌, ℕ, ◌+◌, ◌-◌, ◌<◌, ◌≤◌, true≢false, List, [], ◌∷◌, get_or, length, inl, inr, sym, arith}
+use Rattle.std.proofs.Common.{◌≡◌, ◌∙◌, ℕ, ◌+◌, ◌-◌, ◌≤◌, true≢false, List, [], ◌∷◌, get_or, length, inl, inr, sym, arith}
 use Rattle.std.proofs.lemmas.Bool.{cases_lt}
 use Rattle.std.specs.List.{All}
 use Rattle.rsb_integer.proofs.RunsLemmas.{canonical-maximal}

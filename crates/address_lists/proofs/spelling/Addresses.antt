@@ -1,5 +1,5 @@
 -- The text of an address writes that address.
-use Rattle.std.proofs.Common.{◌≡◌, ◌∙◌, ℕ, ◌^◌, ◌<◌, List, refl, sym, ap}
+use Rattle.std.proofs.Common.{◌∙◌, ℕ, ◌^◌, ◌<◌, refl, sym, ap}
 use Rattle.std.proofs.NetLemmas.Texts.{IsDotted-ipv4_text, IsColonHex-ipv6_text}
 use Rattle.std.proofs.lemmas.Nat.{from_be_bytes-to_be_bytes_4}
 use Rattle.std.specs.Int.{w32, w128, from_be_bytes, to_be_bytes}

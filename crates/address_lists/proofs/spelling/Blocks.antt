@@ -1,5 +1,5 @@
 -- Blocks of addresses fit their type.
-use Rattle.std.proofs.Common.{◌≡◌, ℕ, ◌+◌, ◌-◌, ◌*◌, ◌/◌, ◌%◌, ◌^◌, ◌<◌, ◌≤◌, ◌↔◌, ap, refl, ◌∙◌, arith}
+use Rattle.std.proofs.Common.{◌≡◌, ℕ, ◌+◌, ◌-◌, ◌*◌, ◌/◌, ◌%◌, ◌^◌, ◌<◌, ◌≤◌, ◌↔◌, ap, ◌∙◌, arith}
 use Rattle.std.proofs.Math.Nat.{mod-eq_of_lt}
 use Rattle.std.proofs.lemmas.Nat.{one_shl, pow-add, pow_below, pow_pos, shr_below, shr_split, mul-le, div-add-mod', div_below, le-div, mod_below}
 use Rattle.address_lists.specs.AddressRange.{SharesBits, block_end, block_size, block_start}

@@ -1,5 +1,4 @@
 use Rattle.std.proofs.Common.{◌≡◌, ◌∙◌, ◌+◌, ◌<◌, ◌≤◌, [], Err, Some, ap, arith, length, subst, sym}
-use Rattle.std.specs.Option.{IfSome}
 use Rattle.std.specs.Str.Lines.{lines}
 use Rattle.range_set_blaze.specs.Runs.{members}
 use Rattle.address_lists.specs.Gathering.{AreGatheredTo}

@@ -1,4 +1,3 @@
-use Rattle.std.proofs.Common.{List}
 use Rattle.std.specs.Prelude.{IfSome}
 use Rattle.address_lists.specs.Gathering.{AreGatheredTo}
 use Rattle.address_lists.proofs.list.read_list.Given as goal

@@ -1,4 +1,4 @@
-use Rattle.std.proofs.Common.{◌++◌, ◌∷◌, [], arith}
+use Rattle.std.proofs.Common.{arith}
 use Rattle.address_lists.proofs.listing.Reading.{gathered_line, same_meaning}
 use Rattle.address_lists.proofs.list.gathered.Gathered.add_line.Goals as goal
 

@@ -1,4 +1,4 @@
-use Rattle.std.proofs.Common.{◌+◌, ◌++◌, arith, drop, subst}
+use Rattle.std.proofs.Common.{◌+◌, ◌++◌, arith, subst}
 use Rattle.std.proofs.lemmas.List.{length-drop, take_rest}
 use Rattle.address_lists.specs.List.{IsPastBadLine}
 use Rattle.address_lists.proofs.listing.Buffered.{drop_on, found_bad, found_next}
