@@ -7,7 +7,7 @@ use seplogic.Ra.Ura.{Ura}
 use mir.Syntax.{Callee, Fn, Ty, named, erased, mut, ty_ref, ty_ptr, local, value_local, place, deref, addr_of, rv_opd, copy, assign, block, seq, return}
 use mir.Val.{Val, vptr}
 use base.Fraction.{full_share}
-use base.Logic.{SProp, ent, sep, emp, id⊢}
+use base.Logic.{SProp, ent, sep, emp}
 use base.Fml.{GName, ftrue, fsep, flft}
 use contract.Monad.{fact}
 use contract.Running.{Running, tables}
