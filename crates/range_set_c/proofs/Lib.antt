@@ -1,4 +1,5 @@
 mod Arrays
+mod Cast
 mod NullableBoxForm
 mod SetText
 mod UnboxedForm

@@ -70,8 +70,7 @@ impl Handle {
         CHANGED
     }
 
-    /// Returns the same memory as the type that all handles share (docs/DECISIONS.md,
-    /// handle-by-cast).
+    /// Returns the handle as the type that all share (docs/DECISIONS.md, handle-by-cast).
     pub(crate) fn as_box(&mut self) -> &mut NullableBox<Kept>
         ensures* writes_back { sem 𝓛 (EndsAsBox self.entry result) }
         ensures kept { result.now.value ≡ self.old.kept }

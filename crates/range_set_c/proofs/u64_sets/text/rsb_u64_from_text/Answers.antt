@@ -1,8 +1,8 @@
-use Rattle.std.proofs.Common.{◌∙◌, List, length, sym, subst}
+use Rattle.std.proofs.Common.{◌∙◌, length, sym, subst}
 use Rattle.std.proofs.lemmas.Bool.{eqb-true}
 use Rattle.std.proofs.lemmas.List.{nil_from_length}
-use Rattle.rsb_integer.specs.Runs.{Interval}
 use Rattle.range_set_c.specs.SetText.{IsRead}
+use Rattle.range_set_c.specs.declared.u64_sets.kept.Kept.{Kept}
 use Rattle.range_set_c.proofs.SetText.{nothing-read}
 use Rattle.range_set_c.proofs.u64_sets.text.rsb_u64_from_text.Goals as goal
 
@@ -11,5 +11,5 @@ pub returns-then-is_empty-clause-read : goal.returns-then-is_empty-clause-read
 returns-then-is_empty-clause-read c changed =
     let none = eqb-true (length c.args.text.now) 0 (sym c.is_empty.ensures ∙ c.if-is_empty.true) in
     let nothing = nil_from_length c.args.text.now none in
-    subst (λ (set : List Interval). IsRead 64 c.args.text.now set) (sym c.empty.ensures)
+    subst (λ (kept : Kept). IsRead 64 c.args.text.now kept.set) (sym c.empty.ensures)
     (nothing-read 64 c.args.text.now nothing)
