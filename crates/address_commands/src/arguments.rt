@@ -95,7 +95,8 @@ impl<'a, A: Allocator> Arguments<'a, A> {
         Ok(())
     }
 
-    /// Returns what the arguments ask for.
+    /// Returns what the arguments ask for, or the first thing that is wrong with the operands.
+    /// `--help` and `--version` are answered whatever the operands are.
     pub fn request(&self) -> Result<Request<'_>, Misuse<'_>>
         ensures { (words : List (List ℕ)) → AreArguments words self.now
             → MatchResult result (IsRequest words) (IsMisuse words) }
