@@ -24,10 +24,10 @@ pub(crate) fn has_runs(list: &AddressList, count: usize) -> bool {
     list.v4.ranges_len() == count && list.v6.ranges_len() == count
 }
 
-/// Whether each third address up to an end is selected exactly if the remainder of its division by
-/// 8 is one of these.
+/// Whether each eleventh address up to an end is selected exactly if the remainder of its division
+/// by 8 is one of these.
 pub(crate) fn selects(list: &AddressList, end: u32, remainders: &[u32]) -> bool {
-    for number in (0..end).step_by(3) {
+    for number in (0..end).step_by(11) {
         let wanted = remainders.contains(&(number % 8));
         if list.v4.contains(number) != wanted || list.v6.contains(u128::from(number)) != wanted {
             return false;
@@ -40,16 +40,19 @@ pub(crate) fn selects(list: &AddressList, end: u32, remainders: &[u32]) -> bool 
 /// the number of runs that it selects in each family, and which of each eight addresses.
 type Row = (Operation, usize, &'static [u32]);
 
-static ROWS: [Row; 9] = [
+static ROWS: [Row; 5] = [
     (Operation::Union, 70_000, &[0, 1, 2, 3, 4]),
     (Operation::Common, 70_000, &[2]),
     (Operation::Except, 70_000, &[0, 1]),
     (Operation::Odd, 140_000, &[0, 1, 3, 4]),
+    (Operation::Complement, 70_000, &[5, 6, 7]),
+];
+
+static COUNTED: [Row; 4] = [
     (Operation::AtLeast(0), 1, &[0, 1, 2, 3, 4, 5, 6, 7]),
     (Operation::AtLeast(1), 70_000, &[0, 1, 2, 3, 4]),
     (Operation::AtLeast(2), 70_000, &[2]),
     (Operation::AtLeast(3), 0, &[]),
-    (Operation::Complement, 70_000, &[5, 6, 7]),
 ];
 
 /// Whether an operation on lists selects what its row says.
@@ -58,12 +61,26 @@ fn combines(alloc: Global, lists: &[AddressList], row: &Row) -> Result<bool, All
     Ok(has_runs(&list, row.1) && selects(&list, 559_997, row.2))
 }
 
+/// Returns the first operation that does not select what its row says.
+fn first_wrong(alloc: Global, rows: &[Row]) -> Result<Option<Operation>, AllocError> {
+    let lists = [many_runs(alloc, 0)?, many_runs(alloc, 2)?];
+    for row in rows {
+        if !combines(alloc, &lists, row)? {
+            return Ok(Some(row.0));
+        }
+    }
+    Ok(None)
+}
+
 #[test]
 fn operations_on_many_runs_select_each_of_them(rt: HostRuntime) -> Result<(), Fail> {
-    let lists = [many_runs(rt.alloc(), 0)?, many_runs(rt.alloc(), 2)?];
-    for row in &ROWS {
-        assert!(rt; combines(rt.alloc(), &lists, row)?, "{:?}", row.0);
-    }
+    assert_eq!(rt; first_wrong(rt.alloc(), &ROWS)?, None);
+    Ok(())
+}
+
+#[test]
+fn runs_of_both_lists_are_counted_twice(rt: HostRuntime) -> Result<(), Fail> {
+    assert_eq!(rt; first_wrong(rt.alloc(), &COUNTED)?, None);
     Ok(())
 }
 
