@@ -1,4 +1,4 @@
--- A function that casts a `&mut` to a struct of another type, which has the same layout and owns the
+-- A function that casts a `&mut` to one to another struct, which has the same layout and owns the
 -- same memory.
 use mathlib.Core.Path.{◌≡◌, refl}
 use mathlib.Core.List.{List, [], ◌∷◌}
@@ -144,7 +144,8 @@ module _ (R T : RattleType) (R-one : One R.mir) (T-one : One T.mir) (V : Type 0)
             (vptr b o ∷ [])) ⊛ ‵ (flft κ q) ⊛ ‵ (follows R T γ γ' source_of))))
             (lends_Part 𝓛 R T source_of (named 0) κ q b o b o γ (sem 𝓛 ftrue) returned
             (R.coded.code h) (R.coded.code h) (target_of h)) $ await ! tt $ pick ! (λ γ'.
-            let r : MutBor T.Denot = record { ref_ptr = (b, o); ghost_name = γ'; now = target_of h } in
+            let r : MutBor T.Denot =
+            record { ref_ptr = (b, o); ghost_name = γ'; now = target_of h } in
             split3 ! $ returns ! (look_at ! 0 refl) $ free_all ! refl $ keep ! (0 ∷ 1 ∷ 2 ∷ []) $
             suffices ! _ (ends_at 𝓛 ended stayed clauses z (vptr b o) r (tt, tt) (tt, tt)) $
             nothing ! $ nothing ! $ fjoin ! $ join ! $ nothing ! $ move ! (2 ∷ 0 ∷ []) $ join ! $

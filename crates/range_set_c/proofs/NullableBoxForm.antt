@@ -1,5 +1,5 @@
--- What the proofs about `NullableBox` share: its row, and the form of a box of the same types, whose
--- allocator is `Global`.
+-- What the proofs about `NullableBox` share: its row, and the form of a box of the same type, with
+-- the allocator `Global`.
 use mathlib.Core.List.{[], ◌∷◌}
 use mir.Syntax.{Args, Dict, a_type, dcons, dnil, impl, tnil}
 use mir.Val.{Val, vstruct, vcons, vnil}

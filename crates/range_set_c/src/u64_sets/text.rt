@@ -14,8 +14,8 @@ use std::str;
 
 /// Writes the text of a set to the front of a buffer, stores the length of the text in `needed`,
 /// and returns `CHANGED`. If the text does not fit, it returns `NO_ROOM`, and the buffer is
-/// unchanged. If an allocation fails, it returns `NO_MEMORY`, and `needed` is unchanged too. It does
-/// not allocate if the set is empty.
+/// unchanged. If an allocation fails, it returns `NO_MEMORY`, and `needed` is unchanged too. It
+/// does not allocate if the set is empty.
 #[unsafe(no_mangle)]
 pub extern "C" fn rsb_u64_to_text(
     alloc: Global,

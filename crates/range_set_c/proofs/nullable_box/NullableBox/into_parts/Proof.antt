@@ -33,9 +33,8 @@ use Rattle.std.specs.declared.option.Option.TheVariants.{None, Some}
 use Rattle.std.proofs.alloc.Calls.{token, handle_tells, Fits, Goes-blank}
 use Rattle.std.proofs.alloc.Shapes.{after}
 use Rattle.std.proofs.option.Made.{Some-of, none_of}
-use Rattle.std.proofs.BoxSteps.Form.{D, τ, word, handle, box_typed}
+use Rattle.std.proofs.BoxSteps.Form.{Bx, D, R, τ, word, handle, box_typed}
 use Rattle.std.proofs.BoxSteps.Steps.{box_in}
-use Rattle.std.proofs.BoxSteps.Form.{Bx, R}
 use Rattle.std.proofs.GlobalToken.{dealloc_token-Testable}
 use Rattle.std.proofs.ResultValues.{and_tt}
 use Rattle.std.proofs.raw_atomic.Walks.{proved_at}
@@ -92,11 +91,13 @@ module _ (X : RattleType) (LX : Laws X) (empty : Ghosts X.Denot) (d dd : Dict) w
           sets ! (of_opd ! (get_in ! (fld ! refl (stop !)) (sub ! 0 refl (whole !)))) refl
           (tt, record { fits = lit< tt }) $
           sets ! (of_opd ! (get_in ! (fld ! refl (stop !)) (sub ! 1 refl (whole !)))) refl fa $
-          sets ! (bin ! (get ! refl) (lit ! tt) tt) refl (tt, tt) $ first ! $ branches ! (get ! refl)
+          sets ! (bin ! (get ! refl) (lit ! tt) tt) refl (tt, tt) $ first ! $
+          branches ! (get ! refl)
           (λ _. sets ! (agg ! (and_then ! (lit ! tt) (no_more !))) refl
           (tt, (record { fits = lit< tt }, tt)) $
           returns_within ! Post refl (look_at ! 0 refl) $ free_all ! refl $
-          suffices ! _ (ends_at 𝓛 ended stayed c z (live 0 vnil) None (tt, tt) (tt, tt)) $ says ! e $
+          suffices ! _ (ends_at 𝓛 ended stayed c z (live 0 vnil) None (tt, tt) (tt, tt)) $
+          says ! e $
           use0 𝓛 (‵ ((type_at ended.signature.result z.0.0).own_val None (live 0 vnil ∷ [])))
           (none_of 𝓛 P) $
           nothing ! $ nothing ! $ fjoin ! $ join ! $ move ! (1 ∷ 0 ∷ []) $ join ! $ done !)
@@ -117,12 +118,14 @@ module _ (X : RattleType) (LX : Laws X) (empty : Ghosts X.Denot) (d dd : Dict) w
           move ! (1 ∷ 0 ∷ 2 ∷ []) $ box_in E ! v b o x refl refl $
           use1 𝓛 (‵ (P.own_val parts (w ∷ []))) (id⊢ 𝓤 _) $
           enter ! 𝓣.C 𝓣.Λ fn (w ∷ []) Post $ alloc_all ! (λ l. pass_all ! refl (typed, tt) $
-          sets ! (of_opd ! (get_in ! (fld ! refl (stop !)) (sub ! 0 refl (whole !)))) refl (tt, tt) $
+          sets ! (of_opd ! (get_in ! (fld ! refl (stop !)) (sub ! 0 refl (whole !)))) refl
+          (tt, tt) $
           sets ! (of_opd ! (get_in ! (fld ! refl (stop !)) (sub ! 1 refl (whole !)))) refl fa $
           sets ! (bin ! (get ! refl) (lit ! tt) (tests_null (block_ptr b o) t)) refl (tt, tt) $
           first ! $ branches ! (get ! refl) (λ wrong. absurd wrong)
           (λ _. skips ! $ exec ! 𝓣.C 𝓣.Λ (env fn.locals l) (after 4 fn.body) (at_ret _ Post) $
-          sets ! (agg ! (and_then ! (get ! refl) (and_then ! (get ! refl) (no_more !)))) refl typed $
+          sets ! (agg ! (and_then ! (get ! refl) (and_then ! (get ! refl) (no_more !)))) refl
+          typed $
           sets ! (agg ! (and_then ! (lit ! tt) (and_then ! (get ! refl) (no_more !)))) refl
           (and_tt _ typed.0, (record { fits = lit< tt }, (typed.1, tt))) $
           returns ! (look_at ! 0 refl) $ free_all ! refl $

@@ -160,7 +160,8 @@ module _ (X : RattleType) (LX : Laws X) (empty : Ghosts X.Denot) (d dd : Dict) w
                   lit< tt;
             },
           ) $
-          sets ! (bin ! (get ! refl) (lit ! tt) tt) refl (tt, tt) $ first ! $ branches ! (get ! refl)
+          sets ! (bin ! (get ! refl) (lit ! tt) tt) refl (tt, tt) $ first ! $
+          branches ! (get ! refl)
           (λ _. sets ! (agg ! (and_then ! (lit ! tt) (no_more !))) refl
           (tt, (record { fits = lit< tt }, tt)) $
           feq_i ! X.Denot h.value empty.empty none $

@@ -23,6 +23,6 @@ box_of handle = record { at = handle.at; alloc = handle.alloc; value = handle.ke
 pub as_box_spec : {M : Type 1} → statement M
 unfolding part_of
 as_box_spec 𝓤 𝓛 𝓜 𝓡 wired =
-    casts Handle.the_row Boxed tt tt Kept.the_row.Denot (λ handle. handle.kept) (λ boxed. boxed.value)
-    handle_of box_of (λ handle. refl) 𝓛 (λ handle b o. id⊢ 𝓤 _) (λ boxed b o. id⊢ 𝓤 _) 𝓜 𝓡
-    _ _ _ _ Key.name (code.unfolded 𝓤 𝓛.H 𝓜 𝓡 wired)
+    casts Handle.the_row Boxed tt tt Kept.the_row.Denot (λ handle. handle.kept)
+    (λ boxed. boxed.value) handle_of box_of (λ handle. refl) 𝓛 (λ handle b o. id⊢ 𝓤 _)
+    (λ boxed b o. id⊢ 𝓤 _) 𝓜 𝓡 _ _ _ _ Key.name (code.unfolded 𝓤 𝓛.H 𝓜 𝓡 wired)
