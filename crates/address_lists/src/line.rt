@@ -33,6 +33,7 @@ pub enum Line {
 pub fn parse_line(line: &[u8]) -> Option<Line>
     ensures { Reads result (IsLine line.now) }
 {
+    // Most lines are plain.
     if let Some(range) = plain_range(line) {
         return Some(Line::V4(range));
     }

@@ -29,7 +29,7 @@ pub record IsPlain (byte : ℕ) : Type 0 where
   no_dash : eqb byte 45 ≡ false
   no_slash : eqb byte 47 ≡ false
 
--- A byte that stands in no text but that of an address is plain.
+-- A byte that may be part of an address is plain.
 unmarked : (byte : ℕ) → is_mark byte ≡ false → IsPlain byte
 unmarked byte is = record {
   no_comment = grind (arith, nat_tests);

@@ -19,8 +19,8 @@ use crate::line::parts::{Parts, parts_of, trimmed};
 use crate::line::prefix::prefix_length;
 use std::ops::RangeInclusive;
 
-/// Returns the addresses that a line means, if it has neither white space nor a comment. `None` says
-/// nothing about the line: this only reads the commonest lines faster than `range`.
+/// Returns the addresses that a line means, if it is plain: without white space and comments. It
+/// reads plain lines, the commonest ones, faster than `range`. `None` says nothing about the line.
 pub(crate) fn plain_range<F: Family>(line: &[u8]) -> Option<RangeInclusive<F>>
     ensures { IfSome result (λ range.
         WritesRange F.width F.is_address (content line.now) (numbers F.rank range)) }
@@ -37,14 +37,14 @@ pub(crate) fn plain_range<F: Family>(line: &[u8]) -> Option<RangeInclusive<F>>
     }
 }
 
-// Returns whether each byte may stand in an address.
+// Returns whether each byte may be part of an address.
 fn is_unmarked(text: &[u8]) -> bool
     ensures { IsTrue result → position is_mark text.now ≡ None }
 {
     mark(text).is_none()
 }
 
-// Returns the place of the first byte that stands in no address.
+// Returns the place of the first byte that is part of no address.
 fn mark(text: &[u8]) -> Option<usize>
     ensures place { result ≡ position is_mark text.now }
     ensures within { IfSome result (λ i. i < length text.now) }
