@@ -1,5 +1,6 @@
 pub mod AnyOfLemmas
 pub mod AtLeastLemmas
+pub mod BeginsLemmas
 pub mod CanonicalLemmas
 pub mod CountLemmas
 pub mod Examples
