@@ -7,7 +7,8 @@ use Rattle.std.proofs.lemmas.Result.{IfOk-weaker}
 use Rattle.rsb_integer.specs.Runs.{Interval, members, AreRuns}
 use Rattle.rsb_integer.specs.Selection.{Selection, complement, intersection, complement_in}
 use Rattle.rsb_integer.proofs.MembersLemmas.{members-end}
-use Rattle.rsb_integer.proofs.RunCountLemmas.{runs-complement, runs-intersection, runs-none, runs-of_one}
+use Rattle.rsb_integer.proofs.BeginsLemmas.{runs-none}
+use Rattle.rsb_integer.proofs.RunCountLemmas.{runs-complement, runs-intersection, runs-of_one}
 use Rattle.rsb_integer.proofs.RunsLemmas.{runs-along, runs-canonical, runs-members}
 use Rattle.rsb_streams.specs.RunCount.{HasFewerRunsThanBoth, HasOneRunMoreAtMost, HasRunsOfBothAtMost}
 use Rattle.rsb_streams.specs.Stream.{◌⊆◌, just, runs_by, runs_by_two, Outcomes}

@@ -4,7 +4,8 @@ use Rattle.std.proofs.lemmas.Bool.{and_parts}
 use Rattle.rsb_integer.specs.Runs.{Interval, members, AreRuns, IsCanonicalIn}
 use Rattle.rsb_integer.specs.Selection.{Selection, complement, intersection}
 use Rattle.rsb_integer.specs.declared.integer.Integer.{Ghosts as Elements}
-use Rattle.rsb_integer.proofs.RunCountLemmas.{runs-complement, runs-intersection, runs-none, runs-of_one}
+use Rattle.rsb_integer.proofs.BeginsLemmas.{runs-none}
+use Rattle.rsb_integer.proofs.RunCountLemmas.{runs-complement, runs-intersection, runs-of_one}
 use Rattle.rsb_integer.proofs.RunsLemmas.{canonical-runs}
 use Rattle.rsb_streams.specs.RunCount.{GivesFewerRunsThanBoth, GivesOneRunMoreAtMost, GivesRunsOfBothAtMost, HasFewerRunsThanBoth, HasOneRunMoreAtMost, HasRunsOfBothAtMost, bounded_by, bounded_by_two}
 use Rattle.rsb_streams.specs.Stream.{Outcomes, ◌⊆◌, runs_by, runs_by_two}
