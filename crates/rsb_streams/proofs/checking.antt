@@ -1,4 +1,4 @@
 pub mod Comparisons
 pub mod FirstFault
 pub mod Fresh
-pub mod Placed
+pub mod Spaced

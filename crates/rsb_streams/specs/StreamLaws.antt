@@ -1,5 +1,5 @@
 -- The laws of streams: facts about lists of intervals, and about what a stream may give.
-use Rattle.std.proofs.Common.{◌≡◌, ℕ, zero, suc, ◌+◌, ◌<◌, ◌≤◌, true, false, List, [], ◌∷◌, refl, sym, ap, ◌∙◌, inl, inr, arith}
+use Rattle.std.proofs.Common.{◌≡◌, ℕ, zero, suc, ◌+◌, ◌<◌, ◌≤◌, true, false, List, [], ◌∷◌, refl, sym, ap, ◌∙◌, subst, inl, inr, arith}
 use Rattle.std.proofs.lemmas.Bool.{cases_lt}
 use Rattle.std.proofs.lemmas.List.Elements.{All-head, All-tail, All-cons, All-nil}
 use Rattle.std.specs.Iterator.{Count}
@@ -14,7 +14,32 @@ use Rattle.rsb_integer.proofs.MembersLemmas.{members-below, members-head, member
 use Rattle.rsb_integer.proofs.RunsLemmas.{runs-from_canonical}
 use Rattle.rsb_streams.specs.Rows.{IsDisjoint, IsSorted}
 use Rattle.rsb_streams.specs.Stream.{Outcomes, HasSortedStartsFrom, HasSortedStarts, IsDrawn, Keeps}
+use Rattle.rsb_streams.specs.Touching.{IsSpacedFrom, IsSpacedIn}
 use Rattle.rsb_streams.specs.declared.draw.Draw.{Ghosts as Stream}
+
+-- ---- spaced lists
+
+-- With a gap of 2, the spaced lists are the canonical ones.
+spaced-canonical_from : (low : ℕ) (runs : List Interval)
+    → IsSpacedFrom 2 low runs ≡ IsCanonicalFrom low runs
+spaced-canonical_from low [] = refl
+spaced-canonical_from low (run ∷ runs) =
+    ap (λ rest. (low ≤ run.first) × (run.first ≤ run.last) × rest)
+    (spaced-canonical_from (run.last + 2) runs)
+
+pub spaced-canonical : (n : ℕ) → IsSpacedIn 2 n ≡ IsCanonicalIn n
+spaced-canonical n = λ i runs. spaced-canonical_from 0 runs i × AllEndBelow n runs
+
+-- A spaced list is also one with a lesser gap, from a lower rank.
+pub spaced-weaker : (gap less low lower : ℕ) (runs : List Interval) → less ≤ gap → lower ≤ low
+    → IsSpacedFrom gap low runs → IsSpacedFrom less lower runs
+spaced-weaker gap less low lower [] fewer below spaced = tt
+spaced-weaker gap less low lower (run ∷ runs) fewer below spaced =
+    let starts = spaced.0 in (
+      omega arith,
+      spaced.1,
+      spaced-weaker gap less (run.last + gap) (run.last + less) runs fewer (omega arith) spaced.2,
+    )
 
 -- ---- a decidable fact holds if its failure is excluded
 
@@ -32,18 +57,18 @@ settled_lt a b holds = elim (cases_lt a b) [
   | inr most ↦ absurd (holds (λ less. omega (arith, less, most)))
 ]
 
--- A list is canonical from a rank if the contrary is excluded.
-pub settled_canonical : (low : ℕ) (runs : List Interval) → ¬ (¬ (IsCanonicalFrom low runs))
-    → IsCanonicalFrom low runs
-settled_canonical low [] holds = tt
-settled_canonical low (run ∷ runs) holds = (
+-- A list is spaced from a rank if the contrary is excluded.
+settled_spaced_from : (gap low : ℕ) (runs : List Interval) → ¬ (¬ (IsSpacedFrom gap low runs))
+    → IsSpacedFrom gap low runs
+settled_spaced_from gap low [] holds = tt
+settled_spaced_from gap low (run ∷ runs) holds = (
   settled_le low run.first (λ fails. holds (λ all. fails all.0)),
   settled_le run.first run.last (λ fails. holds (λ all. fails all.1)),
-  settled_canonical (run.last + 2) runs (λ fails. holds (λ all. fails all.2)),
+  settled_spaced_from gap (run.last + gap) runs (λ fails. holds (λ all. fails all.2)),
 )
 
 -- Every interval of a list ends below n if the contrary is excluded.
-pub settled_below : (n : ℕ) (runs : List Interval) → ¬ (¬ (AllEndBelow n runs)) → AllEndBelow n runs
+settled_below : (n : ℕ) (runs : List Interval) → ¬ (¬ (AllEndBelow n runs)) → AllEndBelow n runs
 settled_below n [] holds = All-nil (λ (run : Interval). run.last < n)
 settled_below n (run ∷ runs) holds =
     let P : Interval → Type 0 = λ each. each.last < n in
@@ -51,13 +76,20 @@ settled_below n (run ∷ runs) holds =
     (λ fails. holds (λ all. fails (All-head P run runs all))))
     (settled_below n runs (λ fails. holds (λ all. fails (All-tail P run runs all))))
 
+-- A list is spaced in a type of n values if the contrary is excluded.
+pub settled_spaced : (gap n : ℕ) (runs : List Interval) → ¬ (¬ (IsSpacedIn gap n runs))
+    → IsSpacedIn gap n runs
+settled_spaced gap n runs holds = (
+  settled_spaced_from gap 0 runs (λ fails. holds (λ all. fails all.0)),
+  settled_below n runs (λ fails. holds (λ all. fails all.1)),
+)
+
 -- A list is canonical in a type of n values if the contrary is excluded.
 pub settled_canonical_in : (n : ℕ) (runs : List Interval) → ¬ (¬ (IsCanonicalIn n runs))
     → IsCanonicalIn n runs
-settled_canonical_in n runs holds = (
-  settled_canonical 0 runs (λ fails. holds (λ all. fails all.0)),
-  settled_below n runs (λ fails. holds (λ all. fails all.1)),
-)
+settled_canonical_in n =
+    subst (λ (law : List Interval → Type 0). (runs : List Interval) → ¬ (¬ (law runs)) → law runs)
+    (spaced-canonical n) (settled_spaced 2 n)
 
 -- A list is sorted by start if the contrary is excluded.
 pub settled_sorted : (n low : ℕ) (runs : List Interval) → ¬ (¬ (HasSortedStartsFrom n low runs))
@@ -79,32 +111,47 @@ sorted-lower n low lower [] less sorted = tt
 sorted-lower n low lower (run ∷ runs) less sorted =
     let starts = sorted.0 in (omega arith, sorted.1, sorted.2, sorted.3)
 
+-- A spaced list is sorted by start.
+spaced-sorted : (gap n low : ℕ) (runs : List Interval) → IsSpacedFrom gap low runs
+    → AllEndBelow n runs
+    → HasSortedStartsFrom n low runs
+spaced-sorted gap n low [] spaced below = tt
+spaced-sorted gap n low (run ∷ runs) spaced below =
+    let P : Interval → Type 0 = λ each. each.last < n in
+    let ordered = spaced.1 in (
+      spaced.0,
+      ordered,
+      All-head P run runs below,
+      sorted-lower n (run.last + gap) run.first runs (omega arith)
+          (spaced-sorted gap n (run.last + gap) runs spaced.2 (All-tail P run runs below)),
+    )
+
 -- A canonical list is sorted by start.
 pub canonical-sorted : (n low : ℕ) (runs : List Interval) → IsCanonicalFrom low runs
     → AllEndBelow n runs
     → HasSortedStartsFrom n low runs
-canonical-sorted n low [] canonical below = tt
-canonical-sorted n low (run ∷ runs) canonical below =
-    let P : Interval → Type 0 = λ each. each.last < n in
-    let ordered = canonical.1 in (
-      canonical.0,
-      ordered,
-      All-head P run runs below,
-      sorted-lower n (run.last + 2) run.first runs (omega arith)
-          (canonical-sorted n (run.last + 2) runs canonical.2 (All-tail P run runs below)),
-    )
+canonical-sorted n low runs canonical =
+    spaced-sorted 2 n low runs (subst (λ fact. fact) (sym (spaced-canonical_from low runs)) canonical)
+
+-- If a stream may give only spaced lists, they are sorted by start.
+pub spaced-starts : (gap n : ℕ) (P : Outcomes) (remaining : Count)
+    → Keeps (IsSpacedIn gap n) P remaining
+    → Keeps (HasSortedStarts n) P remaining
+spaced-starts gap n P remaining kept = record {
+  some = kept.some;
+  all = λ runs may.
+      let spaced = kept.all runs may in
+      spaced-sorted gap n 0 runs spaced.0 spaced.1;
+  ends = kept.ends;
+}
 
 -- If a stream may give only canonical lists, they are sorted by start.
 pub canonical_stream-starts : (n : ℕ) (P : Outcomes) (remaining : Count)
     → Keeps (IsCanonicalIn n) P remaining
     → Keeps (HasSortedStarts n) P remaining
-canonical_stream-starts n P remaining kept = record {
-  some = kept.some;
-  all = λ runs may.
-      let canonical = kept.all runs may in
-      canonical-sorted n 0 runs canonical.0 canonical.1;
-  ends = kept.ends;
-}
+canonical_stream-starts n P remaining =
+    subst (λ law. Keeps law P remaining → Keeps (HasSortedStarts n) P remaining)
+    (spaced-canonical n) (spaced-starts 2 n P remaining)
 
 -- A canonical stream is sorted by start.
 pub disjoint-sorted : {S T N : Type 0} (integer : Elements T N) (stream : Stream S T N)

@@ -12,7 +12,7 @@ ghost use Rattle.rsb_streams.specs.StreamLaws.{canonical_stream-starts, drawn-it
 
 use crate::draw::Draw;
 use crate::not_sorted_disjoint::NotSortedDisjoint;
-use crate::out_of_place::first_bad;
+use crate::out_of_place::{first_bad, Spacing};
 use crate::range_once::RangeOnce;
 use crate::sorted_disjoint::{DrawDisjoint, SortedDisjoint, SortedStarts};
 use rsb_integer::Integer;
@@ -67,7 +67,7 @@ impl<T: Integer, A: Allocator> CheckSortedDisjoint<T, IntoIter<RangeInclusive<T>
         ensures value { IfErr result (λ refused. AllEndBelow T.value_count
             (take (refused.position + 1) (intervals_of T.rank ranges.items))) }
     {
-        if let Some(position) = first_bad(false, &ranges) {
+        if let Some(position) = first_bad(Spacing::Apart, &ranges) {
             return Err(NotSortedDisjoint { position, ranges });
         }
         Ok(Self::new(ranges))

@@ -14,7 +14,7 @@ ghost use Rattle.rsb_streams.specs.TouchingLaws.{touching-starts};
 
 use crate::draw::Draw;
 use crate::not_sorted_touching::NotSortedTouching;
-use crate::out_of_place::first_bad;
+use crate::out_of_place::{first_bad, Spacing};
 use crate::sorted_disjoint::SortedStarts;
 use crate::sorted_touching::SortedTouching;
 use rsb_integer::Integer;
@@ -70,7 +70,7 @@ impl<T: Integer, A: Allocator> CheckSortedTouching<T, IntoIter<RangeInclusive<T>
         ensures value { IfErr result (λ refused. AllEndBelow T.value_count
             (take (refused.position + 1) (intervals_of T.rank ranges.items))) }
     {
-        if let Some(position) = first_bad(true, &ranges) {
+        if let Some(position) = first_bad(Spacing::Touching, &ranges) {
             return Err(NotSortedTouching { position, ranges });
         }
         Ok(Self::new(ranges))

@@ -5,18 +5,28 @@ ghost use Rattle.std.specs.Prelude.{◌≡◌, ◌↔◌, ◌+◌, ◌<◌, ◌�
 ghost use Rattle.std.specs.Range.{range_inclusive_start};
 ghost use Rattle.rsb_integer.specs.Rank.{interval_of, intervals_of};
 ghost use Rattle.rsb_integer.specs.Runs.{AllEndBelow, HasRanks};
-ghost use Rattle.rsb_streams.specs.OutOfPlace.{start_after, IsFirstBad, IsPlacedFrom, IsPlacedIn};
+ghost use Rattle.rsb_streams.specs.OutOfPlace.{gap_of, start_after, IsFirstBad};
+ghost use Rattle.rsb_streams.specs.Touching.{IsSpacedFrom, IsSpacedIn};
 
 use rsb_integer::Integer;
 use std::ops::RangeInclusive;
 
+// How far apart the ranges of a list have to be.
+#[derive(Clone, Copy)]
+pub(crate) enum Spacing {
+    // At least one value is between two ranges.
+    Apart,
+    // A range may start right after the one before.
+    Touching,
+}
+
 // Returns whether a range is non-empty, and starts far enough past the end of the one before.
-fn follows<T: Integer>(may_touch: bool, previous: Option<T>, range: &RangeInclusive<T>) -> bool
+fn follows<T: Integer>(spacing: Spacing, previous: Option<T>, range: &RangeInclusive<T>) -> bool
     ensures value { (interval_of T.rank range.now).last < T.value_count }
-    ensures found { IsTrue result ↔ IsPlacedFrom may_touch (start_after T.rank may_touch previous)
-        (interval_of T.rank range.now ∷ []) }
+    ensures found { IsTrue result ↔ IsSpacedFrom (gap_of spacing)
+        (start_after T.rank (gap_of spacing) previous) (interval_of T.rank range.now ∷ []) }
 {
-    has_members(range) && may_start(may_touch, previous, *range.start())
+    has_members(range) && may_start(spacing, previous, *range.start())
 }
 
 // Returns whether a range is non-empty.
@@ -34,9 +44,9 @@ fn has_members<T: Integer>(range: &RangeInclusive<T>) -> bool
 
 // Returns whether a value is past the end of the range before it, if there is one. If the two may
 // not touch, the value must be more than one past that end.
-fn may_start<T: Integer>(may_touch: bool, previous: Option<T>, start: T) -> bool
+fn may_start<T: Integer>(spacing: Spacing, previous: Option<T>, start: T) -> bool
     requires { T.rank start < T.value_count }
-    ensures { IsTrue result ↔ start_after T.rank may_touch previous ≤ T.rank start }
+    ensures { IsTrue result ↔ start_after T.rank (gap_of spacing) previous ≤ T.rank start }
 {
     let Some(end) = previous else {
         return true;
@@ -44,19 +54,19 @@ fn may_start<T: Integer>(may_touch: bool, previous: Option<T>, start: T) -> bool
     let Some(next) = end.checked_add_one() else {
         return false;
     };
-    if may_touch {
-        next <= start
-    } else {
-        next < start
+    match spacing {
+        Spacing::Apart => next < start,
+        Spacing::Touching => next <= start,
     }
 }
 
 // Returns the first position at which a range is empty, or does not start far enough past the end
 // of the one before. If there is none, returns `None`.
-pub(crate) fn first_bad<T: Integer>(may_touch: bool, ranges: &[RangeInclusive<T>]) -> Option<usize>
+pub(crate) fn first_bad<T: Integer>(spacing: Spacing, ranges: &[RangeInclusive<T>]) -> Option<usize>
     ensures none { IsNone result
-        ↔ IsPlacedIn may_touch T.value_count (intervals_of T.rank ranges.now) }
-    ensures bad { IfSome result (λ position. IsFirstBad (IsPlacedIn may_touch T.value_count)
+        ↔ IsSpacedIn (gap_of spacing) T.value_count (intervals_of T.rank ranges.now) }
+    ensures bad { IfSome result (λ position.
+        IsFirstBad (IsSpacedIn (gap_of spacing) T.value_count)
         (intervals_of T.rank ranges.now) position) }
     ensures value { IfSome result (λ position. AllEndBelow T.value_count
         (take (position + 1) (intervals_of T.rank ranges.now))) }
@@ -64,7 +74,7 @@ pub(crate) fn first_bad<T: Integer>(may_touch: bool, ranges: &[RangeInclusive<T>
     let mut previous = None;
     let mut position = 0;
     while let Some(range) = ranges.get(position) {
-        if !follows(may_touch, previous, range) {
+        if !follows(spacing, previous, range) {
             return Some(position);
         }
         previous = Some(*range.end());

@@ -1,5 +1,5 @@
 -- The first position at which a list of ranges does not ascend, with or without gaps between.
-use Rattle.std.proofs.Common.{◌≡◌, ℕ, suc, Bool, ◌+◌, ◌<◌, ◌≤◌, true, false, nat_lt, List, [], ◌∷◌, ◌++◌, length, take, drop, get_or, refl, sym, ap, ◌∙◌, subst, arith}
+use Rattle.std.proofs.Common.{◌≡◌, ℕ, suc, ◌+◌, ◌<◌, ◌≤◌, true, false, nat_lt, List, [], ◌∷◌, ◌++◌, length, take, drop, get_or, refl, sym, ap, ◌∙◌, subst, arith}
 use Rattle.std.proofs.lemmas.List.{length-map, take-append-drop, take_all}
 use Rattle.std.proofs.lemmas.List.Elements.{All-nil, All-push}
 use Rattle.std.proofs.Math.ListN.{get_or-map}
@@ -10,8 +10,9 @@ use Rattle.std.specs.declared.ops.RangeInclusive.{RangeInclusive}
 use Rattle.rsb_integer.specs.Rank.{interval_of, intervals_of}
 use Rattle.rsb_integer.specs.Runs.{Interval, AllEndBelow}
 use Rattle.rsb_streams.proofs.sources.Known.{range-end}
-use Rattle.rsb_streams.specs.OutOfPlace.{past_end, start_after, IsFirstBad, IsPlacedFrom, IsPlacedIn}
-use Rattle.rsb_streams.proofs.checking.Placed.{placed-append, placed-front, placed-parts, placed_next, placed_next-push}
+use Rattle.rsb_streams.specs.OutOfPlace.{start_after, IsFirstBad}
+use Rattle.rsb_streams.specs.Touching.{IsSpacedFrom, IsSpacedIn}
+use Rattle.rsb_streams.proofs.checking.Spaced.{spaced-append, spaced-front, spaced-parts, spaced_next, spaced_next-push}
 use borrow.Author.Tests.{ltb-false, ltb-true}
 
 -- A position that passed the test is within the list.
@@ -22,7 +23,7 @@ place-within position n is = ltb-true position n (sym is)
 pub place-past : (position n : ℕ) → false ≡ nat_lt position n → n ≤ position
 place-past position n is = ltb-false position n (sym is)
 
-module _ {T : Type 0} (rank : T → ℕ) (may_touch : Bool) (n : ℕ)
+module _ {T : Type 0} (rank : T → ℕ) (gap : ℕ) (n : ℕ)
     (ranges : List (RangeInclusive T)) where
   -- The ranks of each range.
   abbrev runs : List Interval
@@ -32,8 +33,8 @@ module _ {T : Type 0} (rank : T → ℕ) (may_touch : Bool) (n : ℕ)
   -- end of the last of them.
   pub record IsChecked (position : ℕ) (previous : Option T) : Type 0 where
     pub within : position ≤ length ranges
-    pub before : IsPlacedIn may_touch n (take position runs)
-    pub next : placed_next may_touch 0 (take position runs) ≡ start_after rank may_touch previous
+    pub before : IsSpacedIn gap n (take position runs)
+    pub next : spaced_next gap 0 (take position runs) ≡ start_after rank gap previous
 
   -- Before the first range, nothing is left to check.
   pub checked-none : IsChecked 0 None
@@ -62,20 +63,20 @@ module _ {T : Type 0} (rank : T → ℕ) (may_touch : Bool) (n : ℕ)
         (get_or-map (interval_of rank) ranges position range ∙ sym (ap (interval_of rank) item)))
 
     -- If the list ascends with the range, the range may follow those before it.
-    pub follows-after : IsPlacedIn may_touch n (take (position + 1) runs)
-        → IsPlacedFrom may_touch (start_after rank may_touch previous) (run ∷ [])
-    follows-after placed =
-        subst (λ low. IsPlacedFrom may_touch low (run ∷ [])) checked.next
-        (placed-parts may_touch 0 (take position runs) (run ∷ [])
-        (subst (IsPlacedFrom may_touch 0) one-more placed.0)).1
+    pub follows-after : IsSpacedIn gap n (take (position + 1) runs)
+        → IsSpacedFrom gap (start_after rank gap previous) (run ∷ [])
+    follows-after spaced =
+        subst (λ low. IsSpacedFrom gap low (run ∷ [])) checked.next
+        (spaced-parts gap 0 (take position runs) (run ∷ [])
+        (subst (IsSpacedFrom gap 0) one-more spaced.0)).1
 
     -- If the range may not follow those before it, it is the first fault.
-    pub bad-here : ¬ (IsPlacedFrom may_touch (start_after rank may_touch previous) (run ∷ []))
-        → IsFirstBad (IsPlacedIn may_touch n) runs position
+    pub bad-here : ¬ (IsSpacedFrom gap (start_after rank gap previous) (run ∷ []))
+        → IsFirstBad (IsSpacedIn gap n) runs position
     bad-here broken = record {
       within = omega (arith, within, length-map ranges (interval_of rank));
       before = checked.before;
-      broken = λ placed. broken (follows-after placed);
+      broken = λ spaced. broken (follows-after spaced);
     }
 
     -- If the range is within the type, so are all up to it.
@@ -86,34 +87,34 @@ module _ {T : Type 0} (rank : T → ℕ) (may_touch : Bool) (n : ℕ)
 
     -- If the range may follow those before it and is within the type, `IsChecked` holds at the next
     -- position.
-    pub checked-one : IsPlacedFrom may_touch (start_after rank may_touch previous) (run ∷ [])
+    pub checked-one : IsSpacedFrom gap (start_after rank gap previous) (run ∷ [])
         → run.last < n
         → (end : T) → end ≡ range_inclusive_end range → IsChecked (position + 1) (Some end)
-    checked-one placed below end is =
-        let low = subst (λ low. IsPlacedFrom may_touch low (run ∷ [])) (sym checked.next) placed in
+    checked-one spaced below end is =
+        let low = subst (λ low. IsSpacedFrom gap low (run ∷ [])) (sym checked.next) spaced in
         record {
           within = omega (arith, within);
           before = rw one-more (
-            placed-append may_touch 0 (take position runs) (run ∷ []) checked.before.0 low,
+            spaced-append gap 0 (take position runs) (run ∷ []) checked.before.0 low,
             All-push (λ (each : Interval). each.last < n) (take position runs) run checked.before.1
                 below,
           );
-          next = rw one-more (placed_next-push may_touch 0 (take position runs) run
-              ∙ ap (past_end may_touch) (range-end rank range placed.1 ∙ sym (ap rank is)));
+          next = rw one-more (spaced_next-push gap 0 (take position runs) run
+              ∙ ap (λ last. last + gap) (range-end rank range spaced.1 ∙ sym (ap rank is)));
         }
 
   -- A list that ascends does so up to each position.
-  pub placed-take : (position : ℕ) → IsPlacedIn may_touch n runs
-      → IsPlacedIn may_touch n (take position runs)
-  placed-take position placed =
-      placed-front may_touch n (take position runs) (drop position runs)
-      (subst (IsPlacedIn may_touch n) (sym (take-append-drop position runs)) placed)
+  pub spaced-take : (position : ℕ) → IsSpacedIn gap n runs
+      → IsSpacedIn gap n (take position runs)
+  spaced-take position spaced =
+      spaced-front gap n (take position runs) (drop position runs)
+      (subst (IsSpacedIn gap n) (sym (take-append-drop position runs)) spaced)
 
   -- If the position is past the last range, the whole list ascends.
   pub checked-all : (position : ℕ) (previous : Option T) → IsChecked position previous
       → length ranges ≤ position
-      → IsPlacedIn may_touch n runs
+      → IsSpacedIn gap n runs
   checked-all position previous checked past =
-      subst (IsPlacedIn may_touch n) (take_all position runs
+      subst (IsSpacedIn gap n) (take_all position runs
       (omega (arith, past, length-map ranges (interval_of rank))))
       checked.before

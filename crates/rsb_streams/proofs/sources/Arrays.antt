@@ -9,13 +9,14 @@ use Rattle.std.specs.declared.array.IntoIter.{IntoIter}
 use Rattle.std.specs.declared.iter.Iterator.{Ghosts as Iteration}
 use Rattle.std.specs.declared.ops.RangeInclusive.{RangeInclusive}
 use Rattle.rsb_integer.specs.Rank.{interval_of, intervals_of}
-use Rattle.rsb_integer.specs.Runs.{Interval, AllEndBelow, IsCanonicalFrom, IsCanonicalIn}
+use Rattle.rsb_integer.specs.Runs.{Interval, AllEndBelow, IsCanonicalIn}
 use Rattle.rsb_integer.proofs.CanonicalLemmas.{canonical-front}
 use Rattle.rsb_streams.specs.Calls.{IsSource}
 use Rattle.rsb_streams.specs.CallsLaws.{calls-steps}
 use Rattle.rsb_streams.specs.Stream.{HasSortedStarts, HasSortedStartsFrom}
-use Rattle.rsb_streams.specs.Touching.{IsTouchingFrom, IsTouchingIn}
-use Rattle.rsb_streams.proofs.checking.Placed.{touching-front}
+use Rattle.rsb_streams.specs.StreamLaws.{spaced-canonical}
+use Rattle.rsb_streams.specs.Touching.{IsSpacedFrom, IsTouchingIn}
+use Rattle.rsb_streams.proofs.checking.Spaced.{spaced-front}
 use Rattle.rsb_streams.proofs.sources.Lawful.{sorted-front}
 use Rattle.rsb_streams.proofs.sources.Listed.{listed-yields}
 
@@ -27,20 +28,13 @@ module _ {T : Type 0} (rank : T → ℕ) (n : ℕ) where
     pub in_order : rank (range_inclusive_start range) ≤ rank (range_inclusive_end range)
     pub in_type : rank (range_inclusive_end range) < n
 
-  -- Whether the first range starts at `low` or later, and no two ranges overlap or touch.
-  abbrev pub AreApartFrom : ℕ → List (RangeInclusive T) → Type 0
-  AreApartFrom low [] = Unit {0}
-  AreApartFrom low (range ∷ ranges) =
+  -- Whether the first range starts at `low` or later, and each other one at `gap` past the end of
+  -- the one before, or later.
+  abbrev pub AreSpacedFrom : ℕ → ℕ → List (RangeInclusive T) → Type 0
+  AreSpacedFrom gap low [] = Unit {0}
+  AreSpacedFrom gap low (range ∷ ranges) =
       (low ≤ rank (range_inclusive_start range)) × IsWhole range
-      × AreApartFrom (rank (range_inclusive_end range) + 2) ranges
-
-  -- Whether the first range starts at `low` or later, and each other one past the end of the one
-  -- before. They may touch.
-  abbrev pub MayTouchFrom : ℕ → List (RangeInclusive T) → Type 0
-  MayTouchFrom low [] = Unit {0}
-  MayTouchFrom low (range ∷ ranges) =
-      (low ≤ rank (range_inclusive_start range)) × IsWhole range
-      × MayTouchFrom (rank (range_inclusive_end range) + 1) ranges
+      × AreSpacedFrom gap (rank (range_inclusive_end range) + gap) ranges
 
   -- Whether the first range starts at `low` or later, and each other one no earlier than the one
   -- before.
@@ -63,30 +57,17 @@ module _ {T : Type 0} (rank : T → ℕ) (n : ℕ) where
         last = rank (range_inclusive_end range);
       })) is.whole
 
-  -- Ranges that are apart are a canonical list.
-  apart-canonical : (low : ℕ) (ranges : List (RangeInclusive T)) → AreApartFrom low ranges
-      → IsCanonicalFrom low (intervals_of rank ranges) × AllEndBelow n (intervals_of rank ranges)
-  apart-canonical low [] apart = (tt, All-nil (λ (run : Interval). run.last < n))
-  apart-canonical low (range ∷ ranges) apart =
+  -- The intervals of spaced ranges are spaced.
+  spaced-list : (gap low : ℕ) (ranges : List (RangeInclusive T)) → AreSpacedFrom gap low ranges
+      → IsSpacedFrom gap low (intervals_of rank ranges) × AllEndBelow n (intervals_of rank ranges)
+  spaced-list gap low [] spaced = (tt, All-nil (λ (run : Interval). run.last < n))
+  spaced-list gap low (range ∷ ranges) spaced =
       let runs = intervals_of rank ranges in
-      let rest = apart-canonical (rank (range_inclusive_end range) + 2) ranges apart.2 in
-      subst (λ (run : Interval). IsCanonicalFrom low (run ∷ runs) × AllEndBelow n (run ∷ runs))
-      (sym (whole-interval range apart.1)) (
-        (apart.0, apart.1.in_order, rest.0),
-        All-cons (λ (run : Interval). run.last < n) _ runs apart.1.in_type rest.1,
-      )
-
-  -- Ranges that may touch are a touching list.
-  touching-list : (low : ℕ) (ranges : List (RangeInclusive T)) → MayTouchFrom low ranges
-      → IsTouchingFrom low (intervals_of rank ranges) × AllEndBelow n (intervals_of rank ranges)
-  touching-list low [] touching = (tt, All-nil (λ (run : Interval). run.last < n))
-  touching-list low (range ∷ ranges) touching =
-      let runs = intervals_of rank ranges in
-      let rest = touching-list (rank (range_inclusive_end range) + 1) ranges touching.2 in
-      subst (λ (run : Interval). IsTouchingFrom low (run ∷ runs) × AllEndBelow n (run ∷ runs))
-      (sym (whole-interval range touching.1)) (
-        (touching.0, touching.1.in_order, rest.0),
-        All-cons (λ (run : Interval). run.last < n) _ runs touching.1.in_type rest.1,
+      let rest = spaced-list gap (rank (range_inclusive_end range) + gap) ranges spaced.2 in
+      subst (λ (run : Interval). IsSpacedFrom gap low (run ∷ runs) × AllEndBelow n (run ∷ runs))
+      (sym (whole-interval range spaced.1)) (
+        (spaced.0, spaced.1.in_order, rest.0),
+        All-cons (λ (run : Interval). run.last < n) _ runs spaced.1.in_type rest.1,
       )
 
   -- Ranges sorted by start are a list sorted by start.
@@ -146,22 +127,23 @@ module _ {T : Type 0} (size : ℕ) (rank : T → ℕ) where
   array-sorted n = array-source (HasSortedStarts n) (sorted-front n 0)
 
   -- An array of ranges that are apart becomes a source of a canonical list.
-  pub array-apart : (n : ℕ) (ranges : List (RangeInclusive T)) → AreApartFrom rank n 0 ranges
+  pub array-apart : (n : ℕ) (ranges : List (RangeInclusive T)) → AreSpacedFrom rank n 2 0 ranges
       → (s : Items) → array_into_iter_items s ≡ ranges
       → IsSource rank items (IsCanonicalIn n) s
   array-apart n ranges apart s is =
       array-canonical n s
       (subst (λ left. IsCanonicalIn n (intervals_of rank left)) (sym is)
-      (apart-canonical rank n 0 ranges apart))
+      (subst (λ law. law (intervals_of rank ranges)) (spaced-canonical n)
+      (spaced-list rank n 2 0 ranges apart)))
 
   -- An array of ranges that may touch becomes a source of a touching list.
-  pub array-touching : (n : ℕ) (ranges : List (RangeInclusive T)) → MayTouchFrom rank n 0 ranges
+  pub array-touching : (n : ℕ) (ranges : List (RangeInclusive T)) → AreSpacedFrom rank n 1 0 ranges
       → (s : Items) → array_into_iter_items s ≡ ranges
       → IsSource rank items (IsTouchingIn n) s
   array-touching n ranges touching s is =
-      array-source (IsTouchingIn n) (touching-front n) s
+      array-source (IsTouchingIn n) (spaced-front 1 n) s
       (subst (λ left. IsTouchingIn n (intervals_of rank left)) (sym is)
-      (touching-list rank n 0 ranges touching))
+      (spaced-list rank n 1 0 ranges touching))
 
   -- An array of ranges sorted by start becomes a source of a list sorted by start.
   pub array-by_starts : (n : ℕ) (ranges : List (RangeInclusive T))

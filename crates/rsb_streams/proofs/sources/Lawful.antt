@@ -12,10 +12,10 @@ use Rattle.rsb_integer.proofs.CanonicalLemmas.{canonical-front}
 use Rattle.rsb_streams.specs.Adapters.{NextIsDraw}
 use Rattle.rsb_streams.specs.Calls.{Call, IsSource}
 use Rattle.rsb_streams.specs.CallsLaws.{calls-steps}
-use Rattle.rsb_streams.specs.StreamLaws.{settled_canonical_in, settled_sorted}
+use Rattle.rsb_streams.specs.StreamLaws.{settled_canonical_in, settled_sorted, settled_spaced}
 use Rattle.rsb_streams.specs.Touching.{IsTouchingIn}
-use Rattle.rsb_streams.specs.TouchingLaws.{settled_touching_in, touching-canonical_in}
-use Rattle.rsb_streams.proofs.checking.Placed.{touching-front}
+use Rattle.rsb_streams.specs.TouchingLaws.{touching-canonical_in}
+use Rattle.rsb_streams.proofs.checking.Spaced.{spaced-front}
 use Rattle.rsb_streams.specs.Stream.{◌⊆◌, HasSortedStarts, HasSortedStartsFrom}
 use Rattle.rsb_streams.proofs.sources.Known.{IsLawful}
 
@@ -86,7 +86,7 @@ module _ {S T N : Type 0} (integer : Elements T N) (source : Stream S T N)
   pub touching-source : (s : S) → next.can_next s → source.may_give s ⊆ IsTouchingIn n
       → IsSource rank next (IsTouchingIn n) s
   touching-source =
-      lawful-source (IsTouchingIn n) (touching-front n) (settled_touching_in n)
+      lawful-source (IsTouchingIn n) (spaced-front 1 n) (settled_spaced 1 n)
 
   -- Every canonical stream is a source of a touching list, because its ranges do not overlap.
   pub canonical-touching_source : (s : S) → next.can_next s → source.may_give s ⊆ IsCanonicalIn n

@@ -17,7 +17,7 @@ use Rattle.rsb_streams.specs.Stream.{◌⊆◌, just, HasSortedStarts}
 use Rattle.rsb_streams.specs.Touching.{IsTouchingIn}
 use Rattle.rsb_streams.proofs.sources.Lawful.{sorted-front}
 use Rattle.rsb_streams.proofs.sources.Listed.{listed-calls, listed-yields}
-use Rattle.rsb_streams.proofs.checking.Placed.{touching-front}
+use Rattle.rsb_streams.proofs.checking.Spaced.{spaced-front}
 
 -- What a `Vec` of ranges becomes.
 abbrev Items : Type 0 → Type 0 → Type 0
@@ -114,4 +114,4 @@ module _ {T Z : Type 0} (rank : T → ℕ) (n : ℕ) where
   -- It is a source of a touching list if its items are touching.
   pub vec-touching : (s : Items T Z) → IsTouchingIn n (intervals_of rank (into_iter_items s))
       → IsSource rank items (IsTouchingIn n) s
-  vec-touching = vec-source_of (IsTouchingIn n) (touching-front n)
+  vec-touching = vec-source_of (IsTouchingIn n) (spaced-front 1 n)

@@ -1,8 +1,9 @@
-use Rattle.std.proofs.Common.{◌+◌, false, take, refl, sym, ap, ◌∙◌, subst}
+use Rattle.std.proofs.Common.{◌+◌, take, refl, sym, ap, ◌∙◌, subst}
 use Rattle.rsb_integer.specs.Rank.{intervals_of}
 use Rattle.rsb_integer.specs.Runs.{AllEndBelow}
-use Rattle.rsb_streams.specs.OutOfPlace.{IsFirstBad, IsPlacedIn}
-use Rattle.rsb_streams.proofs.checking.Placed.{placed-canonical}
+use Rattle.rsb_streams.specs.OutOfPlace.{IsFirstBad}
+use Rattle.rsb_streams.specs.StreamLaws.{spaced-canonical}
+use Rattle.rsb_streams.specs.Touching.{IsSpacedIn}
 use Rattle.rsb_streams.proofs.sources.Vectors.{vec-calls, vec-source}
 use Rattle.rsb_streams.proofs.check_sorted_disjoint.CheckSortedDisjoint+T+IntoIter+RangeInclusive+T+A.try_new.Goals as goal
 
@@ -14,8 +15,8 @@ returns-in-Some-clause-ok g c = (
       let rank = g.T.Integer.rank in
       let n = g.T.Integer.value_count in
       let none = c.in-Some.ensures.none.1
-      (subst (λ items. IsPlacedIn false n (intervals_of rank items)) (sym c.deref.ensures.value)
-      (subst (λ law. law (intervals_of rank c.args.ranges.items)) (sym (placed-canonical n)) canonical)) in
+      (subst (λ items. IsSpacedIn 2 n (intervals_of rank items)) (sym c.deref.ensures.value)
+      (subst (λ law. law (intervals_of rank c.args.ranges.items)) (sym (spaced-canonical n)) canonical)) in
       absurd (cc)),
 )
 
@@ -24,8 +25,8 @@ returns-in-Some-clause-position g c =
     let rank = g.T.Integer.rank in
     let n = g.T.Integer.value_count in
     subst (λ law. IsFirstBad law (intervals_of rank c.args.ranges.items) c.in-Some.position)
-    (placed-canonical n)
-    (subst (λ items. IsFirstBad (IsPlacedIn false n) (intervals_of rank items) c.in-Some.position)
+    (spaced-canonical n)
+    (subst (λ items. IsFirstBad (IsSpacedIn 2 n) (intervals_of rank items) c.in-Some.position)
     c.deref.ensures.value c.in-Some.ensures.bad)
 
 pub returns-in-Some-clause-value : goal.returns-in-Some-clause-value
@@ -40,8 +41,8 @@ new-requires g c = λ source becomes.
     let rank = g.T.Integer.rank in
     let n = g.T.Integer.value_count in
     vec-source rank n source
-    (subst (λ law. law (intervals_of rank source.rest.items)) (placed-canonical n)
-    (subst (λ items. IsPlacedIn false n (intervals_of rank items))
+    (subst (λ law. law (intervals_of rank source.rest.items)) (spaced-canonical n)
+    (subst (λ items. IsSpacedIn 2 n (intervals_of rank items))
     (c.deref.ensures.value ∙ sym becomes.0) (c.in_default.ensures.none.0 refl)))
 
 pub returns-clause-ok : goal.returns-clause-ok
@@ -49,8 +50,8 @@ returns-clause-ok g c = (
   (λ _.
       let rank = g.T.Integer.rank in
       let n = g.T.Integer.value_count in
-      subst (λ law. law (intervals_of rank c.args.ranges.items)) (placed-canonical n)
-      (subst (λ items. IsPlacedIn false n (intervals_of rank items)) c.deref.ensures.value
+      subst (λ law. law (intervals_of rank c.args.ranges.items)) (spaced-canonical n)
+      (subst (λ items. IsSpacedIn 2 n (intervals_of rank items)) c.deref.ensures.value
       (c.in_default.ensures.none.0 refl))),
   (λ _. refl),
 )

@@ -1,8 +1,8 @@
-use Rattle.std.proofs.Common.{◌+◌, true, take, refl, sym, ap, ◌∙◌, subst}
+use Rattle.std.proofs.Common.{◌+◌, take, refl, sym, ap, ◌∙◌, subst}
 use Rattle.rsb_integer.specs.Rank.{intervals_of}
 use Rattle.rsb_integer.specs.Runs.{AllEndBelow}
-use Rattle.rsb_streams.specs.OutOfPlace.{IsFirstBad, IsPlacedIn}
-use Rattle.rsb_streams.proofs.checking.Placed.{placed-touching}
+use Rattle.rsb_streams.specs.OutOfPlace.{IsFirstBad}
+use Rattle.rsb_streams.specs.Touching.{IsTouchingIn}
 use Rattle.rsb_streams.proofs.sources.Vectors.{vec-calls, vec-touching}
 use Rattle.rsb_streams.proofs.check_sorted_touching.CheckSortedTouching+T+IntoIter+RangeInclusive+T+A.try_new.Goals as goal
 
@@ -14,8 +14,7 @@ returns-in-Some-clause-ok g c = (
       let rank = g.T.Integer.rank in
       let n = g.T.Integer.value_count in
       let none = c.in-Some.ensures.none.1
-      (subst (λ items. IsPlacedIn true n (intervals_of rank items)) (sym c.deref.ensures.value)
-      (subst (λ law. law (intervals_of rank c.args.ranges.items)) (sym (placed-touching n)) touching)) in
+      (subst (λ items. IsTouchingIn n (intervals_of rank items)) (sym c.deref.ensures.value) touching) in
       absurd (cc)),
 )
 
@@ -23,10 +22,8 @@ pub returns-in-Some-clause-position : goal.returns-in-Some-clause-position
 returns-in-Some-clause-position g c =
     let rank = g.T.Integer.rank in
     let n = g.T.Integer.value_count in
-    subst (λ law. IsFirstBad law (intervals_of rank c.args.ranges.items) c.in-Some.position)
-    (placed-touching n)
-    (subst (λ items. IsFirstBad (IsPlacedIn true n) (intervals_of rank items) c.in-Some.position)
-    c.deref.ensures.value c.in-Some.ensures.bad)
+    subst (λ items. IsFirstBad (IsTouchingIn n) (intervals_of rank items) c.in-Some.position)
+    c.deref.ensures.value c.in-Some.ensures.bad
 
 pub returns-in-Some-clause-value : goal.returns-in-Some-clause-value
 returns-in-Some-clause-value g c =
@@ -40,18 +37,16 @@ new-requires g c = λ source becomes.
     let rank = g.T.Integer.rank in
     let n = g.T.Integer.value_count in
     vec-touching rank n source
-    (subst (λ law. law (intervals_of rank source.rest.items)) (placed-touching n)
-    (subst (λ items. IsPlacedIn true n (intervals_of rank items))
-    (c.deref.ensures.value ∙ sym becomes.0) (c.in_default.ensures.none.0 refl)))
+    (subst (λ items. IsTouchingIn n (intervals_of rank items))
+    (c.deref.ensures.value ∙ sym becomes.0) (c.in_default.ensures.none.0 refl))
 
 pub returns-clause-ok : goal.returns-clause-ok
 returns-clause-ok g c = (
   (λ _.
       let rank = g.T.Integer.rank in
       let n = g.T.Integer.value_count in
-      subst (λ law. law (intervals_of rank c.args.ranges.items)) (placed-touching n)
-      (subst (λ items. IsPlacedIn true n (intervals_of rank items)) c.deref.ensures.value
-      (c.in_default.ensures.none.0 refl))),
+      subst (λ items. IsTouchingIn n (intervals_of rank items)) c.deref.ensures.value
+      (c.in_default.ensures.none.0 refl)),
   (λ _. refl),
 )
 
