@@ -12,7 +12,7 @@ ghost use Rattle.rsb_streams.specs.StreamLaws.{canonical_stream-starts, drawn-it
 
 use crate::draw::Draw;
 use crate::not_sorted_disjoint::NotSortedDisjoint;
-use crate::out_of_place::{first_bad, Spacing};
+use crate::out_of_place::{Spacing, first_bad};
 use crate::range_once::RangeOnce;
 use crate::sorted_disjoint::{DrawDisjoint, SortedDisjoint, SortedStarts};
 use rsb_integer::Integer;

@@ -14,7 +14,7 @@ ghost use Rattle.rsb_streams.specs.TouchingLaws.{touching-starts};
 
 use crate::draw::Draw;
 use crate::not_sorted_touching::NotSortedTouching;
-use crate::out_of_place::{first_bad, Spacing};
+use crate::out_of_place::{Spacing, first_bad};
 use crate::sorted_disjoint::SortedStarts;
 use crate::sorted_touching::SortedTouching;
 use rsb_integer::Integer;
