@@ -41,8 +41,7 @@ returns-then-is_started-clause-goes g c =
 pub put_back-requires-clause-room : goal.put_back-requires-clause-room
 put_back-requires-clause-room g c =
     let ready = c.refill.ensures.ready in
-    let fewer = taken-fewer g.T.Integer g.I.Draw c.refill.new.self ready c.refill.ensures.none
-    c.take.new.self c.in_ok-head.head c.in_ok-head.ensures.taken in
+    let fewer = taken-fewer c.refill.ensures c.in_ok-head.ensures.taken in
     omega (arith, fewer, ready.room.few, ready.room.room, c.in_ok-head.ensures.taken.room)
 
 -- The range of the head starts.
