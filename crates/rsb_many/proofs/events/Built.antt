@@ -1,5 +1,5 @@
 -- A sweep that is ready, and one that was just built.
-use Rattle.std.proofs.Common.{◌≡◌, ℕ, List, slice_get, subst}
+use Rattle.std.proofs.Common.{ℕ, List, slice_get, subst}
 use Rattle.rsb_integer.specs.declared.integer.Integer.{Ghosts as Elements}
 use Rattle.rsb_streams.specs.Stream.{◌⊆◌, HasOutcome}
 use Rattle.rsb_streams.specs.Touching.{IsTouching, IsTouchingIn}
@@ -10,7 +10,7 @@ use Rattle.rsb_many.specs.Inputs.{has_ended, held_at, input_at}
 use Rattle.rsb_many.specs.KMergeLaws.{inputs-finite, some-by}
 use Rattle.rsb_many.specs.Many.{gives_of, may_give_at, OneOfEach}
 use Rattle.rsb_many.specs.MultiwaySweep.{has_begun, stream_count, sweep_inputs, SweepReady, SweepsOver}
-use Rattle.rsb_many.specs.Sweep.{rests_by, AreEventsOf}
+use Rattle.rsb_many.specs.Sweep.{AreEventsOf}
 use Rattle.rsb_many.specs.declared.drawn.Drawn.{Drawn}
 use Rattle.rsb_many.specs.declared.multiway_sweep.MultiwaySweep.{MultiwaySweep}
 use Rattle.rsb_many.proofs.inputs.BegunByHeads.{has_begun-unstarted}

@@ -1,5 +1,5 @@
 -- What a merge or a sweep of many streams holds when a range is drawn, and when none was due.
-use Rattle.std.proofs.Common.{◌≡◌, inl, inr, ℕ, ◌+◌, ◌*◌, ◌<◌, ◌≤◌, true, false, List, [], ◌∷◌, length, refl, sym, ap, subst, ◌∙◌, arith, Option, Some, None, IsPermutation}
+use Rattle.std.proofs.Common.{◌≡◌, inl, inr, ℕ, ◌+◌, ◌*◌, ◌<◌, ◌≤◌, List, [], ◌∷◌, length, refl, sym, ap, subst, ◌∙◌, arith, Option, Some, None, IsPermutation}
 use Rattle.std.proofs.lemmas.List.{length-set}
 use Rattle.std.proofs.lemmas.List.Elements.{All-cons, All-nil}
 use Rattle.std.proofs.lemmas.List.Sorted.{IsPermutation-refl}
@@ -15,7 +15,7 @@ use Rattle.rsb_streams.specs.declared.draw.Draw.{Ghosts as Stream}
 use Rattle.rsb_streams.proofs.lookahead.EachCall.{uses-nothing}
 use Rattle.rsb_streams.proofs.sources.Known.{IsLawful}
 use Rattle.rsb_streams.proofs.joining.Gathered.{head-sorted}
-use Rattle.rsb_many.specs.Drawn.{inputs_of, is_at, AddsUnstarted, DrawnReady, IsUnstarted, Refills}
+use Rattle.rsb_many.specs.Drawn.{inputs_of, AddsUnstarted, DrawnReady, IsUnstarted, Refills}
 use Rattle.rsb_many.specs.Heads.{binary_digits, closing, head_of, HasValues, Kept}
 use Rattle.rsb_many.specs.Inputs.{has_ended, input_at, inputs_left, DrawsAt}
 use Rattle.rsb_many.specs.declared.drawn.Drawn.{Drawn}
