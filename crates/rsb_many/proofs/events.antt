@@ -1,4 +1,5 @@
 pub mod Ascending
+pub mod Built
 pub mod ByDepth
 pub mod Crossings
 pub mod Depths

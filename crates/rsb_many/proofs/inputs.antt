@@ -1,11 +1,15 @@
 pub mod Begun
 pub mod BegunByHeads
 pub mod Drawn
+pub mod Draws
 pub mod GivenList
 pub mod HandedIn
 pub mod HeadLeaves
 pub mod Held
+pub mod Leaves
 pub mod Left
 pub mod Listed
+pub mod OneInput
+pub mod Places
 pub mod Rests
-pub mod Steps
+pub mod Touching

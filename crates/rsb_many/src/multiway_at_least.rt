@@ -55,7 +55,7 @@ impl<T: Integer, I: Draw<T>, A: Allocator> Iterator for MultiwayAtLeast<T, I, A>
     ghost remaining = { (multiway_at_least T.Integer.own I.Draw).draws_left };
 
     fn next(&mut self) -> Option<RangeInclusive<T>> {
-        self.iter.next()
+        SweepPieces::next_joined(&mut self.iter)
     }
 }
 

@@ -70,7 +70,7 @@ impl<T: Integer, I: Draw<T>, A: Allocator> Iterator for MultiwaySymmetricDiffere
     ghost remaining = { (multiway_symmetric_difference T.Integer.own I.Draw).draws_left };
 
     fn next(&mut self) -> Option<RangeInclusive<T>> {
-        self.iter.next()
+        SweepPieces::next_joined(&mut self.iter)
     }
 }
 

@@ -1,6 +1,7 @@
 //! The values that a rule selects by the number of streams that have them, as pieces that may
 //! touch.
 
+ghost use Rattle.std.specs.Iterator.{MakesProgress};
 ghost use Rattle.std.specs.Prelude.{◌≡◌, ◌+◌, ◌<◌, false, IfSome, List};
 ghost use Rattle.rsb_many.specs.JoinedPieces.{joined_pieces, MakesJoined};
 ghost use Rattle.rsb_many.specs.MultiwaySweep.{SweepsOver};
@@ -91,6 +92,18 @@ impl<T: Integer, I: Draw<T>, A: Allocator> SweepPieces<T, I, A> {
             → MakesJoined T.Integer.own I.Draw rule streams result }
     {
         UnionIter::new(SweepPieces::over(sweep, rule))
+    }
+
+    /// Returns the next of the joined pieces, if there is one. It neither overlaps nor touches the
+    /// one before it.
+    pub(crate) fn next_joined(joined: &mut UnionIter<T, Self>) -> Option<RangeInclusive<T>>
+        requires { (joined_pieces T.Integer.own I.Draw).can_draw joined.old }
+        ensures steps { (joined_pieces T.Integer.own I.Draw).draw_gives joined.old result
+            joined.new }
+        ensures goes { MakesProgress (joined_pieces T.Integer.own I.Draw).can_draw
+            (joined_pieces T.Integer.own I.Draw).draws_left joined.old result joined.new }
+    {
+        joined.next()
     }
 }
 

@@ -3,6 +3,7 @@ use Rattle.std.proofs.Common.{◌≡◌, ℕ, zero, suc, ◌+◌, ◌<◌, ◌�
 use Rattle.std.proofs.lemmas.Bool.Decides.{nat_tests}
 use Rattle.std.proofs.lemmas.List.{length-set}
 use Rattle.std.proofs.lemmas.List.Elements.{All-head, All-nil, All-tail}
+use Rattle.std.specs.Option.{option_len}
 use Rattle.std.specs.Prelude.{IfSome, MatchOption}
 use Rattle.std.specs.declared.ops.RangeInclusive.{RangeInclusive}
 use Rattle.rsb_integer.specs.Runs.{Interval}
@@ -15,7 +16,8 @@ use Rattle.rsb_many.specs.Inputs.{held_at, input_at, is_over, AreReady, DrawsAt,
 use Rattle.rsb_many.specs.Many.{gives_of, may_give_at}
 use Rattle.rsb_many.specs.declared.drawn.Drawn.{Drawn}
 use Rattle.rsb_many.specs.declared.heads.Head.{Head}
-use Rattle.rsb_many.proofs.inputs.Steps.{can-same, draws-more, draws-ready, draws-unstarted, draws-uses, drawn_count, gives_of-uses, uses-same}
+use Rattle.rsb_many.proofs.inputs.Draws.{draws-more, draws-ready, draws-unstarted, draws-uses, DrawsDue}
+use Rattle.rsb_many.proofs.inputs.OneInput.{can-same, gives_of-uses, uses-same}
 
 -- If a fact holds of all streams, it holds of the stream at each place.
 pub All-slice_get : {S : Type 0} (P : S → Type 0) (streams : List S) (place : ℕ) → All P streams
@@ -67,7 +69,6 @@ module _ {T N I : Type 0} (integer : Elements T N) (stream : Stream I T N)
     can = λ place. can-same integer stream s t place (ap (λ each. held_at rank each place) heads)
         (dues place) (ap (λ each. slice_get each place) streams) (ready.can place);
     sorted = λ place runs at. ready.sorted place runs (gives_of-uses
-        (input_at integer stream s place) (input_at integer stream t place) []
         (uses-same integer stream s t place (ap (λ each. held_at rank each place) heads)
         (dues place) (ap (λ each. slice_get each place) streams)) runs at);
     one = λ place. rw (heads, dues place) (ready.one place);
@@ -168,24 +169,22 @@ module _ {T N I : Type 0} (integer : Elements T N) (stream : Stream I T N)
     long = ap (λ (each : List I). length each) draws.stands
         ∙ length-set s.streams.items first draws.after
 
-    -- A range of the input at `first` was due.
-    due : (due_from first s).due first ≡ true
-    due = due-here first (length s.streams.items) less
-
-    -- It is due no longer.
-    now_due : (due_from (first + 1) t).due first ≡ false
-    now_due = due-no_more first (length t.streams.items)
-
-    -- At every other place, a range is due exactly if it was before.
-    dues : (other : ℕ) → ¬ (other ≡ first)
-        → (due_from (first + 1) t).due other ≡ (due_from first s).due other
-    dues other differs = rw long (due-others first (length s.streams.items) other differs)
+    -- The range of the input at `first` was due, and is due no longer. At every other place, a range
+    -- is due exactly if it was before.
+    abbrev step : DrawsDue integer stream (due_from first s) (due_from (first + 1) t) first
+    step = record {
+      laws = laws;
+      ready = begun.ready;
+      due = due-here first (length s.streams.items) less;
+      now_due = due-no_more first (length t.streams.items);
+      dues = λ other differs. rw long (due-others first (length s.streams.items) other differs);
+      less = less;
+      draws = draws;
+    }
 
     -- At most one more head is held, whatever was drawn.
     few-by : (item : Option (RangeInclusive T))
-        → length t.heads.heads ≡ length s.heads.heads + drawn_count integer stream laws
-        (due_from first s) (due_from (first + 1) t) first begun.ready due now_due dues less draws
-        item
+        → length t.heads.heads ≡ length s.heads.heads + option_len item
         → length t.heads.heads ≤ first + 1
     few-by None more = omega (arith, more, begun.few)
     few-by (Some range) more = omega (arith, more, begun.few)
@@ -194,19 +193,12 @@ module _ {T N I : Type 0} (integer : Elements T N) (stream : Stream I T N)
     pub begun-next : t.used ≡ s.used → s.heads.room ≤ t.heads.room
         → IsBegunTo integer stream streams (first + 1) t
     begun-next used room = record {
-      ready = draws-ready integer stream laws (due_from first s) (due_from (first + 1) t) first
-          begun.ready due now_due dues less draws;
-      unstarted = draws-unstarted integer stream laws (due_from first s) (due_from (first + 1) t)
-          first begun.ready due now_due dues less draws begun.unstarted;
+      ready = draws-ready step;
+      unstarted = draws-unstarted step begun.unstarted;
       count = long ∙ begun.count;
-      begun = λ place runs at. begun.begun place runs (gives_of-uses
-          (input_at integer stream (due_from first s) place)
-          (input_at integer stream (due_from (first + 1) t) place) []
-          (draws-uses integer stream laws (due_from first s) (due_from (first + 1) t) first
-          begun.ready due now_due dues less draws place) runs at);
+      begun = λ place runs at. begun.begun place runs (gives_of-uses (draws-uses step place) runs at);
       used = used ∙ begun.used;
-      few = few-by draws.item (draws-more integer stream laws (due_from first s)
-          (due_from (first + 1) t) first begun.ready due now_due dues less draws);
+      few = few-by draws.item (draws-more step);
       room = omega (arith, long, room, begun.room);
       within = omega (arith, less, begun.count);
     }
@@ -233,11 +225,8 @@ module _ {T N I : Type 0} (integer : Elements T N) (stream : Stream I T N)
       unstarted = begun.unstarted;
       count = begun.count;
       begun = λ place. record {
-        gives = λ runs at. begun.begun place runs (gives_of-uses
-            (input_at integer stream (due_from first s) place)
-            (input_at integer stream (inputs_of s) place) []
-            (uses-same integer stream (due_from first s) (inputs_of s) place refl
-            (none-due place) refl) runs at);
+        gives = λ runs at. begun.begun place runs (gives_of-uses (uses-same integer stream
+            (due_from first s) (inputs_of s) place refl (none-due place) refl) runs at);
         one = omega (arith, begun.ready.one place);
       };
     }

@@ -5,7 +5,7 @@ use Rattle.std.proofs.lemmas.Bool.Decides.{nat_tests}
 use Rattle.std.proofs.lemmas.List.Elements.{All-head, All-tail}
 use Rattle.std.proofs.lemmas.List.Sorted.{length_permutation, sum_by-IsPermutation}
 use Rattle.std.proofs.lemmas.List.Sums.{sum_by-cons}
-use Rattle.std.proofs.lemmas.List.{length-append}
+use Rattle.std.proofs.lemmas.List.{length-append, nil_from_length}
 use Rattle.rsb_integer.proofs.ListLemmas.{true_or_false}
 use Rattle.rsb_integer.specs.Runs.{Interval}
 use Rattle.rsb_many.specs.Drawn.{AddsUnstarted, IsUnstarted}
@@ -15,7 +15,7 @@ use Rattle.rsb_many.specs.Keys.{comes_before}
 use Rattle.rsb_many.specs.MultiwaySweep.{events_of_head, has_begun}
 use Rattle.rsb_many.specs.Sweep.{events_of_rest, key_of_event, rest_by, End, Event, Start}
 use Rattle.rsb_many.specs.declared.heads.Head.{Head}
-use Rattle.rsb_many.proofs.inputs.Steps.{nat_eq-differs, nat_eq-itself}
+use Rattle.rsb_many.proofs.inputs.Places.{nat_eq-differs, nat_eq-itself}
 use Rattle.rsb_many.proofs.heap.Keys.{comes_before-as}
 use Rattle.rsb_many.proofs.events.Steps.{IsNotBefore}
 
@@ -176,15 +176,10 @@ module _ {T : Type 0} (rank : T → ℕ) where
         | inl here ↦
             let same : head.input ≡ place = eqb-true head.input place here in
             let more : length (run_of_head rank head ∷ held_at rank heads place) ≤ 1 = rw here at short in
-            let none = none-of (held_at rank heads place) (omega (arith, more)) in
+            let none = nil_from_length (held_at rank heads place) (omega (arith, more)) in
             rw (here, none, has_begun-nothing heads place none)
             (head-not_before event head place (head.started || false) runs same
             (or-false head.started) (All-head P head heads all))
         | inr other ↦ rw other (held-not_before event heads place runs
             (All-tail P head heads all) (rw other at short) (rw other at some))
       ]
-    where
-      -- A list of at most 0 ranges is empty.
-      none-of : (each : List Interval) → length each ≤ 0 → each ≡ []
-      none-of [] few = refl
-      none-of (run ∷ each) few = absurd (omega (arith, few))

@@ -1,9 +1,10 @@
 -- What a merge or a sweep of many streams holds when a range is drawn, and when none was due.
-use Rattle.std.proofs.Common.{◌≡◌, inl, inr, ℕ, ◌+◌, ◌*◌, ◌<◌, ◌≤◌, true, false, List, [], ◌∷◌, length, refl, sym, ap, subst, ◌∙◌, arith, Option, Some, None, IsPermutation}
+use Rattle.std.proofs.Common.{◌≡◌, inl, inr, ℕ, ◌+◌, ◌*◌, ◌<◌, ◌≤◌, List, [], ◌∷◌, length, refl, sym, ap, subst, ◌∙◌, arith, Option, Some, None, IsPermutation}
 use Rattle.std.proofs.lemmas.List.{length-set}
 use Rattle.std.proofs.lemmas.List.Elements.{All-cons, All-nil}
 use Rattle.std.proofs.lemmas.List.Sorted.{IsPermutation-refl}
 use Rattle.std.specs.Iterator.{size, IsFinite, MakesProgress}
+use Rattle.std.specs.Option.{option_len}
 use Rattle.std.specs.Prelude.{MatchOption}
 use Rattle.std.specs.declared.ops.RangeInclusive.{RangeInclusive}
 use Rattle.rsb_integer.specs.Rank.{interval_of}
@@ -14,13 +15,14 @@ use Rattle.rsb_streams.specs.declared.draw.Draw.{Ghosts as Stream}
 use Rattle.rsb_streams.proofs.lookahead.EachCall.{uses-nothing}
 use Rattle.rsb_streams.proofs.sources.Known.{IsLawful}
 use Rattle.rsb_streams.proofs.joining.Gathered.{head-sorted}
-use Rattle.rsb_many.specs.Drawn.{inputs_of, is_at, AddsUnstarted, DrawnReady, IsUnstarted, Refills}
+use Rattle.rsb_many.specs.Drawn.{inputs_of, AddsUnstarted, DrawnReady, IsUnstarted, Refills}
 use Rattle.rsb_many.specs.Heads.{binary_digits, closing, head_of, HasValues, Kept}
 use Rattle.rsb_many.specs.Inputs.{has_ended, input_at, inputs_left, DrawsAt}
 use Rattle.rsb_many.specs.declared.drawn.Drawn.{Drawn}
 use Rattle.rsb_many.specs.declared.heads.Head.{Head}
 use Rattle.rsb_many.proofs.heap.Digits.{binary_digits-more}
-use Rattle.rsb_many.proofs.inputs.Steps.{draws-ended, draws-less, draws-more, draws-ready, draws-unstarted, draws-uses, drawn_count, nat_eq-differs, nat_eq-itself}
+use Rattle.rsb_many.proofs.inputs.Draws.{draws-ended, draws-less, draws-more, draws-ready, draws-unstarted, draws-uses, DrawsDue}
+use Rattle.rsb_many.proofs.inputs.Places.{nat_eq-differs, nat_eq-itself}
 use Rattle.rsb_many.proofs.inputs.Left.{left_of-set}
 
 -- Closing the place at the top takes at most two comparisons for each binary digit of the number of
@@ -96,21 +98,18 @@ module _ {T N I : Type 0} (integer : Elements T N) (stream : Stream I T N)
       ≤ s.heads.comparisons + 2 * binary_digits (length t.heads.heads))
       (counted : s.heads.comparisons ≤ t.heads.comparisons)
     where
-      -- The range was due.
-      due : is_at s.used place ≡ true
-      due = rw used (nat_eq-itself place)
-
-      -- It is due no longer.
-      now_due : is_at t.used place ≡ false
-      now_due = rw none refl
-
-      -- At every other place, a range is due exactly if it was before.
-      dues : (other : ℕ) → ¬ (other ≡ place) → is_at t.used other ≡ is_at s.used other
-      dues other differs = rw (none, used) (sym (nat_eq-differs place other differs))
-
-      -- There is a stream at the place.
-      less : place < length s.streams.items
-      less = rw used at ready.room.used
+      -- The range was due and is due no longer. At every other place, a range is due exactly if it
+      -- was before.
+      abbrev step : DrawsDue integer stream (inputs_of s) (inputs_of t) place
+      step = record {
+        laws = laws;
+        ready = ready.inputs;
+        due = rw used (nat_eq-itself place);
+        now_due = rw none refl;
+        dues = λ other differs. rw (none, used) (sym (nat_eq-differs place other differs));
+        less = rw used at ready.room.used;
+        draws = draws;
+      }
 
       -- The number of streams is unchanged.
       long : length t.streams.items ≡ length s.streams.items
@@ -119,13 +118,11 @@ module _ {T N I : Type 0} (integer : Elements T N) (stream : Stream I T N)
 
       -- There are at most as many heads as streams.
       few : length t.heads.heads ≤ length s.streams.items
-      few = few-by draws.item (draws-more integer stream laws (inputs_of s) (inputs_of t) place
-          ready.inputs due now_due dues less draws) (rw used at ready.room.few)
+      few = few-by draws.item (draws-more step) (rw used at ready.room.few)
         where
           -- The same for each option of what was drawn.
           few-by : (item : Option (RangeInclusive T))
-              → length t.heads.heads ≡ length s.heads.heads + drawn_count integer stream laws
-              (inputs_of s) (inputs_of t) place ready.inputs due now_due dues less draws item
+              → length t.heads.heads ≡ length s.heads.heads + option_len item
               → length s.heads.heads + 1 ≤ length s.streams.items
               → length t.heads.heads ≤ length s.streams.items
           few-by None more room = omega (arith, more, room)
@@ -135,8 +132,7 @@ module _ {T N I : Type 0} (integer : Elements T N) (stream : Stream I T N)
       pub refills : Refills integer stream s t
       refills = record {
         ready = record {
-          inputs = draws-ready integer stream laws (inputs_of s) (inputs_of t) place ready.inputs due
-              now_due dues less draws;
+          inputs = draws-ready step;
           room = record {
             used = rw none tt;
             few = rw none (omega (arith, few, long));
@@ -145,10 +141,8 @@ module _ {T N I : Type 0} (integer : Elements T N) (stream : Stream I T N)
         };
         none = none;
         count = long;
-        uses = draws-uses integer stream laws (inputs_of s) (inputs_of t) place ready.inputs due
-            now_due dues less draws;
-        unstarted = draws-unstarted integer stream laws (inputs_of s) (inputs_of t) place ready.inputs
-            due now_due dues less draws;
+        uses = draws-uses step;
+        unstarted = draws-unstarted step;
         came = came-by draws.item draws.kept;
         left = λ finite. fewer finite;
         compared =
@@ -178,15 +172,9 @@ module _ {T N I : Type 0} (integer : Elements T N) (stream : Stream I T N)
               × (size (inputs_left integer stream (inputs_of t))
               ≤ size (inputs_left integer stream (inputs_of s)))
           fewer finite =
-              let set_left = left_of-set stream.draws_left
-              (drawn_count integer stream laws (inputs_of s) (inputs_of t) place ready.inputs due
-              now_due dues less draws draws.item)
+              let set_left = left_of-set stream.draws_left (option_len draws.item)
               (has_ended integer stream (inputs_of s)) (has_ended integer stream (inputs_of t))
-              s.streams.items place draws.before draws.after draws.stood
-              (draws-ended integer stream laws (inputs_of s) (inputs_of t) place ready.inputs due
-              now_due dues less draws)
-              (draws-less integer stream laws (inputs_of s) (inputs_of t) place ready.inputs due
-              now_due dues less draws) finite in
-              let more = draws-more integer stream laws (inputs_of s) (inputs_of t) place ready.inputs
-              due now_due dues less draws in
+              s.streams.items place draws.before draws.after draws.stood (draws-ended step)
+              (draws-less step) finite in
+              let more = draws-more step in
               rw draws.stands (set_left.0, omega (arith, set_left.1, more))

@@ -1,6 +1,6 @@
 -- What a merge or a sweep of many streams holds if the least head leaves, if it is put back, and if
 -- there is none.
-use Rattle.std.proofs.Common.{◌≡◌, inl, inr, ℕ, ◌+◌, ◌*◌, ◌<◌, ◌≤◌, true, false, cond, nat_lt, List, [], ◌∷◌, ◌++◌, length, slice_get, refl, sym, ap, subst, ◌∙◌, arith, All, None}
+use Rattle.std.proofs.Common.{◌≡◌, inl, inr, ℕ, ◌+◌, ◌*◌, ◌<◌, ◌≤◌, true, false, cond, nat_lt, List, [], ◌∷◌, ◌++◌, length, slice_get, refl, sym, ap, subst, ◌∙◌, arith, All}
 use Rattle.std.proofs.lemmas.Bool.{ltb-false}
 use Rattle.std.proofs.lemmas.List.{append-nil}
 use Rattle.std.proofs.lemmas.List.Elements.{All-cons, All-head, All-tail}
@@ -8,10 +8,10 @@ use Rattle.std.proofs.lemmas.List.Sorted.{All-permutation, length_permutation}
 use Rattle.rsb_integer.specs.Runs.{Interval}
 use Rattle.rsb_integer.specs.declared.integer.Integer.{Ghosts as Elements}
 use Rattle.rsb_integer.proofs.ListLemmas.{true_or_false}
-use Rattle.rsb_streams.specs.Lookahead.{Ends, GivesFrom, HasEnded, Input, Uses}
+use Rattle.rsb_streams.specs.Lookahead.{Ends, GivesFrom, HasEnded, Uses}
 use Rattle.rsb_streams.specs.Stream.{◌⊆◌, just}
 use Rattle.rsb_streams.specs.declared.draw.Draw.{Ghosts as Stream}
-use Rattle.rsb_many.specs.Drawn.{inputs_of, is_at, DrawnReady, HasNoHead, PutsBack, TakesHead}
+use Rattle.rsb_many.specs.Drawn.{inputs_of, is_at, DrawnReady, HasNoHead, PutsBack, Refills, TakesHead}
 use Rattle.rsb_many.specs.Heads.{binary_digits, run_of_head, started}
 use Rattle.rsb_many.specs.Inputs.{has_ended, held_at, input_at, left_of, AreReady, Inputs}
 use Rattle.rsb_many.specs.KMerge.{comparison_bound}
@@ -20,8 +20,10 @@ use Rattle.rsb_many.specs.declared.drawn.Drawn.{Drawn}
 use Rattle.rsb_many.specs.declared.heads.Head.{Head}
 use Rattle.rsb_many.proofs.heap.Digits.{binary_digits-more}
 use Rattle.rsb_many.proofs.inputs.Held.{held_at-permutation}
-use Rattle.rsb_many.proofs.inputs.Steps.{can-same, gives_of-uses, held-head, leaves-gives, leaves-goes, leaves-none, leaves-others, leaves-ready, leaves-spares, nat_eq-differs, nat_eq-itself, uses-same}
+use Rattle.rsb_many.proofs.inputs.Leaves.{held-head, leaves-gives, leaves-goes, leaves-none, leaves-others, leaves-ready, leaves-spares, LosesHead}
 use Rattle.rsb_many.proofs.inputs.Left.{left_of-same}
+use Rattle.rsb_many.proofs.inputs.OneInput.{can-same, gives_of-uses, uses-same}
+use Rattle.rsb_many.proofs.inputs.Places.{nat_eq-differs, nat_eq-itself}
 
 -- Two comparisons for each binary digit of `count`, and two for each digit of the number of heads,
 -- stay within `comparison_bound`.
@@ -40,11 +42,13 @@ few-compared count heads before middle made short first second =
       | inr none ↦ let nothing = ltb-false 0 count none in rw none (omega (arith, nothing))
     ]
 
-module _ {T N I A : Type 0} (integer : Elements T N) (stream : Stream I T N) (m : Drawn T I A N)
-    (ready : DrawnReady integer stream m) (none : m.used ≡ None) where
+-- Here `s` holds the inputs before a call, and `m` once the range that was due is drawn.
+module _ {T N I A : Type 0} {integer : Elements T N} {stream : Stream I T N} {s m : Drawn T I A N}
+    (filled : Refills integer stream s m) where
   open integer use {rank}
+  open filled use {ready, none}
 
-  -- The inputs before.
+  -- The inputs before the head leaves.
   abbrev before : Inputs T I
   before = inputs_of m
 
@@ -53,22 +57,28 @@ module _ {T N I A : Type 0} (integer : Elements T N) (stream : Stream I T N) (m 
   none-due place = rw none refl
 
   -- ---- the least head leaves
-  module _ (t : Drawn T I A N) (head : Head T) (takes : TakesHead integer stream m head t) where
+  module _ {t : Drawn T I A N} {head : Head T} (takes : TakesHead integer stream m head t) where
     -- The inputs afterwards.
     abbrev now : Inputs T I
     now = inputs_of t
 
     -- The streams are the same.
-    pub taken-streams : now.streams ≡ before.streams
+    taken-streams : now.streams ≡ before.streams
     taken-streams = ap (λ each. each.items) takes.streams
-
-    -- A range of the head's input is due.
-    pub taken-due : now.due head.input ≡ true
-    taken-due = rw takes.used (nat_eq-itself head.input)
 
     -- A range of another input is due exactly if it was before.
     pub taken-dues : (place : ℕ) → ¬ (place ≡ head.input) → now.due place ≡ before.due place
     taken-dues place differs = rw (takes.used, none) (nat_eq-differs head.input place differs)
+
+    -- The head leaves, and a range of its input is due.
+    pub taken-loses : LosesHead integer stream before now head
+    taken-loses = record {
+      ready = ready.inputs;
+      streams = taken-streams;
+      kept = takes.taken.kept;
+      due = rw takes.used (nat_eq-itself head.input);
+      dues = taken-dues;
+    }
 
     -- The number of streams is unchanged.
     pub taken-long : length t.streams.items ≡ length m.streams.items
@@ -88,38 +98,32 @@ module _ {T N I A : Type 0} (integer : Elements T N) (stream : Stream I T N) (m 
 
     -- Nothing is held of its input any more.
     pub taken-none : held_at rank t.heads.heads head.input ≡ []
-    taken-none = leaves-none integer stream before now head ready.inputs taken-streams
-        takes.taken.kept taken-due taken-dues
+    taken-none = leaves-none taken-loses
 
     -- Before, only the range of the head was held of its input.
     pub taken-held : held_at rank m.heads.heads head.input ≡ run_of_head rank head ∷ []
-    taken-held = sym (held-head integer stream before now head ready.inputs taken-streams
-        takes.taken.kept taken-due taken-dues)
+    taken-held = sym (held-head taken-loses)
         ∙ ap (λ runs. run_of_head rank head ∷ runs) taken-none
 
     -- Its input gives the range.
     pub taken-gives : GivesFrom (input_at integer stream before head.input) (run_of_head rank head)
         (input_at integer stream now head.input)
-    taken-gives = leaves-gives integer stream before now head ready.inputs taken-streams
-        takes.taken.kept taken-due taken-dues
+    taken-gives = leaves-gives taken-loses
 
     -- What is held of the other inputs is unchanged.
     pub taken-others : (place : ℕ) → ¬ (place ≡ head.input)
         → held_at rank t.heads.heads place ≡ held_at rank m.heads.heads place
-    taken-others = leaves-others integer stream before now head ready.inputs taken-streams
-        takes.taken.kept taken-due taken-dues
+    taken-others = leaves-others taken-loses
 
     -- The other inputs use nothing.
     pub taken-spares : (place : ℕ) → ¬ (place ≡ head.input)
         → Uses (input_at integer stream before place) [] (input_at integer stream now place)
-    taken-spares = leaves-spares integer stream before now head ready.inputs taken-streams
-        takes.taken.kept taken-due taken-dues
+    taken-spares = leaves-spares taken-loses
 
     -- The inputs are ready again, and there is room for their heads.
     pub taken-ready : DrawnReady integer stream t
     taken-ready = record {
-      inputs = leaves-ready integer stream before now head ready.inputs taken-streams
-          takes.taken.kept taken-due taken-dues;
+      inputs = leaves-ready taken-loses;
       room = record {
         used = rw takes.used (omega (arith, taken-less, taken-long));
         few = rw takes.used few-now;
@@ -136,13 +140,12 @@ module _ {T N I A : Type 0} (integer : Elements T N) (stream : Stream I T N) (m 
         ≡ left_of stream.draws_left (has_ended integer stream before) before.streams
     taken-left = left_of-same stream.draws_left (has_ended integer stream before)
         (has_ended integer stream now) now.streams
-        (leaves-goes integer stream before now head ready.inputs taken-streams takes.taken.kept
-        taken-due taken-dues)
+        (leaves-goes taken-loses)
         ∙ ap (λ each. left_of stream.draws_left (has_ended integer stream before) each)
         taken-streams
 
     -- ---- it is put back
-    module _ (u : Drawn T I A N) (back : PutsBack t head u) where
+    module _ {u : Drawn T I A N} (back : PutsBack t head u) where
       -- The inputs once the head is back.
       abbrev again : Inputs T I
       again = inputs_of u
@@ -197,8 +200,7 @@ module _ {T N I A : Type 0} (integer : Elements T N) (stream : Stream I T N) (m 
               (back-due place ∙ sym (none-due place))
               (ap (λ each. slice_get each place) back-streams) (ready.inputs.can place);
           sorted = λ place runs gives. ready.inputs.sorted place runs
-              (gives_of-uses (input_at integer stream before place)
-              (input_at integer stream again place) [] (back-uses place) runs gives);
+              (gives_of-uses (back-uses place) runs gives);
           one = λ place. rw (back-held place, back-due place) (one-held place);
           within = subst (λ count. All (λ (each : Head T). each.input < count) u.heads.heads)
               (sym back-long)
@@ -235,7 +237,7 @@ module _ {T N I A : Type 0} (integer : Elements T N) (stream : Stream I T N) (m 
           back-streams
 
   -- ---- there is no head
-  module _ (t : Drawn T I A N) (empty : HasNoHead m t) where
+  module _ {t : Drawn T I A N} (empty : HasNoHead m t) where
     -- The inputs are unchanged.
     pub none-unchanged : inputs_of t ≡ before
     none-unchanged = same-by (ap (λ each. each.items) empty.streams) (empty.new ∙ sym empty.old)
@@ -268,38 +270,34 @@ module _ {T N I A : Type 0} (integer : Elements T N) (stream : Stream I T N) (m 
         let ended = none-ended place in
         gives.2 ∙ ap (λ each. each ++ gives.0) ended.held ∙ ended.gives gives.0 gives.1
 
-    -- Here `earlier` are the inputs before the range that was due was drawn.
-    module _ (earlier : ℕ → Input)
-        (filled : (place : ℕ) → Uses (earlier place) [] (input_at integer stream before place)) where
-      -- So an input used nothing since then.
-      none-uses : (place : ℕ)
-          → Uses (earlier place) [] (input_at integer stream (inputs_of t) place)
-      none-uses place = subst (λ each. Uses (earlier place) [] (input_at integer stream each place))
-          (sym none-unchanged) (filled place)
+    -- An input used nothing in the whole call.
+    none-uses : (place : ℕ) → Uses (input_at integer stream (inputs_of s) place) []
+        (input_at integer stream (inputs_of t) place)
+    none-uses place = subst (λ each. Uses (input_at integer stream (inputs_of s) place) []
+        (input_at integer stream each place)) (sym none-unchanged) (filled.uses place)
 
-      -- And it ended.
-      pub none-ends : (place : ℕ)
-          → Ends (earlier place) (input_at integer stream (inputs_of t) place)
-      none-ends place =
-          let uses = none-uses place in
-          let ended = none-ended place in
-          record {
-            uses = record {
-              drawn = uses.drawn;
-              drew = λ rest is. uses.drew rest (rw (none-over place) is);
-              in_order = uses.in_order ∙ ended.held;
-            };
-            over = ended;
-          }
+    -- And it ended.
+    pub none-ends : (place : ℕ) → Ends (input_at integer stream (inputs_of s) place)
+        (input_at integer stream (inputs_of t) place)
+    none-ends place =
+        let uses = none-uses place in
+        let ended = none-ended place in
+        record {
+          uses = record {
+            drawn = uses.drawn;
+            drew = λ rest is. uses.drew rest (rw (none-over place) is);
+            in_order = uses.in_order ∙ ended.held;
+          };
+          over = ended;
+        }
 
-      -- Before, it might have given nothing.
-      pub none-might : (place : ℕ) → gives_of (earlier place) []
-      none-might place = gives_of-uses (earlier place)
-          (input_at integer stream (inputs_of t) place) [] (none-uses place) [] (
-            [],
-            rw (none-over place) refl,
-            sym (append-nil (held_at rank t.heads.heads place) ∙ (none-ended place).held),
-          )
+    -- Before the call, it might have given nothing.
+    pub none-might : (place : ℕ) → gives_of (input_at integer stream (inputs_of s) place) []
+    none-might place = gives_of-uses (none-uses place) [] (
+      [],
+      rw (none-over place) refl,
+      sym (append-nil (held_at rank t.heads.heads place) ∙ (none-ended place).held),
+    )
 
     -- The inputs are ready again, and there is room for their heads.
     pub none-ready : DrawnReady integer stream t

@@ -1,5 +1,5 @@
--- What is held of each input in any order of the heads, and the streams by their places.
-use Rattle.std.proofs.Common.{◌≡◌, inl, inr, ℕ, zero, suc, ◌+◌, ◌<◌, ◌≤◌, Bool, true, false, cond, nat_eq, List, [], ◌∷◌, length, set, get_or, slice_get, refl, sym, ap, ◌∙◌, arith, All, sum_by, Some, IsPermutation, Contains}
+-- What is held of each input, in any order of the heads.
+use Rattle.std.proofs.Common.{◌≡◌, inl, inr, ℕ, ◌+◌, ◌≤◌, Bool, true, false, cond, nat_eq, List, [], ◌∷◌, length, refl, sym, ap, subst, ◌∙◌, arith, All, sum_by, IsPermutation, Contains}
 use Rattle.std.proofs.lemmas.List.Elements.{All-cons, All-head, All-nil, All-tail, All-weaker}
 use Rattle.std.proofs.lemmas.List.Sorted.{All-permutation, sum_by-IsPermutation}
 use Rattle.std.proofs.lemmas.List.Sums.{sum_by-cons}
@@ -8,8 +8,8 @@ use Rattle.rsb_integer.specs.Runs.{Interval}
 use Rattle.rsb_many.specs.Heads.{run_of_head}
 use Rattle.rsb_many.specs.Inputs.{held_at}
 use Rattle.rsb_many.specs.declared.heads.Head.{Head}
+use Rattle.rsb_many.proofs.inputs.Places.{nat_eq-differs}
 
--- ---- heads
 module _ {T : Type 0} (rank : T → ℕ) (place : ℕ) where
   -- 1 for a head of the input, and 0 for any other.
   abbrev is_here : Head T → ℕ
@@ -91,31 +91,13 @@ module _ {T : Type 0} (rank : T → ℕ) (place : ℕ) where
       (held-contains (held_at rank xs place) ys
       (All-permutation (IsHeld (held_at rank xs place)) xs ys same (held-all xs)))
 
--- ---- places
-
-module _ {S : Type 0} where
-  -- The place that was changed has the new stream.
-  pub slice_get-set_same : (streams : List S) (place : ℕ) (stream : S) → place < length streams
-      → slice_get (set streams place stream) place ≡ Some stream
-  slice_get-set_same [] place stream less = absurd (omega (arith, less))
-  slice_get-set_same (first ∷ streams) zero stream less = refl
-  slice_get-set_same (first ∷ streams) (suc place) stream less =
-      slice_get-set_same streams place stream (omega (arith, less))
-
-  -- Another place has the same stream as before.
-  pub slice_get-set_other : (streams : List S) (place other : ℕ) (stream : S) → ¬ (other ≡ place)
-      → slice_get (set streams place stream) other ≡ slice_get streams other
-  slice_get-set_other [] place other stream differs = refl
-  slice_get-set_other (first ∷ streams) zero zero stream differs = absurd (differs refl)
-  slice_get-set_other (first ∷ streams) zero (suc other) stream differs = refl
-  slice_get-set_other (first ∷ streams) (suc place) zero stream differs = refl
-  slice_get-set_other (first ∷ streams) (suc place) (suc other) stream differs =
-      slice_get-set_other streams place other stream (λ same. differs (ap suc same))
-
-  -- If a place is one of the list, `get_or` returns the stream there, and not the default.
-  pub slice_get-get_or : (streams : List S) (place : ℕ) (stream : S) → place < length streams
-      → slice_get streams place ≡ Some (get_or streams place stream)
-  slice_get-get_or [] place stream less = absurd (omega (arith, less))
-  slice_get-get_or (first ∷ streams) zero stream less = refl
-  slice_get-get_or (first ∷ streams) (suc place) stream less =
-      slice_get-get_or streams place stream (omega (arith, less))
+  -- Adding a head of another input, in any order, does not change what is held of the input, if that
+  -- is at most one range.
+  pub held_at-others : (heads now : List (Head T)) (head : Head T) → IsPermutation (head ∷ heads) now
+      → ¬ (place ≡ head.input) → length (held_at rank heads place) ≤ 1
+      → held_at rank now place ≡ held_at rank heads place
+  held_at-others heads now head same differs short =
+      let stays : held_at rank (head ∷ heads) place ≡ held_at rank heads place =
+      rw (nat_eq-differs head.input place differs) refl in
+      held_at-permutation (head ∷ heads) now same
+      (subst (λ (runs : List Interval). length runs ≤ 1) (sym stays) short) ∙ stays

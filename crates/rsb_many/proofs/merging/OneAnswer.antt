@@ -22,8 +22,9 @@ use Rattle.rsb_many.specs.Many.{gives_of, may_give_at, merges_all}
 use Rattle.rsb_many.specs.declared.drawn.Drawn.{Drawn}
 use Rattle.rsb_many.specs.declared.heads.Head.{Head}
 use Rattle.rsb_many.specs.declared.kmerge.KMerge.{KMerge}
-use Rattle.rsb_many.proofs.inputs.HeadLeaves.{few-compared, none-ends, none-long, none-might, none-nothing, none-ready, taken-due, taken-dues, taken-fewer, taken-gives, taken-left, taken-less, taken-long, taken-ready, taken-streams}
-use Rattle.rsb_many.proofs.inputs.Steps.{gives_of-uses, leaves-others_spared, leaves-starts}
+use Rattle.rsb_many.proofs.inputs.HeadLeaves.{few-compared, none-ends, none-long, none-might, none-nothing, none-ready, taken-fewer, taken-gives, taken-left, taken-less, taken-long, taken-loses, taken-ready}
+use Rattle.rsb_many.proofs.inputs.Leaves.{leaves-others_spared, leaves-starts}
+use Rattle.rsb_many.proofs.inputs.OneInput.{gives_of-uses}
 use Rattle.rsb_many.proofs.merging.Lists.{merges_all-empty, merges_all-head, merges_all-nothing, merges_all-wider}
 
 module _ {T N I A : Type 0} (integer : Elements T N) (stream : Stream I T N)
@@ -60,18 +61,6 @@ module _ {T N I A : Type 0} (integer : Elements T N) (stream : Stream I T N)
     abbrev run : Interval
     run = run_of_head rank head
 
-    -- The streams are the same.
-    streams : now.streams ≡ middle.streams
-    streams = taken-streams integer stream m filled.ready filled.none t.inputs head takes
-
-    -- A range of the head's input is due.
-    due : now.due head.input ≡ true
-    due = taken-due integer stream m filled.ready filled.none t.inputs head takes
-
-    -- A range of another input is due exactly if it was before.
-    dues : (place : ℕ) → ¬ (place ≡ head.input) → now.due place ≡ middle.due place
-    dues = taken-dues integer stream m filled.ready filled.none t.inputs head takes
-
     -- No start of a head's range was reported.
     unstarted : All IsUnstarted (head ∷ t.inputs.heads.heads)
     unstarted = All-permutation IsUnstarted m.heads.heads (head ∷ t.inputs.heads.heads)
@@ -106,7 +95,7 @@ module _ {T N I A : Type 0} (integer : Elements T N) (stream : Stream I T N)
     gives-here : GivesFrom (input_at integer stream before head.input) run
         (input_at integer stream now head.input)
     gives-here =
-        let gives = taken-gives integer stream m filled.ready filled.none t.inputs head takes in
+        let gives = taken-gives filled takes in
         record {
           uses = uses-then (input_at integer stream before head.input)
               (input_at integer stream middle head.input) (input_at integer stream now head.input)
@@ -118,8 +107,8 @@ module _ {T N I A : Type 0} (integer : Elements T N) (stream : Stream I T N)
     spares-others : (other : ℕ) → ¬ (other ≡ head.input)
         → Spares (input_at integer stream before other) run (input_at integer stream now other)
     spares-others other differs =
-        let spares = leaves-others_spared integer stream middle now head filled.ready.inputs streams
-        takes.taken.kept due dues least (λ place apart. none-due place) other differs in
+        let spares = leaves-others_spared (taken-loses filled takes) least
+        (λ place apart. none-due place) other differs in
         record {
           uses = uses-then (input_at integer stream before other)
               (input_at integer stream middle other) (input_at integer stream now other) [] []
@@ -133,12 +122,12 @@ module _ {T N I A : Type 0} (integer : Elements T N) (stream : Stream I T N)
 
     -- The number of streams is unchanged.
     long : length t.inputs.streams.items ≡ length s.inputs.streams.items
-    long = taken-long integer stream m filled.ready filled.none t.inputs head takes ∙ filled.count
+    long = taken-long filled takes ∙ filled.count
 
     -- The head belongs to one of the inputs.
     here-less : head.input < length s.inputs.streams.items
     here-less =
-        let less = taken-less integer stream m filled.ready filled.none t.inputs head takes in
+        let less = taken-less filled takes in
         omega (arith, less, filled.count)
 
     -- The range, followed by what the merge may give after the draw, is what it might give before.
@@ -147,19 +136,17 @@ module _ {T N I A : Type 0} (integer : Elements T N) (stream : Stream I T N)
     head-answers rest may = merges_all-head n (length before.streams) head.input
         (λ place. gives_of (input_at integer stream before place))
         (λ place. gives_of (input_at integer stream now place)) run here-less
-        (λ runs at. gives_of-uses (input_at integer stream before head.input)
-        (input_at integer stream now head.input) (run ∷ []) gives-here.uses runs at)
-        (λ other less differs runs at. gives_of-uses (input_at integer stream before other)
-        (input_at integer stream now other) [] (spares-others other differs).uses runs at)
+        (gives_of-uses gives-here.uses)
+        (λ other less differs. gives_of-uses (spares-others other differs).uses)
         (λ place less. ready.drawn.inputs.sorted place)
-        (λ place less. leaves-starts integer stream middle now head filled.ready.inputs streams
-        takes.taken.kept due dues least (λ other differs. none-due other) place)
+        (λ place less. leaves-starts (taken-loses filled takes) least
+        (λ other differs. none-due other) place)
         rest (rw long at may)
 
     -- The merge is ready again.
     pub head-ready : KMergeReady integer stream t
     head-ready = record {
-      drawn = taken-ready integer stream m filled.ready filled.none t.inputs head takes;
+      drawn = taken-ready filled takes;
       unstarted = All-tail IsUnstarted head t.inputs.heads.heads unstarted;
     }
 
@@ -169,8 +156,8 @@ module _ {T N I A : Type 0} (integer : Elements T N) (stream : Stream I T N)
         × (size (inputs_left integer stream now) < size (inputs_left integer stream before))
     head-less finite =
         let refilled = filled.left finite in
-        let same = taken-left integer stream m filled.ready filled.none t.inputs head takes in
-        let fewer = taken-fewer integer stream m filled.ready filled.none t.inputs head takes in (
+        let same = taken-left filled takes in
+        let fewer = taken-fewer filled takes in (
           subst (λ each. IsFinite each) (sym same) refilled.0,
           omega (arith, refilled.1, fewer, ap (λ each. size each) same),
         )
@@ -208,7 +195,7 @@ module _ {T N I A : Type 0} (integer : Elements T N) (stream : Stream I T N)
     -- The merge is ready again.
     none-again : KMergeReady integer stream t
     none-again = record {
-      drawn = none-ready integer stream m filled.ready filled.none t.inputs none;
+      drawn = none-ready filled none;
       unstarted = rw none.new (All-nil IsUnstarted);
     }
 
@@ -219,19 +206,17 @@ module _ {T N I A : Type 0} (integer : Elements T N) (stream : Stream I T N)
     none-known compared counted = record {
       answers = merges_all-empty n (length before.streams)
           (λ place. gives_of (input_at integer stream before place))
-          (λ place less. none-might integer stream m filled.ready filled.none t.inputs none
-          (kmerge_inputs integer stream s) filled.uses place);
+          (λ place less. none-might filled none place);
       rests = (
         none-again,
         merges_all-nothing n (length now.streams)
             (λ place. gives_of (input_at integer stream now place))
-            (λ place less. none-nothing integer stream m filled.ready filled.none t.inputs none
+            (λ place less. none-nothing filled none
             place),
       );
       asks = record {
-        takes = none-ends integer stream m filled.ready filled.none t.inputs none
-            (kmerge_inputs integer stream s) filled.uses;
-        count = none-long integer stream m filled.ready filled.none t.inputs none ∙ filled.count;
+        takes = none-ends filled none;
+        count = none-long filled none ∙ filled.count;
         compared = few-made t.inputs.heads.comparisons compared;
         counted = omega (arith, filled.counted, counted);
       };

@@ -1,6 +1,5 @@
 -- Events that were passed, one after the other.
 use Rattle.std.proofs.Common.{◌≡◌, inl, inr, ℕ, nat_eq, List, [], ◌∷◌, ◌++◌, map, append_assoc, refl, sym, ap, subst, ◌∙◌, arith}
-use Rattle.std.proofs.lemmas.Bool.{cases_eq}
 use Rattle.std.proofs.lemmas.List.{append-nil, map-append}
 use Rattle.rsb_integer.specs.Runs.{Interval}
 use Rattle.rsb_integer.proofs.ListLemmas.{true_or_false}
@@ -11,7 +10,7 @@ use Rattle.rsb_many.specs.Many.{HoldOneAtMost}
 use Rattle.rsb_many.specs.MultiwaySweep.{AsksAt}
 use Rattle.rsb_many.specs.Sweep.{End, Event, Start}
 use Rattle.rsb_many.specs.SweepPieces.{ends_at, PassesAll, PassesSome, Telling, UsesTo}
-use Rattle.rsb_many.proofs.inputs.Steps.{nat_eq-differs, nat_eq-itself}
+use Rattle.rsb_many.proofs.inputs.Places.{at-place, nat_eq-differs, nat_eq-itself}
 
 -- The ends of an input's ranges in two lists of events are those in the first and those in the
 -- second.
@@ -45,17 +44,17 @@ uses_to-none before now uses = record { used = []; uses = uses; ends = refl }
 -- When a sweep gives an event, each input uses the range that the event ends, if it has one.
 asks-uses : (before now : ℕ → Input) (event : Event) → AsksAt before event now → (place : ℕ)
     → UsesTo (ends_at place (event ∷ [])) (before place) (now place)
-asks-uses before now (Start range input) asks place =
-    uses_to-none (before place) (now place) (asks.uses place)
-asks-uses before now (End last input) asks place = elim (cases_eq place input) [
-  | inl same ↦ rw (same, nat_eq-itself input) (record {
-    used = asks.run ∷ [];
-    uses = asks.here.uses;
-    ends = ap (λ each. each ∷ []) asks.ends;
-  })
-  | inr differs ↦ rw (nat_eq-differs input place differs)
-      (uses_to-none (before place) (now place) (asks.elsewhere place differs))
-]
+asks-uses before now (Start range input) asks =
+    λ place. uses_to-none (before place) (now place) (asks.uses place)
+asks-uses before now (End last input) asks = at-place
+    (λ place. UsesTo (ends_at place (End last input ∷ [])) (before place) (now place)) input
+    (rw (nat_eq-itself input) (record {
+      used = asks.run ∷ [];
+      uses = asks.here.uses;
+      ends = ap (λ each. each ∷ []) asks.ends;
+    }))
+    (λ place differs. rw (nat_eq-differs input place differs)
+    (uses_to-none (before place) (now place) (asks.elsewhere place differs)))
 
 -- If some events were passed, and the sweep gives one more, those and this one were passed.
 pub passes-more : (first second third : Telling) (event : Event) → PassesSome first second

@@ -1,4 +1,5 @@
 use Rattle.std.proofs.Common.{arith, subst, sym, ◌∙◌}
+use Rattle.rsb_many.specs.Drawn.{Refills, TakesHead}
 use Rattle.rsb_many.specs.MultiwaySweep.{Sweeps}
 use Rattle.rsb_many.proofs.inputs.HeadLeaves.{taken-fewer}
 use Rattle.rsb_many.proofs.events.OneEvent.{end-goes, end-known, none-known, start-goes, start-known}
@@ -40,10 +41,13 @@ returns-then-is_started-clause-goes g c =
 -- There is room for the head that was taken out.
 pub put_back-requires-clause-room : goal.put_back-requires-clause-room
 put_back-requires-clause-room g c =
-    let ready = c.refill.ensures.ready in
-    let fewer = taken-fewer g.T.Integer g.I.Draw c.refill.new.self ready c.refill.ensures.none
-    c.take.new.self c.in_ok-head.head c.in_ok-head.ensures.taken in
-    omega (arith, fewer, ready.room.few, ready.room.room, c.in_ok-head.ensures.taken.room)
+    let filled : Refills g.T.Integer g.I.Draw c.args.self.now.inputs c.refill.new.self =
+    c.refill.ensures in
+    let takes : TakesHead g.T.Integer g.I.Draw c.refill.new.self c.in_ok-head.head c.take.new.self =
+    c.in_ok-head.ensures.taken in
+    let ready = filled.ready in
+    let fewer = taken-fewer filled takes in
+    omega (arith, fewer, ready.room.few, ready.room.room, takes.room)
 
 -- The range of the head starts.
 pub returns-clause-steps : goal.returns-clause-steps
