@@ -1,20 +1,22 @@
 use Rattle.std.proofs.Common.{◌∙◌, ap}
 use Rattle.range_set_blaze.specs.Kept.{runs_of}
 use Rattle.range_set_blaze.proofs.runs.Maps.{runs-below, runs-from}
-use Rattle.range_set_blaze.proofs.set.entries.split_entries.Goals as goal
+use Rattle.range_set_blaze.proofs.set.runs.Runs.split_off.Goals as goal
 
 -- The map keeps the entries below the key.
 pub returns-clause-low : goal.returns-clause-low
 returns-clause-low g c =
     let laws = g.met.T.Integer in
-    ap (runs_of g.T.Integer.rank) c.in_ok-high.ensures.below
+    rw (← c.self.view_is)
+    (ap (runs_of g.T.Integer.rank) c.in_ok-map.ensures.below
     ∙ runs-below g.T.Ord.cmp g.T.Integer.rank g.T.Integer.value_count laws.in_order c.args.key
-    c.requires.value c.args.map.now.entries c.requires.ascending
+    c.requires c.self.inside.map.entries c.self.invariant)
 
 -- The others are returned.
 pub returns-clause-high : goal.returns-clause-high
 returns-clause-high g c =
     let laws = g.met.T.Integer in
-    ap (runs_of g.T.Integer.rank) c.in_ok-high.ensures.from
+    rw (← c.self.view_is)
+    (ap (runs_of g.T.Integer.rank) c.in_ok-map.ensures.from
     ∙ runs-from g.T.Ord.cmp g.T.Integer.rank g.T.Integer.value_count laws.in_order c.args.key
-    c.requires.value c.args.map.now.entries c.requires.ascending
+    c.requires c.self.inside.map.entries c.self.invariant)
