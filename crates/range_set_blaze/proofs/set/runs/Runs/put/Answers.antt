@@ -21,3 +21,14 @@ returns-clause-runs g c =
     (ap (runs_of g.T.Integer.rank) c.in_ok-insert.ensures.entries
     ∙ runs-insert_entry g.T.Ord.cmp g.T.Integer.rank g.T.Integer.value_count laws.in_order
     c.args.run.start c.args.run.end c.requires 0 c.self.inside.map.entries c.self.invariant)
+
+-- The starts of the runs still ascend.
+pub invariant_of-self-2 : goal.invariant_of-self-2
+invariant_of-self-2 g c =
+    let laws = g.met.T.Integer in
+    subst (StartsAscendFrom g.T.Integer.value_count 0)
+    (sym (ap (runs_of g.T.Integer.rank) c.in_ok-insert.ensures.entries
+    ∙ runs-insert_entry g.T.Ord.cmp g.T.Integer.rank g.T.Integer.value_count laws.in_order
+    c.args.run.start c.args.run.end c.requires 0 c.self.inside.map.entries c.self.invariant))
+    (with_run-ascending _ _ (run_of g.T.Integer.rank c.args.run) _ c.self.invariant (omega arith)
+    c.requires)
