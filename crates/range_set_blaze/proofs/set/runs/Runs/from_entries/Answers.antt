@@ -15,7 +15,7 @@ invariant_of-result g c =
     let ran = c.in_ok-map.ensures.ran in
     let last = ran.3.2 tt in
     rw (made-entries g.T.Ord.cmp g.met.T.Ord.total rank n laws.in_order laws.exact
-    ran.1 c.args.entries.items _ ran.4
+    ran.1 c.args.entries.items c.in_ok-map.map ran.4
     (All-taken ran.0 ran.1 (last.0, (ran.3.0, ran.3.1, last.1)) ∙ ran.2.0) rises) rises
 
 pub returns : goal.returns
@@ -27,5 +27,5 @@ returns g c =
     let ran = c.in_ok-map.ensures.ran in
     let last = ran.3.2 tt in
     ap (runs_of rank) (made-entries g.T.Ord.cmp g.met.T.Ord.total rank n laws.in_order laws.exact
-    ran.1 c.args.entries.items _ ran.4
+    ran.1 c.args.entries.items c.in_ok-map.map ran.4
     (All-taken ran.0 ran.1 (last.0, (ran.3.0, ran.3.1, last.1)) ∙ ran.2.0) rises)
