@@ -2,7 +2,7 @@
 use Rattle.std.specs.Prelude.{◌≡◌, ℕ, true, false, ◌||◌, ◌+◌, ◌<◌, ◌≤◌, List, Option, MatchOption, Contains, IsTrue}
 use Rattle.rsb_integer.specs.Runs.{Interval, covers, members, IsCanonicalIn}
 use Rattle.rsb_integer.specs.Selection.{Selection, count, LacksSome}
-use Rattle.range_set_blaze.specs.Kept.{run_of, runs_of, IsKept}
+use Rattle.range_set_blaze.specs.Kept.{run_of, IsKept}
 use Rattle.range_set_blaze.specs.Set.{Adds}
 use Rattle.range_set_blaze.specs.Starts.{with_run}
 use Rattle.range_set_blaze.specs.declared.set.run.Run.{Run}
@@ -84,10 +84,9 @@ module _ {T : Type 0} (rank : T → ℕ) (n : ℕ) (runs : List Interval) where
 abbrev pub Has : List Interval → Selection → Type 0
 Has set selected = (rank : ℕ) → IsTrue (selected rank) → IsTrue (members set rank)
 
--- Whether the new entries and the length represent a set: the members of the old entries, and those
--- of the run. Some rank of the run was not a member before.
-pub record IsInserted {T : Type 0} (rank : T → ℕ) (n : ℕ) (old new : List (T × T)) (run : Run T)
-    (length : ℕ) : Type 0 where
-  pub kept : IsKept rank n new length
-  pub adds : Adds (runs_of rank old) (runs_of rank new) (covers (run_of rank run))
-  pub lacks : LacksSome (members (runs_of rank old)) (covers (run_of rank run))
+-- Whether the new runs and the length represent a set: the members of the old runs, and those of the
+-- added one. Some rank of that run was not a member before.
+pub record IsInserted (n : ℕ) (old new : List Interval) (run : Interval) (length : ℕ) : Type 0 where
+  pub kept : IsKept n new length
+  pub adds : Adds old new (covers run)
+  pub lacks : LacksSome (members old) (covers run)

@@ -31,7 +31,6 @@ ranges_of entries = map range_of entries
 
 -- Whether the runs are canonical in a type of n values, and the stored length is the number of
 -- their members.
-pub record IsKept {T : Type 0} (rank : T → ℕ) (n : ℕ) (entries : List (T × T)) (kept : ℕ) : Type 0
-  where
-    pub canonical : IsCanonicalIn n (runs_of rank entries)
-    pub length : kept ≡ count n (members (runs_of rank entries))
+pub record IsKept (n : ℕ) (runs : List Interval) (kept : ℕ) : Type 0 where
+  pub canonical : IsCanonicalIn n runs
+  pub length : kept ≡ count n (members runs)

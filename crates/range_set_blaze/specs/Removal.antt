@@ -3,7 +3,7 @@ use Rattle.std.specs.Prelude.{◌≡◌, ℕ, ◌&&◌, ◌||◌, nat_lt, ◌+�
 use Rattle.rsb_integer.specs.Runs.{Interval, covers, length_of, members, IsCanonicalIn}
 use Rattle.rsb_integer.specs.Selection.{count}
 use Rattle.range_set_blaze.specs.Set.{Removes}
-use Rattle.range_set_blaze.specs.Starts.{without_start, StartsAscendFrom}
+use Rattle.range_set_blaze.specs.Starts.{without_start}
 
 -- Whether the new runs are canonical and have the members of the old ones except the ranks of the
 -- piece, all of which were members.
@@ -16,7 +16,6 @@ pub record IsRemoved (n : ℕ) (old new : List Interval) (piece : Interval) : Ty
 -- the members of the other old runs, and the ranks of `run` past the point.
 pub record IsCutAbove (n : ℕ) (old : List Interval) (run : Interval) (point : ℕ)
     (now : List Interval) : Type 0 where
-  pub ascending : StartsAscendFrom n 0 now
   pub there : (other : Interval) × Contains now other × (other.first ≡ run.first)
   pub canonical : IsCanonicalIn n (without_start run.first now)
   pub has : (rank : ℕ) → members (without_start run.first now) rank

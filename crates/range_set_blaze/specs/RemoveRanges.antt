@@ -2,7 +2,7 @@
 use Rattle.std.specs.Prelude.{◌≡◌, ℕ, ◌+◌, ◌<◌, ◌≤◌, max, min, List, IsTrue, IsFalse}
 use Rattle.rsb_integer.specs.Runs.{Interval, covers, members}
 use Rattle.rsb_integer.specs.Selection.{Selection}
-use Rattle.range_set_blaze.specs.Kept.{runs_of, IsKept}
+use Rattle.range_set_blaze.specs.Kept.{IsKept}
 use Rattle.range_set_blaze.specs.Starts.{IsLastBelow}
 
 -- Whether the set has one of the ranks.
@@ -28,10 +28,9 @@ abbrev pub IsSameOutside : Interval → List Interval → List Interval → Type
 IsSameOutside range old new = (rank : ℕ) → IsFalse (covers range rank)
     → members new rank ≡ members old rank
 
--- Whether the new entries and the length represent a set that has the same members as the old one
+-- Whether the new runs and the length represent a set that has the same members as the old one
 -- outside the range, and lacks the last rank of the range. So no run crosses the end of the range.
-pub record IsNarrowed {T : Type 0} (rank : T → ℕ) (n : ℕ) (range : Interval)
-    (old new : List (T × T)) (length : ℕ) : Type 0 where
-  pub kept : IsKept rank n new length
-  pub outside : IsSameOutside range (runs_of rank old) (runs_of rank new)
-  pub ends : IsFalse (members (runs_of rank new) range.last)
+pub record IsNarrowed (n : ℕ) (range : Interval) (old new : List Interval) (length : ℕ) : Type 0 where
+  pub kept : IsKept n new length
+  pub outside : IsSameOutside range old new
+  pub ends : IsFalse (members new range.last)

@@ -1,4 +1,4 @@
-//! The set type: a map of its runs in ascending order, and the number of their members.
+//! The set type: its runs in ascending order, and the number of their members.
 //!
 //! Contracts see only the list of its runs (docs/DECISIONS.md, set-as-runs).
 
@@ -34,6 +34,7 @@ mod remove;
 mod remove_ranges;
 mod retain;
 pub(crate) mod run;
+pub(crate) mod runs;
 pub(crate) mod singles;
 mod split;
 mod subsets;
@@ -43,20 +44,19 @@ pub(crate) mod windows;
 mod windows_asked;
 
 use crate::ranges_iter::RangesIter;
+use crate::set::runs::Runs;
 use num_traits::Zero;
 use rsb_integer::Integer;
 use std::alloc::{Allocator, Global};
-use std::collections::BTreeMap;
 use std::marker::Model;
 
 /// A set of integers. Contracts see it as the list of its runs, each as the interval of its ranks.
 /// (`RangeSetBlaze` in range-set-blaze.)
 #[derive(Drop)]
 pub struct RangeSetBlaze<T: Integer, A: Allocator = Global> {
-    // Maps the start of each run to its end (docs/DECISIONS.md, tree-map).
-    map: BTreeMap<T, T, A>,
+    runs: Runs<T, A>,
     length: T::SafeLen,
-    // The map's allocator, which calls on this set use to make other sets
+    // The allocator of the runs, which calls on this set use to make other sets
     // (docs/DECISIONS.md, allocator-parameter).
     alloc: A,
 }
@@ -64,14 +64,13 @@ pub struct RangeSetBlaze<T: Integer, A: Allocator = Global> {
 impl<T: Integer, A: Allocator> Model for RangeSetBlaze<T, A> {
     ghost use Rattle.std.specs.Prelude.{List};
     ghost use Rattle.rsb_integer.specs.Runs.{Interval};
-    ghost use Rattle.range_set_blaze.specs.Kept.{runs_of, IsKept};
+    ghost use Rattle.range_set_blaze.specs.Kept.{IsKept};
 
     ghost Value = { List Interval };
 
-    ghost view = { λ s. runs_of T.rank s.map.entries };
+    ghost view = { λ s. s.runs };
 
-    ghost invariant = { λ s. IsKept T.rank T.value_count s.map.entries
-        (T.SafeLen.number s.length) };
+    ghost invariant = { λ s. IsKept T.value_count s.runs (T.SafeLen.number s.length) };
 }
 
 impl<T: Integer, A: Allocator + Copy> RangeSetBlaze<T, A> {
@@ -80,7 +79,7 @@ impl<T: Integer, A: Allocator + Copy> RangeSetBlaze<T, A> {
         ensures { result ≡ [] }
     {
         RangeSetBlaze {
-            map: BTreeMap::new(alloc),
+            runs: Runs::new(alloc),
             length: T::SafeLen::zero(),
             alloc,
         }
@@ -108,14 +107,14 @@ impl<T: Integer, A: Allocator> RangeSetBlaze<T, A> {
         ensures length { result ≡ length self.now }
         ensures runs { AreRuns T.value_count (members self.now) self.now }
     {
-        self.map.len()
+        self.runs.len()
     }
 
     /// Returns whether the set has no members. (`RangeSetBlaze::is_empty`.)
     pub fn is_empty(&self) -> bool
         ensures { IsTrue result ↔ IsEmpty (members self.now) }
     {
-        self.map.is_empty()
+        self.runs.is_empty()
     }
 
     /// Returns the least member, or `None` if the set is empty. (`RangeSetBlaze::first`.)
@@ -124,8 +123,8 @@ impl<T: Integer, A: Allocator> RangeSetBlaze<T, A> {
         ensures found { IfSome result (λ first.
             IsLeast T.value_count (members self.now) (T.rank first)) }
     {
-        let (start, _) = self.map.first_key_value()?;
-        Some(*start)
+        let run = self.runs.first()?;
+        Some(run.start)
     }
 
     /// Returns the greatest member, or `None` if the set is empty. (`RangeSetBlaze::last`.)
@@ -134,8 +133,8 @@ impl<T: Integer, A: Allocator> RangeSetBlaze<T, A> {
         ensures found { IfSome result (λ last.
             IsGreatest T.value_count (members self.now) (T.rank last)) }
     {
-        let (_, end) = self.map.last_key_value()?;
-        Some(*end)
+        let run = self.runs.last()?;
+        Some(run.end)
     }
 
     /// Returns the runs in ascending order, as a double-ended iterator. (`RangeSetBlaze::ranges`.)
@@ -145,7 +144,7 @@ impl<T: Integer, A: Allocator> RangeSetBlaze<T, A> {
         ensures runs { AreRuns T.value_count (members self.now) self.now }
     {
         RangesIter {
-            entries: self.map.iter(),
+            entries: self.runs.iter(),
         }
     }
 
@@ -153,7 +152,7 @@ impl<T: Integer, A: Allocator> RangeSetBlaze<T, A> {
     pub fn clear(&mut self)
         ensures { self.new ≡ [] }
     {
-        self.map.clear();
+        self.runs.clear();
         self.length = T::SafeLen::zero();
     }
 }

@@ -9,21 +9,13 @@ use Rattle.rsb_integer.proofs.ListLemmas.{true_or_false, not_both}
 use Rattle.rsb_integer.proofs.MembersLemmas.{covers-bounds, covers-inside, members-in}
 use Rattle.range_set_blaze.specs.Joining.{IsInside, IsOver, KnowsInside, NoneInside}
 use Rattle.range_set_blaze.specs.Kept.{run_of}
-use Rattle.range_set_blaze.specs.Starts.{with_run, without_start, StartsAscendFrom, LeavesApart, IsJoined}
+use Rattle.range_set_blaze.specs.Starts.{with_run, without_start, LeavesApart, IsJoined}
 use Rattle.range_set_blaze.specs.declared.set.run.Run.{Run}
 use Rattle.range_set_blaze.proofs.runs.Apart.{contained-maximal, contained-members, starting-lacks, with_run-joined, with_run-members, without_start-joined}
-use Rattle.range_set_blaze.proofs.runs.Starts.{canonical-rises, starting-contains, starting-with_run, with_run-ascending, with_run-contains, Contains-starting, Contains-with_run}
+use Rattle.range_set_blaze.proofs.runs.Starts.{canonical-rises, starting-contains, starting-with_run, with_run-contains, Contains-starting, Contains-with_run}
 
 module _ (n : ℕ) (now : List Interval) (joined : Interval) (others : ℕ)
     (over : IsOver n now joined others) where
-  -- The starts of the runs ascend.
-  pub over-ascending : StartsAscendFrom n 0 now
-  over-ascending =
-      rw over.parts
-      (with_run-ascending n 0 joined over.rest
-      (canonical-rises n 0 over.rest over.canonical.0 over.canonical.1) (omega arith)
-      (omega (arith, over.ordered, over.in_type)))
-
   -- The members are those of the others and the ranks of the joined run.
   pub over-members : (rank : ℕ) → members now rank ≡ (members over.rest rank || covers joined rank)
   over-members rank =

@@ -10,7 +10,7 @@ use Rattle.range_set_blaze.specs.Removal.{IsCutAbove, IsRemoved}
 use Rattle.range_set_blaze.specs.Starts.{with_run, without_start, LeavesApart, IsJoined}
 use Rattle.range_set_blaze.specs.Set.{only, Removes}
 use Rattle.range_set_blaze.proofs.runs.Apart.{contained-maximal, with_run-joined, without_start-joined}
-use Rattle.range_set_blaze.proofs.runs.Starts.{canonical-rises, starting-with_run, with_run-ascending, with_run-without_start, Contains-with_run}
+use Rattle.range_set_blaze.proofs.runs.Starts.{starting-with_run, with_run-without_start, Contains-with_run}
 
 module _ (n : ℕ) (runs : List Interval) (canonical : IsCanonicalIn n runs) (run : Interval)
     (among : Contains runs run) (point : ℕ) (from : run.first ≤ point) (to : point ≤ run.last) where
@@ -22,7 +22,6 @@ module _ (n : ℕ) (runs : List Interval) (canonical : IsCanonicalIn n runs) (ru
   -- `IsCutAbove` states.
   pub cut-last : run.last ≤ point → IsCutAbove n runs run point runs
   cut-last ends = record {
-    ascending = canonical-rises n 0 runs canonical.0 canonical.1;
     there = (run, among, refl);
     canonical = joins.fewer_canonical;
     has = λ rank. elim (true_or_false (covers run rank)) [
@@ -40,7 +39,6 @@ module _ (n : ℕ) (runs : List Interval) (canonical : IsCanonicalIn n runs) (ru
       → point < run.last → IsCutAbove n runs run point (with_run above runs)
   cut-above above starts ends less =
       let maximal = contained-maximal n runs canonical run among in
-      let rises = canonical-rises n 0 runs canonical.0 canonical.1 in
       let test : not (above.first == run.first) ≡ true = grind (arith, nat_tests, starts, from) in
       let moved = starting-with_run (λ start. not (start == run.first)) above runs test in
       let put = with_run-joined n (without_start run.first runs) joins.fewer_canonical above
@@ -49,8 +47,6 @@ module _ (n : ℕ) (runs : List Interval) (canonical : IsCanonicalIn n runs) (ru
       (omega (arith, high, ends))) in
       let number = put.counted in
       record {
-        ascending = with_run-ascending n 0 above runs rises (omega arith)
-            (omega (arith, starts, less, maximal.in_type));
         there = (
           run,
           Contains-with_run above runs run among

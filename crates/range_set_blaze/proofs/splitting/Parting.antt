@@ -10,11 +10,11 @@ use Rattle.rsb_integer.proofs.CountLemmas.{count-union}
 use Rattle.rsb_integer.proofs.ListLemmas.{not_both}
 use Rattle.rsb_integer.proofs.MembersLemmas.{covers-bounds, covers-inside}
 use Rattle.range_set_blaze.specs.Split.{from_on, IsParting, NoneOver}
-use Rattle.range_set_blaze.specs.Starts.{below, starting_from, with_run, without_start, StartsAscendFrom, IsJoined, IsLastBelow}
+use Rattle.range_set_blaze.specs.Starts.{below, starting_from, with_run, without_start, IsJoined, IsLastBelow}
 use Rattle.range_set_blaze.specs.Set.{IsSetOf, Removes}
 use Rattle.range_set_blaze.proofs.runs.Kept.{sum_by-within}
 use Rattle.range_set_blaze.proofs.runs.Apart.{contained-ends, contained-maximal, contained-members, contained-starts, starting-lacks, starting-members, with_run-joined, without_start-joined}
-use Rattle.range_set_blaze.proofs.runs.Starts.{canonical-rises, starting-canonical_in, starting-starting, starting-swap, starting-with_run, starting-with_run_not, with_run-without_start, with_run-ascending, without_start-with_run, Contains-starting, Contains-with_run}
+use Rattle.range_set_blaze.proofs.runs.Starts.{canonical-rises, starting-canonical_in, starting-starting, starting-swap, starting-with_run, starting-with_run_not, with_run-without_start, without_start-with_run, Contains-starting, Contains-with_run}
 
 -- Canonical runs with the members below a rank, and canonical runs with the others, are the two
 -- parts at that rank.
@@ -150,14 +150,6 @@ module _ (n : ℕ) (runs : List Interval) (canonical : IsCanonicalIn n runs) (po
       let one = parts.from rank in
       let all = joins.has rank in
       grind (arith, nat_tests, has, one, all, high_starts, high_ends, above)))
-
-  -- With the high part, the starts still ascend.
-  pub within-ascending : (high : Interval) → high.first ≡ point
-      → StartsAscendFrom n 0 (with_run high runs)
-  within-ascending high starts =
-      let maximal = contained-maximal n runs canonical run among in
-      with_run-ascending n 0 high runs (canonical-rises n 0 runs canonical.0 canonical.1)
-      (omega arith) (omega (arith, starts, within, maximal.in_type))
 
   -- The run is among those that start below the rank.
   pub within-there : (high : Interval) → high.first ≡ point

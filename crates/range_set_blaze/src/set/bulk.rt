@@ -8,7 +8,8 @@ ghost use Rattle.rsb_integer.specs.Selection.{IsUniversal};
 
 use crate::into_ranges_iter::IntoRangesIter;
 use crate::set::RangeSetBlaze;
-use crate::set::fill::{gathered, map_of};
+use crate::set::fill::gathered;
+use crate::set::runs::Runs;
 use rsb_integer::Integer;
 use rsb_streams::{DrawDisjoint, RangeOnce};
 use std::alloc::{AllocError, Allocator};
@@ -22,8 +23,12 @@ impl<T: Integer, A: Allocator + Copy> RangeSetBlaze<T, A> {
         ensures runs { IfOk result (λ set. I.may_give iter set) }
     {
         let (entries, length) = gathered(alloc, iter)?;
-        let map = map_of(alloc, entries)?;
-        Ok(RangeSetBlaze { map, length, alloc })
+        let runs = Runs::from_entries(alloc, entries)?;
+        Ok(RangeSetBlaze {
+            runs,
+            length,
+            alloc,
+        })
     }
 
     /// Returns the set of the values of a range. The set is empty if the range is reversed or was
@@ -52,7 +57,7 @@ impl<T: Integer, A: Allocator> RangeSetBlaze<T, A> {
         ensures ready { IsCanonicalIn T.value_count (intervals_of T.rank result) }
     {
         IntoRangesIter {
-            entries: self.map.into_iter(),
+            entries: self.runs.into_entries(),
         }
     }
 }

@@ -1,17 +1,15 @@
-//! The map and the length of a set, built from a stream in one pass.
+//! The entries and the length of a set, from a stream in one pass.
 //!
 //! The runs are collected into a list first, since std builds a map from a sorted list in one pass.
 //! Both steps may fail to allocate.
 
-ghost use Rattle.std.specs.Prelude.{◌≡◌, IfOk};
-ghost use Rattle.rsb_integer.specs.Runs.{IsCanonicalIn};
+ghost use Rattle.std.specs.Prelude.{IfOk};
 ghost use Rattle.range_set_blaze.specs.Kept.{runs_of, IsKept};
 
 use num_traits::Zero;
 use rsb_integer::Integer;
 use rsb_streams::DrawDisjoint;
 use std::alloc::{AllocError, Allocator};
-use std::collections::BTreeMap;
 
 /// Returns the runs of a ready stream as entries, and the number of their members.
 pub(crate) fn gathered<T: Integer, A: Allocator, I: DrawDisjoint<T>>(
@@ -20,8 +18,8 @@ pub(crate) fn gathered<T: Integer, A: Allocator, I: DrawDisjoint<T>>(
 ) -> Result<(Vec<(T, T), A>, T::SafeLen), AllocError>
     requires { I.can_draw iter }
     ensures runs { IfOk result (λ gathered. I.may_give iter (runs_of T.rank gathered.0.items)) }
-    ensures kept { IfOk result (λ gathered.
-        IsKept T.rank T.value_count gathered.0.items (T.SafeLen.number gathered.1)) }
+    ensures kept { IfOk result (λ gathered. IsKept T.value_count (runs_of T.rank gathered.0.items)
+        (T.SafeLen.number gathered.1)) }
 {
     let mut iter = iter;
     let mut entries = Vec::new(alloc);
@@ -32,15 +30,4 @@ pub(crate) fn gathered<T: Integer, A: Allocator, I: DrawDisjoint<T>>(
         entries.push((start, end))?;
     }
     Ok((entries, length))
-}
-
-/// Returns the map of a list of entries in ascending order, built in one pass.
-pub(crate) fn map_of<T: Integer, A: Allocator + Clone>(
-    alloc: A,
-    entries: Vec<(T, T), A>,
-) -> Result<BTreeMap<T, T, A>, AllocError>
-    requires { IsCanonicalIn T.value_count (runs_of T.rank entries.items) }
-    ensures { IfOk result (λ map. map.entries ≡ entries.items) }
-{
-    BTreeMap::from_iter(alloc, entries)
 }

@@ -8,15 +8,15 @@ ghost use Rattle.rsb_integer.specs.Selection.{complement, intersection};
 ghost use Rattle.range_set_blaze.specs.FirstFit.{AllShorter, AllShorterBefore, IsFirstFit, IsFree};
 ghost use Rattle.range_set_blaze.specs.Kept.{run_of, runs_of};
 ghost use Rattle.range_set_blaze.specs.Split.{from_on};
-ghost use Rattle.range_set_blaze.specs.Starts.{past, StartsAscendFrom};
+ghost use Rattle.range_set_blaze.specs.Starts.{past};
 
 use crate::set::RangeSetBlaze;
 use crate::set::entries::{next_in_range, next_run};
 use crate::set::gaps::first_free;
 use crate::set::run::{Run, known};
+use crate::set::runs::Runs;
 use rsb_integer::Integer;
 use std::alloc::Allocator;
-use std::collections::BTreeMap;
 use std::collections::btree_map::Range;
 use std::ops::{Bound, RangeInclusive};
 
@@ -89,7 +89,7 @@ impl<T: Integer, A: Allocator> RangeSetBlaze<T, A> {
         ensures free { IfSome result (λ range. (rank : ℕ)
             → IsTrue (covers (interval_of T.rank range) rank) → IsFalse (members self.now rank)) }
     {
-        let gap = gap_from(&self.map, known(value), len)?;
+        let gap = gap_from(&self.runs, known(value), len)?;
         Some(gap.start..=gap.end)
     }
 
@@ -112,20 +112,19 @@ impl<T: Integer, A: Allocator> RangeSetBlaze<T, A> {
         ensures has { IfSome result (λ range. (rank : ℕ)
             → IsTrue (covers (interval_of T.rank range) rank) → IsTrue (members self.now rank)) }
     {
-        let run = long_run(&self.map, len)?;
+        let run = long_run(&self.runs, len)?;
         Some(run.start..=run.end)
     }
 }
 
 // Returns the first run that has at least `len` values, or `None` if every run is shorter.
-fn long_run<T: Integer, A: Allocator>(map: &BTreeMap<T, T, A>, len: T::SafeLen) -> Option<Run<T>>
-    requires { IsCanonicalIn T.value_count (runs_of T.rank map.now.entries) }
-    ensures { MatchOption result
-        (AllShorter T.value_count (members (runs_of T.rank map.now.entries)) (T.SafeLen.number len))
-        (λ run. IsFirstFit T.value_count (members (runs_of T.rank map.now.entries))
+fn long_run<T: Integer, A: Allocator>(runs: &Runs<T, A>, len: T::SafeLen) -> Option<Run<T>>
+    requires { IsCanonicalIn T.value_count runs.now }
+    ensures { MatchOption result (AllShorter T.value_count (members runs.now)
+        (T.SafeLen.number len)) (λ run. IsFirstFit T.value_count (members runs.now)
         (T.SafeLen.number len) (run_of T.rank run)) }
 {
-    let mut entries = map.iter();
+    let mut entries = runs.iter();
     while let Some(run) = next_run(&mut entries) {
         if is_long(run, len) {
             return Some(run);
@@ -137,22 +136,20 @@ fn long_run<T: Integer, A: Allocator>(map: &BTreeMap<T, T, A>, len: T::SafeLen) 
 // Returns the first gap with at least `len` values at or above `value`, shortened to those values,
 // or `None` if there is none.
 fn gap_from<T: Integer, A: Allocator>(
-    map: &BTreeMap<T, T, A>,
+    runs: &Runs<T, A>,
     value: T,
     len: T::SafeLen,
 ) -> Option<Run<T>>
-    requires canonical { IsCanonicalIn T.value_count (runs_of T.rank map.now.entries) }
+    requires canonical { IsCanonicalIn T.value_count runs.now }
     requires value { T.rank value < T.value_count }
-    ensures { MatchOption result
-        (AllShorter T.value_count (intersection (complement
-        (members (runs_of T.rank map.now.entries))) (from_on (T.rank value)))
-        (T.SafeLen.number len))
-        (λ gap. IsFirstFit T.value_count (intersection (complement
-        (members (runs_of T.rank map.now.entries))) (from_on (T.rank value)))
+    ensures { MatchOption result (AllShorter T.value_count
+        (intersection (complement (members runs.now)) (from_on (T.rank value)))
+        (T.SafeLen.number len)) (λ gap. IsFirstFit T.value_count
+        (intersection (complement (members runs.now)) (from_on (T.rank value)))
         (T.SafeLen.number len) (run_of T.rank gap)) }
 {
-    let start = first_free(map, value)?;
-    first_between(&mut runs_after(map, start), start, len)
+    let start = first_free(runs, value)?;
+    first_between(&mut runs.starting_after(start), start, len)
 }
 
 // Returns the first gap with at least `len` values that the runs leave at or above `from`, or
@@ -192,13 +189,4 @@ fn is_long<T: Integer>(run: Run<T>, len: T::SafeLen) -> bool
     ensures { IsTrue result ↔ (T.SafeLen.number len ≤ length_of (run_of T.rank run)) }
 {
     len <= T::safe_len(&(run.start..=run.end))
-}
-
-// Returns the runs that start after a value.
-fn runs_after<'a, T: Integer, A: Allocator>(map: &'a BTreeMap<T, T, A>, value: T) -> Range<'a, T, T>
-    requires ascending { StartsAscendFrom T.value_count 0 (runs_of T.rank map.now.entries) }
-    requires value { T.rank value < T.value_count }
-    ensures { runs_of T.rank result ≡ past (T.rank value) (runs_of T.rank map.now.entries) }
-{
-    map.range((Bound::Excluded(value), Bound::Unbounded))
 }

@@ -7,62 +7,58 @@ ghost use Rattle.rsb_integer.specs.Selection.{difference};
 ghost use Rattle.range_set_blaze.specs.FirstFit.{HasAllFrom, IsFirstFree};
 ghost use Rattle.range_set_blaze.specs.GapsIn.{HasAllTo, IsFreePart, IsLastFree};
 ghost use Rattle.range_set_blaze.specs.Joining.{Has};
-ghost use Rattle.range_set_blaze.specs.Kept.{run_of, runs_of};
+ghost use Rattle.range_set_blaze.specs.Kept.{run_of};
 ghost use Rattle.range_set_blaze.specs.Set.{IsSetOf};
 
 use crate::gaps_in::GapsIn;
 use crate::set::look_up::run_at;
 use crate::set::run::{Run, is_below, previous};
-use crate::set::windows::{no_entries, starting_in};
+use crate::set::runs::Runs;
 use rsb_integer::Integer;
 use std::alloc::Allocator;
-use std::collections::BTreeMap;
 
 /// Returns the gaps within a window.
 pub(super) fn gaps_between<'a, T: Integer, A: Allocator>(
-    map: &'a BTreeMap<T, T, A>,
+    runs: &'a Runs<T, A>,
     window: Run<T>,
 ) -> GapsIn<'a, T>
-    requires canonical { IsCanonicalIn T.value_count (runs_of T.rank map.now.entries) }
+    requires canonical { IsCanonicalIn T.value_count runs.now }
     requires order { T.rank window.start ≤ T.rank window.end }
     requires value { T.rank window.end < T.value_count }
     ensures canonical { IsCanonicalIn T.value_count (intervals_of T.rank result) }
     ensures members { IsSetOf (intervals_of T.rank result)
-        (difference (covers (run_of T.rank window))
-        (members (runs_of T.rank map.now.entries))) }
+        (difference (covers (run_of T.rank window)) (members runs.now)) }
 {
-    match free_part(map, window) {
+    match free_part(runs, window) {
         Some(part) => GapsIn {
             rest: Some(part),
-            entries: starting_in(map, part),
+            entries: runs.starting_in(part),
         },
-        None => no_gaps(map),
+        None => no_gaps(runs),
     }
 }
 
 /// Returns an iterator over no gaps.
-pub(super) fn no_gaps<'a, T: Integer, A: Allocator>(map: &'a BTreeMap<T, T, A>) -> GapsIn<'a, T>
+pub(super) fn no_gaps<'a, T: Integer, A: Allocator>(runs: &'a Runs<T, A>) -> GapsIn<'a, T>
     ensures { result ≡ [] }
 {
     GapsIn {
         rest: None,
-        entries: no_entries(map),
+        entries: runs.no_entries(),
     }
 }
 
 // Returns the part of a window from its first value that is not a member to its last one, or `None`
 // if every value is a member.
-fn free_part<T: Integer, A: Allocator>(map: &BTreeMap<T, T, A>, window: Run<T>) -> Option<Run<T>>
-    requires canonical { IsCanonicalIn T.value_count (runs_of T.rank map.now.entries) }
+fn free_part<T: Integer, A: Allocator>(runs: &Runs<T, A>, window: Run<T>) -> Option<Run<T>>
+    requires canonical { IsCanonicalIn T.value_count runs.now }
     requires order { T.rank window.start ≤ T.rank window.end }
     requires value { T.rank window.end < T.value_count }
-    ensures { MatchOption result
-        (Has (runs_of T.rank map.now.entries) (covers (run_of T.rank window)))
-        (λ part. IsFreePart (runs_of T.rank map.now.entries) (run_of T.rank window)
-        (run_of T.rank part)) }
+    ensures { MatchOption result (Has runs.now (covers (run_of T.rank window)))
+        (λ part. IsFreePart runs.now (run_of T.rank window) (run_of T.rank part)) }
 {
-    let start = first_free(map, window.start)?;
-    let end = last_free(map, window.end)?;
+    let start = first_free(runs, window.start)?;
+    let end = last_free(runs, window.end)?;
     if is_below(end, start) {
         return None;
     }
@@ -71,15 +67,13 @@ fn free_part<T: Integer, A: Allocator>(map: &BTreeMap<T, T, A>, window: Run<T>) 
 
 /// Returns the first value at or above the given one that is not a member, or `None` if there is
 /// none.
-pub(super) fn first_free<T: Integer, A: Allocator>(map: &BTreeMap<T, T, A>, value: T) -> Option<T>
-    requires canonical { IsCanonicalIn T.value_count (runs_of T.rank map.now.entries) }
+pub(super) fn first_free<T: Integer, A: Allocator>(runs: &Runs<T, A>, value: T) -> Option<T>
+    requires canonical { IsCanonicalIn T.value_count runs.now }
     requires value { T.rank value < T.value_count }
-    ensures { MatchOption result (HasAllFrom T.value_count (runs_of T.rank map.now.entries)
-        (T.rank value))
-        (λ free. IsFirstFree T.value_count (runs_of T.rank map.now.entries) (T.rank value)
-        (T.rank free)) }
+    ensures { MatchOption result (HasAllFrom T.value_count runs.now (T.rank value))
+        (λ free. IsFirstFree T.value_count runs.now (T.rank value) (T.rank free)) }
 {
-    let Some(run) = run_at(map, value) else {
+    let Some(run) = run_at(runs, value) else {
         return Some(value);
     };
     let free = run.end.checked_add_one()?;
@@ -88,13 +82,13 @@ pub(super) fn first_free<T: Integer, A: Allocator>(map: &BTreeMap<T, T, A>, valu
 
 // Returns the last value at or below the given one that is not a member, or `None` if there is
 // none.
-fn last_free<T: Integer, A: Allocator>(map: &BTreeMap<T, T, A>, value: T) -> Option<T>
-    requires canonical { IsCanonicalIn T.value_count (runs_of T.rank map.now.entries) }
+fn last_free<T: Integer, A: Allocator>(runs: &Runs<T, A>, value: T) -> Option<T>
+    requires canonical { IsCanonicalIn T.value_count runs.now }
     requires value { T.rank value < T.value_count }
-    ensures { MatchOption result (HasAllTo (runs_of T.rank map.now.entries) (T.rank value))
-        (λ free. IsLastFree (runs_of T.rank map.now.entries) (T.rank value) (T.rank free)) }
+    ensures { MatchOption result (HasAllTo runs.now (T.rank value))
+        (λ free. IsLastFree runs.now (T.rank value) (T.rank free)) }
 {
-    match run_at(map, value) {
+    match run_at(runs, value) {
         Some(run) => previous(run.start),
         None => Some(value),
     }

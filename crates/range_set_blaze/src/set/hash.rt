@@ -9,7 +9,7 @@ use crate::set::RangeSetBlaze;
 use crate::set::entries::next_run;
 use rsb_integer::Integer;
 use std::alloc::Allocator;
-use std::collections::BTreeMap;
+use std::collections::btree_map::Iter;
 use std::hash::{Hash, Hasher};
 
 /// A set feeds the hasher its length, and then the start and the end of each run in ascending
@@ -24,7 +24,7 @@ impl<T: Integer + Hash, A: Allocator> Hash for RangeSetBlaze<T, A> {
 
     fn hash<H: Hasher>(&self, state: &mut H) {
         self.length.hash(state);
-        feed_runs(&self.map, state);
+        feed_runs(&mut self.runs.iter(), state);
     }
 }
 
@@ -37,12 +37,11 @@ pub fn run_bounds_are_ends<T: Integer>()
 {}
 
 // Feeds the start and the end of each run.
-fn feed_runs<T: Copy + Ord + Hash, A: Allocator, H: Hasher>(map: &BTreeMap<T, T, A>, state: &mut H)
+fn feed_runs<T: Copy + Hash, H: Hasher>(entries: &mut Iter<'_, T, T>, state: &mut H)
     ensures { state.new ≡ fold H.write state.old
-        (flat_map (λ run. T.hash_input run.0 ++ T.hash_input run.1) map.now.entries) }
+        (flat_map (λ run. T.hash_input run.0 ++ T.hash_input run.1) entries.old) }
 {
-    let mut rest = map.iter();
-    while let Some(run) = next_run(&mut rest) {
+    while let Some(run) = next_run(entries) {
         run.start.hash(state);
         run.end.hash(state);
     }

@@ -5,19 +5,18 @@ ghost use Rattle.std.specs.Range.Bound.{bound_map};
 ghost use Rattle.rsb_integer.specs.Runs.{covers, length_of, members, IsCanonicalIn, HasRanks};
 ghost use Rattle.rsb_integer.specs.Selection.{IsEmpty, LacksSome};
 ghost use Rattle.range_set_blaze.specs.Joining.{Has, IsHull, IsInserted, IsJoining, IsReaching, IsUnreached};
-ghost use Rattle.range_set_blaze.specs.Kept.{run_of, runs_of, IsKept};
+ghost use Rattle.range_set_blaze.specs.Kept.{run_of, IsKept};
 ghost use Rattle.rsb_streams.specs.RunCount.{HasOneRunMoreAtMost};
-ghost use Rattle.range_set_blaze.specs.Starts.{StartsAscendFrom, IsLastBelow, IsLastTwo, NoneBelow};
+ghost use Rattle.range_set_blaze.specs.Starts.{IsLastBelow, IsLastTwo, NoneBelow};
 ghost use Rattle.range_set_blaze.specs.Set.{first_rank, only, past_rank, ranks_in, Adds, IsReached};
 
 use crate::set::RangeSetBlaze;
-use crate::set::entries::{last_run, put_entry, run_up_to};
 use crate::set::lengths::{add_length, take_off_length};
 use crate::set::run::{Run, greater, is_below, known, next_or_greatest, previous, reaches};
+use crate::set::runs::Runs;
 use crate::set::take_in::take_in;
 use rsb_integer::Integer;
 use std::alloc::{AllocError, Allocator};
-use std::collections::BTreeMap;
 use std::ops::{Bound, RangeBounds};
 
 /// A new run joined with all runs that it touches, and up to three of those runs. `first` starts
@@ -111,7 +110,7 @@ impl<T: Integer, A: Allocator + Clone> RangeSetBlaze<T, A> {
         ensures succeeds { IsReached self.old (T.rank run.start) → IsOk result }
     {
         let length = self.length;
-        let Some(length) = add_run(&mut self.map, run, length)? else {
+        let Some(length) = add_run(&mut self.runs, run, length)? else {
             return Ok(false);
         };
         self.length = length;
@@ -171,49 +170,47 @@ pub(crate) fn run_between<T: Integer, R: RangeBounds<T>>(range: &R) -> Option<Ru
 }
 
 // Inserts the values of a run and returns the new number of members, or `None` if none of the
-// values was new. If allocation fails, the entries are unchanged.
+// values was new. If allocation fails, the runs are unchanged.
 fn add_run<T: Integer, A: Allocator + Clone>(
-    map: &mut BTreeMap<T, T, A>,
+    runs: &mut Runs<T, A>,
     run: Run<T>,
     total: T::SafeLen,
 ) -> Result<Option<T::SafeLen>, AllocError>
-    requires kept { IsKept T.rank T.value_count map.old.entries (T.SafeLen.number total) }
+    requires kept { IsKept T.value_count runs.old (T.SafeLen.number total) }
     requires order { T.rank run.start ≤ T.rank run.end }
     requires value { T.rank run.end < T.value_count }
-    ensures unchanged { IfOk result (λ found. IsNone found → map.new.entries ≡ map.old.entries) }
-    ensures within { IfOk result (λ found. IsNone found →
-        Has (runs_of T.rank map.old.entries) (covers (run_of T.rank run))) }
-    ensures inserted { IfOk result (λ found. IfSome found (λ length. IsInserted T.rank T.value_count
-        map.old.entries map.new.entries run (T.SafeLen.number length))) }
-    ensures err { OnErr result (map.new.entries ≡ map.old.entries) }
-    ensures succeeds { IsReached (runs_of T.rank map.old.entries) (T.rank run.start)
-        → IsOk result }
+    ensures unchanged { IfOk result (λ found. IsNone found → runs.new ≡ runs.old) }
+    ensures within { IfOk result (λ found. IsNone found
+        → Has runs.old (covers (run_of T.rank run))) }
+    ensures inserted { IfOk result (λ found. IfSome found
+        (λ length. IsInserted T.value_count runs.old runs.new (run_of T.rank run)
+        (T.SafeLen.number length))) }
+    ensures err { OnErr result (runs.new ≡ runs.old) }
+    ensures succeeds { IsReached runs.old (T.rank run.start) → IsOk result }
 {
-    let Some(joining) = touched(map, run) else {
+    let Some(joining) = touched(runs, run) else {
         return Ok(None);
     };
-    Ok(Some(put(map, joining, total)?))
+    Ok(Some(put(runs, joining, total)?))
 }
 
 // Returns a run joined with the runs that it touches, or `None` if some run already has all its
 // values.
-fn touched<T: Integer, A: Allocator>(map: &BTreeMap<T, T, A>, run: Run<T>) -> Option<Joining<T>>
-    requires canonical { IsCanonicalIn T.value_count (runs_of T.rank map.now.entries) }
+fn touched<T: Integer, A: Allocator>(runs: &Runs<T, A>, run: Run<T>) -> Option<Joining<T>>
+    requires canonical { IsCanonicalIn T.value_count runs.now }
     requires order { T.rank run.start ≤ T.rank run.end }
     requires value { T.rank run.end < T.value_count }
-    ensures within { IsNone result →
-        Has (runs_of T.rank map.now.entries) (covers (run_of T.rank run)) }
-    ensures hull { IfSome result (λ joining. IsHull (runs_of T.rank map.now.entries)
-        (run_of T.rank run) (run_of T.rank joining.joined)) }
-    ensures lacks { IfSome result (λ joining. LacksSome (members (runs_of T.rank map.now.entries))
+    ensures within { IsNone result → Has runs.now (covers (run_of T.rank run)) }
+    ensures hull { IfSome result (λ joining. IsHull runs.now (run_of T.rank run)
+        (run_of T.rank joining.joined)) }
+    ensures lacks { IfSome result (λ joining. LacksSome (members runs.now)
         (covers (run_of T.rank run))) }
-    ensures joining { IfSome result
-        (IsJoining T.rank T.value_count (runs_of T.rank map.now.entries)) }
-    ensures first { IfSome result (λ joining.
-        IsReached (runs_of T.rank map.now.entries) (T.rank run.start) → IsSome joining.first) }
+    ensures joining { IfSome result (IsJoining T.rank T.value_count runs.now) }
+    ensures first { IfSome result (λ joining. IsReached runs.now (T.rank run.start)
+        → IsSome joining.first) }
 {
-    let (last, before) = last_two(map, next_or_greatest(run.end));
-    let first = reached_at(map, run.start, last, before);
+    let (last, before) = runs.last_two(next_or_greatest(run.end));
+    let first = reached_at(runs, run.start, last, before);
     if ends_in(first, run.end) {
         return None;
     }
@@ -227,42 +224,23 @@ fn touched<T: Integer, A: Allocator>(map: &BTreeMap<T, T, A>, run: Run<T>) -> Op
     })
 }
 
-// Returns the last two runs that start at or before `value`, the last one first
-// (docs/DECISIONS.md, last-reached-first).
-fn last_two<T: Integer, A: Allocator>(
-    map: &BTreeMap<T, T, A>,
-    value: T,
-) -> (Option<Run<T>>, Option<Run<T>>)
-    requires ascending { StartsAscendFrom T.value_count 0 (runs_of T.rank map.now.entries) }
-    requires value { T.rank value < T.value_count }
-    ensures two { IsLastTwo T.rank (runs_of T.rank map.now.entries) (T.rank value + 1)
-        result.0 result.1 }
-    ensures none { IsNone result.0 → IsNone result.1 }
-{
-    let mut entries = map.range(..=value);
-    let Some(last) = last_run(&mut entries) else {
-        return (None, None);
-    };
-    (Some(last), last_run(&mut entries))
-}
-
 // Returns the run that starts at or before `start` and contains or touches it, or `None` if there
 // is none. `last` and `before` are the last two runs that start at or before some value that is at
 // least `start`.
 fn reached_at<T: Integer, A: Allocator>(
-    map: &BTreeMap<T, T, A>,
+    runs: &Runs<T, A>,
     start: T,
     last: Option<Run<T>>,
     before: Option<Run<T>>,
 ) -> Option<Run<T>>
-    requires canonical { IsCanonicalIn T.value_count (runs_of T.rank map.now.entries) }
+    requires canonical { IsCanonicalIn T.value_count runs.now }
     requires value { T.rank start < T.value_count }
     requires two { (bound : ℕ) × (T.rank start < bound)
-        × IsLastTwo T.rank (runs_of T.rank map.now.entries) bound last before }
-    ensures { MatchOption result (IsUnreached (runs_of T.rank map.now.entries) (T.rank start))
-        (λ run. IsReaching (runs_of T.rank map.now.entries) (T.rank start) (run_of T.rank run)) }
+        × IsLastTwo T.rank runs.now bound last before }
+    ensures { MatchOption result (IsUnreached runs.now (T.rank start))
+        (λ run. IsReaching runs.now (T.rank start) (run_of T.rank run)) }
 {
-    let first = last_up_to(map, start, last, before)?;
+    let first = last_up_to(runs, start, last, before)?;
     if reaches(first.end, start) {
         Some(first)
     } else {
@@ -274,18 +252,17 @@ fn reached_at<T: Integer, A: Allocator>(
 // at `last` and `before`, the last two runs that start at or before some value that is at least
 // `start`.
 fn last_up_to<T: Integer, A: Allocator>(
-    map: &BTreeMap<T, T, A>,
+    runs: &Runs<T, A>,
     start: T,
     last: Option<Run<T>>,
     before: Option<Run<T>>,
 ) -> Option<Run<T>>
-    requires canonical { IsCanonicalIn T.value_count (runs_of T.rank map.now.entries) }
+    requires canonical { IsCanonicalIn T.value_count runs.now }
     requires value { T.rank start < T.value_count }
     requires two { (bound : ℕ) × (T.rank start < bound)
-        × IsLastTwo T.rank (runs_of T.rank map.now.entries) bound last before }
-    ensures { MatchOption result (NoneBelow (runs_of T.rank map.now.entries) (T.rank start + 1))
-        (λ run. IsLastBelow (runs_of T.rank map.now.entries) (T.rank start + 1)
-        (run_of T.rank run)) }
+        × IsLastTwo T.rank runs.now bound last before }
+    ensures { MatchOption result (NoneBelow runs.now (T.rank start + 1))
+        (λ run. IsLastBelow runs.now (T.rank start + 1) (run_of T.rank run)) }
 {
     let last = last?;
     if !is_below(start, last.start) {
@@ -295,7 +272,7 @@ fn last_up_to<T: Integer, A: Allocator>(
     if !is_below(start, before.start) {
         return Some(before);
     }
-    run_up_to(map, start)
+    runs.up_to(start)
 }
 
 // Returns whether there is a run and it ends at or past `end`.
@@ -348,27 +325,25 @@ fn past_start<T: Integer>(run: Option<Run<T>>, start: T) -> Option<Run<T>>
 }
 
 // Puts the joined run in place of those that it covers, and returns the new number of members. If
-// allocation fails, the entries are unchanged.
+// allocation fails, the runs are unchanged.
 fn put<T: Integer, A: Allocator + Clone>(
-    map: &mut BTreeMap<T, T, A>,
+    runs: &mut Runs<T, A>,
     joining: Joining<T>,
     total: T::SafeLen,
 ) -> Result<T::SafeLen, AllocError>
-    requires kept { IsKept T.rank T.value_count map.old.entries (T.SafeLen.number total) }
-    requires joining { IsJoining T.rank T.value_count (runs_of T.rank map.old.entries) joining }
-    ensures kept { IfOk result (λ length.
-        IsKept T.rank T.value_count map.new.entries (T.SafeLen.number length)) }
-    ensures adds { OnOk result (Adds (runs_of T.rank map.old.entries)
-        (runs_of T.rank map.new.entries) (covers (run_of T.rank joining.joined))) }
-    ensures err { OnErr result (map.new.entries ≡ map.old.entries) }
+    requires kept { IsKept T.value_count runs.old (T.SafeLen.number total) }
+    requires joining { IsJoining T.rank T.value_count runs.old joining }
+    ensures kept { IfOk result (λ length. IsKept T.value_count runs.new (T.SafeLen.number length)) }
+    ensures adds { OnOk result (Adds runs.old runs.new (covers (run_of T.rank joining.joined))) }
+    ensures err { OnErr result (runs.new ≡ runs.old) }
     ensures succeeds { IsSome joining.first → IsOk result }
 {
     let run = joining.joined;
     // The new entry is inserted before any other is removed, since the insertion may fail to
     // allocate (docs/DECISIONS.md, put-then-take).
-    put_entry(map, run)?;
+    runs.put(run)?;
     let others = without(joining.first, total);
-    let mut length = take_in(map, run, joining.last, joining.before, others);
+    let mut length = take_in(runs, run, joining.last, joining.before, others);
     add_length(&mut length, run);
     Ok(length)
 }

@@ -10,34 +10,32 @@ ghost use Rattle.range_set_blaze.specs.Set.{only, IsSetOf};
 use crate::set::RangeSetBlaze;
 use crate::set::entries::next_run;
 use crate::set::run::{Run, is_below, reaches};
+use crate::set::runs::Runs;
 use rsb_integer::Integer;
 use std::alloc::{AllocError, Allocator};
-use std::collections::BTreeMap;
 use std::collections::btree_map::Iter;
 
 /// Returns the set of those values of the given runs for which `f` returns true. Calls `f` on each
 /// value once, in ascending order.
 pub(crate) fn kept_values<T: Integer, A: Allocator + Copy, F: FnMut(&T) -> bool>(
-    map: &BTreeMap<T, T, A>,
+    runs: &Runs<T, A>,
     alloc: A,
     f: F,
 ) -> Result<RangeSetBlaze<T, A>, AllocError>
-    requires canonical { IsCanonicalIn T.value_count (runs_of T.rank map.now.entries) }
-    requires callable { CallableOnMembers T.rank T.value_count F.FnMut f
-        (runs_of T.rank map.now.entries) }
+    requires canonical { IsCanonicalIn T.value_count runs.now }
+    requires callable { CallableOnMembers T.rank T.value_count F.FnMut f runs.now }
     ensures within { IfOk result (λ kept. (rank : ℕ) → IsTrue (members kept rank)
-        → IsTrue (members (runs_of T.rank map.now.entries) rank)) }
+        → IsTrue (members runs.now rank)) }
     ensures exact { (keeps : Selection) → AnswersByRank T.rank T.value_count F.FnMut keeps f
-        → IfOk result (λ kept. IsSetOf kept
-        (intersection (members (runs_of T.rank map.now.entries)) keeps)) }
-    ensures asked { OnOk result (AsksAll T.rank F.FnMut f (runs_of T.rank map.now.entries)) }
-    ensures err { OnErr result (AsksFront T.rank F.FnMut f (runs_of T.rank map.now.entries)) }
-    ensures empty { runs_of T.rank map.now.entries ≡ [] → IsOk result }
+        → IfOk result (λ kept. IsSetOf kept (intersection (members runs.now) keeps)) }
+    ensures asked { OnOk result (AsksAll T.rank F.FnMut f runs.now) }
+    ensures err { OnErr result (AsksFront T.rank F.FnMut f runs.now) }
+    ensures empty { runs.now ≡ [] → IsOk result }
 {
     let mut f = f;
     let mut kept = RangeSetBlaze::new(alloc);
     let mut piece = None;
-    let mut entries = map.iter();
+    let mut entries = runs.iter();
     let mut left = next_run(&mut entries);
     while let Some(run) = left {
         let value = run.start;

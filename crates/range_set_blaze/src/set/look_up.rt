@@ -4,16 +4,15 @@ ghost use Rattle.std.specs.Prelude.{◌≡◌, ◌↔◌, ◌<◌, IfSome, IsFal
 ghost use Rattle.rsb_integer.specs.Rank.{interval_of};
 ghost use Rattle.rsb_integer.specs.Runs.{members, IsCanonicalIn};
 ghost use Rattle.rsb_integer.specs.Selection.{complement, IsUniversal};
-ghost use Rattle.range_set_blaze.specs.Kept.{run_of, runs_of};
+ghost use Rattle.range_set_blaze.specs.Kept.{run_of};
 ghost use Rattle.range_set_blaze.specs.Starts.{IsGapEnd};
 ghost use Rattle.range_set_blaze.specs.Set.{IsRunAround};
 
 use crate::set::RangeSetBlaze;
-use crate::set::entries::{run_after, run_up_to};
 use crate::set::run::{Run, is_below, known};
+use crate::set::runs::Runs;
 use rsb_integer::Integer;
 use std::alloc::Allocator;
-use std::collections::BTreeMap;
 use std::ops::RangeInclusive;
 
 impl<T: Integer, A: Allocator> RangeSetBlaze<T, A> {
@@ -21,7 +20,7 @@ impl<T: Integer, A: Allocator> RangeSetBlaze<T, A> {
     pub fn contains(&self, value: T) -> bool
         ensures { result ≡ members self.now (T.rank value) }
     {
-        run_at(&self.map, known(value)).is_some()
+        run_at(&self.runs, known(value)).is_some()
     }
 
     /// Returns the value if it is a member, and otherwise `None`. (`RangeSetBlaze::get`.)
@@ -43,7 +42,7 @@ impl<T: Integer, A: Allocator> RangeSetBlaze<T, A> {
         ensures run { IfSome result (λ range. IsRunAround T.value_count (members self.now)
             (T.rank value) (interval_of T.rank range)) }
     {
-        let run = run_at(&self.map, known(value))?;
+        let run = run_at(&self.runs, known(value))?;
         Some(run.start..=run.end)
     }
 
@@ -58,7 +57,7 @@ impl<T: Integer, A: Allocator> RangeSetBlaze<T, A> {
             (T.rank value) (interval_of T.rank result.0) }
     {
         let value = known(value);
-        let start = match run_up_to(&self.map, value) {
+        let start = match self.runs.up_to(value) {
             Some(run) => {
                 if !is_below(run.end, value) {
                     return (run.start..=run.end, true);
@@ -67,7 +66,7 @@ impl<T: Integer, A: Allocator> RangeSetBlaze<T, A> {
             }
             None => T::min_value(),
         };
-        let end = gap_end(&self.map, value);
+        let end = gap_end(&self.runs, value);
         (start..=end, false)
     }
 
@@ -80,15 +79,14 @@ impl<T: Integer, A: Allocator> RangeSetBlaze<T, A> {
 }
 
 // Returns the run that contains a value, or `None` if the value is not a member.
-pub(crate) fn run_at<T: Integer, A: Allocator>(map: &BTreeMap<T, T, A>, value: T) -> Option<Run<T>>
-    requires canonical { IsCanonicalIn T.value_count (runs_of T.rank map.now.entries) }
+pub(crate) fn run_at<T: Integer, A: Allocator>(runs: &Runs<T, A>, value: T) -> Option<Run<T>>
+    requires canonical { IsCanonicalIn T.value_count runs.now }
     requires value { T.rank value < T.value_count }
-    ensures none { IsNone result ↔
-        IsFalse (members (runs_of T.rank map.now.entries) (T.rank value)) }
-    ensures run { IfSome result (λ run. IsRunAround T.value_count
-        (members (runs_of T.rank map.now.entries)) (T.rank value) (run_of T.rank run)) }
+    ensures none { IsNone result ↔ IsFalse (members runs.now (T.rank value)) }
+    ensures run { IfSome result (λ run. IsRunAround T.value_count (members runs.now) (T.rank value)
+        (run_of T.rank run)) }
 {
-    let run = run_up_to(map, value)?;
+    let run = runs.up_to(value)?;
     if is_below(run.end, value) {
         return None;
     }
@@ -96,14 +94,13 @@ pub(crate) fn run_at<T: Integer, A: Allocator>(map: &BTreeMap<T, T, A>, value: T
 }
 
 // Returns the last value of the gap that contains `value`.
-fn gap_end<T: Integer, A: Allocator>(map: &BTreeMap<T, T, A>, value: T) -> T
-    requires canonical { IsCanonicalIn T.value_count (runs_of T.rank map.now.entries) }
+fn gap_end<T: Integer, A: Allocator>(runs: &Runs<T, A>, value: T) -> T
+    requires canonical { IsCanonicalIn T.value_count runs.now }
     requires value { T.rank value < T.value_count }
-    requires gap { IsFalse (members (runs_of T.rank map.now.entries) (T.rank value)) }
-    ensures { IsGapEnd T.value_count (runs_of T.rank map.now.entries) (T.rank value)
-        (T.rank result) }
+    requires gap { IsFalse (members runs.now (T.rank value)) }
+    ensures { IsGapEnd T.value_count runs.now (T.rank value) (T.rank result) }
 {
-    match run_after(map, value) {
+    match runs.after(value) {
         Some(run) => run.start.sub_one(),
         None => T::max_value(),
     }

@@ -4,16 +4,15 @@ ghost use Rattle.std.specs.Prelude.{◌≡◌, ◌↔◌, ℕ, ◌+◌, ◌≤�
 ghost use Rattle.std.specs.declared.cmp.Ordering.TheVariants.{Greater, Less};
 ghost use Rattle.rsb_integer.specs.Runs.{Interval, members, IsCanonicalIn};
 ghost use Rattle.rsb_integer.specs.Selection.{Agree};
-ghost use Rattle.range_set_blaze.specs.Kept.{runs_of};
 ghost use Rattle.range_set_blaze.specs.Order.{AreTurns, HasOrder};
 ghost use Rattle.range_set_blaze.specs.OrderLaws.{set_cmp, set_eq, sets_equivalence, sets_partial_equivalence, sets_partial_order, sets_ties, sets_total};
 
 use crate::set::RangeSetBlaze;
 use crate::set::entries::next_run;
+use crate::set::runs::Runs;
 use rsb_integer::Integer;
 use std::alloc::Allocator;
 use std::cmp::Ordering;
-use std::collections::BTreeMap;
 use std::collections::btree_map::Iter;
 
 /// Two sets are equal if they have the same members.
@@ -66,7 +65,7 @@ pub fn cmp_counted<T: Integer, A: Allocator, B: Allocator>(
     ensures turns { AreTurns a.now b.now result.1 }
     ensures bound { result.1 ≤ min (length a.now) (length b.now) + 1 }
 {
-    compare_runs(&a.map, &b.map)
+    compare_runs(&a.runs, &b.runs)
 }
 
 /// States what `==`, `cmp` and `partial_cmp` of sets return, for every allocator, without listing
@@ -85,17 +84,15 @@ pub fn order_by_least_difference<T: Integer, A: Allocator>()
         ≡ Some (⟦<RangeSetBlaze<T, A> as Ord>⟧.cmp left right) }
 {}
 
-// Returns the order of two sets, given by their maps, and the number of iterations.
+// Returns the order of two sets, given by their runs, and the number of iterations.
 fn compare_runs<T: Integer, A: Allocator, B: Allocator>(
-    left: &BTreeMap<T, T, A>,
-    right: &BTreeMap<T, T, B>,
+    left: &Runs<T, A>,
+    right: &Runs<T, B>,
 ) -> (Ordering, u128)
-    requires left { IsCanonicalIn T.value_count (runs_of T.rank left.now.entries) }
-    requires right { IsCanonicalIn T.value_count (runs_of T.rank right.now.entries) }
-    ensures order { result.0 ≡ set_cmp T.value_count (runs_of T.rank left.now.entries)
-        (runs_of T.rank right.now.entries) }
-    ensures turns { AreTurns (runs_of T.rank left.now.entries)
-        (runs_of T.rank right.now.entries) result.1 }
+    requires left { IsCanonicalIn T.value_count left.now }
+    requires right { IsCanonicalIn T.value_count right.now }
+    ensures order { result.0 ≡ set_cmp T.value_count left.now right.now }
+    ensures turns { AreTurns left.now right.now result.1 }
 {
     let mut left = left.iter();
     let mut right = right.iter();

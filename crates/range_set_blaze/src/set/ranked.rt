@@ -3,18 +3,18 @@
 ghost use Rattle.std.specs.Prelude.{◌≡◌, ◌↔◌, ◌+◌, ◌<◌, ◌≤◌, IfSome, IsNone, IsTrue, MatchOption};
 ghost use Rattle.rsb_integer.specs.Runs.{length_of, members, HasRanks, IsCanonicalIn};
 ghost use Rattle.rsb_integer.specs.Selection.{count};
-ghost use Rattle.range_set_blaze.specs.Kept.{run_of, runs_of};
+ghost use Rattle.range_set_blaze.specs.Kept.{run_of};
 ghost use Rattle.range_set_blaze.specs.Ranked.{IsPartBelow};
 
 use crate::set::RangeSetBlaze;
 use crate::set::entries::next_run;
 use crate::set::lengths::add_length;
 use crate::set::run::{Run, is_below, known};
+use crate::set::runs::Runs;
 use num_traits::{One, Zero};
 use rsb_integer::Integer;
 use rsb_length::SafeLength;
 use std::alloc::Allocator;
-use std::collections::BTreeMap;
 
 impl<T: Integer, A: Allocator> RangeSetBlaze<T, A> {
     /// Returns the member that has exactly `n` members below it, or `None` if there are at most `n`
@@ -27,7 +27,7 @@ impl<T: Integer, A: Allocator> RangeSetBlaze<T, A> {
         ensures below { IfSome result (λ value.
             count (T.rank value) (members self.now) ≡ T.SafeLen.number n) }
     {
-        nth_of(&self.map, n)
+        nth_of(&self.runs, n)
     }
 
     /// Returns the number of members below a value, which need not be a member. Does not allocate.
@@ -35,23 +35,21 @@ impl<T: Integer, A: Allocator> RangeSetBlaze<T, A> {
     pub fn rank(&self, value: T) -> T::SafeLen
         ensures { T.SafeLen.number result ≡ count (T.rank value) (members self.now) }
     {
-        count_below(&self.map, known(value))
+        count_below(&self.runs, known(value))
     }
 }
 
 // Returns the value of some runs that has `n` values of the runs below it, or `None` if there is
 // none.
-fn nth_of<T: Integer, A: Allocator>(map: &BTreeMap<T, T, A>, n: T::SafeLen) -> Option<T>
-    requires { IsCanonicalIn T.value_count (runs_of T.rank map.now.entries) }
-    ensures none { IsNone result ↔ (count T.value_count (members (runs_of T.rank map.now.entries))
-        ≤ T.SafeLen.number n) }
-    ensures found { IfSome result (λ value.
-        IsTrue (members (runs_of T.rank map.now.entries) (T.rank value))) }
-    ensures below { IfSome result (λ value. count (T.rank value)
-        (members (runs_of T.rank map.now.entries)) ≡ T.SafeLen.number n) }
+fn nth_of<T: Integer, A: Allocator>(runs: &Runs<T, A>, n: T::SafeLen) -> Option<T>
+    requires { IsCanonicalIn T.value_count runs.now }
+    ensures none { IsNone result ↔ (count T.value_count (members runs.now) ≤ T.SafeLen.number n) }
+    ensures found { IfSome result (λ value. IsTrue (members runs.now (T.rank value))) }
+    ensures below { IfSome result (λ value. count (T.rank value) (members runs.now)
+        ≡ T.SafeLen.number n) }
 {
     let mut left = n;
-    let mut entries = map.iter();
+    let mut entries = runs.iter();
     while let Some(run) = next_run(&mut entries) {
         let length = length_of_run(run);
         if is_less(left, length) {
@@ -97,14 +95,13 @@ fn value_at<T: Integer>(run: Run<T>, index: T::SafeLen) -> T
 }
 
 // Returns the number of values of some runs that are below a value.
-fn count_below<T: Integer, A: Allocator>(map: &BTreeMap<T, T, A>, value: T) -> T::SafeLen
-    requires canonical { IsCanonicalIn T.value_count (runs_of T.rank map.now.entries) }
+fn count_below<T: Integer, A: Allocator>(runs: &Runs<T, A>, value: T) -> T::SafeLen
+    requires canonical { IsCanonicalIn T.value_count runs.now }
     requires value { T.rank value < T.value_count }
-    ensures { T.SafeLen.number result
-        ≡ count (T.rank value) (members (runs_of T.rank map.now.entries)) }
+    ensures { T.SafeLen.number result ≡ count (T.rank value) (members runs.now) }
 {
     let mut below = T::SafeLen::zero();
-    let mut entries = map.iter();
+    let mut entries = runs.iter();
     while let Some(run) = next_run(&mut entries) {
         let Some(part) = part_below(run, value) else {
             return below;

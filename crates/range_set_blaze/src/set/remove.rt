@@ -3,18 +3,17 @@
 ghost use Rattle.std.specs.Prelude.{◌≡◌, ◌↔◌, ◌+◌, ◌<◌, ◌≤◌, ℕ, [], Contains, IfOk, IfSome, IsFalse, IsNone, IsOk, IsSome, IsTrue, OnErr, OnOk};
 ghost use Rattle.rsb_integer.specs.Runs.{members, IsCanonicalIn};
 ghost use Rattle.range_set_blaze.specs.BothEnds.{TakesGreatest, TakesLeast};
-ghost use Rattle.range_set_blaze.specs.Kept.{run_of, runs_of, IsKept};
+ghost use Rattle.range_set_blaze.specs.Kept.{run_of, IsKept};
 ghost use Rattle.range_set_blaze.specs.Removal.{IsCutAbove, IsRemoved};
 ghost use Rattle.rsb_streams.specs.RunCount.{HasOneRunMoreAtMost};
 ghost use Rattle.range_set_blaze.specs.Set.{only, IsLeast, Removes};
 
 use crate::set::RangeSetBlaze;
-use crate::set::entries::{put_entry, run_up_to, take_entry};
 use crate::set::lengths::take_off_length;
 use crate::set::run::{Run, is_below, known};
+use crate::set::runs::Runs;
 use rsb_integer::Integer;
 use std::alloc::{AllocError, Allocator};
-use std::collections::BTreeMap;
 
 impl<T: Integer, A: Allocator + Clone> RangeSetBlaze<T, A> {
     /// Removes a value and returns whether it was a member. The set gains at most one run. If
@@ -31,7 +30,7 @@ impl<T: Integer, A: Allocator + Clone> RangeSetBlaze<T, A> {
         ensures succeeds { IsFalse (members self.old (T.rank value + 1)) → IsOk result }
     {
         let length = self.length;
-        let Some(length) = take_value(&mut self.map, known(value), length)? else {
+        let Some(length) = take_value(&mut self.runs, known(value), length)? else {
             return Ok(false);
         };
         self.length = length;
@@ -96,30 +95,26 @@ impl<T: Integer, A: Allocator + Clone> RangeSetBlaze<T, A> {
 }
 
 // Removes a value and returns the number of members that are left, or `None` if the value is not a
-// member. `total` is the number of members before. If allocation fails, the entries are unchanged.
+// member. `total` is the number of members before. If allocation fails, the runs are unchanged.
 fn take_value<T: Integer, A: Allocator + Clone>(
-    map: &mut BTreeMap<T, T, A>,
+    runs: &mut Runs<T, A>,
     value: T,
     total: T::SafeLen,
 ) -> Result<Option<T::SafeLen>, AllocError>
-    requires kept { IsKept T.rank T.value_count map.old.entries (T.SafeLen.number total) }
+    requires kept { IsKept T.value_count runs.old (T.SafeLen.number total) }
     requires value { T.rank value < T.value_count }
-    ensures unchanged { IfOk result (λ found. IsNone found → map.new.entries ≡ map.old.entries) }
-    ensures none { IfOk result (λ found. IsNone found
-        → IsFalse (members (runs_of T.rank map.old.entries) (T.rank value))) }
-    ensures some { IfOk result (λ found. IsSome found
-        → IsTrue (members (runs_of T.rank map.old.entries) (T.rank value))) }
-    ensures kept { IfOk result (λ found. IfSome found (λ length.
-        IsKept T.rank T.value_count map.new.entries (T.SafeLen.number length))) }
-    ensures removed { IfOk result (λ found. IsSome found → Removes
-        (runs_of T.rank map.old.entries) (runs_of T.rank map.new.entries) (only (T.rank value))) }
-    ensures err { OnErr result (map.new.entries ≡ map.old.entries) }
-    ensures absent { IsFalse (members (runs_of T.rank map.old.entries) (T.rank value))
-        → IsOk result }
-    ensures succeeds { IsFalse (members (runs_of T.rank map.old.entries) (T.rank value + 1))
-        → IsOk result }
+    ensures unchanged { IfOk result (λ found. IsNone found → runs.new ≡ runs.old) }
+    ensures none { IfOk result (λ found. IsNone found → IsFalse (members runs.old (T.rank value))) }
+    ensures some { IfOk result (λ found. IsSome found → IsTrue (members runs.old (T.rank value))) }
+    ensures kept { IfOk result (λ found. IfSome found
+        (λ length. IsKept T.value_count runs.new (T.SafeLen.number length))) }
+    ensures removed { IfOk result (λ found. IsSome found
+        → Removes runs.old runs.new (only (T.rank value))) }
+    ensures err { OnErr result (runs.new ≡ runs.old) }
+    ensures absent { IsFalse (members runs.old (T.rank value)) → IsOk result }
+    ensures succeeds { IsFalse (members runs.old (T.rank value + 1)) → IsOk result }
 {
-    let Some(run) = run_up_to(map, value) else {
+    let Some(run) = runs.up_to(value) else {
         return Ok(None);
     };
     if is_below(run.end, value) {
@@ -129,62 +124,62 @@ fn take_value<T: Integer, A: Allocator + Clone>(
         start: value,
         end: value,
     };
-    cut(map, run, piece)?;
+    cut(runs, run, piece)?;
     let mut length = total;
     take_off_length(&mut length, piece);
     Ok(Some(length))
 }
 
 /// Removes consecutive values, given as `piece`, from the run that contains them. If allocation
-/// fails, the entries are unchanged.
+/// fails, the runs are unchanged.
 pub(crate) fn cut<T: Integer, A: Allocator + Clone>(
-    map: &mut BTreeMap<T, T, A>,
+    runs: &mut Runs<T, A>,
     run: Run<T>,
     piece: Run<T>,
 ) -> Result<(), AllocError>
-    requires canonical { IsCanonicalIn T.value_count (runs_of T.rank map.old.entries) }
-    requires among { Contains (runs_of T.rank map.old.entries) (run_of T.rank run) }
+    requires canonical { IsCanonicalIn T.value_count runs.old }
+    requires among { Contains runs.old (run_of T.rank run) }
     requires from { T.rank run.start ≤ T.rank piece.start }
     requires order { T.rank piece.start ≤ T.rank piece.end }
     requires to { T.rank piece.end ≤ T.rank run.end }
-    ensures removed { OnOk result (IsRemoved T.value_count (runs_of T.rank map.old.entries)
-        (runs_of T.rank map.new.entries) (run_of T.rank piece)) }
-    ensures err { OnErr result (map.new.entries ≡ map.old.entries) }
+    ensures removed { OnOk result (IsRemoved T.value_count runs.old runs.new
+        (run_of T.rank piece)) }
+    ensures err { OnErr result (runs.new ≡ runs.old) }
     ensures succeeds { T.rank run.end ≤ T.rank piece.end → IsOk result }
 {
     // The part above the piece is inserted first, since this may fail to allocate
     // (docs/DECISIONS.md, insert-at-start).
-    put_above(map, run, piece.end)?;
+    put_above(runs, run, piece.end)?;
     if is_below(run.start, piece.start) {
         let end = piece.start.sub_one();
         let start = run.start;
-        put_entry(map, Run { start, end }).unwrap();
+        runs.put(Run { start, end }).unwrap();
     } else {
-        take_entry(map, run.start);
+        runs.take(run.start);
     }
     Ok(())
 }
 
 // Inserts the part of a run above one of its values, if there is such a part. If allocation fails,
-// the entries are unchanged.
+// the runs are unchanged.
 fn put_above<T: Integer, A: Allocator + Clone>(
-    map: &mut BTreeMap<T, T, A>,
+    runs: &mut Runs<T, A>,
     run: Run<T>,
     value: T,
 ) -> Result<(), AllocError>
-    requires canonical { IsCanonicalIn T.value_count (runs_of T.rank map.old.entries) }
-    requires among { Contains (runs_of T.rank map.old.entries) (run_of T.rank run) }
+    requires canonical { IsCanonicalIn T.value_count runs.old }
+    requires among { Contains runs.old (run_of T.rank run) }
     requires from { T.rank run.start ≤ T.rank value }
     requires to { T.rank value ≤ T.rank run.end }
-    ensures above { OnOk result (IsCutAbove T.value_count (runs_of T.rank map.old.entries)
-        (run_of T.rank run) (T.rank value) (runs_of T.rank map.new.entries)) }
-    ensures err { OnErr result (map.new.entries ≡ map.old.entries) }
+    ensures above { OnOk result (IsCutAbove T.value_count runs.old (run_of T.rank run)
+        (T.rank value) runs.new) }
+    ensures err { OnErr result (runs.new ≡ runs.old) }
     ensures succeeds { T.rank run.end ≤ T.rank value → IsOk result }
 {
     if is_below(value, run.end) {
         let start = value.add_one();
         let end = run.end;
-        put_entry(map, Run { start, end })?;
+        runs.put(Run { start, end })?;
     }
     Ok(())
 }

@@ -5,17 +5,16 @@ ghost use Rattle.std.specs.List.{filter};
 ghost use Rattle.rsb_integer.specs.Runs.{Interval, members};
 ghost use Rattle.rsb_integer.specs.Selection.{intersection, IsSubset, Selection};
 ghost use Rattle.rsb_streams.specs.Sublists.{IsSublist};
-ghost use Rattle.range_set_blaze.specs.Kept.{runs_of, IsKept};
+ghost use Rattle.range_set_blaze.specs.Kept.{IsKept};
 ghost use Rattle.range_set_blaze.specs.Retain.{AnswersByRank, AnswersByRun, AsksAll, AsksFront, AsksRuns, CallableOnMembers, CallableOnRuns};
 ghost use Rattle.range_set_blaze.specs.Set.{IsSetOf};
 
 use crate::set::RangeSetBlaze;
-use crate::set::entries::{first_run, run_after, take_entry};
 use crate::set::keep::kept_values;
 use crate::set::lengths::take_off_length;
+use crate::set::runs::Runs;
 use rsb_integer::Integer;
 use std::alloc::{AllocError, Allocator};
-use std::collections::BTreeMap;
 use std::ops::RangeInclusive;
 
 impl<T: Integer, A: Allocator + Copy> RangeSetBlaze<T, A> {
@@ -39,7 +38,7 @@ impl<T: Integer, A: Allocator + Copy> RangeSetBlaze<T, A> {
         // Does not allocate if the set is empty.
         ensures empty { self.old ≡ [] → IsOk result }
     {
-        let kept = kept_values(&self.map, self.alloc, f)?;
+        let kept = kept_values(&self.runs, self.alloc, f)?;
         *self = kept;
         Ok(())
     }
@@ -61,38 +60,36 @@ impl<T: Integer, A: Allocator> RangeSetBlaze<T, A> {
         ensures asked { AsksRuns T.rank F.FnMut f self.old }
     {
         let length = self.length;
-        self.length = retain_runs(&mut self.map, f, length);
+        self.length = retain_runs(&mut self.runs, f, length);
     }
 }
 
 // Keeps the runs for which `f` returns true, and returns the number of their members. `total` is
 // the number of members of all runs.
 fn retain_runs<T: Integer, A: Allocator, F: FnMut(&RangeInclusive<T>) -> bool>(
-    map: &mut BTreeMap<T, T, A>,
+    runs: &mut Runs<T, A>,
     f: F,
     total: T::SafeLen,
 ) -> T::SafeLen
-    requires kept { IsKept T.rank T.value_count map.old.entries (T.SafeLen.number total) }
-    requires callable { CallableOnRuns T.rank T.value_count F.FnMut f
-        (runs_of T.rank map.old.entries) }
-    ensures kept { IsKept T.rank T.value_count map.new.entries (T.SafeLen.number result) }
-    ensures runs { IsSublist (runs_of T.rank map.new.entries) (runs_of T.rank map.old.entries) }
-    ensures exact { (keeps : Interval → Bool)
-        → AnswersByRun T.rank T.value_count F.FnMut keeps f
-        → runs_of T.rank map.new.entries ≡ filter keeps (runs_of T.rank map.old.entries) }
-    ensures asked { AsksRuns T.rank F.FnMut f (runs_of T.rank map.old.entries) }
+    requires kept { IsKept T.value_count runs.old (T.SafeLen.number total) }
+    requires callable { CallableOnRuns T.rank T.value_count F.FnMut f runs.old }
+    ensures kept { IsKept T.value_count runs.new (T.SafeLen.number result) }
+    ensures runs { IsSublist runs.new runs.old }
+    ensures exact { (keeps : Interval → Bool) → AnswersByRun T.rank T.value_count F.FnMut keeps f
+        → runs.new ≡ filter keeps runs.old }
+    ensures asked { AsksRuns T.rank F.FnMut f runs.old }
 {
     let mut f = f;
     let mut length = total;
-    let mut next = first_run(map);
+    let mut next = runs.first();
     while let Some(run) = next {
         if !f(&(run.start..=run.end)) {
             take_off_length(&mut length, run);
-            take_entry(map, run.start);
+            runs.take(run.start);
         }
-        // The contract of the map's own `retain` does not say how a closure leaves the variables
+        // The contract of a map's own `retain` does not say how a closure leaves the variables
         // that it captures and changes.
-        next = run_after(map, run.end);
+        next = runs.after(run.end);
     }
     length
 }

@@ -3,18 +3,18 @@
 ghost use Rattle.std.specs.Prelude.{◌≡◌, ◌+◌, ◌<◌, ◌≤◌, Contains, IfOk, IsFalse, IsOk, MatchOption, OnErr, OnOk};
 ghost use Rattle.rsb_integer.specs.Runs.{members, IsCanonicalIn};
 ghost use Rattle.rsb_integer.specs.Selection.{count, intersection, IsEmpty};
-ghost use Rattle.range_set_blaze.specs.Kept.{run_of, runs_of};
+ghost use Rattle.range_set_blaze.specs.Kept.{run_of};
 ghost use Rattle.range_set_blaze.specs.Set.{IsSetOf, Removes};
 ghost use Rattle.range_set_blaze.specs.Split.{from_on, IsParting, NoneOver};
 
 use crate::set::RangeSetBlaze;
-use crate::set::entries::{next_run, put_entry, run_up_to, split_entries, take_entry};
+use crate::set::entries::next_run;
 use crate::set::lengths::add_length;
 use crate::set::run::{Run, is_below, known, previous};
+use crate::set::runs::Runs;
 use num_traits::Zero;
 use rsb_integer::Integer;
 use std::alloc::{AllocError, Allocator};
-use std::collections::BTreeMap;
 
 impl<T: Integer, A: Allocator + Copy> RangeSetBlaze<T, A> {
     /// Removes the members at or above a value, and returns them as a set. If allocation fails, the
@@ -35,11 +35,11 @@ impl<T: Integer, A: Allocator + Copy> RangeSetBlaze<T, A> {
             return Ok(Self::new(alloc));
         }
         let total = self.length;
-        let map = part(&mut self.map, key)?;
-        let (low, high) = lengths(&self.map, &map, total);
+        let runs = part(&mut self.runs, key)?;
+        let (low, high) = lengths(&self.runs, &runs, total);
         self.length = low;
         Ok(RangeSetBlaze {
-            map,
+            runs,
             length: high,
             alloc,
         })
@@ -63,35 +63,34 @@ impl<T: Integer, A: Allocator> RangeSetBlaze<T, A> {
 }
 
 // Removes the values at or above `key` and returns the runs of those. If allocation fails, the runs
-// of the map are unchanged.
+// are unchanged.
 fn part<T: Integer, A: Allocator + Clone>(
-    map: &mut BTreeMap<T, T, A>,
+    runs: &mut Runs<T, A>,
     key: T,
-) -> Result<BTreeMap<T, T, A>, AllocError>
-    requires canonical { IsCanonicalIn T.value_count (runs_of T.rank map.old.entries) }
+) -> Result<Runs<T, A>, AllocError>
+    requires canonical { IsCanonicalIn T.value_count runs.old }
     requires value { T.rank key < T.value_count }
-    ensures parting { IfOk result (λ high. IsParting T.value_count (runs_of T.rank map.old.entries)
-        (runs_of T.rank map.new.entries) (runs_of T.rank high.entries) (T.rank key)) }
-    ensures err { OnErr result
-        (runs_of T.rank map.new.entries ≡ runs_of T.rank map.old.entries) }
+    ensures parting { IfOk result (λ high. IsParting T.value_count runs.old runs.new high
+        (T.rank key)) }
+    ensures err { OnErr result (runs.new ≡ runs.old) }
 {
-    if let Some(run) = run_over(map, key) {
-        return part_within(map, run, key);
+    if let Some(run) = run_over(runs, key) {
+        return part_within(runs, run, key);
     }
-    let high = split_entries(map, key)?;
+    let high = runs.split_off(key)?;
     Ok(high)
 }
 
 /// Returns the run that starts below a value and contains it, or `None` if there is none.
-pub(super) fn run_over<T: Integer, A: Allocator>(map: &BTreeMap<T, T, A>, key: T) -> Option<Run<T>>
-    requires canonical { IsCanonicalIn T.value_count (runs_of T.rank map.now.entries) }
+pub(super) fn run_over<T: Integer, A: Allocator>(runs: &Runs<T, A>, key: T) -> Option<Run<T>>
+    requires canonical { IsCanonicalIn T.value_count runs.now }
     requires value { T.rank key < T.value_count }
-    ensures { MatchOption result (NoneOver (runs_of T.rank map.now.entries) (T.rank key))
-        (λ run. Contains (runs_of T.rank map.now.entries) (run_of T.rank run)
-        × (T.rank run.start < T.rank key) × (T.rank key ≤ T.rank run.end)) }
+    ensures { MatchOption result (NoneOver runs.now (T.rank key))
+        (λ run. Contains runs.now (run_of T.rank run) × (T.rank run.start < T.rank key)
+        × (T.rank key ≤ T.rank run.end)) }
 {
     let before = previous(key)?;
-    let run = run_up_to(map, before)?;
+    let run = runs.up_to(before)?;
     if is_below(run.end, key) {
         return None;
     }
@@ -100,54 +99,50 @@ pub(super) fn run_over<T: Integer, A: Allocator>(map: &BTreeMap<T, T, A>, key: T
 
 // Does the same as `part`, for a `run` that starts below `key` and contains it.
 fn part_within<T: Integer, A: Allocator + Clone>(
-    map: &mut BTreeMap<T, T, A>,
+    runs: &mut Runs<T, A>,
     run: Run<T>,
     key: T,
-) -> Result<BTreeMap<T, T, A>, AllocError>
-    requires canonical { IsCanonicalIn T.value_count (runs_of T.rank map.old.entries) }
-    requires among { Contains (runs_of T.rank map.old.entries) (run_of T.rank run) }
+) -> Result<Runs<T, A>, AllocError>
+    requires canonical { IsCanonicalIn T.value_count runs.old }
+    requires among { Contains runs.old (run_of T.rank run) }
     requires above { T.rank run.start < T.rank key }
     requires within { T.rank key ≤ T.rank run.end }
-    ensures parting { IfOk result (λ high. IsParting T.value_count (runs_of T.rank map.old.entries)
-        (runs_of T.rank map.new.entries) (runs_of T.rank high.entries) (T.rank key)) }
-    ensures err { OnErr result
-        (runs_of T.rank map.new.entries ≡ runs_of T.rank map.old.entries) }
+    ensures parting { IfOk result (λ high. IsParting T.value_count runs.old runs.new high
+        (T.rank key)) }
+    ensures err { OnErr result (runs.new ≡ runs.old) }
 {
     // The part of the run at or above `key` becomes an entry first, since this may fail to
     // allocate.
     let start = key;
     let end = run.end;
-    put_entry(map, Run { start, end })?;
-    match split_entries(map, key) {
+    runs.put(Run { start, end })?;
+    match runs.split_off(key) {
         Ok(high) => {
             let start = run.start;
             let end = key.sub_one();
-            put_entry(map, Run { start, end }).unwrap();
+            runs.put(Run { start, end }).unwrap();
             Ok(high)
         }
         Err(error) => {
-            take_entry(map, key);
+            runs.take(key);
             Err(error)
         }
     }
 }
 
-// Returns the number of members in the runs of each map. The two numbers add up to `total`, so only
-// the map with fewer runs is counted.
+// Returns the number of members of each list of runs. The two numbers add up to `total`, so only
+// the shorter list is counted.
 fn lengths<T: Integer, A: Allocator>(
-    low: &BTreeMap<T, T, A>,
-    high: &BTreeMap<T, T, A>,
+    low: &Runs<T, A>,
+    high: &Runs<T, A>,
     total: T::SafeLen,
 ) -> (T::SafeLen, T::SafeLen)
-    requires low { IsCanonicalIn T.value_count (runs_of T.rank low.now.entries) }
-    requires high { IsCanonicalIn T.value_count (runs_of T.rank high.now.entries) }
-    requires total { count T.value_count (members (runs_of T.rank low.now.entries))
-        + count T.value_count (members (runs_of T.rank high.now.entries))
+    requires low { IsCanonicalIn T.value_count low.now }
+    requires high { IsCanonicalIn T.value_count high.now }
+    requires total { count T.value_count (members low.now) + count T.value_count (members high.now)
         ≡ T.SafeLen.number total }
-    ensures low { T.SafeLen.number result.0
-        ≡ count T.value_count (members (runs_of T.rank low.now.entries)) }
-    ensures high { T.SafeLen.number result.1
-        ≡ count T.value_count (members (runs_of T.rank high.now.entries)) }
+    ensures low { T.SafeLen.number result.0 ≡ count T.value_count (members low.now) }
+    ensures high { T.SafeLen.number result.1 ≡ count T.value_count (members high.now) }
 {
     let mut rest = total;
     if low.len() < high.len() {
@@ -161,14 +156,13 @@ fn lengths<T: Integer, A: Allocator>(
     }
 }
 
-// Returns the number of members in the runs of a map.
-fn length_of_runs<T: Integer, A: Allocator>(map: &BTreeMap<T, T, A>) -> T::SafeLen
-    requires { IsCanonicalIn T.value_count (runs_of T.rank map.now.entries) }
-    ensures { T.SafeLen.number result
-        ≡ count T.value_count (members (runs_of T.rank map.now.entries)) }
+// Returns the number of members of runs.
+fn length_of_runs<T: Integer, A: Allocator>(runs: &Runs<T, A>) -> T::SafeLen
+    requires { IsCanonicalIn T.value_count runs.now }
+    ensures { T.SafeLen.number result ≡ count T.value_count (members runs.now) }
 {
     let mut length = T::SafeLen::zero();
-    let mut entries = map.iter();
+    let mut entries = runs.iter();
     while let Some(run) = next_run(&mut entries) {
         add_length(&mut length, run);
     }

@@ -8,7 +8,7 @@ use crate::set::RangeSetBlaze;
 use crate::set::entries::next_run;
 use rsb_integer::Integer;
 use std::alloc::Allocator;
-use std::collections::BTreeMap;
+use std::collections::btree_map::Iter;
 use std::fmt::{self, Debug, Display, Formatter, Write};
 
 /// Writes each run as `start..=end`, with a comma and a space between runs. A width and other
@@ -17,7 +17,7 @@ impl<T: Integer, A: Allocator> Display for RangeSetBlaze<T, A> {
     ghost output = { runs_text (λ rank. T.debug_output (T.value_at rank)) };
 
     fn fmt<W: Write>(&self, f: &mut Formatter<W>) -> fmt::Result {
-        write_runs(&self.map, f)
+        write_runs(&mut self.runs.iter(), f)
     }
 }
 
@@ -30,18 +30,17 @@ impl<T: Integer, A: Allocator> Debug for RangeSetBlaze<T, A> {
     }
 }
 
-// Writes the runs of a map, with a comma and a space between two runs.
-fn write_runs<T: Copy + Ord + Debug, A: Allocator, W: Write>(
-    map: &BTreeMap<T, T, A>,
+// Writes the runs of entries, with a comma and a space between two runs.
+fn write_runs<T: Copy + Debug, W: Write>(
+    entries: &mut Iter<'_, T, T>,
     f: &mut Formatter<W>,
 ) -> fmt::Result
     ensures { DisplaysOnOk W.write_str_gives f.old result
-        (debug_items (λ run. ends_text (T.debug_output run.0) (T.debug_output run.1)) []
-        map.now.entries) f.new }
+        (debug_items (λ run. ends_text (T.debug_output run.0) (T.debug_output run.1)) [] entries.old)
+        f.new }
 {
-    let mut rest = map.iter();
     let mut separator = "";
-    while let Some(run) = next_run(&mut rest) {
+    while let Some(run) = next_run(entries) {
         let (start, end) = (run.start, run.end);
         write!(f, "{separator}{start:?}..={end:?}")?;
         separator = ", ";

@@ -15,11 +15,11 @@ use crate::set::RangeSetBlaze;
 use crate::set::gaps::{gaps_between, no_gaps};
 use crate::set::insert::run_between;
 use crate::set::run::{Run, known};
+use crate::set::runs::Runs;
 use crate::set::split::run_over;
 use rsb_integer::Integer;
 use rsb_streams::DrawDisjoint;
 use std::alloc::Allocator;
-use std::collections::BTreeMap;
 use std::collections::btree_map::Range;
 use std::ops::RangeBounds;
 
@@ -42,8 +42,8 @@ impl<T: Integer, A: Allocator> RangeSetBlaze<T, A> {
             (intervals_of T.rank result) }
     {
         match run_between(&range) {
-            Some(window) => runs_between(&self.map, window),
-            None => no_runs(&self.map),
+            Some(window) => runs_between(&self.runs, window),
+            None => no_runs(&self.runs),
         }
     }
 
@@ -76,77 +76,51 @@ impl<T: Integer, A: Allocator> RangeSetBlaze<T, A> {
             (intervals_of T.rank result) }
     {
         match run_between(&range) {
-            Some(window) => gaps_between(&self.map, window),
-            None => no_gaps(&self.map),
+            Some(window) => gaps_between(&self.runs, window),
+            None => no_gaps(&self.runs),
         }
     }
 }
 
 // Returns the runs within a window, which is given by its first and last values.
 fn runs_between<'a, T: Integer, A: Allocator>(
-    map: &'a BTreeMap<T, T, A>,
+    runs: &'a Runs<T, A>,
     window: Run<T>,
 ) -> RangesIn<'a, T>
-    requires canonical { IsCanonicalIn T.value_count (runs_of T.rank map.now.entries) }
+    requires canonical { IsCanonicalIn T.value_count runs.now }
     requires order { T.rank window.start ≤ T.rank window.end }
     requires value { T.rank window.end < T.value_count }
     ensures canonical { IsCanonicalIn T.value_count (intervals_of T.rank result) }
     ensures members { IsSetOf (intervals_of T.rank result)
-        (intersection (members (runs_of T.rank map.now.entries))
-        (covers (run_of T.rank window))) }
+        (intersection (members runs.now) (covers (run_of T.rank window))) }
 {
     RangesIn {
-        first: reaching_in(map, window.start),
-        entries: starting_in(map, window),
+        first: reaching_in(runs, window.start),
+        entries: runs.starting_in(window),
         last: window.end,
     }
 }
 
 // Returns an iterator over no runs.
-fn no_runs<'a, T: Integer, A: Allocator>(map: &'a BTreeMap<T, T, A>) -> RangesIn<'a, T>
+fn no_runs<'a, T: Integer, A: Allocator>(runs: &'a Runs<T, A>) -> RangesIn<'a, T>
     ensures { result ≡ [] }
 {
     RangesIn {
         first: None,
-        entries: no_entries(map),
+        entries: runs.no_entries(),
         last: T::min_value(),
     }
 }
 
 // Returns the part at or above a value of the run that starts before the value and contains it, or
 // `None` if there is no such run.
-fn reaching_in<T: Integer, A: Allocator>(map: &BTreeMap<T, T, A>, start: T) -> Option<Run<T>>
-    requires canonical { IsCanonicalIn T.value_count (runs_of T.rank map.now.entries) }
+fn reaching_in<T: Integer, A: Allocator>(runs: &Runs<T, A>, start: T) -> Option<Run<T>>
+    requires canonical { IsCanonicalIn T.value_count runs.now }
     requires value { T.rank start < T.value_count }
-    ensures { MatchOption result (NoneOver (runs_of T.rank map.now.entries) (T.rank start))
-        (λ part. ReachesIn (runs_of T.rank map.now.entries) (T.rank start)
-        (run_of T.rank part)) }
+    ensures { MatchOption result (NoneOver runs.now (T.rank start))
+        (λ part. ReachesIn runs.now (T.rank start) (run_of T.rank part)) }
 {
-    let run = run_over(map, start)?;
+    let run = run_over(runs, start)?;
     let end = run.end;
     Some(Run { start, end })
-}
-
-/// Returns the runs that start within a window.
-pub(super) fn starting_in<'a, T: Integer, A: Allocator>(
-    map: &'a BTreeMap<T, T, A>,
-    window: Run<T>,
-) -> Range<'a, T, T>
-    requires canonical { IsCanonicalIn T.value_count (runs_of T.rank map.now.entries) }
-    requires order { T.rank window.start ≤ T.rank window.end }
-    requires value { T.rank window.end < T.value_count }
-    ensures { runs_of T.rank result ≡ starting_within (T.rank window.start) (T.rank window.end)
-        (runs_of T.rank map.now.entries) }
-{
-    map.range(window.start..=window.end)
-}
-
-/// Returns an iterator over no entries.
-pub(super) fn no_entries<'a, T: Integer, A: Allocator>(
-    map: &'a BTreeMap<T, T, A>,
-) -> Range<'a, T, T>
-    ensures { result ≡ [] }
-{
-    let start = known(T::min_value());
-    map.range(start..start)
 }

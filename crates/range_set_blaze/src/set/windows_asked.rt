@@ -4,17 +4,16 @@ ghost use Rattle.std.specs.Prelude.{◌↔◌, ◌<◌, ◌≤◌, IsTrue};
 ghost use Rattle.rsb_integer.specs.Runs.{covers, members, IsCanonicalIn};
 ghost use Rattle.rsb_integer.specs.Selection.{intersection, IsEmpty};
 ghost use Rattle.range_set_blaze.specs.Joining.{Has};
-ghost use Rattle.range_set_blaze.specs.Kept.{run_of, runs_of};
+ghost use Rattle.range_set_blaze.specs.Kept.{run_of};
 ghost use Rattle.range_set_blaze.specs.Set.{ranks_in};
 
 use crate::set::RangeSetBlaze;
-use crate::set::entries::run_up_to;
 use crate::set::insert::run_between;
 use crate::set::remove_ranges::last_meeting;
 use crate::set::run::{Run, is_below};
+use crate::set::runs::Runs;
 use rsb_integer::Integer;
 use std::alloc::Allocator;
-use std::collections::BTreeMap;
 use std::ops::RangeBounds;
 
 impl<T: Integer, A: Allocator> RangeSetBlaze<T, A> {
@@ -29,7 +28,7 @@ impl<T: Integer, A: Allocator> RangeSetBlaze<T, A> {
             (ranks_in T.rank T.value_count R.start_bound R.end_bound range)) }
     {
         match run_between(&range) {
-            Some(run) => has_run(&self.map, run),
+            Some(run) => has_run(&self.runs, run),
             None => true,
         }
     }
@@ -45,32 +44,32 @@ impl<T: Integer, A: Allocator> RangeSetBlaze<T, A> {
             (ranks_in T.rank T.value_count R.start_bound R.end_bound range))) }
     {
         match run_between(&range) {
-            Some(run) => lacks_run(&self.map, run),
+            Some(run) => lacks_run(&self.runs, run),
             None => true,
         }
     }
 }
 
 // Returns whether every value of a range is a member.
-fn has_run<T: Integer, A: Allocator>(map: &BTreeMap<T, T, A>, range: Run<T>) -> bool
-    requires canonical { IsCanonicalIn T.value_count (runs_of T.rank map.now.entries) }
+fn has_run<T: Integer, A: Allocator>(runs: &Runs<T, A>, range: Run<T>) -> bool
+    requires canonical { IsCanonicalIn T.value_count runs.now }
     requires order { T.rank range.start ≤ T.rank range.end }
     requires value { T.rank range.end < T.value_count }
-    ensures { IsTrue result ↔ Has (runs_of T.rank map.now.entries) (covers (run_of T.rank range)) }
+    ensures { IsTrue result ↔ Has runs.now (covers (run_of T.rank range)) }
 {
-    match run_up_to(map, range.start) {
+    match runs.up_to(range.start) {
         Some(run) => !is_below(run.end, range.end),
         None => false,
     }
 }
 
 // Returns whether no value of a range is a member.
-fn lacks_run<T: Integer, A: Allocator>(map: &BTreeMap<T, T, A>, range: Run<T>) -> bool
-    requires canonical { IsCanonicalIn T.value_count (runs_of T.rank map.now.entries) }
+fn lacks_run<T: Integer, A: Allocator>(runs: &Runs<T, A>, range: Run<T>) -> bool
+    requires canonical { IsCanonicalIn T.value_count runs.now }
     requires order { T.rank range.start ≤ T.rank range.end }
     requires value { T.rank range.end < T.value_count }
-    ensures { IsTrue result ↔ IsEmpty (intersection (members (runs_of T.rank map.now.entries))
+    ensures { IsTrue result ↔ IsEmpty (intersection (members runs.now)
         (covers (run_of T.rank range))) }
 {
-    last_meeting(map, range).is_none()
+    last_meeting(runs, range).is_none()
 }

@@ -4,5 +4,5 @@ use Rattle.range_set_blaze.proofs.set.RangeSetBlaze.clear.Goals as goal
 -- No run is left, and the length is 0.
 pub invariant_of-self : goal.invariant_of-self
 invariant_of-self g c =
-    rw (c.clear.ensures.empty, c.zero-self-inside.ensures) (kept-nil g.T.Integer.rank g.T.Integer.value_count _
-    g.met.T.SafeLen.SafeLength.zero_is_0)
+    rw (c.clear.ensures, c.zero-self-inside.ensures)
+    (kept-nil g.T.Integer.value_count _ g.met.T.SafeLen.SafeLength.zero_is_0)

@@ -3,14 +3,13 @@ use Rattle.std.proofs.lemmas.Bool.Decides.{nat_tests}
 use Rattle.std.proofs.lemmas.List.Elements.{All-nil}
 use Rattle.rsb_integer.specs.Runs.{members, Interval}
 use Rattle.rsb_integer.proofs.RunsLemmas.{runs-from_canonical}
-use Rattle.range_set_blaze.specs.Kept.{runs_of}
 use Rattle.range_set_blaze.proofs.set.RangeSetBlaze.gaps_in.Goals as goal
 
 -- Canonical ranges with these members are the runs of them.
 pub returns-in-Some-clause-runs : goal.returns-in-Some-clause-runs
 returns-in-Some-clause-runs g c = λ has.
     let gaps = c.gaps_between.ensures in
-    let runs = runs_of g.T.Integer.rank c.self.inside.map.entries in
+    let runs = c.self.inside.runs in
     rw (← c.self.view_is) (runs-from_canonical g.T.Integer.value_count _ _ gaps.canonical.0
     gaps.canonical.1 (λ point below. gaps.members point
     ∙ ap (λ test. test && not (members runs point))

@@ -1,4 +1,4 @@
-use Rattle.range_set_blaze.specs.Kept.{run_of, runs_of}
+use Rattle.range_set_blaze.specs.Kept.{run_of}
 use Rattle.range_set_blaze.proofs.runs.Counts.{run_count-added}
 use Rattle.range_set_blaze.proofs.set.RangeSetBlaze.insert_run.Goals as goal
 
@@ -8,6 +8,6 @@ returns-clause-run_count g c =
     let rank = g.T.Integer.rank in
     let inserted = rw c.in-Some.is at c.in_ok-length.ensures.inserted in
     rw (← c.self.view_is) (run_count-added g.T.Integer.value_count
-    (runs_of rank c.self.inside.map.entries) (runs_of rank c.add_run.new.map.entries)
+    c.self.inside.runs c.add_run.new.runs
     c.self.invariant.canonical inserted.kept.canonical (run_of rank c.args.run) c.requires.order
     c.requires.value inserted.adds)

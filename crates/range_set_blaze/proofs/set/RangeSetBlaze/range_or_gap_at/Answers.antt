@@ -3,14 +3,8 @@ use Rattle.range_set_blaze.specs.Kept.{run_of}
 use Rattle.range_set_blaze.proofs.runs.Kept.{lt-fails}
 use Rattle.range_set_blaze.proofs.look_up.Gaps.{contained-around, gap-first, gap-found}
 use Rattle.range_set_blaze.proofs.runs.Apart.{contained-maximal, contained-members, last-gap, none-gap}
-use Rattle.range_set_blaze.proofs.runs.Starts.{canonical-rises}
 use Rattle.range_set_blaze.proofs.set.RangeSetBlaze.range_or_gap_at.Goals as goal
 use Rattle.range_set_blaze.proofs.set.RangeSetBlaze.range_or_gap_at.Goals.{in-None, in-Some+else-not-is_below}
-
--- The starts of the runs ascend.
-pub run_up_to-requires-clause-ascending : goal.run_up_to-requires-clause-ascending
-run_up_to-requires-clause-ascending g c =
-    canonical-rises _ _ _ c.self.invariant.canonical.0 c.self.invariant.canonical.1
 
 -- The last run that starts at or before the value ends within the type.
 pub is_below-requires-clause-left : goal.is_below-requires-clause-left
@@ -42,7 +36,7 @@ returns-then-not-is_below-clause-run g c present =
 
 -- Otherwise the value is in a gap: that run ends before it, or there is no such run.
 pub gap_end-end-requires-clause-gap : goal.gap_end-end-requires-clause-gap
-gap_end-end-requires-clause-gap g c = elim c.match-run_up_to.branch [
+gap_end-end-requires-clause-gap g c = elim c.match-up_to.branch [
   | in-Some+else-not-is_below w ↦ last-gap _ _ c.self.invariant.canonical _
       (run_of g.T.Integer.rank w.in-Some.run') w.in-Some.ensures _
       (w.is_below.ensures.0 w.if-not-is_below.false) (omega arith)
@@ -52,7 +46,7 @@ gap_end-end-requires-clause-gap g c = elim c.match-run_up_to.branch [
 pub returns-clause-found : goal.returns-clause-found
 returns-clause-found g c =
     rw (← c.known-value.ensures.same, ← c.self.view_is)
-    (sym (elim c.match-run_up_to.branch [
+    (sym (elim c.match-up_to.branch [
       | in-Some+else-not-is_below w ↦ last-gap _ _ c.self.invariant.canonical _
           (run_of g.T.Integer.rank w.in-Some.run') w.in-Some.ensures _
           (w.is_below.ensures.0 w.if-not-is_below.false) (omega arith)
@@ -68,7 +62,7 @@ returns-clause-gap g c absent =
       ← c.known-value.ensures.same,
       ← c.self.view_is,
     )
-    (elim c.match-run_up_to.branch [
+    (elim c.match-up_to.branch [
       | in-Some+else-not-is_below w ↦
           rw (w.start-is, w.add_one-start.ensures)
           (gap-found _ _ c.self.invariant.canonical _ (run_of g.T.Integer.rank w.in-Some.run') _

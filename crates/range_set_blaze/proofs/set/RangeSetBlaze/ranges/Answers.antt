@@ -1,3 +1,4 @@
+use Rattle.std.proofs.Common.{◌∙◌}
 use Rattle.rsb_integer.proofs.RunsLemmas.{canonical-runs}
 use Rattle.range_set_blaze.proofs.elements.Ranges.{intervals_of-ranges}
 use Rattle.range_set_blaze.proofs.set.RangeSetBlaze.ranges.Goals as goal
@@ -6,10 +7,10 @@ use Rattle.range_set_blaze.proofs.set.RangeSetBlaze.ranges.Goals as goal
 pub returns : goal.returns
 returns g c =
     let canonical = c.self.invariant.canonical in
-    let are = intervals_of-ranges g.T.Integer.rank c.self.inside.map.entries in
+    let are = intervals_of-ranges g.T.Integer.rank c.iter.result ∙ c.iter.ensures.runs in
     record {
-      ranges = rw (c.iter.ensures.rest, ← c.self.view_is) are;
-      ready = rw (c.iter.ensures.rest, are) canonical;
+      ranges = rw (← c.self.view_is) are;
+      ready = rw are canonical;
       runs = rw (← c.self.view_is)
           (canonical-runs g.T.Integer.value_count _ canonical.0 canonical.1);
     }

@@ -1,5 +1,4 @@
 use Rattle.std.proofs.Common.{refl}
-use Rattle.range_set_blaze.specs.Kept.{runs_of}
 use Rattle.range_set_blaze.proofs.runs.Counts.{run_count-removed}
 use Rattle.range_set_blaze.proofs.set.RangeSetBlaze.remove.Goals as goal
 
@@ -10,5 +9,5 @@ returns-clause-run_count g c =
     let kept = rw c.in-Some.is at c.in_ok-length.ensures.kept in
     let removed = (rw (c.in-Some.is, c.known.ensures.same) at c.in_ok-length.ensures.removed) refl in
     rw (← c.self.view_is) (run_count-removed g.T.Integer.value_count
-    (runs_of rank c.self.inside.map.entries) (runs_of rank c.take_value.new.map.entries)
+    c.self.inside.runs c.take_value.new.runs
     c.self.invariant.canonical kept.canonical (rank c.args.value) c.known.ensures.value removed)

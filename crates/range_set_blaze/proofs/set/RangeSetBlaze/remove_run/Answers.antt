@@ -1,5 +1,5 @@
 use Rattle.std.proofs.Common.{refl}
-use Rattle.range_set_blaze.specs.Kept.{run_of, runs_of}
+use Rattle.range_set_blaze.specs.Kept.{run_of}
 use Rattle.range_set_blaze.proofs.runs.Counts.{run_count-without}
 use Rattle.range_set_blaze.proofs.set.RangeSetBlaze.remove_run.Goals as goal
 
@@ -10,6 +10,6 @@ returns-clause-run_count g c =
     let kept = rw c.in-Some.is at c.in_ok-length.ensures.kept in
     let removed = (rw c.in-Some.is at c.in_ok-length.ensures.removed) refl in
     rw (← c.self.view_is) (run_count-without g.T.Integer.value_count
-    (runs_of rank c.self.inside.map.entries) (runs_of rank c.take_range.new.map.entries)
+    c.self.inside.runs c.take_range.new.runs
     c.self.invariant.canonical kept.canonical (run_of rank c.args.run) c.requires.order
     c.requires.value removed)

@@ -2,35 +2,26 @@ use Rattle.std.proofs.Common.{subst}
 use Rattle.std.specs.Option.{MatchOption}
 use Rattle.rsb_integer.specs.Selection.{Selection}
 use Rattle.range_set_blaze.specs.FirstFit.{AllShorter, IsFirstFit}
-use Rattle.range_set_blaze.specs.Kept.{run_of, runs_of}
+use Rattle.range_set_blaze.specs.Kept.{run_of}
 use Rattle.range_set_blaze.proofs.fitting.FirstFits.{none-free, past-free, past-later, past-within}
-use Rattle.range_set_blaze.proofs.runs.Starts.{canonical-rises}
 use Rattle.range_set_blaze.proofs.set.first_fit.gap_from.Goals as goal
-
--- The starts of the runs ascend.
-pub runs_after-requires-clause-ascending : goal.runs_after-requires-clause-ascending
-runs_after-requires-clause-ascending g c =
-    canonical-rises _ _ _ c.requires.canonical.0 c.requires.canonical.1
 
 -- The runs past a free value start after it.
 pub first_between-requires-clause-later : goal.first_between-requires-clause-later
 first_between-requires-clause-later g c =
-    rw c.runs_after.ensures
-    (past-later _ (runs_of g.T.Integer.rank c.args.map.now.entries) c.requires.canonical _
-    c.in_ok-start.ensures.free)
+    rw c.starting_after.ensures
+    (past-later _ c.args.runs.now c.requires.canonical _ c.in_ok-start.ensures.free)
 
 pub first_between-requires-clause-within : goal.first_between-requires-clause-within
 first_between-requires-clause-within g c =
-    rw c.runs_after.ensures
-    (past-within _ (runs_of g.T.Integer.rank c.args.map.now.entries) c.requires.canonical _
-    c.in_ok-start.ensures.free)
+    rw c.starting_after.ensures
+    (past-within _ c.args.runs.now c.requires.canonical _ c.in_ok-start.ensures.free)
 
 -- If no value from the given one on is free, no gap is long enough.
 pub returns-in_err-start : goal.returns-in_err-start
 returns-in_err-start g c =
     rw c.from_residual.ensures
-    (none-free _ (runs_of g.T.Integer.rank c.args.map.now.entries) c.requires.canonical _ _
-    c.in_err-start.ensures)
+    (none-free _ c.args.runs.now c.requires.canonical _ _ c.in_err-start.ensures)
 
 -- From the first free value on, the runs past it leave the same values free as all runs do.
 pub returns : goal.returns
@@ -41,6 +32,6 @@ returns g c =
     subst
     (λ (free : Selection). MatchOption c.first_between.result (AllShorter n free len)
     (λ gap. IsFirstFit n free len (run_of rank gap)))
-    (past-free n (runs_of rank c.args.map.now.entries) c.requires.canonical (rank c.args.value)
+    (past-free n c.args.runs.now c.requires.canonical (rank c.args.value)
     (rank c.in_ok-start.start) c.in_ok-start.ensures)
-    (rw c.runs_after.ensures at c.first_between.ensures)
+    (rw c.starting_after.ensures at c.first_between.ensures)

@@ -8,7 +8,7 @@ abbrev pub invariant-loop-run : goal.invariant-loop-run
 invariant-loop-run g l =
     let rank = g.T.Integer.rank in
     ArePassed g.T.Integer.value_count (g.T.SafeLen.SafeLength.number l.len)
-    (runs_of rank l.fn.map.entries) (runs_of rank l.entries)
+    l.fn.runs (runs_of rank l.entries)
 
 abbrev pub decreases-loop-run : goal.decreases-loop-run
 decreases-loop-run g l = length l.entries

@@ -1,5 +1,5 @@
 use Rattle.std.proofs.Common.{Some}
-use Rattle.range_set_blaze.specs.Kept.{run_of, runs_of}
+use Rattle.range_set_blaze.specs.Kept.{run_of}
 use Rattle.range_set_blaze.proofs.windows.FreeParts.{free-members, within-between}
 use Rattle.range_set_blaze.proofs.windows.GapRanges.{left-canonical, ranges-canonical, ranges-members}
 use Rattle.range_set_blaze.proofs.set.gaps.gaps_between.Goals as goal
@@ -9,7 +9,7 @@ pub invariant_of-result : goal.invariant_of-result
 invariant_of-result g c =
     let rank = g.T.Integer.rank in
     rw c.starting_in.ensures
-    (within-between _ (runs_of rank c.args.map.now.entries) c.requires.canonical
+    (within-between _ c.args.runs.now c.requires.canonical
     (run_of rank c.args.window) (run_of rank c.in-Some.part) c.requires.value c.in-Some.ensures)
 
 -- So the gaps that they leave are canonical.
@@ -29,5 +29,5 @@ returns-in-Some-clause-members g c =
     (left-canonical rank _ g.T.Integer.value_at (Some c.in-Some.part) c.starting_in.result
     (invariant_of-result g c))
     (rw c.starting_in.ensures
-    (free-members _ (runs_of rank c.args.map.now.entries) c.requires.canonical
+    (free-members _ c.args.runs.now c.requires.canonical
     (run_of rank c.args.window) (run_of rank c.in-Some.part) c.requires.value c.in-Some.ensures))

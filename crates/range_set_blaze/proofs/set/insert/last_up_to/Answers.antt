@@ -1,7 +1,6 @@
 use Rattle.std.proofs.Common.{arith}
 use Rattle.range_set_blaze.proofs.runs.Found.{last-lower, last-value, none-lower, two-before, two-last, two-none}
 use Rattle.range_set_blaze.proofs.runs.Kept.{lt-fails}
-use Rattle.range_set_blaze.proofs.runs.Starts.{canonical-rises}
 use Rattle.range_set_blaze.proofs.set.insert.last_up_to.Goals as goal
 
 -- The last run starts within the type.
@@ -41,8 +40,3 @@ returns-then-not-is_below-2 g c =
     let later = c.is_below.ensures.0 c.if-not-is_below.false in
     let starts = lt-fails c.is_below-2.result _ _ c.is_below-2.ensures c.if-not-is_below-2.true in
     last-lower _ _ _ _ (omega (arith, later)) (omega (arith, starts)) found
-
--- The starts of the runs ascend.
-pub run_up_to-requires-clause-ascending : goal.run_up_to-requires-clause-ascending
-run_up_to-requires-clause-ascending g c =
-    canonical-rises _ _ _ c.requires.canonical.0 c.requires.canonical.1

@@ -2,15 +2,9 @@ use Rattle.std.proofs.Common.{◌∙◌, List, ap, sym, arith, subst}
 use Rattle.rsb_integer.specs.Runs.{Interval, members}
 use Rattle.rsb_integer.proofs.CountLemmas.{count-within}
 use Rattle.range_set_blaze.specs.Joining.{IsOver, KnowsInside}
-use Rattle.range_set_blaze.specs.Kept.{run_of, runs_of}
+use Rattle.range_set_blaze.specs.Kept.{run_of}
 use Rattle.range_set_blaze.proofs.insertion.Placing.{first-counted, first-some, first-there, first-within, joining-inside, joining-members, joining-over}
-use Rattle.range_set_blaze.proofs.runs.Starts.{canonical-rises}
 use Rattle.range_set_blaze.proofs.set.insert.put.Goals as goal
-
--- The starts of the runs ascend.
-pub put_entry-requires-clause-ascending : goal.put_entry-requires-clause-ascending
-put_entry-requires-clause-ascending g c =
-    canonical-rises _ _ _ c.requires.kept.canonical.0 c.requires.kept.canonical.1
 
 -- The first run that is replaced is non-empty, and its members are counted.
 pub without-others-requires-clause-some : goal.without-others-requires-clause-some
@@ -20,7 +14,7 @@ without-others-requires-clause-some g c =
 pub without-others-requires-clause-fits : goal.without-others-requires-clause-fits
 without-others-requires-clause-fits g c =
     let within = count-within g.T.Integer.value_count
-    (members (runs_of g.T.Integer.rank c.args.map.now.entries)) in
+    (members c.args.runs.now) in
     omega (arith, within, c.requires.kept.length)
 
 pub without-others-requires-clause-counted : goal.without-others-requires-clause-counted
@@ -29,17 +23,17 @@ without-others-requires-clause-counted g c =
     c.requires.kept.length
 
 -- If there is such a run, an entry has the start already, so the insertion does not fail.
-pub returns-in_err-put_entry-clause-succeeds : goal.returns-in_err-put_entry-clause-succeeds
-returns-in_err-put_entry-clause-succeeds g c some =
+pub returns-in_err-put-clause-succeeds : goal.returns-in_err-put-clause-succeeds
+returns-in_err-put-clause-succeeds g c some =
     let there = first-there _ _ _ c.requires.kept.canonical c.args.joining c.requires.joining some in
-    let fails = c.in_err-put_entry.ensures.succeeds there.0 there.1 there.2 in absurd (cc)
+    let fails = c.in_err-put.ensures.succeeds there.0 there.1 there.2 in absurd (cc)
 
 -- After the insertion, the joined run is over the others, as `IsOver` states.
 pub take_in-length-requires-clause-over : goal.take_in-length-requires-clause-over
 take_in-length-requires-clause-over g c =
     subst (λ (runs : List Interval). IsOver g.T.Integer.value_count runs
     (run_of g.T.Integer.rank c.args.joining.joined)
-    (g.T.SafeLen.SafeLength.number c.without-others.result)) (sym c.in_ok-put_entry.ensures.runs)
+    (g.T.SafeLen.SafeLength.number c.without-others.result)) (sym c.in_ok-put.ensures.runs)
     (joining-over _ _ _ c.requires.kept.canonical c.args.joining c.requires.joining _
     (first-counted _ _ _ c.requires.kept.canonical c.args.joining c.requires.joining _ _
     c.requires.kept.length c.without-others.ensures))
@@ -48,14 +42,14 @@ pub take_in-length-requires-clause-inside : goal.take_in-length-requires-clause-
 take_in-length-requires-clause-inside g c =
     subst (λ (runs : List Interval). KnowsInside g.T.Integer.rank runs
     (run_of g.T.Integer.rank c.args.joining.joined) c.args.joining.last c.args.joining.before)
-    (sym c.in_ok-put_entry.ensures.runs)
+    (sym c.in_ok-put.ensures.runs)
     (joining-inside _ _ _ c.requires.kept.canonical c.args.joining c.requires.joining)
 
 -- The runs that are left form the set together with the joined run.
 pub add_length-requires-clause-fits : goal.add_length-requires-clause-fits
 add_length-requires-clause-fits g c =
     let within = count-within g.T.Integer.value_count
-    (members (runs_of g.T.Integer.rank c.take_in-length.new.map.entries)) in
+    (members c.take_in-length.new.runs) in
     omega (arith, within, c.take_in-length.ensures.counted)
 
 pub returns-clause-kept : goal.returns-clause-kept
@@ -67,5 +61,5 @@ returns-clause-kept g c = record {
 pub returns-clause-adds : goal.returns-clause-adds
 returns-clause-adds g c rank =
     c.take_in-length.ensures.members rank
-    ∙ ap (λ (runs : List Interval). members runs rank) c.in_ok-put_entry.ensures.runs
+    ∙ ap (λ (runs : List Interval). members runs rank) c.in_ok-put.ensures.runs
     ∙ joining-members _ _ _ c.requires.kept.canonical c.args.joining c.requires.joining rank

@@ -1,35 +1,25 @@
 use Rattle.std.proofs.Common.{◌+◌, ap, refl}
-use Rattle.range_set_blaze.specs.Kept.{runs_of}
 use Rattle.range_set_blaze.proofs.insertion.Joining.{joined-hull, joined-joining, reached-has, reached-lacks}
-use Rattle.range_set_blaze.proofs.runs.Starts.{canonical-rises}
 use Rattle.range_set_blaze.proofs.set.insert.touched.Goals as goal
-
--- The starts of the runs ascend.
-pub last_two-requires-clause-ascending : goal.last_two-requires-clause-ascending
-last_two-requires-clause-ascending g c =
-    canonical-rises _ _ _ c.requires.canonical.0 c.requires.canonical.1
 
 -- If the first run that the new one reaches ends at or past its end, all of its values are members.
 pub returns-then-ends_in-clause-within : goal.returns-then-ends_in-clause-within
 returns-then-ends_in-clause-within g c none =
-    reached-has g.T.Integer.rank g.T.Integer.value_count (runs_of g.T.Integer.rank
-    c.args.map.now.entries) c.requires.canonical c.args.run c.args.run c.requires.order
+    reached-has g.T.Integer.rank g.T.Integer.value_count c.args.runs.now c.requires.canonical c.args.run c.args.run c.requires.order
     c.requires.value _ refl c.reached_at-first.result c.reached_at-first.ensures c.ends_in.result
     c.ends_in.ensures c.if-ends_in.true
 
 -- Otherwise some of its values are not.
 pub returns-clause-lacks : goal.returns-clause-lacks
 returns-clause-lacks g c =
-    (reached-lacks g.T.Integer.rank g.T.Integer.value_count (runs_of g.T.Integer.rank
-    c.args.map.now.entries) c.requires.canonical c.args.run c.args.run c.requires.order
+    (reached-lacks g.T.Integer.rank g.T.Integer.value_count c.args.runs.now c.requires.canonical c.args.run c.args.run c.requires.order
     c.requires.value _ refl c.reached_at-first.result c.reached_at-first.ensures c.ends_in.result
     c.ends_in.ensures c.if-ends_in.false).1
 
 -- The joined run is the hull of the new run and those that it touches.
 pub returns-clause-hull : goal.returns-clause-hull
 returns-clause-hull g c =
-    joined-hull g.T.Integer.rank g.T.Integer.value_count (runs_of g.T.Integer.rank
-    c.args.map.now.entries) c.requires.canonical c.args.run
+    joined-hull g.T.Integer.rank g.T.Integer.value_count c.args.runs.now c.requires.canonical c.args.run
     (record { start = c.start_of-start.result; end = c.end_of-end.result }) c.requires.order
     c.requires.value (g.T.Integer.rank c.next_or_greatest.result + 1)
     (ap (λ bound. bound + 1) c.next_or_greatest.ensures) c.reached_at-first.result
@@ -39,12 +29,10 @@ returns-clause-hull g c =
 -- The result names the runs that the joined run covers.
 pub returns-clause-joining : goal.returns-clause-joining
 returns-clause-joining g c =
-    let short = (reached-lacks g.T.Integer.rank g.T.Integer.value_count (runs_of g.T.Integer.rank
-    c.args.map.now.entries) c.requires.canonical c.args.run c.args.run c.requires.order
+    let short = (reached-lacks g.T.Integer.rank g.T.Integer.value_count c.args.runs.now c.requires.canonical c.args.run c.args.run c.requires.order
     c.requires.value _ refl c.reached_at-first.result c.reached_at-first.ensures c.ends_in.result
     c.ends_in.ensures c.if-ends_in.false).0 in
-    joined-joining g.T.Integer.rank g.T.Integer.value_count (runs_of g.T.Integer.rank
-    c.args.map.now.entries) c.requires.canonical c.args.run
+    joined-joining g.T.Integer.rank g.T.Integer.value_count c.args.runs.now c.requires.canonical c.args.run
     (record { start = c.start_of-start.result; end = c.end_of-end.result }) c.requires.order
     c.requires.value (g.T.Integer.rank c.next_or_greatest.result + 1)
     (ap (λ bound. bound + 1) c.next_or_greatest.ensures) c.reached_at-first.result

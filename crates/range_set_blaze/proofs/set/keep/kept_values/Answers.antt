@@ -9,11 +9,11 @@ use Rattle.range_set_blaze.proofs.set.keep.kept_values.Goals.{then-f+in_ok-grown
 pub loop-left-init : goal.loop-left-init
 loop-left-init g c =
     let rank = g.T.Integer.rank in
-    let old = runs_of rank c.args.map.now.entries in
+    let old = c.args.runs.now in
     let canonical = c.requires.canonical in
     let all : left_runs rank c.next_run-left.result c.next_run-left.new.entries ≡ old =
     left_runs-next rank c.next_run-left.result c.iter-entries.result c.next_run-left.new.entries
-    c.next_run-left.ensures ∙ ap (runs_of rank) c.iter-entries.ensures.rest in
+    c.next_run-left.ensures ∙ c.iter-entries.ensures.runs in
     rw (all, c.new-kept.ensures) (record {
       canonical = canonical-below g.T.Integer.value_count 0 old canonical.0 canonical.1;
       order = tt;
@@ -36,7 +36,7 @@ f-requires g c =
     let before = c.loop-left.invariant in
     let canonical = rw c.in-Some.is at before.canonical in
     c.requires.callable.at _ _ (next-member rank g.T.Integer.value_count g.F.FnMut c.args.f
-    (runs_of rank c.args.map.now.entries) c.in-Some.run'.start _ _ before.answered
+    c.args.runs.now c.in-Some.run'.start _ _ before.answered
     (rw c.in-Some.is at before.listed) refl canonical.1 canonical.2)
 
 -- The closure has been called on one member more.
@@ -84,7 +84,7 @@ pub returns : goal.returns
 returns g c =
     let listed = rw c.in_default.is at c.loop-left.invariant.listed in
     let all = answered-all g.T.Integer.rank g.T.Integer.value_count g.F.FnMut c.args.f
-    (runs_of g.T.Integer.rank c.args.map.now.entries) c.put_last.new.kept
+    c.args.runs.now c.put_last.new.kept
     c.loop-left.invariant.answered (listed ∙ append-nil _) c.in_ok-put_last.ensures.added in
     record {
       within = all.0;

@@ -1,7 +1,6 @@
 -- The closure was called on a prefix of the members. Those for which it returned true are kept or
 -- in the piece.
 use Rattle.std.proofs.Common.{◌≡◌, ◌≤◌, IfSome, List, [], None, ◌++◌, length, map}
-use Rattle.range_set_blaze.specs.Kept.{runs_of}
 use Rattle.range_set_blaze.specs.Retain.{left_runs, past_piece, ascending_ranks, with_piece, IsCanonicalBelow}
 use Rattle.range_set_blaze.proofs.gathering.AskedValues.{HasAnswered}
 use Rattle.range_set_blaze.proofs.set.keep.kept_values.Given as goal
@@ -10,7 +9,7 @@ abbrev pub invariant-loop-left : goal.invariant-loop-left
 invariant-loop-left g l =
     let rank = g.T.Integer.rank in
     let n = g.T.Integer.value_count in
-    let old = runs_of rank l.fn.map.entries in
+    let old = l.fn.runs in
     let todo = left_runs rank l.left l.entries in
     record {
       canonical : IsCanonicalBelow n (past_piece rank l.piece) todo;

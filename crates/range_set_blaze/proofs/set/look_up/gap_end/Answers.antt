@@ -1,12 +1,6 @@
 use Rattle.std.proofs.Common.{arith}
 use Rattle.range_set_blaze.proofs.look_up.Gaps.{gap-last, gap-next, past-first}
-use Rattle.range_set_blaze.proofs.runs.Starts.{canonical-rises}
 use Rattle.range_set_blaze.proofs.set.look_up.gap_end.Goals as goal
-
--- The starts of the runs ascend.
-pub run_after-requires-clause-ascending : goal.run_after-requires-clause-ascending
-run_after-requires-clause-ascending g c =
-    canonical-rises _ _ _ c.requires.canonical.0 c.requires.canonical.1
 
 -- The next run starts past the value.
 pub sub_one-requires : goal.sub_one-requires

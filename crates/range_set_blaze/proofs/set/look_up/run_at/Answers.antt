@@ -1,17 +1,10 @@
 use Rattle.std.proofs.Common.{arith, refl}
 use Rattle.rsb_integer.specs.Runs.{members}
 use Rattle.rsb_integer.proofs.ListLemmas.{not_both}
-use Rattle.range_set_blaze.specs.Kept.{runs_of}
 use Rattle.range_set_blaze.proofs.runs.Apart.{contained-members, last-gap, none-gap}
 use Rattle.range_set_blaze.proofs.runs.Kept.{lt-fails}
 use Rattle.range_set_blaze.proofs.look_up.Gaps.{contained-around}
-use Rattle.range_set_blaze.proofs.runs.Starts.{canonical-rises}
 use Rattle.range_set_blaze.proofs.set.look_up.run_at.Goals as goal
-
--- The starts of the runs ascend.
-pub run_up_to-requires-clause-ascending : goal.run_up_to-requires-clause-ascending
-run_up_to-requires-clause-ascending g c =
-    canonical-rises _ _ _ c.requires.canonical.0 c.requires.canonical.1
 
 -- If no run starts at or before the value, it is not a member.
 pub returns-in_err-run-clause-none : goal.returns-in_err-run-clause-none
@@ -43,6 +36,6 @@ returns-clause-none g c =
     c.in_ok-run.ensures.among (omega (arith, starts))
     (lt-fails c.is_below.result _ _ c.is_below.ensures c.if-is_below.false) in (
       (λ none. absurd (cc)),
-      (λ absent. absurd (not_both (members (runs_of g.T.Integer.rank c.args.map.now.entries)
+      (λ absent. absurd (not_both (members c.args.runs.now
           (g.T.Integer.rank c.args.value)) member absent)),
     )

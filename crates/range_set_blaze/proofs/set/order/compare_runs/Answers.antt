@@ -1,12 +1,11 @@
 use Rattle.std.proofs.Common.{arith, refl, rules}
 use Rattle.range_set_blaze.proofs.order.CommonFronts.{ends-compared, passing-none, passing-tells, starts-tell}
-use Rattle.range_set_blaze.proofs.order.EndRuns.{length-runs_of}
 use Rattle.range_set_blaze.proofs.set.order.compare_runs.Goals as goal
 
 -- At first no runs were compared.
 pub loop-ends-init : goal.loop-ends-init
 loop-ends-init g c =
-    rw (c.iter-left.ensures.rest, c.iter-right.ensures.rest)
+    rw (c.iter-left.ensures.runs, c.iter-right.ensures.runs)
     (record {
       counted = omega arith;
       tells = passing-none g.T.Integer.value_count _ _ c.requires.left c.requires.right;
@@ -15,8 +14,7 @@ loop-ends-init g c =
 -- There is at most one iteration more than there are runs.
 pub overflow_add-turns : goal.overflow_add-turns
 overflow_add-turns g c =
-    let few = length-runs_of g.T.Integer.rank c.args.left.now.entries in
-    let counted = rw few at c.loop-ends.invariant.counted in
+    let counted = c.loop-ends.invariant.counted in
     let fits = c.iter-left.ensures.fits in
     search (rules, counted, fits)
 

@@ -17,7 +17,7 @@ part_below-requires-clause-run g c =
 pub returns-in_default-part_below : goal.returns-in_default-part_below
 returns-in_default-part_below g c =
     let rank = g.T.Integer.rank in
-    counted-past _ (runs_of rank c.args.map.now.entries) (runs_of rank c.next_run.new.entries)
+    counted-past _ c.args.runs.now (runs_of rank c.next_run.new.entries)
     (run_of rank c.in-Some.run') _ _ (rw c.in-Some.ensures at c.loop-run.invariant)
     c.in_default-part_below.ensures
 
@@ -25,7 +25,7 @@ returns-in_default-part_below g c =
 pub add_length-requires-clause-fits : goal.add_length-requires-clause-fits
 add_length-requires-clause-fits g c =
     let rank = g.T.Integer.rank in
-    counted-fits _ (runs_of rank c.args.map.now.entries) (runs_of rank c.next_run.new.entries)
+    counted-fits _ c.args.runs.now (runs_of rank c.next_run.new.entries)
     (run_of rank c.in-Some.run') _ _ (rw c.in-Some.ensures at c.loop-run.invariant)
     (run_of rank c.in-Some-part_below.part) c.in-Some-part_below.ensures
 
@@ -33,12 +33,12 @@ pub loop-run-preserved : goal.loop-run-preserved
 loop-run-preserved g c =
     let rank = g.T.Integer.rank in
     rw c.add_length.ensures
-    (counted-next _ (runs_of rank c.args.map.now.entries) (runs_of rank c.next_run.new.entries)
+    (counted-next _ c.args.runs.now (runs_of rank c.next_run.new.entries)
     (run_of rank c.in-Some.run') _ _ (rw c.in-Some.ensures at c.loop-run.invariant)
     (run_of rank c.in-Some-part_below.part) c.in-Some-part_below.ensures)
 
 -- If no run is left, all members below the value are counted.
 pub returns : goal.returns
 returns g c =
-    counted-all _ (runs_of g.T.Integer.rank c.args.map.now.entries) _ _
+    counted-all _ c.args.runs.now _ _
     (rw c.in_default.ensures at c.loop-run.invariant)

@@ -7,7 +7,7 @@ use Rattle.range_set_blaze.proofs.set.ranked.count_below.Given as goal
 abbrev pub invariant-loop-run : goal.invariant-loop-run
 invariant-loop-run g l =
     let rank = g.T.Integer.rank in
-    AreCounted g.T.Integer.value_count (runs_of rank l.fn.map.entries) (runs_of rank l.entries)
+    AreCounted g.T.Integer.value_count l.fn.runs (runs_of rank l.entries)
     (rank l.value) (g.T.SafeLen.SafeLength.number l.below)
 
 abbrev pub decreases-loop-run : goal.decreases-loop-run

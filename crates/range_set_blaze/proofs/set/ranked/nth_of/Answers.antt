@@ -18,7 +18,7 @@ pub returns-then-is_less-clause-none : goal.returns-then-is_less-clause-none
 returns-then-is_less-clause-none g c =
     let rank = g.T.Integer.rank in
     let fewer = c.is_less.ensures.0 c.if-is_less.true in
-    let more = left-more _ (runs_of rank c.args.map.now.entries)
+    let more = left-more _ c.args.runs.now
     (runs_of rank c.next_run.new.entries) (run_of rank c.in-Some.run') _ _
     (rw c.in-Some.ensures at c.loop-run.invariant)
     (omega (arith, fewer, c.length_of_run-length.ensures)) in
@@ -28,7 +28,7 @@ pub returns-then-is_less-clause-found : goal.returns-then-is_less-clause-found
 returns-then-is_less-clause-found g c =
     let rank = g.T.Integer.rank in
     let fewer = c.is_less.ensures.0 c.if-is_less.true in
-    left-member _ (runs_of rank c.args.map.now.entries)
+    left-member _ c.args.runs.now
     (runs_of rank c.next_run.new.entries) (run_of rank c.in-Some.run') _ _
     (rw c.in-Some.ensures at c.loop-run.invariant) _
     (omega (arith, fewer, c.length_of_run-length.ensures)) c.value_at.ensures
@@ -37,7 +37,7 @@ pub returns-then-is_less-clause-below : goal.returns-then-is_less-clause-below
 returns-then-is_less-clause-below g c =
     let rank = g.T.Integer.rank in
     let fewer = c.is_less.ensures.0 c.if-is_less.true in
-    left-below _ (runs_of rank c.args.map.now.entries)
+    left-below _ c.args.runs.now
     (runs_of rank c.next_run.new.entries) (run_of rank c.in-Some.run') _ _
     (rw c.in-Some.ensures at c.loop-run.invariant) _
     (omega (arith, fewer, c.length_of_run-length.ensures)) c.value_at.ensures
@@ -46,7 +46,7 @@ returns-then-is_less-clause-below g c =
 pub loop-run-preserved : goal.loop-run-preserved
 loop-run-preserved g c =
     let rank = g.T.Integer.rank in
-    left-next _ (runs_of rank c.args.map.now.entries)
+    left-next _ c.args.runs.now
     (runs_of rank c.next_run.new.entries) (run_of rank c.in-Some.run') _ _
     (rw c.in-Some.ensures at c.loop-run.invariant) _
     (omega (arith, c.take_off.ensures, c.length_of_run-length.ensures))
@@ -54,7 +54,6 @@ loop-run-preserved g c =
 -- If no run is left, the set has at most n members.
 pub returns-clause-none : goal.returns-clause-none
 returns-clause-none g c = (
-  (λ none. left-none _ (runs_of g.T.Integer.rank c.args.map.now.entries) _ _
-      (rw c.in_default.ensures at c.loop-run.invariant)),
+  (λ none. left-none _ c.args.runs.now _ _ (rw c.in_default.ensures at c.loop-run.invariant)),
   (λ most. refl),
 )

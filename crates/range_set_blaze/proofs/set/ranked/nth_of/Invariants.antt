@@ -8,7 +8,7 @@ abbrev pub invariant-loop-run : goal.invariant-loop-run
 invariant-loop-run g l =
     let rank = g.T.Integer.rank in
     let number = g.T.SafeLen.SafeLength.number in
-    AreLeft g.T.Integer.value_count (runs_of rank l.fn.map.entries) (runs_of rank l.entries)
+    AreLeft g.T.Integer.value_count l.fn.runs (runs_of rank l.entries)
     (number l.fn.n) (number l.left)
 
 abbrev pub decreases-loop-run : goal.decreases-loop-run

@@ -1,5 +1,5 @@
 use Rattle.std.proofs.Common.{◌≡◌, OnOk, arith, sym, subst, refl}
-use Rattle.range_set_blaze.specs.Kept.{run_of, runs_of}
+use Rattle.range_set_blaze.specs.Kept.{run_of}
 use Rattle.range_set_blaze.specs.Removal.{IsRemoved}
 use Rattle.range_set_blaze.specs.Starts.{with_run}
 use Rattle.range_set_blaze.proofs.removal.Cuts.{cut-low, cut-none}
@@ -10,18 +10,18 @@ use Rattle.range_set_blaze.proofs.set.remove.cut.Goals as goal
 pub unwrap-requires : goal.unwrap-requires
 unwrap-requires g c =
     let there = c.in_ok-put_above.ensures.above.there in
-    c.put_entry.ensures.succeeds there.0 there.1 there.2
+    c.put.ensures.succeeds there.0 there.1 there.2
 
 -- The part of the run below the piece replaces the run.
 pub returns-then-is_below-clause-removed : goal.returns-then-is_below-clause-removed
 returns-then-is_below-clause-removed g c =
     let rank = g.T.Integer.rank in
-    let mid = runs_of rank c.put_above.new.map.entries in
+    let mid = c.put_above.new.runs in
     let low = run_of rank (record { start = c.args.run.start; end = c.sub_one-end.result }) in
     let is = subst (λ result. OnOk result
-    (runs_of rank c.put_entry.new.map.entries ≡ with_run low mid)) c.unwrap.ensures
-    c.put_entry.ensures.runs in
-    subst (λ runs. IsRemoved g.T.Integer.value_count (runs_of rank c.args.map.now.entries) runs
+    (c.put.new.self ≡ with_run low mid)) c.unwrap.ensures
+    c.put.ensures.runs in
+    subst (λ runs. IsRemoved g.T.Integer.value_count c.args.runs.now runs
     (run_of rank c.args.piece)) (sym is)
     (cut-low _ _ c.requires.canonical _ c.requires.among _
     (omega (arith, c.requires.from, c.requires.order)) c.requires.to _ c.requires.from
@@ -32,8 +32,8 @@ returns-then-is_below-clause-removed g c =
 pub returns-else-is_below-clause-removed : goal.returns-else-is_below-clause-removed
 returns-else-is_below-clause-removed g c =
     let rank = g.T.Integer.rank in
-    subst (λ runs. IsRemoved g.T.Integer.value_count (runs_of rank c.args.map.now.entries) runs
-    (run_of rank c.args.piece)) (sym c.take_entry.ensures)
+    subst (λ runs. IsRemoved g.T.Integer.value_count c.args.runs.now runs
+    (run_of rank c.args.piece)) (sym c.take.ensures)
     (cut-none _ _ c.requires.canonical _ c.requires.among _
     (omega (arith, c.requires.from, c.requires.order)) c.requires.to _ c.requires.from
     c.requires.order _ c.in_ok-put_above.ensures.above

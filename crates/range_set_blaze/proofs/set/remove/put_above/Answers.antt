@@ -3,19 +3,13 @@ use Rattle.range_set_blaze.specs.Kept.{run_of}
 use Rattle.range_set_blaze.specs.Removal.{IsCutAbove}
 use Rattle.range_set_blaze.proofs.removal.Cuts.{cut-above, cut-last}
 use Rattle.range_set_blaze.proofs.runs.Kept.{lt-fails}
-use Rattle.range_set_blaze.proofs.runs.Starts.{canonical-rises}
 use Rattle.range_set_blaze.proofs.set.remove.put_above.Goals as goal
 
--- The starts of the runs ascend.
-pub put_entry-requires-clause-ascending : goal.put_entry-requires-clause-ascending
-put_entry-requires-clause-ascending g c =
-    canonical-rises _ _ _ c.requires.canonical.0 c.requires.canonical.1
-
 -- The part of the run above the value is inserted.
-pub returns-in_ok-put_entry-clause-above : goal.returns-in_ok-put_entry-clause-above
-returns-in_ok-put_entry-clause-above g c =
+pub returns-in_ok-put-clause-above : goal.returns-in_ok-put-clause-above
+returns-in_ok-put-clause-above g c =
     subst (IsCutAbove _ _ (run_of g.T.Integer.rank c.args.run) (g.T.Integer.rank c.args.value))
-    (sym c.in_ok-put_entry.ensures.runs)
+    (sym c.in_ok-put.ensures.runs)
     (cut-above _ _ c.requires.canonical _ c.requires.among _ c.requires.from c.requires.to _
     c.add_one-start.ensures refl (c.is_below.ensures.0 c.if-is_below.true))
 

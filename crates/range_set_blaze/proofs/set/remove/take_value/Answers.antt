@@ -3,17 +3,10 @@ use Rattle.std.proofs.lemmas.Bool.{cases_lt}
 use Rattle.rsb_integer.specs.Runs.{members}
 use Rattle.rsb_integer.proofs.CountLemmas.{count-within}
 use Rattle.rsb_integer.proofs.ListLemmas.{not_both}
-use Rattle.range_set_blaze.specs.Kept.{runs_of}
 use Rattle.range_set_blaze.proofs.removal.Cuts.{removes-only}
 use Rattle.range_set_blaze.proofs.runs.Apart.{contained-members, last-gap, none-gap}
 use Rattle.range_set_blaze.proofs.runs.Kept.{lt-fails}
-use Rattle.range_set_blaze.proofs.runs.Starts.{canonical-rises}
 use Rattle.range_set_blaze.proofs.set.remove.take_value.Goals as goal
-
--- The starts of the runs ascend.
-pub run_up_to-requires-clause-ascending : goal.run_up_to-requires-clause-ascending
-run_up_to-requires-clause-ascending g c =
-    canonical-rises _ _ _ c.requires.kept.canonical.0 c.requires.kept.canonical.1
 
 -- If no run starts at or before the value, it is not a member.
 pub returns-in_default-clause-none : goal.returns-in_default-clause-none
@@ -37,8 +30,7 @@ returns-clause-some g c some =
 pub returns-in_err-cut-clause-absent : goal.returns-in_err-cut-clause-absent
 returns-in_err-cut-clause-absent g c absent =
     let starts = c.in-Some.ensures.starts in
-    absurd (not_both (members (runs_of g.T.Integer.rank c.args.map.now.entries)
-    (g.T.Integer.rank c.args.value))
+    absurd (not_both (members c.args.runs.now (g.T.Integer.rank c.args.value))
     (contained-members _ _ c.requires.kept.canonical _ _ c.in-Some.ensures.among
     (omega (arith, starts)) (lt-fails c.is_below.result _ _ c.is_below.ensures c.if-is_below.false))
     absent)
@@ -48,7 +40,7 @@ returns-in_err-cut-clause-succeeds g c last =
     let rank = g.T.Integer.rank in
     let starts = c.in-Some.ensures.starts in
     elim (cases_lt (rank c.args.value) (rank c.in-Some.run'.end)) [
-      | inl more ↦ absurd (not_both (members (runs_of rank c.args.map.now.entries)
+      | inl more ↦ absurd (not_both (members c.args.runs.now
           (rank c.args.value + 1))
           (contained-members _ _ c.requires.kept.canonical _ _ c.in-Some.ensures.among
           (omega (arith, starts)) (omega (arith, more))) last)
@@ -59,7 +51,7 @@ returns-in_err-cut-clause-succeeds g c last =
 pub take_off_length-requires-clause-fits : goal.take_off_length-requires-clause-fits
 take_off_length-requires-clause-fits g c =
     let within = count-within g.T.Integer.value_count
-    (members (runs_of g.T.Integer.rank c.args.map.now.entries)) in
+    (members c.args.runs.now) in
     omega (arith, within, c.requires.kept.length)
 
 -- Only the value is removed.

@@ -1,13 +1,7 @@
 use Rattle.range_set_blaze.specs.Kept.{run_of}
 use Rattle.range_set_blaze.proofs.removal.Meeting.{last-before, none-meets}
 use Rattle.range_set_blaze.proofs.runs.Kept.{lt-fails}
-use Rattle.range_set_blaze.proofs.runs.Starts.{canonical-rises}
 use Rattle.range_set_blaze.proofs.set.remove_ranges.last_meeting.Goals as goal
-
--- The starts of the runs ascend.
-pub run_up_to-requires-clause-ascending : goal.run_up_to-requires-clause-ascending
-run_up_to-requires-clause-ascending g c =
-    canonical-rises _ _ _ c.requires.canonical.0 c.requires.canonical.1
 
 -- If no run starts at or before the end of the range, none meets it.
 pub returns-in_err-run : goal.returns-in_err-run

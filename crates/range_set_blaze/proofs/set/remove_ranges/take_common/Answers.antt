@@ -1,7 +1,6 @@
 use Rattle.std.proofs.Common.{arith}
 use Rattle.rsb_integer.specs.Runs.{members}
 use Rattle.rsb_integer.proofs.CountLemmas.{count-within}
-use Rattle.range_set_blaze.specs.Kept.{runs_of}
 use Rattle.range_set_blaze.proofs.removal.Meeting.{meeting-value, piece-ends, piece-from, piece-order, piece-to, taken-counted, taken-ends, taken-outside}
 use Rattle.range_set_blaze.proofs.set.remove_ranges.take_common.Goals as goal
 
@@ -44,7 +43,7 @@ take_off_length-requires-clause-some g c =
 pub take_off_length-requires-clause-fits : goal.take_off_length-requires-clause-fits
 take_off_length-requires-clause-fits g c =
     let within = count-within g.T.Integer.value_count
-    (members (runs_of g.T.Integer.rank c.args.map.now.entries)) in
+    (members c.args.runs.now) in
     omega (arith, within, c.requires.kept.length)
 
 pub take_off_length-requires-clause-counted : goal.take_off_length-requires-clause-counted

@@ -1,5 +1,5 @@
 use Rattle.std.proofs.Common.{◌<◌, OnOk, refl, subst}
-use Rattle.range_set_blaze.specs.Kept.{run_of, runs_of}
+use Rattle.range_set_blaze.specs.Kept.{run_of}
 use Rattle.range_set_blaze.specs.RemoveRanges.{IsNarrowed}
 use Rattle.range_set_blaze.proofs.removal.Meeting.{meeting-ends, outside-then}
 use Rattle.range_set_blaze.proofs.set.remove_ranges.take_others.Goals as goal
@@ -26,14 +26,14 @@ loop-run-preserved g c =
     let rank = g.T.Integer.rank in
     let before = c.loop-run.invariant in
     let range = run_of rank c.args.range in
-    let after = subst (λ result. OnOk result (IsNarrowed rank g.T.Integer.value_count range
-    c.loop-run.map.entries c.take_common.new.map.entries
+    let after = subst (λ result. OnOk result (IsNarrowed g.T.Integer.value_count range
+    c.loop-run.runs c.take_common.new.runs
     (g.T.SafeLen.SafeLength.number c.take_common.new.length))) c.unwrap.ensures
     c.take_common.ensures.narrowed in
     record {
       kept = after.kept;
-      outside = outside-then range (runs_of rank c.args.map.now.entries)
-          (runs_of rank c.loop-run.map.entries) (runs_of rank c.take_common.new.map.entries)
+      outside = outside-then range c.args.runs.now
+          c.loop-run.runs c.take_common.new.runs
           before.outside after.outside;
       ends = after.ends;
     }

@@ -5,8 +5,8 @@ use Rattle.range_set_blaze.proofs.set.remove_ranges.take_others.Given as goal
 
 abbrev pub invariant-loop-run : goal.invariant-loop-run
 invariant-loop-run g l =
-    IsNarrowed g.T.Integer.rank g.T.Integer.value_count (run_of g.T.Integer.rank l.fn.range)
-    l.fn.map.entries l.map.entries (g.T.SafeLen.SafeLength.number l.length)
+    IsNarrowed g.T.Integer.value_count (run_of g.T.Integer.rank l.fn.range)
+    l.fn.runs l.runs (g.T.SafeLen.SafeLength.number l.length)
 
 abbrev pub decreases-loop-run : goal.decreases-loop-run
 decreases-loop-run g l = g.T.SafeLen.SafeLength.number l.length

@@ -1,9 +1,7 @@
 use Rattle.std.proofs.Common.{[], arith, refl}
 use Rattle.rsb_integer.specs.Runs.{members}
 use Rattle.rsb_integer.proofs.CountLemmas.{count-within}
-use Rattle.range_set_blaze.specs.Kept.{runs_of}
 use Rattle.range_set_blaze.proofs.retaining.Retained.{fewer-to_come, next-asked, next-joined, next-maximal, retaining-next}
-use Rattle.range_set_blaze.proofs.runs.Starts.{canonical-rises}
 use Rattle.range_set_blaze.proofs.set.retain.retain_runs.Goals as goal
 use Rattle.range_set_blaze.proofs.set.retain.retain_runs.Goals.{then-not-f, else-not-f}
 
@@ -12,11 +10,11 @@ pub loop-next-init : goal.loop-next-init
 loop-next-init g c = record {
   done = [];
   kept = [];
-  todo = runs_of g.T.Integer.rank c.args.map.now.entries;
+  todo = c.args.runs.now;
   old_parts = refl;
   new_parts = refl;
   sub = refl;
-  next_is = c.first_run-next.ensures;
+  next_is = c.first-next.ensures;
   canonical = c.requires.kept.canonical;
   counted = c.requires.kept.length;
   asked = [];
@@ -38,7 +36,7 @@ pub take_off_length-requires : goal.take_off_length-requires
 take_off_length-requires g c =
     let counted = c.loop-next.invariant.counted in
     let within = count-within g.T.Integer.value_count
-    (members (runs_of g.T.Integer.rank c.loop-next.map.entries)) in
+    (members c.loop-next.runs) in
     let joined = next-joined _ _ _ _ _ c.in-Some.is c.loop-next.invariant in
     record {
       some = (next-maximal _ _ _ _ _ c.in-Some.is c.loop-next.invariant).in_order;
@@ -46,26 +44,13 @@ take_off_length-requires g c =
       counted = omega (arith, joined.counted, counted);
     }
 
-pub take_entry-requires : goal.take_entry-requires
-take_entry-requires g c =
-    let all = c.loop-next.invariant.canonical in
+pub take-requires : goal.take-requires
+take-requires g c =
     let maximal = next-maximal _ _ _ _ _ c.in-Some.is c.loop-next.invariant in
-    record {
-      ascending = canonical-rises _ _ _ all.0 all.1;
-      value = omega (arith, maximal.in_order, maximal.in_type);
-    }
+    omega (arith, maximal.in_order, maximal.in_type)
 
-pub run_after-next-requires : goal.run_after-next-requires
-run_after-next-requires g c =
-    let all = c.loop-next.invariant.canonical in
-    let left = (next-joined _ _ _ _ _ c.in-Some.is c.loop-next.invariant).fewer_canonical in
-    record {
-      ascending = elim c.if-not-f.branch [
-        | then-not-f w ↦ rw (w.map-is, w.take_entry.ensures) (canonical-rises _ _ _ left.0 left.1)
-        | else-not-f w ↦ rw w.map-is (canonical-rises _ _ _ all.0 all.1)
-      ];
-      value = (next-maximal _ _ _ _ _ c.in-Some.is c.loop-next.invariant).in_type;
-    }
+pub after-next-requires : goal.after-next-requires
+after-next-requires g c = (next-maximal _ _ _ _ _ c.in-Some.is c.loop-next.invariant).in_type
 
 -- The closure has been called on one run more.
 pub loop-next-preserved : goal.loop-next-preserved
@@ -74,17 +59,17 @@ loop-next-preserved g c =
     let after = retaining-next _ _ _ _ _ c.in-Some.is c.loop-next.invariant c.f.result in
     elim c.if-not-f.branch [
       | then-not-f w ↦
-          after _ _ _ _ _ (rw (w.if-not-f.true, w.map-is) w.take_entry.ensures)
+          after _ _ _ _ _ (rw (w.if-not-f.true, w.runs-is) w.take.ensures)
           (rw (w.if-not-f.true, w.length-is) w.take_off_length.ensures)
-          range.start range.end range.exhausted c.run_after-next.ensures c.f.ensures
+          range.start range.end range.exhausted c.after-next.ensures c.f.ensures
       | else-not-f w ↦
-          after _ _ _ _ _ (rw (w.if-not-f.false, w.map-is) refl)
+          after _ _ _ _ _ (rw (w.if-not-f.false, w.runs-is) refl)
           (rw (w.if-not-f.false, w.length-is) (omega arith))
-          range.start range.end range.exhausted c.run_after-next.ensures c.f.ensures
+          range.start range.end range.exhausted c.after-next.ensures c.f.ensures
     ]
 
 pub loop-next-smaller : goal.loop-next-smaller
 loop-next-smaller g c =
     let maximal = next-maximal _ _ _ _ _ c.in-Some.is c.loop-next.invariant in
     rw c.in-Some.is (fewer-to_come _ _ _ _ _ maximal.in_order maximal.in_type
-    c.run_after-next.ensures)
+    c.after-next.ensures)

@@ -13,7 +13,7 @@ add_length-requires-clause-some g c =
 pub add_length-requires-clause-fits : goal.add_length-requires-clause-fits
 add_length-requires-clause-fits g c =
     let rank = g.T.Integer.rank in
-    (counted-next g.T.Integer.value_count _ (runs_of rank c.args.map.now.entries)
+    (counted-next g.T.Integer.value_count _ c.args.runs.now
     (runs_of rank c.next_run.new.entries) (run_of rank c.in-Some.run') c.requires
     (rw c.in-Some.ensures at c.loop-run.invariant.counted)).0
 
@@ -23,7 +23,7 @@ loop-run-preserved g c =
     let n = g.T.Integer.value_count in
     let rest = runs_of rank c.next_run.new.entries in
     let run = run_of rank c.in-Some.run' in
-    let counted = (counted-next n _ (runs_of rank c.args.map.now.entries) rest run c.requires
+    let counted = (counted-next n _ c.args.runs.now rest run c.requires
     (rw c.in-Some.ensures at c.loop-run.invariant.counted)).1 in
     record {
       canonical = canonical-tail n run rest
@@ -36,6 +36,6 @@ pub returns : goal.returns
 returns g c =
     let rank = g.T.Integer.rank in
     let counted = rw c.in_default.ensures at c.loop-run.invariant.counted in
-    let all = sum_by-canonical g.T.Integer.value_count (runs_of rank c.args.map.now.entries)
+    let all = sum_by-canonical g.T.Integer.value_count c.args.runs.now
     c.requires in
     omega (arith, counted, all)

@@ -12,7 +12,7 @@ invariant-loop-run g l =
       canonical : IsCanonicalIn g.T.Integer.value_count (runs_of rank l.entries);
       counted : g.T.SafeLen.SafeLength.number l.length
           + sum_by length_of (runs_of rank l.entries)
-          ≡ sum_by length_of (runs_of rank l.fn.map.entries);
+          ≡ sum_by length_of l.fn.runs;
     }
 
 abbrev pub decreases-loop-run : goal.decreases-loop-run

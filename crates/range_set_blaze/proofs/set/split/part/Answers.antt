@@ -1,11 +1,5 @@
 use Rattle.range_set_blaze.proofs.splitting.Parting.{over-parting}
-use Rattle.range_set_blaze.proofs.runs.Starts.{canonical-rises}
 use Rattle.range_set_blaze.proofs.set.split.part.Goals as goal
-
--- The starts of the runs ascend.
-pub split_entries-requires-clause-ascending : goal.split_entries-requires-clause-ascending
-split_entries-requires-clause-ascending g c =
-    canonical-rises _ _ _ c.requires.canonical.0 c.requires.canonical.1
 
 -- No run starts below the key and contains it.
 pub returns-clause-parting : goal.returns-clause-parting

@@ -1,26 +1,20 @@
 use Rattle.std.proofs.Common.{subst}
-use Rattle.range_set_blaze.specs.Kept.{run_of, runs_of}
+use Rattle.range_set_blaze.specs.Kept.{run_of}
 use Rattle.range_set_blaze.specs.Starts.{IsLastBelow, NoneBelow}
 use Rattle.range_set_blaze.proofs.splitting.Parting.{last-over}
-use Rattle.range_set_blaze.proofs.runs.Starts.{canonical-rises}
 use Rattle.range_set_blaze.proofs.set.split.run_over.Goals as goal
-
--- The starts of the runs ascend.
-pub run_up_to-requires-clause-ascending : goal.run_up_to-requires-clause-ascending
-run_up_to-requires-clause-ascending g c =
-    canonical-rises _ _ _ c.requires.canonical.0 c.requires.canonical.1
 
 -- If no run starts below the key, none extends over it.
 pub returns-in_err-run : goal.returns-in_err-run
 returns-in_err-run g c =
     rw c.from_residual-in_err-run.ensures
-    (λ run found starts reaches. subst (NoneBelow (runs_of g.T.Integer.rank c.args.map.now.entries))
+    (λ run found starts reaches. subst (NoneBelow c.args.runs.now)
     c.in_ok-before.ensures.some c.in_err-run.ensures run found starts)
 
 -- If the last of those runs ends below the key, none extends over it.
 pub returns-then-is_below : goal.returns-then-is_below
 returns-then-is_below g c =
     last-over _ _ c.requires.canonical _ _
-    (subst (λ bound. IsLastBelow (runs_of g.T.Integer.rank c.args.map.now.entries) bound
+    (subst (λ bound. IsLastBelow c.args.runs.now bound
     (run_of g.T.Integer.rank c.in_ok-run.run')) c.in_ok-before.ensures.some c.in_ok-run.ensures)
     (c.is_below.ensures.0 c.if-is_below.true)

@@ -1,22 +1,22 @@
 use Rattle.std.proofs.Common.{arith, List, Option, MatchOption, sym, subst}
 use Rattle.rsb_integer.specs.Runs.{Interval}
 use Rattle.range_set_blaze.specs.Joining.{IsInside, KnowsInside, NoneInside}
-use Rattle.range_set_blaze.specs.Kept.{run_of, runs_of}
+use Rattle.range_set_blaze.specs.Kept.{run_of}
 use Rattle.range_set_blaze.specs.declared.set.run.Run.{Run}
-use Rattle.range_set_blaze.proofs.insertion.TakingIn.{over-ascending, over-joined, without-inside}
+use Rattle.range_set_blaze.proofs.insertion.TakingIn.{over-joined, without-inside}
 use Rattle.range_set_blaze.proofs.set.take_in.take_in.Goals as goal
 
 -- If no run starts inside the joined one, the runs are canonical.
 pub returns-in_default-clause-canonical : goal.returns-in_default-clause-canonical
 returns-in_default-clause-canonical g c =
     (over-joined _ _ _ _ c.requires.over (subst (λ (last : Option (Run g.row.T.Denot)).
-    KnowsInside g.T.Integer.rank (runs_of g.T.Integer.rank c.args.map.now.entries)
+    KnowsInside g.T.Integer.rank c.args.runs.now
     (run_of g.T.Integer.rank c.args.run) last c.args.before) c.in_default.is c.requires.inside)).more_canonical
 
 pub returns-in_default-clause-counted : goal.returns-in_default-clause-counted
 returns-in_default-clause-counted g c =
     let number = (over-joined _ _ _ _ c.requires.over (subst (λ (last : Option (Run g.row.T.Denot)).
-    KnowsInside g.T.Integer.rank (runs_of g.T.Integer.rank c.args.map.now.entries)
+    KnowsInside g.T.Integer.rank c.args.runs.now
     (run_of g.T.Integer.rank c.args.run) last c.args.before) c.in_default.is c.requires.inside)).counted
     in omega (arith, number, c.requires.over.counted)
 
@@ -25,7 +25,7 @@ pub loop-next-init : goal.loop-next-init
 loop-next-init g c =
     let rank = g.T.Integer.rank in
     let joined = run_of rank c.args.run in
-    let old = runs_of rank c.args.map.now.entries in (
+    let old = c.args.runs.now in (
       c.take_inside.ensures.over,
       c.take_inside.ensures.members,
       subst (λ (runs : List Interval). MatchOption c.args.before (NoneInside runs joined)
@@ -35,16 +35,11 @@ loop-next-init g c =
           c.in-Some.is c.requires.inside)),
     )
 
--- The starts of the runs that are left ascend.
-pub last_inside-next-requires-clause-ascending : goal.last_inside-next-requires-clause-ascending
-last_inside-next-requires-clause-ascending g c =
-    over-ascending _ _ _ _ c.take_inside-in-Some-next.ensures.over
-
 -- If no more runs start inside the joined one, the runs are canonical.
 pub returns-clause-canonical : goal.returns-clause-canonical
 returns-clause-canonical g c =
     let rank = g.T.Integer.rank in
-    let runs = runs_of rank c.loop-next.map.entries in
+    let runs = c.loop-next.runs in
     let joined = run_of rank c.args.run in
     (over-joined _ _ _ _ c.loop-next.invariant.0 (subst (λ (next : Option (Run g.row.T.Denot)).
     MatchOption next (NoneInside runs joined) (λ run. IsInside runs joined (run_of rank run)))
@@ -53,7 +48,7 @@ returns-clause-canonical g c =
 pub returns-clause-counted : goal.returns-clause-counted
 returns-clause-counted g c =
     let rank = g.T.Integer.rank in
-    let runs = runs_of rank c.loop-next.map.entries in
+    let runs = c.loop-next.runs in
     let joined = run_of rank c.args.run in
     let number = (over-joined _ _ _ _ c.loop-next.invariant.0
     (subst (λ (next : Option (Run g.row.T.Denot)).

@@ -3,16 +3,16 @@
 use Rattle.std.proofs.Common.{◌≡◌, ℕ, MatchOption}
 use Rattle.rsb_integer.specs.Runs.{members}
 use Rattle.range_set_blaze.specs.Joining.{IsInside, IsOver, NoneInside}
-use Rattle.range_set_blaze.specs.Kept.{run_of, runs_of}
+use Rattle.range_set_blaze.specs.Kept.{run_of}
 use Rattle.range_set_blaze.proofs.set.take_in.take_in.Given as goal
 
 abbrev pub invariant-loop-next : goal.invariant-loop-next
 invariant-loop-next g l =
     let rank = g.T.Integer.rank in
-    let runs = runs_of rank l.map.entries in
+    let runs = l.runs in
     let joined = run_of rank l.fn.run in
     IsOver g.T.Integer.value_count runs joined (g.T.SafeLen.SafeLength.number l.others)
-    × ((point : ℕ) → members runs point ≡ members (runs_of rank l.fn.map.entries) point)
+    × ((point : ℕ) → members runs point ≡ members l.fn.runs point)
     × MatchOption l.next (NoneInside runs joined) (λ run. IsInside runs joined (run_of rank run))
 
 abbrev pub decreases-loop-next : goal.decreases-loop-next

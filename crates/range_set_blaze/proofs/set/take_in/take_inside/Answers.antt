@@ -2,7 +2,7 @@ use Rattle.std.proofs.Common.{◌∙◌, List, ap, sym, arith, subst}
 use Rattle.rsb_integer.specs.Runs.{Interval, members}
 use Rattle.range_set_blaze.specs.Joining.{IsOver}
 use Rattle.range_set_blaze.specs.Kept.{run_of}
-use Rattle.range_set_blaze.proofs.insertion.TakingIn.{inside-counted, inside-some, over-ascending, over-within, over-without, without-members}
+use Rattle.range_set_blaze.proofs.insertion.TakingIn.{inside-counted, inside-some, over-within, over-without, without-members}
 use Rattle.range_set_blaze.proofs.set.take_in.take_inside.Goals as goal
 
 -- The run is non-empty, and all of its members are counted.
@@ -17,21 +17,17 @@ pub take_off_length-requires-clause-counted : goal.take_off_length-requires-clau
 take_off_length-requires-clause-counted g c =
     inside-counted _ _ _ _ c.requires.over (run_of g.T.Integer.rank c.args.taken) c.requires.inside
 
--- The starts of the runs ascend.
-pub take_entry-requires-clause-ascending : goal.take_entry-requires-clause-ascending
-take_entry-requires-clause-ascending g c = over-ascending _ _ _ _ c.requires.over
-
 pub returns-clause-over : goal.returns-clause-over
 returns-clause-over g c =
     subst (λ (runs : List Interval). IsOver g.T.Integer.value_count runs
     (run_of g.T.Integer.rank c.args.run) (g.T.SafeLen.SafeLength.number c.take_off_length.new.length))
-    (sym c.take_entry.ensures)
+    (sym c.take.ensures)
     (over-without _ _ _ _ c.requires.over (run_of g.T.Integer.rank c.args.taken) c.requires.inside _
     c.take_off_length.ensures)
 
 pub returns-clause-members : goal.returns-clause-members
 returns-clause-members g c rank =
-    ap (λ (runs : List Interval). members runs rank) c.take_entry.ensures
+    ap (λ (runs : List Interval). members runs rank) c.take.ensures
     ∙ without-members _ _ _ _ c.requires.over (run_of g.T.Integer.rank c.args.taken)
     c.requires.inside rank
 

@@ -10,7 +10,7 @@ use denote.Text.{Utf8}
 abbrev pub invariant-loop-run : goal.invariant-loop-run
 invariant-loop-run g l = shadow (Utf8 l.separator) × WritesOn g.W.Write.write_str_gives
     (λ entry. ends_text (g.T.Debug.debug_output entry.0) (g.T.Debug.debug_output entry.1))
-    l.fn.f l.f l.separator l.rest l.fn.map.entries
+    l.fn.f l.f l.separator l.entries l.fn.entries
 
 abbrev pub decreases-loop-run : goal.decreases-loop-run
-decreases-loop-run g l = length l.rest
+decreases-loop-run g l = length l.entries

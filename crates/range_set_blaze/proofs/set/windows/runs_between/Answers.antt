@@ -1,4 +1,3 @@
-use Rattle.range_set_blaze.specs.Kept.{runs_of}
 use Rattle.range_set_blaze.proofs.windows.Kept.{held-canonical, held-members}
 use Rattle.range_set_blaze.proofs.set.windows.runs_between.Goals as goal
 
@@ -7,7 +6,7 @@ pub returns : goal.returns
 returns g c =
     let rank = g.T.Integer.rank in
     let n = g.T.Integer.value_count in
-    let runs = runs_of rank c.args.map.now.entries in
+    let runs = c.args.runs.now in
     let held = c.reaching_in.result in
     let entries = c.starting_in.result in
     record {

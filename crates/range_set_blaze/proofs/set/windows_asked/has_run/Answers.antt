@@ -1,12 +1,6 @@
 use Rattle.range_set_blaze.specs.Kept.{run_of}
 use Rattle.range_set_blaze.proofs.removal.Meeting.{has-told, none-has}
-use Rattle.range_set_blaze.proofs.runs.Starts.{canonical-rises}
 use Rattle.range_set_blaze.proofs.set.windows_asked.has_run.Goals as goal
-
--- The starts of the runs ascend.
-pub run_up_to-requires-clause-ascending : goal.run_up_to-requires-clause-ascending
-run_up_to-requires-clause-ascending g c =
-    canonical-rises _ _ _ c.requires.canonical.0 c.requires.canonical.1
 
 -- The set has all of the range exactly if the last run that starts at or before its start does.
 pub returns-in-Some : goal.returns-in-Some

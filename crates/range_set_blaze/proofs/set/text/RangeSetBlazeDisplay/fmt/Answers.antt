@@ -1,5 +1,5 @@
-use Rattle.std.proofs.Common.{[]}
-use Rattle.rsb_integer.specs.Runs.{members}
+use Rattle.std.proofs.Common.{[], subst, sym}
+use Rattle.rsb_integer.specs.Runs.{members, IsCanonicalIn}
 use Rattle.rsb_integer.proofs.RangeLemmas.{value_at-rank}
 use Rattle.rsb_integer.proofs.RunsLemmas.{canonical-maximal}
 use Rattle.range_set_blaze.specs.Kept.{runs_of}
@@ -12,11 +12,12 @@ returns-clause-writes g c =
     let rank = g.T.Integer.rank in
     let n = g.T.Integer.value_count in
     let laws = g.met.T.Integer in
-    let runs = runs_of rank c.self.inside.map.entries in
-    let canonical = c.self.invariant.canonical in
+    let runs = runs_of rank c.iter.result in
+    let canonical = subst (IsCanonicalIn n) (sym c.iter.ensures.runs) c.self.invariant.canonical in
     let placed = value_at-rank rank n g.T.Ord.cmp laws.exact laws.in_order g.T.Integer.value_at laws.ranks in
     rw (
       ← c.self.view_is,
-      ← items-runs rank n g.T.Integer.value_at placed g.T.Debug.debug_output (members runs) [] c.self.inside.map.entries (canonical-maximal n 0 runs canonical.0 canonical.1),
+      ← c.iter.ensures.runs,
+      ← items-runs rank n g.T.Integer.value_at placed g.T.Debug.debug_output (members runs) [] c.iter.result (canonical-maximal n 0 runs canonical.0 canonical.1),
     )
     c.write_runs.ensures

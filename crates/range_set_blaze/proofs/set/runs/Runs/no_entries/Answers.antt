@@ -1,7 +1,7 @@
 use Rattle.std.proofs.Common.{◌∙◌, ◌<◌, ap, arith}
 use Rattle.std.specs.Ordering.{is_le}
 use Rattle.range_set_blaze.proofs.windows.Ranges.{filter-neither, order-forward}
-use Rattle.range_set_blaze.proofs.set.windows.no_entries.Goals as goal
+use Rattle.range_set_blaze.proofs.set.runs.Runs.no_entries.Goals as goal
 
 -- A value is not past itself.
 pub range-requires : goal.range-requires
@@ -17,4 +17,4 @@ range-requires g c =
 pub returns : goal.returns
 returns g c =
     c.range.ensures.between tt
-    ∙ filter-neither (λ key. is_le (g.T.Ord.cmp c.known-start.result key)) c.args.map.now.entries
+    ∙ filter-neither (λ key. is_le (g.T.Ord.cmp c.known-start.result key)) c.self.inside.map.entries

@@ -2,9 +2,8 @@ use Rattle.std.proofs.Common.{◌∙◌, ap, arith}
 use Rattle.std.specs.BTreeMap.Range.{entries_between}
 use Rattle.std.specs.declared.ops.Bound.TheVariants.{Included}
 use Rattle.range_set_blaze.specs.Kept.{runs_of}
-use Rattle.range_set_blaze.proofs.runs.Starts.{canonical-rises}
 use Rattle.range_set_blaze.proofs.windows.Ranges.{order-forward, runs-within}
-use Rattle.range_set_blaze.proofs.set.windows.starting_in.Goals as goal
+use Rattle.range_set_blaze.proofs.set.runs.Runs.starting_in.Goals as goal
 
 -- The bounds are in order.
 pub range-requires : goal.range-requires
@@ -20,11 +19,12 @@ pub returns : goal.returns
 returns g c =
     let laws = g.met.T.Integer in
     let rank = g.T.Integer.rank in
-    let entries = c.args.map.now.entries in
-    ap (runs_of rank) (c.range.ensures.between c.new.ensures.exhausted
+    let entries = c.self.inside.map.entries in
+    rw (← c.self.view_is)
+    (ap (runs_of rank) (c.range.ensures.between c.new.ensures.exhausted
     ∙ λ i. entries_between g.T.Ord.cmp (Included (c.new.ensures.start i))
     (Included (c.new.ensures.end i)) entries)
     ∙ runs-within g.T.Ord.cmp rank g.T.Integer.value_count laws.in_order
     c.args.window.start c.args.window.end (omega (arith, c.requires.order, c.requires.value))
     c.requires.value entries
-    (canonical-rises g.T.Integer.value_count 0 _ c.requires.canonical.0 c.requires.canonical.1)
+    c.self.invariant)

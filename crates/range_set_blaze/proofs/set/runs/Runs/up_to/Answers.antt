@@ -2,7 +2,7 @@ use Rattle.std.proofs.Common.{◌∙◌, ◌+◌, ap}
 use Rattle.range_set_blaze.specs.Kept.{runs_of}
 use Rattle.range_set_blaze.proofs.runs.Found.{found-last}
 use Rattle.range_set_blaze.proofs.runs.Maps.{runs-up_to}
-use Rattle.range_set_blaze.proofs.set.entries.run_up_to.Goals as goal
+use Rattle.range_set_blaze.proofs.set.runs.Runs.up_to.Goals as goal
 
 -- The last entry of the range is that of the last run that starts at or before the value.
 pub returns : goal.returns
@@ -10,9 +10,10 @@ returns g c =
     let rank = g.T.Integer.rank in
     let n = g.T.Integer.value_count in
     let laws = g.met.T.Integer in
-    found-last rank n (runs_of rank c.args.map.now.entries) c.requires.ascending
+    rw (← c.self.view_is)
+    (found-last rank n (runs_of rank c.self.inside.map.entries) c.self.invariant
     (rank c.args.value + 1) c.range-entries.result c.last_run.new.entries c.last_run.result
     (ap (runs_of rank) (c.range-entries.ensures.between tt)
-    ∙ runs-up_to g.T.Ord.cmp rank n laws.in_order c.args.value c.requires.value
-    c.args.map.now.entries c.requires.ascending)
-    c.last_run.ensures.run
+    ∙ runs-up_to g.T.Ord.cmp rank n laws.in_order c.args.value c.requires
+    c.self.inside.map.entries c.self.invariant)
+    c.last_run.ensures.run)

@@ -1,0 +1,10 @@
+use Rattle.std.proofs.Common.{◌∙◌, ap, sym}
+use Rattle.range_set_blaze.specs.Kept.{runs_of}
+use Rattle.range_set_blaze.proofs.order.EndRuns.{first-entry}
+use Rattle.range_set_blaze.proofs.set.runs.Runs.after.Goals as goal
+
+-- The first of the entries past the value is that of the first run that starts after it.
+pub returns : goal.returns
+returns g c =
+    rw (← c.starting_after.ensures)
+    (first-entry g.T.Integer.rank _ _ c.next_in_range.result c.next_in_range.ensures.run)

@@ -1,0 +1,14 @@
+use Rattle.std.proofs.Common.{◌∙◌, ap}
+use Rattle.range_set_blaze.specs.Kept.{runs_of}
+use Rattle.range_set_blaze.proofs.order.EndRuns.{length-runs_of}
+use Rattle.range_set_blaze.proofs.set.runs.Runs.iter.Goals as goal
+
+-- The iterator gives the entries of the map.
+pub returns-clause-runs : goal.returns-clause-runs
+returns-clause-runs g c = ap (runs_of g.T.Integer.rank) c.iter.ensures.rest ∙ c.self.view_is
+
+-- There are as many runs as entries.
+pub returns-clause-fits : goal.returns-clause-fits
+returns-clause-fits g c =
+    rw (← c.self.view_is, length-runs_of g.T.Integer.rank c.self.inside.map.entries)
+    c.iter.ensures.fits
