@@ -18,6 +18,7 @@ returns-clause-writes g c =
     rw (
       ← c.self.view_is,
       ← c.iter.ensures.runs,
-      ← items-runs rank n g.T.Integer.value_at placed g.T.Debug.debug_output (members runs) [] c.iter.result (canonical-maximal n 0 runs canonical.0 canonical.1),
+      ← items-runs rank n g.T.Integer.value_at placed g.T.Debug.debug_output (members runs) [] c.iter.result
+          (canonical-maximal n 0 runs canonical.0 canonical.1),
     )
     c.write_runs.ensures
