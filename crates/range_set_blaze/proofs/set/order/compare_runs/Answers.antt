@@ -4,12 +4,11 @@ use Rattle.range_set_blaze.proofs.set.order.compare_runs.Goals as goal
 
 -- At first no runs were compared.
 pub loop-ends-init : goal.loop-ends-init
-loop-ends-init g c =
-    rw (c.iter-left.ensures.runs, c.iter-right.ensures.runs)
-    (record {
-      counted = omega arith;
-      tells = passing-none g.T.Integer.value_count _ _ c.requires.left c.requires.right;
-    })
+loop-ends-init g c = record {
+  counted = rw c.iter-left.ensures.runs refl;
+  tells = rw (c.iter-left.ensures.runs, c.iter-right.ensures.runs)
+      (passing-none g.T.Integer.value_count _ _ c.requires.left c.requires.right);
+}
 
 -- There is at most one iteration more than there are runs.
 pub overflow_add-turns : goal.overflow_add-turns
