@@ -5,7 +5,7 @@ use Rattle.range_set_blaze.proofs.set.order.compare_runs.Goals as goal
 -- At first no runs were compared.
 pub loop-ends-init : goal.loop-ends-init
 loop-ends-init g c = record {
-  counted = rw c.iter-left.ensures.runs refl;
+  counted = rw c.iter-left.ensures.runs (omega arith);
   tells = rw (c.iter-left.ensures.runs, c.iter-right.ensures.runs)
       (passing-none g.T.Integer.value_count _ _ c.requires.left c.requires.right);
 }
