@@ -22,5 +22,5 @@ pub returns : goal.returns
 returns g c =
     let digit = c.in-Some.ensures in
     digits-found g.T.ParseInteger.number g.T.ParseInteger.fits g.met.T.ParseInteger.numbers.differ c.args.start c.args.negative
-        c.args.value c.in_ok-value.value c.args.byte
+    c.args.value c.in_ok-value.value c.args.byte
     c.in-Some.digit c.requires digit.0 digit.1 c.in_ok-value.ensures.some

@@ -6,5 +6,5 @@ pub returns : goal.returns
 returns g c =
     let digit = c.in_ok-digit.ensures in
     signed-found g.T.ParseInteger.number g.T.ParseInteger.fits g.met.T.ParseInteger.numbers.differ c.args.start c.args.negative c.args.byte
-        c.in_ok-digit.digit c.zero.result
+    c.in_ok-digit.digit c.zero.result
     c.in_ok-value.value digit.0 digit.1 c.zero.ensures c.in_ok-value.ensures.some
