@@ -31,8 +31,7 @@ macro_rules! for_both {
 for_both! {
     text text_of_other_forms combinations assignments any_number a_set_beside_itself comparisons equal_sets_hash_alike changes
     bounds look_ups searches iterators_from_both_ends members_from_both_ends many_runs
-    ends_of_the_type
-    made_from_values_and_ranges
+    ends_of_the_type made_from_values_and_ranges
 }
 
 #[test]

@@ -201,12 +201,7 @@ pub extern "C" fn rsb_u32_first_gap(
 
 // Stores the runs of the members between two values in an array, until it is full or no run is left,
 // and returns how many it stored.
-fn store_runs(
-    set: &RangeSetBlaze<u32, Global>,
-    first: u32,
-    last: u32,
-    runs: &mut [Run],
-) -> usize
+fn store_runs(set: &RangeSetBlaze<u32, Global>, first: u32, last: u32, runs: &mut [Run]) -> usize
     ensures stored { BeginsWithRuns (2 ^ 32)
         (intersection (members set.now) (covers (from_to first last)))
         (length runs.old) (map interval_of_run runs.new) result }

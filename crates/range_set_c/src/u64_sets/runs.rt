@@ -200,12 +200,7 @@ pub extern "C" fn rsb_u64_first_gap(
 
 // Stores the runs of the members between two values in an array, until it is full or no run is left,
 // and returns how many it stored.
-fn store_runs(
-    set: &RangeSetBlaze<u64, Global>,
-    first: u64,
-    last: u64,
-    runs: &mut [Run],
-) -> usize
+fn store_runs(set: &RangeSetBlaze<u64, Global>, first: u64, last: u64, runs: &mut [Run]) -> usize
     ensures stored { BeginsWithRuns (2 ^ 64)
         (intersection (members set.now) (covers (from_to first last)))
         (length runs.old) (map interval_of_run runs.new) result }
