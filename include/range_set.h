@@ -189,6 +189,20 @@ bool rsb_u64_run_after(const rsb_u64 *set, uint64_t value, rsb_u64_run *run);
           more = rsb_u64_run_before(&set, run.first, &run)) */
 bool rsb_u64_run_before(const rsb_u64 *set, uint64_t value, rsb_u64_run *run);
 
+/* Stores in `runs` the runs of the members from first to last, both included, in ascending order,
+   until it has stored `count` of them or none is left. Returns how many it stored. The rest of the
+   array is unchanged. A run that crosses a bound is shortened to its values between the bounds. If
+   last is below first, there are no runs. The call searches the set once for the whole array, so
+   this loop goes over all runs faster than single steps. It ends for every set:
+
+     uint64_t next = 0;
+     do {
+         size_t stored = rsb_u64_runs_in(&set, next, UINT64_MAX, runs, 64);
+         ...
+         next = stored == 64 ? runs[63].last + 1 : 0; // 0 after UINT64_MAX
+     } while (next > 0); */
+size_t rsb_u64_runs_in(const rsb_u64 *set, uint64_t first, uint64_t last, rsb_u64_run *runs, size_t count);
+
 /* Stores in `gap` the first gap that has at least `len` values at or after `from`, and returns
    true. If that gap starts before `from`, stores only its part at or after `from`. If there is no
    such gap, returns false, and `gap` is unchanged. Takes a step for each run between `from` and the
@@ -301,6 +315,7 @@ bool rsb_u32_next_run(const rsb_u32 *set, uint32_t from, rsb_u32_run *run);
 bool rsb_u32_prev_run(const rsb_u32 *set, uint32_t from, rsb_u32_run *run);
 bool rsb_u32_run_after(const rsb_u32 *set, uint32_t value, rsb_u32_run *run);
 bool rsb_u32_run_before(const rsb_u32 *set, uint32_t value, rsb_u32_run *run);
+size_t rsb_u32_runs_in(const rsb_u32 *set, uint32_t first, uint32_t last, rsb_u32_run *runs, size_t count);
 bool rsb_u32_first_gap(const rsb_u32 *set, uint32_t from, uint64_t len, rsb_u32_run *gap);
 uint32_t rsb_u32_union(rsb_u32 *out, const rsb_u32 *left, const rsb_u32 *right);
 uint32_t rsb_u32_intersection(rsb_u32 *out, const rsb_u32 *left, const rsb_u32 *right);

@@ -343,6 +343,17 @@ public:
         return found(c::run_before, number(value));
     }
 
+    // Stores the runs of the members between the ends of `within` in an array, in ascending order, until
+    // `count` of them are stored or none is left, and returns how many it stored. A run that crosses an end
+    // is shortened to its part between the ends. The rest of the array is unchanged. The call searches the
+    // set once for the whole array, so it reads many runs faster than an iterator does.
+    template <class Count>
+    std::size_t runs_in(const run &within, run *stored, Count count) const
+        noexcept(detail::always_fits<std::size_t, Count>) {
+        static_assert(sizeof(run) == sizeof(typename c::run), "the C library writes an array of runs");
+        return c::runs_in(&handle_, within.first, within.last, stored, detail::number_of<std::size_t>(count));
+    }
+
     // The first gap with at least `len` values at or after `from`, without its part before `from`. Takes
     // a step for each run between them.
     template <class Value, class Count>

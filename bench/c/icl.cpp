@@ -50,6 +50,10 @@ static void digest_runs(const set_t *set, run_digest *digest) {
     }
 }
 
+static void digest_blocks(const set_t *set, run_digest *digest) {
+    digest_runs(set, digest);
+}
+
 static void print_version() {
     std::puts(BOOST_LIB_VERSION);
 }

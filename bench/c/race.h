@@ -5,7 +5,8 @@
  *     insert_range(set, first, last), remove_range(set, first, last), contains(set, value)
  *     make_union(out, left, right), make_intersection(out, left, right), make_difference(out, left, right)
  *     make_clone(out, set)
- *     digest_runs(set, digest)    passes each run to `digest_run`
+ *     digest_runs(set, digest)    passes each run to `digest_run`, by single steps
+ *     digest_blocks(set, digest)  the same by arrays of 64 runs, or by single steps if the library fills no arrays
  *     print_version()             prints the version of the library
  *
  * The first line of the output is the version. Each other line has a workload, a call, the nanoseconds for one range or
@@ -70,10 +71,16 @@ static double now(void) {
     return 1e9 * (double)time.tv_sec + (double)time.tv_nsec;
 }
 
-static uint64_t digest_of(const set_t *set) {
+typedef void walk(const set_t *set, run_digest *digest);
+
+static uint64_t digest_by(walk *pass, const set_t *set) {
     run_digest digest = digest_begin();
-    digest_runs(set, &digest);
+    pass(set, &digest);
     return digest_end(&digest);
+}
+
+static uint64_t digest_of(const set_t *set) {
+    return digest_by(digest_runs, set);
 }
 
 static void say(const workload *load, const char *call, double nanoseconds, int count, uint64_t result) {
@@ -125,10 +132,10 @@ static void race_copy(const workload *load, const set_t *set) {
     drop(&out);
 }
 
-static void race_walk(const workload *load, const set_t *set) {
+static void race_walk(const workload *load, const char *call, walk *pass, const set_t *set) {
     double began = now();
-    uint64_t result = digest_of(set);
-    say(load, "walk over the runs", now() - began, RANGES, result);
+    uint64_t result = digest_by(pass, set);
+    say(load, call, now() - began, RANGES, result);
 }
 
 static void race_removal(const workload *load, set_t *set) {
@@ -149,7 +156,8 @@ static void race(const workload *load) {
     race_combination(load, "intersection", make_intersection, &left, &right);
     race_combination(load, "difference", make_difference, &left, &right);
     race_copy(load, &left);
-    race_walk(load, &left);
+    race_walk(load, "walk over the runs", digest_runs, &left);
+    race_walk(load, "walk by 64 runs", digest_blocks, &left);
     race_removal(load, &left);
     drop(&left);
     drop(&right);

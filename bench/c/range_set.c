@@ -69,6 +69,19 @@ static void digest_runs(const set_t *set, run_digest *digest) {
     }
 }
 
+static void digest_blocks(const set_t *set, run_digest *digest) {
+    enum { MOST = 64 };
+    run_t runs[MOST];
+    uint32_t next = 0;
+    do {
+        size_t stored = CALL(runs_in)(set, next, UINT32_MAX, runs, MOST);
+        for (size_t i = 0; i < stored; i++) {
+            digest_run(digest, runs[i].first, runs[i].last);
+        }
+        next = stored == MOST ? (uint32_t)runs[MOST - 1].last + 1 : 0;
+    } while (next > 0);
+}
+
 static void print_version(void) {
     puts(RANGE_SET_VERSION);
 }

@@ -61,6 +61,10 @@ static void digest_runs(const set_t *set, run_digest *digest) {
     roaring_iterate(*set, digest_member, digest);
 }
 
+static void digest_blocks(const set_t *set, run_digest *digest) {
+    digest_runs(set, digest);
+}
+
 static void print_version(void) {
     printf("%d.%d.%d\n", ROARING_VERSION_MAJOR, ROARING_VERSION_MINOR, ROARING_VERSION_REVISION);
 }

@@ -40,6 +40,7 @@ namespace range_set::detail {
         static constexpr auto prev_run = rsb_##width##_prev_run;                                                           \
         static constexpr auto run_after = rsb_##width##_run_after;                                                         \
         static constexpr auto run_before = rsb_##width##_run_before;                                                       \
+        static constexpr auto runs_in = rsb_##width##_runs_in;                                                             \
         static constexpr auto first_gap = rsb_##width##_first_gap;                                                         \
         static constexpr auto either = rsb_##width##_union;                                                                \
         static constexpr auto both = rsb_##width##_intersection;                                                           \

@@ -46,7 +46,7 @@ impl List {
 
 /// The values from `first` to `last`, both included.
 #[repr(C)]
-#[derive(Clone, Copy)]
+#[derive(Clone, Copy, Debug)]
 pub struct Run<T> {
     pub first: T,
     pub last: T,
@@ -173,4 +173,5 @@ calls! {
     fn is_subset(left: &Handle, right: &Handle) -> bool;
     fn is_disjoint(left: &Handle, right: &Handle) -> bool;
     fn from_text(out: &mut Handle, text: *const u8, length: usize) -> u32;
+    fn runs_in(set: &Handle, first: T, last: T, runs: *mut Run<T>, count: usize) -> usize;
 }

@@ -3,7 +3,8 @@
 use core::iter::FusedIterator;
 use core::ops::RangeInclusive;
 
-use crate::{Integer, RangeSet};
+use crate::calls::Run;
+use crate::{range_of, Integer, RangeSet};
 
 impl<T: Integer> RangeSet<T> {
     /// Iterates over the runs.
@@ -16,7 +17,7 @@ impl<T: Integer> RangeSet<T> {
     pub fn runs(&self) -> Runs<'_, T> {
         Runs {
             set: self,
-            steps: Steps::over(self.run_count()),
+            left: RunsLeft::of(self),
         }
     }
 
@@ -89,6 +90,72 @@ impl<T: Integer> Steps<T> {
     }
 }
 
+/// How many runs a walk reads at once.
+const AHEAD: usize = 16;
+
+/// Runs that a walk from the front has read, but not yet given.
+#[derive(Clone, Debug)]
+struct Ahead<T> {
+    runs: [Run<T>; AHEAD],
+    read: usize,
+    given: usize,
+}
+
+impl<T: Integer> Ahead<T> {
+    fn none() -> Self {
+        let run = Run {
+            first: T::MIN,
+            last: T::MIN,
+        };
+        Ahead {
+            runs: [run; AHEAD],
+            read: 0,
+            given: 0,
+        }
+    }
+
+    /// Gives the next run. If all were given, it first reads those that start at `from` or later.
+    fn next(&mut self, set: &RangeSet<T>, from: T) -> Option<RangeInclusive<T>> {
+        if self.given == self.read {
+            self.read = set.store_runs(from, &mut self.runs);
+            self.given = 0;
+        }
+        let run = *self.runs[..self.read].get(self.given)?;
+        self.given += 1;
+        Some(range_of(run))
+    }
+}
+
+/// The runs of a set that no end of a walk has reached. The set does not change meanwhile, so the
+/// front reads several runs at once.
+#[derive(Clone, Debug)]
+struct RunsLeft<T> {
+    steps: Steps<T>,
+    ahead: Ahead<T>,
+}
+
+impl<T: Integer> RunsLeft<T> {
+    fn of(set: &RangeSet<T>) -> Self {
+        RunsLeft {
+            steps: Steps::over(set.run_count()),
+            ahead: Ahead::none(),
+        }
+    }
+
+    fn next(&mut self, set: &RangeSet<T>) -> Option<RangeInclusive<T>> {
+        let ahead = &mut self.ahead;
+        self.steps.next(|from| ahead.next(set, from))
+    }
+
+    fn next_back(&mut self, set: &RangeSet<T>) -> Option<RangeInclusive<T>> {
+        self.steps.next_back(|to| set.prev_run(to))
+    }
+
+    fn len(&self) -> usize {
+        self.steps.left
+    }
+}
+
 /// Returns the gap that contains a value, or otherwise the last gap before it.
 fn prev_gap<T: Integer>(set: &RangeSet<T>, value: T) -> Option<RangeInclusive<T>> {
     let (block, is_run) = set.run_or_gap(value);
@@ -103,24 +170,24 @@ fn prev_gap<T: Integer>(set: &RangeSet<T>, value: T) -> Option<RangeInclusive<T>
 #[derive(Clone, Debug)]
 pub struct Runs<'a, T: Integer> {
     set: &'a RangeSet<T>,
-    steps: Steps<T>,
+    left: RunsLeft<T>,
 }
 
 impl<T: Integer> Iterator for Runs<'_, T> {
     type Item = RangeInclusive<T>;
 
     fn next(&mut self) -> Option<RangeInclusive<T>> {
-        self.steps.next(|from| self.set.next_run(from))
+        self.left.next(self.set)
     }
 
     fn size_hint(&self) -> (usize, Option<usize>) {
-        (self.steps.left, Some(self.steps.left))
+        (self.left.len(), Some(self.left.len()))
     }
 }
 
 impl<T: Integer> DoubleEndedIterator for Runs<'_, T> {
     fn next_back(&mut self) -> Option<RangeInclusive<T>> {
-        self.steps.next_back(|to| self.set.prev_run(to))
+        self.left.next_back(self.set)
     }
 }
 
@@ -160,7 +227,7 @@ impl<T: Integer> FusedIterator for Gaps<'_, T> {}
 struct Members<T> {
     left: u128,
     /// The runs that no end has reached.
-    runs: Steps<T>,
+    runs: RunsLeft<T>,
     /// What is left of the run that the front has reached, and of the one that the back has
     /// reached.
     front: Option<RangeInclusive<T>>,
@@ -189,7 +256,7 @@ impl<T: Integer> Members<T> {
     fn of(set: &RangeSet<T>) -> Self {
         Members {
             left: set.len(),
-            runs: Steps::over(set.run_count()),
+            runs: RunsLeft::of(set),
             front: None,
             back: None,
         }
@@ -198,7 +265,7 @@ impl<T: Integer> Members<T> {
     fn next(&mut self, set: &RangeSet<T>) -> Option<T> {
         self.left = self.left.checked_sub(1)?;
         if self.front.is_none() {
-            self.front = self.runs.next(|from| set.next_run(from));
+            self.front = self.runs.next(set);
         }
         take_first(&mut self.front).or_else(|| take_first(&mut self.back))
     }
@@ -206,7 +273,7 @@ impl<T: Integer> Members<T> {
     fn next_back(&mut self, set: &RangeSet<T>) -> Option<T> {
         self.left = self.left.checked_sub(1)?;
         if self.back.is_none() {
-            self.back = self.runs.next_back(|to| set.prev_run(to));
+            self.back = self.runs.next_back(set);
         }
         take_last(&mut self.back).or_else(|| take_last(&mut self.front))
     }

@@ -138,6 +138,13 @@ impl<T: Integer> RangeSet<T> {
         call(&self.handle, value, &mut run).then(|| range_of(run))
     }
 
+    /// Stores the first runs at or after `from` in a slice, until it is full or no run is left, and
+    /// returns how many it stored. If `from` is in a run, only the rest of that run counts.
+    pub(crate) fn store_runs(&self, from: T, runs: &mut [Run<T>]) -> usize {
+        // SAFETY: the array is a slice, and no other reference reaches it.
+        unsafe { (T::CALLS.runs_in)(&self.handle, from, T::MAX, runs.as_mut_ptr(), runs.len()) }
+    }
+
     /// Returns the first gap that has at least `len` values at or after `from`, without its values
     /// before `from`. Takes a step for each run between `from` and the gap.
     ///

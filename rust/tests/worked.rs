@@ -30,8 +30,8 @@ macro_rules! for_both {
 
 for_both! {
     text text_of_other_forms combinations assignments any_number a_set_beside_itself comparisons equal_sets_hash_alike changes
-    bounds look_ups searches iterators_from_both_ends members_from_both_ends ends_of_the_type
-    made_from_values_and_ranges
+    bounds look_ups searches iterators_from_both_ends members_from_both_ends many_runs
+    ends_of_the_type made_from_values_and_ranges
 }
 
 #[test]
@@ -328,6 +328,28 @@ mod checks {
             assert!(left.by_ref().eq(members[..others].iter().copied()));
             assert_eq!((left.next(), left.next_back()), (None, None));
         }
+    }
+
+    // More runs than a walk reads at once: the first, then each number of them from the back, then
+    // the others.
+    pub fn many_runs<T: Value>() {
+        let runs: Vec<_> = (0..40)
+            .map(|i| T::from(3 * i)..=T::from(3 * i + 1))
+            .collect();
+        let a: RangeSet<T> = runs.iter().cloned().collect();
+        for from_back in 0..runs.len() {
+            let others = runs.len() - from_back;
+            let mut left = a.runs();
+            assert_eq!(left.next().as_ref(), runs.first());
+            for run in runs.iter().rev().take(from_back) {
+                assert_eq!(left.next_back().as_ref(), Some(run));
+            }
+            assert_eq!(left.len(), others - 1);
+            assert!(left.clone().eq(runs[1..others].iter().cloned()));
+            assert!(left.eq(runs[1..others].iter().cloned()));
+        }
+        assert!(a.iter().step_by(2).eq(runs.iter().map(|run| *run.start())));
+        assert!(a.clone().into_iter().eq(a.iter()));
     }
 
     pub fn ends_of_the_type<T: Value>() {

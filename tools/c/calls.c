@@ -169,6 +169,50 @@ static void walked_to_the_ends(const set_t *set, size_t runs) {
         steps--;
     }
     CHECK(steps == 0 && run.first == 0);
+    run_t block[4] = {{3, 2}, {3, 2}, {3, 2}, {3, 2}};
+    CHECK(CALL(runs_in)(set, 0, GREATEST, block, 3) == runs);
+    CHECK(block[0].first == 0 && block[runs - 1].last == GREATEST && block[runs].first == 3 && block[runs].last == 2);
+}
+
+/* Runs that cross the bounds, arrays that are full or empty, and the null set. */
+static void stored_by_rows(void) {
+    static const run_t members[] = {{0, 4}, {7, 7}, {10, 20}, {GREATEST - 1, GREATEST}};
+    static const struct {
+        number first, last;
+        size_t most, count;
+        run_t runs[4];
+    } rows[] = {
+        {0, GREATEST, 4, 4, {{0, 4}, {7, 7}, {10, 20}, {GREATEST - 1, GREATEST}}},
+        {0, GREATEST, 3, 3, {{0, 4}, {7, 7}, {10, 20}}},
+        {21, GREATEST, 3, 1, {{GREATEST - 1, GREATEST}}},
+        {3, 12, 4, 3, {{3, 4}, {7, 7}, {10, 12}}},
+        {3, 12, 1, 1, {{3, 4}}},
+        {12, 15, 4, 1, {{12, 15}}},
+        {5, 7, 4, 1, {{7, 7}}},
+        {7, 9, 4, 1, {{7, 7}}},
+        {4, 4, 4, 1, {{4, 4}}},
+        {GREATEST, GREATEST, 4, 1, {{GREATEST, GREATEST}}},
+        {5, 6, 4, 0, {{0}}},
+        {12, 3, 4, 0, {{0}}},
+        {GREATEST, 0, 4, 0, {{0}}},
+        {0, GREATEST, 0, 0, {{0}}},
+    };
+    set_t some = RSB_EMPTY, none = RSB_EMPTY;
+    CHECK(CALL(from_runs)(&some, members, 4) == RSB_CHANGED);
+    long before = asked;
+    for (size_t row = 0; row < sizeof rows / sizeof *rows; row++) {
+        run_t block[4] = {{3, 2}, {3, 2}, {3, 2}, {3, 2}};
+        run_t *runs = rows[row].most > 0 ? block : NULL;
+        CHECK(CALL(runs_in)(&none, rows[row].first, rows[row].last, runs, rows[row].most) == 0);
+        CHECK(block[0].first == 3 && block[0].last == 2);
+        CHECK(CALL(runs_in)(&some, rows[row].first, rows[row].last, runs, rows[row].most) == rows[row].count);
+        for (size_t i = 0; i < 4; i++) {
+            run_t wanted = i < rows[row].count ? rows[row].runs[i] : (run_t){3, 2};
+            CHECK(block[i].first == wanted.first && block[i].last == wanted.last);
+        }
+    }
+    CHECK(asked == before && CALL(run_count)(&some) == 4);
+    CALL(free)(&some);
 }
 
 /* The set of every value. */
@@ -263,6 +307,7 @@ int main(void) {
     }
     CHECK(refusals > 0);
     whole();
+    stored_by_rows();
     changed_by_nothing();
     made_of_nothing();
     read_from_text();

@@ -342,6 +342,10 @@ template <class Set> static void searches() {
     CHECK(a.run_after(1)->first == 4 && !a.run_after(9) && a.run_before(5)->last == 2 && !a.run_before(2));
     CHECK(a.first_gap(2, 2)->first == 6 && a.first_gap(7, 1)->first == 7 && !(~Set()).first_gap(0, 1));
     CHECK(a.first_gap(0, 4)->last == greatest<Number> && !a.first_gap(greatest<Number>, 2));
+    typename Set::run stored[2];
+    CHECK(a.runs_in({2, 9}, stored, 2) == 2 && text(stored[0]) == "2..=2" && text(stored[1]) == "4..=5");
+    CHECK(a.runs_in({6, greatest<Number>}, stored, 2u) == 1 && text(stored[0]) == "9..=9" && text(stored[1]) == "4..=5");
+    CHECK(a.runs_in({9, 2}, stored, 2) == 0 && a.runs_in({0, 9}, nullptr, 0) == 0 && text(stored[0]) == "9..=9");
 }
 
 // ---- Compare, hash, write.
@@ -392,6 +396,7 @@ template <class Set> static void refuses_values_out_of_range() {
     CHECK(throws<error>([&] { a |= -1; }) && throws<error>([&] { Set made{{-2, -1}}; }));
     CHECK(throws<error>([&] { a.rank(-1); }) && throws<error>([&] { a.nth(-1); }));
     CHECK(throws<error>([&] { a.next_run(-1); }) && throws<error>([&] { a.first_gap(0, -1); }));
+    CHECK(throws<error>([&] { a.runs_in({0, 9}, nullptr, -1); }));
     std::vector<int> values{7, -1};
     CHECK(throws<error>([&] { Set made(values); }) && throws<error>([&] { a = Set(values); }));
     CHECK(text(a) == "1..=5");

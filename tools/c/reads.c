@@ -89,6 +89,10 @@ static void *reads(void *argument) {
         CHECK(rsb_u64_rank(&sets->wide, 25).low == 15 && rsb_u32_rank(&sets->narrow, 25) == 15);
         CHECK(rsb_u64_nth(&sets->wide, 15, &first) && first == 25);
         CHECK(rsb_u32_nth(&sets->narrow, 15, &lowest) && lowest == 25);
+        rsb_u64_run wides[3];
+        rsb_u32_run narrows[3];
+        CHECK(rsb_u64_runs_in(&sets->wide, 5, 25, wides, 3) == 2 && wides[0].first == 5 && wides[1].last == 25);
+        CHECK(rsb_u32_runs_in(&sets->narrow, 5, 25, narrows, 3) == 2 && narrows[0].first == 5 && narrows[1].last == 25);
         CHECK(rsb_u64_first_gap(&sets->wide, 5, 3, &wide) && wide.first == 10 && wide.last == 19);
         CHECK(rsb_u32_first_gap(&sets->narrow, 5, 3, &narrow) && narrow.first == 10 && narrow.last == 19);
         CHECK(rsb_u64_len(&sets->wide).low == 10 * RUNS && rsb_u32_len(&sets->narrow) == 10 * RUNS);

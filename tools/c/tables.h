@@ -246,6 +246,49 @@ static void walked(const set_t *set, const table *bits, unsigned long long runs)
     CHECK(steps == 0 && !memcmp(&back, bits, sizeof back));
 }
 
+/* What an array of `most` runs gets of the runs from one place to another: none if the last place is below the first. */
+static void stored(const set_t *set, const table *bits, size_t first, size_t last, size_t most) {
+    run_t runs[TABLE];
+    for (size_t i = 0; i < TABLE; i++) {
+        runs[i] = (run_t){3, 2};
+    }
+    size_t count = CALL(runs_in)(set, at(first), at(last), most > 0 ? runs : NULL, most), wanted = 0;
+    for (size_t place = first; place <= last && wanted < most; place++) {
+        size_t start = place;
+        if (!bits->has[place]) {
+            continue;
+        }
+        while (place < last && bits->has[place + 1]) {
+            place++;
+        }
+        CHECK(runs[wanted].first == at(start) && runs[wanted].last == at(place));
+        wanted++;
+    }
+    CHECK(count == wanted);
+    for (size_t i = count; i < TABLE; i++) {
+        CHECK(runs[i].first == 3 && runs[i].last == 2);
+    }
+}
+
+/* A walk by arrays of `most` runs. */
+static void walked_by(const set_t *set, const table *bits, size_t most, unsigned long long runs) {
+    table there = {{false}};
+    run_t block[TABLE];
+    unsigned long long steps = 0;
+    number next = 0;
+    do {
+        size_t count = CALL(runs_in)(set, next, GREATEST, block, most);
+        CHECK(count <= most);
+        for (size_t i = 0; i < count; i++) {
+            CHECK(block[i].first >= base && block[i].last >= block[i].first && block[i].last - base < TABLE);
+            memset(there.has + (block[i].first - base), true, block[i].last - block[i].first + 1);
+        }
+        steps += count;
+        next = count == most ? block[most - 1].last + 1 : 0;
+    } while (next > 0);
+    CHECK(steps == runs && !memcmp(&there, bits, sizeof there));
+}
+
 /* A set has the members of its table, by each call that reads one set. */
 static void same(const set_t *set, const table *bits) {
     long before = asked;
@@ -287,10 +330,12 @@ static void same(const set_t *set, const table *bits) {
     }
 
     walked(set, bits, runs);
+    walked_by(set, bits, 1 + drawn(TABLE), runs);
     ranked(set, bits);
     for (int i = 0; i < PLACES; i++) {
         size_t place = drawn(TABLE);
         windowed(set, bits, place, drawn(TABLE));
+        stored(set, bits, place, drawn(TABLE), drawn(8));
         beside(set, bits, place);
         gap_from(set, bits, place, (number)(1 + drawn(8)));
     }

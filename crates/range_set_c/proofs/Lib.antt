@@ -1,5 +1,6 @@
 mod Arrays
 mod Cast
+mod Filling
 mod NullableBoxForm
 mod SetText
 mod UnboxedForm

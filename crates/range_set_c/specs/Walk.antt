@@ -1,6 +1,6 @@
--- The steps of a walk over the runs of a set.
-use Rattle.std.specs.Prelude.{ℕ, ◌<◌, ◌≤◌}
-use Rattle.rsb_integer.specs.Runs.{Interval, IsMaximalRun}
+-- The steps of a walk over the runs of a set, by one run or by an array of runs.
+use Rattle.std.specs.Prelude.{◌≡◌, ℕ, ◌<◌, ◌≤◌, List, length, min, take}
+use Rattle.rsb_integer.specs.Runs.{Interval, AreRuns, IsMaximalRun}
 use Rattle.rsb_integer.specs.Selection.{Selection}
 
 module _ (n : ℕ) (selected : Selection) (rank : ℕ) where
@@ -25,3 +25,12 @@ module _ (n : ℕ) (selected : Selection) (rank : ℕ) where
   -- Whether no maximal run ends before the rank.
   abbrev pub NoneBefore : Type 0
   NoneBefore = (run : Interval) → IsMaximalRun n selected run → rank ≤ run.last
+
+-- Whether the list begins with the first `count` maximal runs of the set, in ascending order. If
+-- there are fewer than `most`, these are all of them; otherwise, `count` is `most`.
+pub record BeginsWithRuns (n : ℕ) (selected : Selection) (most : ℕ) (list : List Interval)
+    (count : ℕ) : Type 0 where
+  pub all : List Interval
+  pub runs : AreRuns n selected all
+  pub counted : count ≡ min (length all) most
+  pub begins : take count list ≡ take count all

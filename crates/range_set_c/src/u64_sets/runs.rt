@@ -1,17 +1,19 @@
-//! The runs and the gaps of a set, one by one. The calls leave the set unchanged, and do not
-//! allocate.
+//! The runs and the gaps of a set, one by one or by arrays. The calls leave the set unchanged, and
+//! do not allocate.
 //!
 //! A walk over the runs begins with `next_run` at 0 and goes on with `run_after` at `run.last`
 //! (docs/DECISIONS.md, walk-by-runs). A walk back begins with `prev_run` at the greatest value and
-//! goes on with `run_before` at `run.first`.
+//! goes on with `run_before` at `run.first`. A walk by arrays calls `runs_in` again past the last
+//! run that it got.
 
-ghost use Rattle.std.specs.Prelude.{◌≡◌, ℕ, ◌^◌, ◌<◌, ◌≤◌, IfSome, IsFalse, IsNone, IsTrue};
-ghost use Rattle.rsb_integer.specs.Runs.{from_to, length_of, members, IsMaximalRun};
+ghost use Rattle.std.specs.Prelude.{◌≡◌, ℕ, ◌^◌, ◌<◌, ◌≤◌, drop, length, map, IfSome, IsFalse, IsNone, IsTrue};
+ghost use Rattle.rsb_integer.specs.Runs.{covers, from_to, length_of, members, IsMaximalRun};
 ghost use Rattle.rsb_integer.specs.Selection.{complement, intersection};
 ghost use Rattle.range_set_blaze.specs.FirstFit.{AllShorter, AllShorterBefore};
 ghost use Rattle.range_set_blaze.specs.Set.{IsRunAround};
 ghost use Rattle.range_set_blaze.specs.Split.{from_on};
-ghost use Rattle.range_set_c.specs.Walk.{IsFirstAfter, IsLastBefore, NoneAfter, NoneBefore};
+ghost use Rattle.range_set_c.specs.U64Runs.{interval_of_run};
+ghost use Rattle.range_set_c.specs.Walk.{BeginsWithRuns, IsFirstAfter, IsLastBefore, NoneAfter, NoneBefore};
 
 use super::handle::Handle;
 use super::run::Run;
@@ -144,6 +146,27 @@ pub extern "C" fn rsb_u64_run_before(
     true
 }
 
+/// Stores the runs of the members from `first` to `last` in an array, in ascending order, until the
+/// array is full or no run is left, and returns how many it stored. A run that crosses a bound is
+/// shortened to its values between the bounds. The places past those runs are unchanged.
+#[unsafe(no_mangle)]
+pub extern "C" fn rsb_u64_runs_in(
+    alloc: Global,
+    set: &mut Handle,
+    first: u64,
+    last: u64,
+    runs: &mut [Run],
+) -> usize
+    ensures stored { BeginsWithRuns (2 ^ 64)
+        (intersection (members set.old.kept.set) (covers (from_to first last)))
+        (length runs.old) (map interval_of_run runs.new) result }
+    ensures left { drop result runs.new ≡ drop result runs.old }
+    ensures same { set.new.kept.set ≡ set.old.kept.set }
+{
+    let empty = RangeSetBlaze::new(alloc);
+    store_runs(set.set_or(&empty), first, last, runs)
+}
+
 /// Stores the first gap with at least `len` values at or above `from` in `gap` and returns true. If
 /// a gap starts below `from`, only its part at or above `from` counts, and only that part is
 /// stored. If no gap is that long, it returns false, and `gap` is unchanged.
@@ -173,6 +196,24 @@ pub extern "C" fn rsb_u64_first_gap(
     };
     *gap = Run::of(range);
     true
+}
+
+// Stores the runs of the members between two values in an array, until it is full or no run is left,
+// and returns how many it stored.
+fn store_runs(set: &RangeSetBlaze<u64, Global>, first: u64, last: u64, runs: &mut [Run]) -> usize
+    ensures stored { BeginsWithRuns (2 ^ 64)
+        (intersection (members set.now) (covers (from_to first last)))
+        (length runs.old) (map interval_of_run runs.new) result }
+    ensures left { drop result runs.new ≡ drop result runs.old }
+{
+    let mut ranges = set.ranges_in(first..=last);
+    for (count, run) in runs.iter_mut().enumerate() {
+        let Some(range) = ranges.next() else {
+            return count;
+        };
+        *run = Run::of(range);
+    }
+    runs.len()
 }
 
 // Returns the run that has a value, or else the first one past it.
