@@ -1,5 +1,5 @@
 -- The text of numbers and addresses, digit by digit.
-use Rattle.std.proofs.Common.{◌≡◌, ◌∙◌, ℕ, ◌+◌, ◌/◌, ◌%◌, ◌<◌, ◌≤◌, false, true, List, [], ◌∷◌, ◌++◌, take, drop, bytes_eq, nat_le, nat_lt, refl, sym, ap, append_assoc, arith}
+use Rattle.std.proofs.Common.{◌≡◌, ◌∙◌, ℕ, ◌+◌, ◌/◌, ◌%◌, ◌<◌, ◌≤◌, false, true, List, [], ◌∷◌, ◌++◌, take, drop, bytes_eq, nat_le, nat_lt, sym, ap, append_assoc, arith}
 use Rattle.std.proofs.lemmas.Bool.Decides.{nat_tests}
 use Rattle.std.proofs.lemmas.Fmt.{decimal_digit, decimal_step}
 use Rattle.std.proofs.lemmas.Slice.Eq.{bytes_eq-Decides}
@@ -19,17 +19,20 @@ laid-then old mid new first last before after =
 
 -- ---- decimal digits
 
+-- A number of one digit.
 pub one-digit : (n : ℕ) → n < 10 → decimal n ≡ (48 + n % 10) ∷ []
 one-digit n high =
     let same : n ≡ n % 10 = omega arith in
     decimal_digit n high ∙ ap (λ digit. (48 + digit) ∷ []) same
 
+-- A number of two digits.
 pub two-digits : (n : ℕ) → 10 ≤ n → n < 100
     → decimal n ≡ (48 + n / 10 % 10) ∷ (48 + n % 10) ∷ []
 two-digits n low high =
     decimal_step n low (omega arith)
     ∙ ap (λ front. front ++ (48 + n % 10) ∷ []) (one-digit (n / 10) (omega arith))
 
+-- A number of three digits.
 pub three-digits : (n : ℕ) → 100 ≤ n → n < 1000
     → decimal n ≡ (48 + n / 100) ∷ (48 + n / 10 % 10) ∷ (48 + n % 10) ∷ []
 three-digits n low high =
@@ -41,6 +44,7 @@ three-digits n low high =
 -- ---- hexadecimal digits
 
 module _ (n : ℕ) where
+  -- One digit.
   pub hex-one : n < 0x10 → hex n ≡ digit_char (n % 16) ∷ []
   unfolding hex
   hex-one high =
@@ -49,6 +53,7 @@ module _ (n : ℕ) where
       let some : nat_le 0x10 n ≡ false = grind (arith, nat_tests) in
       rw (most, more, some)
 
+  -- Two digits.
   pub hex-two : 0x10 ≤ n → n < 0x100
       → hex n ≡ digit_char (n / 0x10 % 16) ∷ digit_char (n % 16) ∷ []
   unfolding hex
@@ -58,6 +63,7 @@ module _ (n : ℕ) where
       let some : nat_le 0x10 n ≡ true = grind (arith, nat_tests) in
       rw (most, more, some)
 
+  -- Three digits.
   pub hex-three : 0x100 ≤ n → n < 0x1000
       → hex n ≡ digit_char (n / 0x100 % 16) ∷ digit_char (n / 0x10 % 16) ∷ digit_char (n % 16) ∷ []
   unfolding hex
@@ -66,6 +72,7 @@ module _ (n : ℕ) where
       let more : nat_le 0x100 n ≡ true = grind (arith, nat_tests) in
       rw (most, more)
 
+  -- Four digits.
   pub hex-four : 0x1000 ≤ n → hex n ≡ digit_char (n / 0x1000) ∷ digit_char (n / 0x100 % 16)
       ∷ digit_char (n / 0x10 % 16) ∷ digit_char (n % 16) ∷ []
   unfolding hex
@@ -99,9 +106,10 @@ pub mapped-text : (segments : List ℕ) → IsIpv4Mapped segments
     → ipv6_text segments ≡ codes "::ffff:" ++ ipv4_text (octets_of (drop 6 segments))
 unfolding ipv6_text
 mapped-text segments is =
-    let same = (bytes_eq-Decides (take 6 segments) (0 ∷ 0 ∷ 0 ∷ 0 ∷ 0 ∷ 0xffff ∷ [])).1 is in rw same
+    let same = (bytes_eq-Decides (take 6 segments) (0 ∷ 0 ∷ 0 ∷ 0 ∷ 0 ∷ 0xffff ∷ [])).1 is in
+    rw same
 
--- The text of an address that is not.
+-- The text of an address that is not IPv4-mapped.
 pub groups-text : (segments : List ℕ) → ¬ (IsIpv4Mapped segments)
     → ipv6_text segments ≡ hex_groups_text segments
 unfolding ipv6_text

@@ -6,9 +6,8 @@ ghost use Rattle.address_lists.specs.Address.{v4_text};
 
 mod v6;
 
-pub(crate) use crate::text::v6::lay_v6;
-
 use crate::page::{PAGE, Page, lay};
+pub(crate) use crate::text::v6::lay_v6;
 use itoa::Buffer;
 
 /// The number of bytes of the longest text of an address, with the byte after it. Each of the eight

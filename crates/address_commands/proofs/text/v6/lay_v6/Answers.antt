@@ -22,7 +22,7 @@ returns-in-Some-clause-laid c =
     ∙ ap (λ v. old ++ v) (sym (append_assoc (codes "::ffff:") (ipv4_text octets) end)
     ∙ ap (λ v. v ++ end) text)
 
--- It is not.
+-- The address is not IPv4-mapped.
 pub returns-in-None-clause-laid : goal.returns-in-None-clause-laid
 returns-in-None-clause-laid c =
     let old = c.args.page.now.items in
