@@ -3,9 +3,11 @@ pub mod AppendsLemmas
 pub mod CommandLineLemmas
 pub mod CountLemmas
 pub mod FilesLemmas
+pub mod LaidLemmas
 pub mod LinesLemmas
 pub mod NamesLemmas
 pub mod OneAnswerLemmas
 pub mod ProgramLemmas
 pub mod ReadBackLemmas
 pub mod SameTextLemmas
+pub mod TextLemmas

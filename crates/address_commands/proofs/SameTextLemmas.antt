@@ -14,7 +14,7 @@ use Rattle.rsb_integer.proofs.ListLemmas.{not_both}
 use Rattle.rsb_integer.proofs.MembersLemmas.{covers-inside, members-head, members-tail, same_interval}
 use Rattle.address_lists.specs.declared.blocks.block.Block.{Block}
 use Rattle.address_lists.specs.Address.{v4_text, v6_text}
-use Rattle.address_lists.specs.Blocks.{AscendsFrom, IsMaximalBlock}
+use Rattle.address_lists.specs.Blocks.{AreMaximalBlocks, AscendsFrom, IsMaximalBlock}
 use Rattle.address_lists.specs.BlocksLeft.{block_run, block_runs, IsAligned}
 use Rattle.address_lists.specs.Line.{MeansV4, MeansV6}
 use Rattle.address_lists.specs.List.{IsListOf}
@@ -97,6 +97,13 @@ blocks-unique selected low lower (block ∷ blocks) (other ∷ others) left righ
     let tails = blocks-unique selected (block.last + 1) (other.last + 1) blocks others left.2
     right.2 (All-tail Maximal block blocks are) (All-tail Maximal other others are_too) rest in
     λ i. head i ∷ tails i
+
+-- A set has one list of maximal blocks.
+pub one-list : (selected : Selection) (blocks others : List Interval)
+    → AreMaximalBlocks selected blocks → AreMaximalBlocks selected others → blocks ≡ others
+one-list selected blocks others is also =
+    blocks-unique selected 0 0 blocks others is.ascending also.ascending is.maximal also.maximal
+    (λ rank. is.exact rank ∙ sym (also.exact rank))
 
 -- ---- blocks with the same ranks have the same lines
 

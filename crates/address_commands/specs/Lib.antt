@@ -2,6 +2,7 @@ pub mod Answer
 pub mod CommandLine
 pub mod Fault
 pub mod Files
+pub mod Page
 pub mod Program
 pub mod ReadBack
 pub mod Request

@@ -1,13 +1,15 @@
 //! Laws of what is written. Each function does nothing, and its clauses are the law.
 
 ghost use Rattle.std.specs.Prelude.{◌≡◌, ℕ, [], List, Option, Some, map};
+ghost use Rattle.std.specs.declared.net.ip_addr.IpAddr.{IpAddr};
 ghost use Rattle.range_set_blaze.specs.Runs.{Interval, members};
 ghost use Rattle.address_lists.specs.List.{IsListOf};
-ghost use Rattle.address_commands.specs.Answer.{Answers, IsCombined};
+ghost use Rattle.address_commands.specs.Answer.{Answers, IsCombined, IsCounted, IsFound};
 ghost use Rattle.address_commands.specs.ReadBack.{AreKnown, ReadsAsCombined};
 ghost use Rattle.address_commands.specs.Text.{IsListText};
 ghost use Rattle.address_commands.specs.declared.commands.Outcome.{Outcome};
 ghost use Rattle.address_commands.specs.declared.request.Combination.{Combination};
+ghost use Rattle.address_commands.specs.declared.request.Families.{Families};
 ghost use Rattle.address_commands.specs.declared.request.Form.{Form};
 ghost use Rattle.address_commands.specs.declared.request.Request.TheVariants.{Combine};
 
@@ -40,9 +42,17 @@ pub fn answer_reads_back()
         → ReadsAsCombined bytes combination text }
 {}
 
-/// The answer to an operation is determined by the bytes of the files, if these are known.
+/// The answer to a command is determined by the bytes of the files, if these are known.
 pub fn answer_is_unique()
-    ensures { (bytes : List ℕ → Option (List ℕ)) (combination : Combination) (text other : List ℕ)
-        → AreKnown bytes (map (λ name. name.now) combination.files.now)
+    ensures operation { (bytes : List ℕ → Option (List ℕ)) (combination : Combination)
+        (text other : List ℕ) → AreKnown bytes (map (λ name. name.now) combination.files.now)
         → IsCombined bytes combination text → IsCombined bytes combination other → text ≡ other }
+    ensures counts { (bytes : List ℕ → Option (List ℕ)) (families : Families)
+        (files : List (List ℕ)) (text other : List ℕ) → AreKnown bytes files
+        → IsCounted bytes families files text → IsCounted bytes families files other
+        → text ≡ other }
+    ensures found { (bytes : List ℕ → Option (List ℕ)) (address : IpAddr)
+        (files : List (List ℕ)) (outcome ending : Outcome) (text other : List ℕ)
+        → AreKnown bytes files → IsFound bytes address files outcome text
+        → IsFound bytes address files ending other → (outcome ≡ ending) × (text ≡ other) }
 {}

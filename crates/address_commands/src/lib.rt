@@ -6,9 +6,11 @@ mod commands;
 mod fault;
 mod inputs;
 mod laws;
+mod page;
 mod program;
 mod request;
 mod system;
+mod text;
 mod writing;
 
 pub use crate::arguments::Arguments;
@@ -21,4 +23,4 @@ pub use crate::laws::{
 pub use crate::program::{finish, start};
 pub use crate::request::{Combination, Families, Form, Request};
 pub use crate::system::SystemInputs;
-pub use crate::writing::{AddressText, write_list};
+pub use crate::writing::write_list;

@@ -1,50 +1,49 @@
 //! Lists of addresses as text.
 
-ghost use Rattle.std.specs.Prelude.{◌≡◌, ℕ, List, OnOk, Some};
+ghost use Rattle.std.specs.Prelude.{◌≡◌, ℕ, ◌+◌, ◌≤◌, ◌++◌, [], ◌∷◌, List, OnOk, length};
 ghost use Rattle.std.specs.Io.KnownBytes.{Appends};
 ghost use Rattle.std.specs.Range.{range_inclusive_start, range_inclusive_end};
 ghost use Rattle.address_lists.specs.Address.{v4_text, v6_text};
+ghost use Rattle.address_commands.specs.Page.{Lays};
 ghost use Rattle.address_commands.specs.Text.{IsListText, IsSetText, block_line, kept_v4, kept_v6, range_line};
 
+use crate::page::{PAGE, Page, ROOM, make_room, send};
 use crate::request::{Families, Form};
+use crate::text::{LONGEST, lay_length, lay_v4, lay_v6};
 use address_lists::{Address, AddressList, Block, IntoBlocks};
 use range_set_blaze::RangeSetBlaze;
 use std::alloc::Allocator;
-use std::fmt::Display;
 use std::io::{self, Write};
-use std::net::{Ipv4Addr, Ipv6Addr};
 use std::ops::RangeInclusive;
 
 /// Addresses that are written as text.
-pub trait AddressText: Address {
+pub(crate) trait AddressText: Address {
     // The text of the address with a rank.
     ghost text: { ℕ → List ℕ };
 
-    /// What writes an address.
-    type Shown: Display + Drop;
-
-    /// Returns the address as what writes it.
-    fn shown(self) -> Self::Shown
-        ensures { Self.Shown.output result ≡ Some (text (Self.rank self)) };
+    /// Adds the text of the address to a page, and a byte after it. There must be room for both.
+    fn lay(self, page: &mut Page, end: u8)
+        requires { length page.old.items + LONGEST ≤ PAGE }
+        ensures laid { page.new.items
+            ≡ page.old.items ++ (text (Self.rank self) ++ end ∷ []) }
+        ensures within { length page.new.items ≤ length page.old.items + LONGEST };
 }
 
 impl AddressText for u32 {
     ghost text = { v4_text };
 
-    type Shown = Ipv4Addr;
-
-    fn shown(self) -> Ipv4Addr {
-        Ipv4Addr::from_bits(self)
+    #[inline]
+    fn lay(self, page: &mut Page, end: u8) {
+        lay_v4(page, self, end);
     }
 }
 
 impl AddressText for u128 {
     ghost text = { v6_text };
 
-    type Shown = Ipv6Addr;
-
-    fn shown(self) -> Ipv6Addr {
-        Ipv6Addr::from_bits(self)
+    #[inline]
+    fn lay(self, page: &mut Page, end: u8) {
+        lay_v6(page, self, end);
     }
 }
 
@@ -81,63 +80,90 @@ fn write_set<T: AddressText + 'static, W: Write, A: Allocator>(
         × IsSetText T.text T.rank T.width T.value_count form set.now text
         × Appends (W.contents output.old) (W.contents output.new) text) }
 {
+    let mut page = Page::new();
+    lay_set(output, &mut page, set, form)?;
+    send(output, &mut page)
+}
+
+// Adds the lines of a set in a form to a page, which is written whenever it is full.
+fn lay_set<T: AddressText + 'static, W: Write, A: Allocator>(
+    output: &mut W,
+    page: &mut Page,
+    set: &RangeSetBlaze<T, A>,
+    form: Form,
+) -> io::Result<()>
+    ensures { OnOk result ((text : List ℕ)
+        × IsSetText T.text T.rank T.width T.value_count form set.now text
+        × Lays (W.contents output.old) (W.contents output.new)
+        page.old.items page.new.items text) }
+{
     match form {
-        Form::Blocks => write_blocks(output, set),
-        Form::Ranges => write_ranges(output, set),
+        Form::Blocks => lay_blocks(output, page, set),
+        Form::Ranges => lay_ranges(output, page, set),
     }
 }
 
-// Writes the blocks of a set, each on a line.
-fn write_blocks<T: AddressText + 'static, W: Write, A: Allocator>(
+// Adds the blocks of a set to a page, each as a line.
+fn lay_blocks<T: AddressText + 'static, W: Write, A: Allocator>(
     output: &mut W,
+    page: &mut Page,
     set: &RangeSetBlaze<T, A>,
 ) -> io::Result<()>
     ensures { OnOk result ((text : List ℕ)
         × IsSetText T.text T.rank T.width T.value_count Form.Blocks set.now text
-        × Appends (W.contents output.old) (W.contents output.new) text) }
+        × Lays (W.contents output.old) (W.contents output.new)
+        page.old.items page.new.items text) }
 {
     for block in set.ranges().blocks() {
-        write_block(output, block)?;
+        make_room(output, page)?;
+        lay_block(page, block);
     }
     Ok(())
 }
 
-// Writes a block, and a line feed. A block of one address is written as that address.
-fn write_block<T: AddressText, W: Write>(output: &mut W, block: Block<T>) -> io::Result<()>
-    ensures { OnOk result (Appends (W.contents output.old) (W.contents output.new)
-        (block_line T.text T.rank T.width block)) }
+// Adds a block to a page as a line, for which there must be room. A block of one address is written
+// as that address.
+#[inline]
+fn lay_block<T: AddressText>(page: &mut Page, block: Block<T>)
+    requires { length page.old.items + ROOM ≤ PAGE }
+    ensures { page.new.items ≡ page.old.items ++ block_line T.text T.rank T.width block }
 {
     let length = block.length;
-    let first = block.first.shown();
     if length == T::bits() {
-        return writeln!(output, "{first}");
+        block.first.lay(page, b'\n');
+        return;
     }
-    writeln!(output, "{first}/{length}")
+    block.first.lay(page, b'/');
+    lay_length(page, length, b'\n');
 }
 
-// Writes the ranges of a set, each on a line.
-fn write_ranges<T: AddressText + 'static, W: Write, A: Allocator>(
+// Adds the ranges of a set to a page, each as a line.
+fn lay_ranges<T: AddressText + 'static, W: Write, A: Allocator>(
     output: &mut W,
+    page: &mut Page,
     set: &RangeSetBlaze<T, A>,
 ) -> io::Result<()>
     ensures { OnOk result ((text : List ℕ)
         × IsSetText T.text T.rank T.width T.value_count Form.Ranges set.now text
-        × Appends (W.contents output.old) (W.contents output.new) text) }
+        × Lays (W.contents output.old) (W.contents output.new)
+        page.old.items page.new.items text) }
 {
     for range in set.ranges() {
-        write_range(output, range)?;
+        make_room(output, page)?;
+        lay_range(page, range);
     }
     Ok(())
 }
 
-// Writes the first and the last address of a range with a dash between them, and a line feed.
-fn write_range<T: AddressText, W: Write>(output: &mut W, range: RangeInclusive<T>) -> io::Result<()>
-    ensures { OnOk result (Appends (W.contents output.old) (W.contents output.new)
-        (range_line T.text (T.rank (range_inclusive_start range))
-        (T.rank (range_inclusive_end range)))) }
+// Adds a range to a page as a line, for which there must be room: its first and its last address,
+// with a dash between them.
+#[inline]
+fn lay_range<T: AddressText>(page: &mut Page, range: RangeInclusive<T>)
+    requires { length page.old.items + ROOM ≤ PAGE }
+    ensures { page.new.items ≡ page.old.items ++ range_line T.text
+        (T.rank (range_inclusive_start range)) (T.rank (range_inclusive_end range)) }
 {
     let (first, last) = range.into_inner();
-    let first = first.shown();
-    let last = last.shown();
-    writeln!(output, "{first}-{last}")
+    first.lay(page, b'-');
+    last.lay(page, b'\n');
 }

@@ -6,18 +6,18 @@ use Rattle.address_lists.specs.Blocks.{AreMaximalBlocks}
 use Rattle.address_lists.specs.BlocksLeft.{block_runs, blocks_may_give}
 use Rattle.address_lists.proofs.aligned.Left.{all-aligned, all-given}
 use Rattle.address_commands.specs.Text.{block_line}
-use Rattle.address_commands.proofs.AppendsLemmas.{Appends-item, Appends-nothing}
-use Rattle.address_commands.proofs.writing.write_blocks.Goals as goal
+use Rattle.address_commands.proofs.LaidLemmas.{lays-item, lays-nothing}
+use Rattle.address_commands.proofs.writing.lay_blocks.Goals as goal
 
--- No block was written at first.
+-- No block was laid at first.
 pub loop-block-init : goal.loop-block-init
-loop-block-init g c = Appends-nothing _
+loop-block-init g c = lays-nothing _ _
 
--- One more block was written.
+-- One more block was laid.
 pub loop-block-preserved : goal.loop-block-preserved
 loop-block-preserved g c =
-    Appends-item (block_line g.T.AddressText.text g.T.Integer.rank g.T.Address.width) _ _ _
-    c.loop-block.yielded _ c.loop-block.invariant c.in_ok-write_block.ensures
+    lays-item (block_line g.T.AddressText.text g.T.Integer.rank g.T.Address.width) _ _ _ _ _ _ _
+    c.loop-block.yielded _ c.loop-block.invariant c.in_ok-make_room.ensures.laid c.lay_block.ensures
 
 -- The blocks that came are those of the set.
 pub returns : goal.returns

@@ -3,19 +3,19 @@ use Rattle.std.specs.List.{flat_map}
 use Rattle.rsb_integer.specs.Rank.{intervals_of}
 use Rattle.range_set_blaze.specs.Runs.{IsCanonical, IsCanonicalIn}
 use Rattle.address_commands.specs.Text.{ranges_text}
-use Rattle.address_commands.proofs.AppendsLemmas.{Appends-item, Appends-nothing}
+use Rattle.address_commands.proofs.LaidLemmas.{lays-item, lays-nothing}
 use Rattle.address_commands.proofs.LinesLemmas.{all-yielded, line_of, lines-of}
-use Rattle.address_commands.proofs.writing.write_ranges.Goals as goal
+use Rattle.address_commands.proofs.writing.lay_ranges.Goals as goal
 
--- No range was written at first.
+-- No range was laid at first.
 pub loop-range-init : goal.loop-range-init
-loop-range-init g c = Appends-nothing _
+loop-range-init g c = lays-nothing _ _
 
--- One more range was written.
+-- One more range was laid.
 pub loop-range-preserved : goal.loop-range-preserved
 loop-range-preserved g c =
-    Appends-item (line_of g.T.AddressText.text g.T.Integer.rank) _ _ _ c.loop-range.yielded _
-    c.loop-range.invariant c.in_ok-write_range.ensures
+    lays-item (line_of g.T.AddressText.text g.T.Integer.rank) _ _ _ _ _ _ _ c.loop-range.yielded _
+    c.loop-range.invariant c.in_ok-make_room.ensures.laid c.lay_range.ensures
 
 -- The ranges that came are those of the set.
 pub returns : goal.returns
