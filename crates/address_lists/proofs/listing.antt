@@ -3,7 +3,6 @@ pub mod Contents
 pub mod FirstLine
 pub mod Known
 pub mod LineEnds
-pub mod LineFeeds
 pub mod OneSelection
 pub mod Reading
 pub mod Selected

@@ -2,11 +2,14 @@ pub mod Addresses
 pub mod Around
 pub mod Blocks
 pub mod Bytes
+pub mod Groups
 pub mod Lengths
 pub mod Lines
 pub mod Means
+pub mod Octets
 pub mod OneMeaning
 pub mod Parts
+pub mod Plain
 pub mod Ranges
 pub mod Read
 pub mod Written

@@ -4,8 +4,10 @@ pub mod AddressRange
 pub mod Blocks
 pub mod BlocksLeft
 pub mod Gathering
+pub mod Groups
 pub mod Line
 pub mod LineParts
 pub mod List
 pub mod ListFault
 pub mod Operation
+pub mod Plain

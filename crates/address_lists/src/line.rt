@@ -4,14 +4,20 @@ ghost use Rattle.std.specs.Prelude.{◌≡◌, ◌<◌, IfSome, length};
 ghost use Rattle.std.specs.List.{position};
 ghost use Rattle.address_lists.specs.Line.{IsLine, begins_comment, content};
 ghost use Rattle.address_lists.specs.LineParts.{Reads};
+ghost use Rattle.address_lists.specs.Plain.{BeginsWithLine};
 
 pub(crate) mod family;
+pub(crate) mod groups;
+pub(crate) mod octets;
 pub(crate) mod parts;
+pub(crate) mod plain;
 pub(crate) mod prefix;
 pub(crate) mod range;
 
 use crate::line::parts::trimmed;
-use crate::line::range::{plain_range, range};
+use crate::line::plain::plain_line;
+use crate::line::range::range;
+use memchr::memchr;
 use std::ops::RangeInclusive;
 
 /// What a line means. A range goes from its first address to its last, as numbers.
@@ -33,22 +39,44 @@ pub enum Line {
 pub fn parse_line(line: &[u8]) -> Option<Line>
     ensures { Reads result (IsLine line.now) }
 {
-    // Most lines are plain.
-    if let Some(range) = plain_range(line) {
-        return Some(Line::V4(range));
-    }
-    if let Some(range) = plain_range(line) {
-        return Some(Line::V6(range));
-    }
     let text = content(line);
     if text.is_empty() {
         return Some(Line::Nothing);
     }
-    if let Some(range) = range(text) {
-        return Some(Line::V4(range));
+    if let Some(addresses) = range::<u32>(text) {
+        return Some(Line::V4(addresses));
     }
-    let range = range(text)?;
-    Some(Line::V6(range))
+    let addresses = range::<u128>(text)?;
+    Some(Line::V6(addresses))
+}
+
+/// The first line of some bytes.
+#[derive(Drop)]
+pub(crate) struct FirstLine<'a> {
+    /// What it means, or `None` if it is bad.
+    pub(crate) meaning: Option<Line>,
+    /// The bytes after its line feed.
+    pub(crate) rest: &'a [u8],
+}
+
+/// Returns the first line of the bytes, if they have a line feed.
+pub(crate) fn first_line(bytes: &[u8]) -> Option<FirstLine<'_>>
+    ensures { IfSome result (λ first. BeginsWithLine (λ line. Reads first.meaning (IsLine line))
+        bytes.now first.rest.now) }
+{
+    // Most lines are plain.
+    if let Some((addresses, rest)) = plain_line::<u32>(bytes) {
+        let meaning = Some(Line::V4(addresses));
+        return Some(FirstLine { meaning, rest });
+    }
+    if let Some((addresses, rest)) = plain_line::<u128>(bytes) {
+        let meaning = Some(Line::V6(addresses));
+        return Some(FirstLine { meaning, rest });
+    }
+    let end = memchr(b'\n', bytes)?;
+    let meaning = parse_line(&bytes[..end]);
+    let rest = &bytes[end + 1..];
+    Some(FirstLine { meaning, rest })
 }
 
 // Returns what the line has before its comment, without the white space around it.

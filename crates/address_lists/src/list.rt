@@ -9,6 +9,7 @@ pub(crate) mod fault;
 mod gathered;
 mod laws;
 
+use crate::line::parse_line;
 pub use fault::ListFault;
 use gathered::{Gathered, too_many_lines};
 pub use laws::{comments_select_nothing, list_selects_one};
@@ -58,7 +59,7 @@ pub fn read_list<A: Allocator + Copy, R: BufRead>(
         if input.read_until(b'\n', &mut line)? == 0 {
             return Ok(gathered.list(alloc)?);
         }
-        gathered.add_line(&line)?;
+        gathered.add_line(parse_line(&line))?;
     }
     Err(too_many_lines())
 }

@@ -1,17 +1,18 @@
 -- Lines that are read where a reader shows them.
-use Rattle.std.proofs.Common.{◌≡◌, ◌∙◌, ℕ, ◌+◌, ◌-◌, ◌<◌, ◌≤◌, List, [], ◌∷◌, ◌++◌, Option, Some, None, drop, length, take, refl, sym, ap, subst, arith, length-append}
-use Rattle.std.proofs.lemmas.List.{drop-append-le, drop-drop, length-drop, take-append-drop}
+use Rattle.std.proofs.Common.{◌≡◌, ◌∙◌, ℕ, ◌+◌, ◌-◌, ◌<◌, ◌≤◌, eqb, false, List, [], ◌∷◌, ◌++◌, Option, Some, None, drop, length, refl, sym, ap, subst, arith, length-append}
+use Rattle.std.proofs.Math.Seq.{drop-append-add}
+use Rattle.std.proofs.lemmas.List.{drop-append-le, drop-drop, take-append-drop}
+use Rattle.std.proofs.lemmas.List.Elements.{All-head, All-tail}
 use Rattle.std.specs.Io.{StartsWith}
 use Rattle.std.specs.Io.BufRead.{DropsConsumable, drop_through, take_through}
 use Rattle.std.specs.Io.KnownBytes.{Keeps}
+use Rattle.std.specs.List.{All}
 use Rattle.std.specs.Prelude.{IfSome}
-use Rattle.memchr.specs.Find.{IsFirstByte, is_byte}
 use Rattle.address_lists.specs.declared.list.gathered.Gathered.{Gathered}
 use Rattle.address_lists.specs.Gathering.{AreGathered, AreGatheredBefore}
 use Rattle.address_lists.specs.Line.{content}
 use Rattle.address_lists.specs.List.{IsBadLine, IsPastBadLine}
 use Rattle.address_lists.proofs.listing.LineEnds.{content_one}
-use Rattle.address_lists.proofs.listing.LineFeeds.{through_feed}
 use Rattle.address_lists.proofs.listing.Reading.{first_bad, gathered_next}
 
 -- ---- the bytes that a reader shows
@@ -46,43 +47,66 @@ shown_consumed (Some known) (Some left) after limit shown rest count is front ke
     enough None room = tt
     enough (Some most) room = omega arith
 
--- ---- lines by the places of their line feeds
+-- ---- lines and what is left past them
 
--- What is left past a line that is not the last.
-pub drop_on : (bytes rest : List ℕ) (i : ℕ) → length rest ≤ length bytes
-    → rest ≡ drop (length bytes - length rest) bytes → i < length rest
-    → drop (i + 1) rest ≡ drop (length bytes - length (drop (i + 1) rest)) bytes
-drop_on bytes rest i within is inside =
-    let size = length-drop (i + 1) rest in
-    let place : length bytes - length rest + (i + 1) ≡ length bytes - length (drop (i + 1) rest) =
-    omega (arith, size) in
-    ap (drop (i + 1)) is ∙ drop-drop (i + 1) (length bytes - length rest) bytes
+-- The bytes up to the first line feed, and those past it.
+through_feed : (line after more : List ℕ) → All (λ byte. eqb byte 10 ≡ false) line
+    → (take_through 10 ((line ++ 10 ∷ after) ++ more) ≡ line ++ 10 ∷ [])
+    × (drop_through 10 ((line ++ 10 ∷ after) ++ more) ≡ after ++ more)
+through_feed [] after more one = (refl, refl)
+through_feed (x ∷ line) after more one =
+    let other : eqb x 10 ≡ false = All-head (λ byte. eqb byte 10 ≡ false) x line one in
+    let later = through_feed line after more (All-tail (λ byte. eqb byte 10 ≡ false) x line one) in
+    (rw other (ap (λ front. x ∷ front) later.0), rw other later.1)
+
+-- What is left past a line is shorter.
+pub left_shorter : (rest line after : List ℕ) → rest ≡ line ++ 10 ∷ after
+    → length after < length rest
+left_shorter rest line after is =
+    omega (arith, ap length is, length-append line (10 ∷ after))
+
+-- It is the end of the bytes too.
+pub drop_on : (bytes rest line after : List ℕ) → length rest ≤ length bytes
+    → rest ≡ drop (length bytes - length rest) bytes → rest ≡ line ++ 10 ∷ after
+    → after ≡ drop (length bytes - length after) bytes
+drop_on bytes rest line after within is parts =
+    let size = ap length parts ∙ length-append line (10 ∷ after) in
+    let place : length bytes - length rest + (length line + 1) ≡ length bytes - length after =
+    omega (arith, size, within) in
+    let past : drop (length line + 1) (line ++ 10 ∷ after) ≡ after =
+    drop-append-add line (10 ∷ after) 1 in
+    sym past ∙ ap (drop (length line + 1)) (sym parts ∙ is)
+    ∙ drop-drop (length line + 1) (length bytes - length rest) bytes
     ∙ ap (λ n. drop n bytes) place
 
-module _ {A : Type 0} (all rest more : List ℕ) (i : ℕ) (old : Gathered A)
-    (found : IsFirstByte (is_byte 10) rest (Some i))
+module _ {A : Type 0} (all rest line after more : List ℕ) (old : Gathered A)
+    (parts : rest ≡ line ++ 10 ∷ after) (one : All (λ byte. eqb byte 10 ≡ false) line)
     (has : AreGatheredBefore all (rest ++ more) old) where
-  split : (take_through 10 (rest ++ more) ≡ take i rest ++ 10 ∷ [])
-      × (drop_through 10 (rest ++ more) ≡ drop (i + 1) rest ++ more)
-  split = through_feed rest more i found.0.high (λ k below. found.0.before k (omega arith) below)
-      found.1
+  known : rest ++ more ≡ (line ++ 10 ∷ after) ++ more
+  known = ap (λ bytes. bytes ++ more) parts
+
+  split : (take_through 10 (rest ++ more) ≡ line ++ 10 ∷ [])
+      × (drop_through 10 (rest ++ more) ≡ after ++ more)
+  split =
+      let cut = through_feed line after more one in
+      (ap (take_through 10) known ∙ cut.0, ap (drop_through 10) known ∙ cut.1)
 
   some : 0 < length (take_through 10 (rest ++ more))
-  some = omega (arith, ap length split.0, length-append (take i rest) (10 ∷ []))
+  some = omega (arith, ap length split.0, length-append line (10 ∷ []))
 
-  same : content (take i rest) ≡ content (take_through 10 (rest ++ more))
-  same = sym (content_one 10 refl (take i rest)) ∙ sym (ap content split.0)
+  same : content line ≡ content (take_through 10 (rest ++ more))
+  same = sym (content_one 10 refl line) ∙ sym (ap content split.0)
 
   -- The line up to the line feed is gathered.
   pub found_next : (new : Gathered A)
-      → ((before : List (List ℕ)) (line : List ℕ) → content line ≡ content (take i rest)
-      → AreGathered before old → AreGathered (before ++ line ∷ []) new)
-      → AreGatheredBefore all (drop (i + 1) rest ++ more) new
+      → ((before : List (List ℕ)) (other : List ℕ) → content other ≡ content line
+      → AreGathered before old → AreGathered (before ++ other ∷ []) new)
+      → AreGatheredBefore all (after ++ more) new
   found_next new adds = subst (λ left. AreGatheredBefore all left new) split.1
-      (gathered_next all (rest ++ more) (take i rest) old has some same new adds)
+      (gathered_next all (rest ++ more) line old has some same new adds)
 
   -- That line is the first bad one.
-  pub found_bad : (number : ℕ) → number ≡ old.number → IsBadLine (take i rest)
-      → IsPastBadLine all (drop (i + 1) rest ++ more) number
+  pub found_bad : (number : ℕ) → number ≡ old.number → IsBadLine line
+      → IsPastBadLine all (after ++ more) number
   found_bad number is bad = subst (λ left. IsPastBadLine all left number) split.1
-      (first_bad all (rest ++ more) (take i rest) old has some same number is bad)
+      (first_bad all (rest ++ more) line old has some same number is bad)

@@ -8,3 +8,8 @@ pub Reads-some : {X : Type 0} (result : Option X) (Holds Fact : X → Type 0) �
     → ((x : X) → Holds x → Fact x) → IfSome result Fact
 Reads-some None Holds Fact h weaker = tt
 Reads-some (Some x) Holds Fact h weaker = weaker x h
+
+pub IfSome-weaker : {X : Type 0} (result : Option X) (Fact Other : X → Type 0) → IfSome result Fact
+    → ((x : X) → Fact x → Other x) → IfSome result Other
+IfSome-weaker None Fact Other h weaker = tt
+IfSome-weaker (Some x) Fact Other h weaker = weaker x h

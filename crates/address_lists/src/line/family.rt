@@ -1,12 +1,16 @@
 //! The two families of addresses, and how a text writes an address of each.
 
-ghost use Rattle.std.specs.Prelude.{◌≡◌, ℕ, ◌≤◌, List};
+ghost use Rattle.std.specs.Prelude.{◌≡◌, ℕ, ◌≤◌, All, IfSome, IsFalse, List};
 ghost use Rattle.std.proofs.Common.{lit≤};
 ghost use Rattle.address_lists.specs.Address.{IsV4, IsV6};
-ghost use Rattle.address_lists.specs.AddressLaws.{one_v4, one_v6};
+ghost use Rattle.address_lists.specs.AddressLaws.{one_v4, one_v6, unmarked_v4, unmarked_v6};
+ghost use Rattle.address_lists.specs.Line.{is_mark};
 ghost use Rattle.address_lists.specs.LineParts.{ReadsNumber};
+ghost use Rattle.address_lists.specs.Plain.{BeginsWith};
 
 use crate::blocks::Address;
+use crate::line::groups::{elided, read_groups};
+use crate::line::octets::{after, octet};
 use std::net::{Ipv4Addr, Ipv6Addr};
 
 /// A family of addresses.
@@ -18,9 +22,19 @@ pub(crate) trait Family: Address {
     fn parse(text: &[u8]) -> Option<Self>
         ensures { ReadsNumber Self.rank result (is_address text.now) };
 
+    /// Reads an address at the front of bytes in one of its commonest spellings, faster than
+    /// `parse`. Returns the address and the bytes after it. `None` says nothing about the bytes.
+    fn read(bytes: &[u8]) -> Option<(Self, &[u8])>
+        ensures { IfSome result (λ read.
+            BeginsWith is_address bytes.now (Self.rank read.0) read.1.now) };
+
     // A text writes at most one address.
     ghost one_address: { (text : List ℕ) (m n : ℕ) → is_address text m → is_address text n
         → m ≡ n };
+
+    // No byte of an address has a meaning of its own in a line.
+    ghost unmarked: { (text : List ℕ) (number : ℕ) → is_address text number
+        → All (λ byte. IsFalse (is_mark byte)) text };
 
     // A number of 128 bits is enough for an address.
     ghost fits: { Self.width ≤ 128 };
@@ -36,7 +50,17 @@ impl Family for u32 {
         }
     }
 
+    fn read(bytes: &[u8]) -> Option<(u32, &[u8])> {
+        let (a, rest) = octet(bytes)?;
+        let (b, rest) = octet(after(rest, b'.')?)?;
+        let (c, rest) = octet(after(rest, b'.')?)?;
+        let (d, rest) = octet(after(rest, b'.')?)?;
+        Some((Ipv4Addr::new(a, b, c, d).to_bits(), rest))
+    }
+
     ghost one_address = { one_v4 };
+
+    ghost unmarked = { unmarked_v4 };
 
     ghost fits = { lit≤ tt };
 }
@@ -51,7 +75,22 @@ impl Family for u128 {
         }
     }
 
+    // A spelling that ends in an IPv4 address is not read here.
+    fn read(bytes: &[u8]) -> Option<(u128, &[u8])> {
+        let first = read_groups(bytes);
+        if first.count == 8 {
+            return Some((first.number, first.rest));
+        }
+        let last = read_groups(after(after(first.rest, b':')?, b':')?);
+        if first.count + last.count > 7 {
+            return None;
+        }
+        Some((elided(first, last), last.rest))
+    }
+
     ghost one_address = { one_v6 };
+
+    ghost unmarked = { unmarked_v6 };
 
     ghost fits = { lit≤ tt };
 }

@@ -1,7 +1,6 @@
 //! Ranges of addresses in a line, in either family.
 
-ghost use Rattle.std.specs.Prelude.{◌≡◌, ◌<◌, ◌≤◌, IfSome, IsTrue, None, length};
-ghost use Rattle.std.specs.List.{position};
+ghost use Rattle.std.specs.Prelude.{◌≤◌};
 ghost use Rattle.address_lists.specs.AddressRange.{
   IsBlockAround,
   WritesBlock,
@@ -11,47 +10,12 @@ ghost use Rattle.address_lists.specs.AddressRange.{
   WritesSpan,
   numbers,
 };
-ghost use Rattle.address_lists.specs.Line.{content, is_mark};
 ghost use Rattle.address_lists.specs.LineParts.{Reads, parts};
 
 use crate::line::family::Family;
 use crate::line::parts::{Parts, parts_of, trimmed};
 use crate::line::prefix::prefix_length;
 use std::ops::RangeInclusive;
-
-/// Returns the addresses that a line means, if it is plain: without white space and comments. It
-/// reads plain lines, the commonest ones, faster than `range`. `None` says nothing about the line.
-pub(crate) fn plain_range<F: Family>(line: &[u8]) -> Option<RangeInclusive<F>>
-    ensures { IfSome result (λ range.
-        WritesRange F.width F.is_address (content line.now) (numbers F.rank range)) }
-{
-    let Some(end) = mark(line) else {
-        return one(line);
-    };
-    let first = &line[..end];
-    let second = &line[end + 1..];
-    match line[end] {
-        b'/' => block(first, second),
-        b'-' if is_unmarked(second) => span(first, second),
-        _ => None,
-    }
-}
-
-// Returns whether each byte may be part of an address.
-fn is_unmarked(text: &[u8]) -> bool
-    ensures { IsTrue result → position is_mark text.now ≡ None }
-{
-    mark(text).is_none()
-}
-
-// Returns the place of the first byte that is part of no address.
-fn mark(text: &[u8]) -> Option<usize>
-    ensures place { result ≡ position is_mark text.now }
-    ensures within { IfSome result (λ i. i < length text.now) }
-{
-    text.iter()
-        .position(|byte| *byte < b'.' || *byte == b'/' || *byte == b';')
-}
 
 /// Returns the addresses that a text writes: `ADDRESS`, `ADDRESS/LENGTH` or `ADDRESS-ADDRESS`.
 pub(crate) fn range<F: Family>(text: &[u8]) -> Option<RangeInclusive<F>>
@@ -108,8 +72,8 @@ fn span<F: Family>(first_text: &[u8], last_text: &[u8]) -> Option<RangeInclusive
     Some(first..=last)
 }
 
-// Returns the addresses that have the same first bits as the address.
-fn block_around<F: Family>(address: F, length: u32) -> RangeInclusive<F>
+/// Returns the addresses that have the same first bits as the address.
+pub(crate) fn block_around<F: Family>(address: F, length: u32) -> RangeInclusive<F>
     requires { length ≤ F.width }
     ensures { IsBlockAround F.width length (F.rank address) (numbers F.rank result) }
 {

@@ -6,12 +6,12 @@ ghost use Rattle.range_set_blaze.specs.Runs.{members};
 ghost use Rattle.range_set_blaze.specs.Set.{IsSetOf};
 ghost use Rattle.address_lists.specs.Gathering.{AreGathered, AreGatheredBefore, AreGatheredTo, gathered_v4, gathered_v6, range_count};
 ghost use Rattle.address_lists.specs.Line.{IsLine, MeansV4, MeansV6, content};
+ghost use Rattle.address_lists.specs.LineParts.{Reads};
 ghost use Rattle.address_lists.specs.List.{AddsAddressesOf, IsBadLine, IsPastBadLine, LeavesPastBadLine};
 
-use crate::line::{Line, parse_line};
+use crate::line::{Line, first_line};
 use crate::list::AddressList;
 use crate::list::fault::ListFault;
-use memchr::memchr;
 use range_set_blaze::{Integer, RangeSetBlaze};
 use std::alloc::{AllocError, Allocator};
 use std::io::{self, BufRead, ErrorKind};
@@ -81,15 +81,17 @@ impl<A: Allocator> Gathered<A> {
         }
     }
 
-    /// Gathers the ranges of a line. `BadLine` is returned if it is bad, with its number.
-    pub(crate) fn add_line(&mut self, line: &[u8]) -> Result<(), ListFault>
-        ensures gathered { (before : List (List ℕ)) (same : List ℕ)
-            → content same ≡ content line.now → AreGathered before self.old
+    /// Gathers what a line means. `BadLine` is returned if the line is bad, with its number.
+    pub(crate) fn add_line(&mut self, meaning: Option<Line>) -> Result<(), ListFault>
+        ensures gathered { (line same : List ℕ) (before : List (List ℕ))
+            → Reads meaning (IsLine line) → content same ≡ content line
+            → AreGathered before self.old
             → OnOk result (AreGathered (before ++ same ∷ []) self.new) }
-        ensures bad_line { (number : ℕ) → result ≡ Err (ListFault.BadLine number)
-            → (number ≡ self.old.number) × IsBadLine line.now }
+        ensures bad_line { (line : List ℕ) (number : ℕ) → Reads meaning (IsLine line)
+            → result ≡ Err (ListFault.BadLine number)
+            → (number ≡ self.old.number) × IsBadLine line }
     {
-        let Some(meaning) = parse_line(line) else {
+        let Some(meaning) = meaning else {
             return Err(ListFault::BadLine(self.number));
         };
         self.add(meaning)?;
@@ -109,10 +111,9 @@ impl<A: Allocator> Gathered<A> {
             → IsPastBadLine all (drop result.0 bytes.now ++ more) number }
     {
         let mut rest = bytes;
-        while let Some(end) = memchr(b'\n', rest) {
-            let line = &rest[..end];
-            rest = &rest[end + 1..];
-            if let Err(fault) = self.add_line(line) {
+        while let Some(first) = first_line(rest) {
+            rest = first.rest;
+            if let Err(fault) = self.add_line(first.meaning) {
                 return (bytes.len() - rest.len(), Err(fault));
             }
         }

@@ -1,8 +1,9 @@
-use Rattle.std.proofs.Common.{◌≡◌, ◌∙◌, ◌+◌, ◌<◌, ◌≤◌, [], Err, Some, ap, arith, length, subst, sym}
+use Rattle.std.proofs.Common.{◌≡◌, ◌+◌, ◌<◌, ◌≤◌, [], Err, Some, ap, arith, length, subst}
 use Rattle.std.specs.Str.Lines.{lines}
 use Rattle.range_set_blaze.specs.Runs.{members}
 use Rattle.address_lists.specs.Gathering.{AreGatheredTo}
-use Rattle.address_lists.specs.Line.{IsLine, content}
+use Rattle.address_lists.specs.Line.{IsLine}
+use Rattle.address_lists.specs.LineParts.{Reads}
 use Rattle.address_lists.specs.List.{IsFirstBadLine, IsListOf, LeavesPastBadLine}
 use Rattle.address_lists.proofs.listing.Known.{IfSome-then, all_read, few_read, known_start, read_bad, read_next, read_none, same_fault}
 use Rattle.address_lists.proofs.list.read_list.Goals as goal
@@ -83,7 +84,10 @@ returns-in_err-add_line-clause-bad_line g c = λ number is.
       c.if-branch-eq0.false,
       c.read_until.new.buf.ok.0,
     ) in
-    let bad = c.in_err-add_line.ensures.bad_line number
+    let line = c.read_until.new.buf.items in
+    let reads = subst (λ all. Reads c.parse_line.result (IsLine all)) c.deref.ensures.value
+    c.parse_line.ensures in
+    let bad = c.in_err-add_line.ensures.bad_line line number reads
     (ap (λ fault. Err fault) (same_fault c.from_residual-in_err-add_line.result
     c.in_err-add_line.field-0.0 _ is c.from_residual-in_err-add_line.ensures.1)) in
     IfSome-then (g.R.Read.remaining c.args.input.now)
@@ -93,8 +97,7 @@ returns-in_err-add_line-clause-bad_line g c = λ number is.
     (read_bad bytes before after c.clear.new.self.items c.read_until.new.buf.items
     c.add_buffered.new.self (c.in_ok-add_buffered.ensures.gathered bytes has)
     c.clear.ensures.items c.in_ok-read_until.ensures.bytes c.in_ok-read_until.ensures.rest some
-    number bad.0
-    (subst (λ all. (what : _) → ¬ IsLine all what) c.deref.ensures.value bad.1)).2.0)
+    number bad.0 bad.1).2.0)
 
 pub returns-in_err-add_line-clause-left : goal.returns-in_err-add_line-clause-left
 returns-in_err-add_line-clause-left g c = λ number is.
@@ -106,7 +109,10 @@ returns-in_err-add_line-clause-left g c = λ number is.
       c.if-branch-eq0.false,
       c.read_until.new.buf.ok.0,
     ) in
-    let bad = c.in_err-add_line.ensures.bad_line number
+    let line = c.read_until.new.buf.items in
+    let reads = subst (λ all. Reads c.parse_line.result (IsLine all)) c.deref.ensures.value
+    c.parse_line.ensures in
+    let bad = c.in_err-add_line.ensures.bad_line line number reads
     (ap (λ fault. Err fault) (same_fault c.from_residual-in_err-add_line.result
     c.in_err-add_line.field-0.0 _ is c.from_residual-in_err-add_line.ensures.1)) in
     IfSome-then (g.R.Read.remaining c.args.input.now)
@@ -116,14 +122,16 @@ returns-in_err-add_line-clause-left g c = λ number is.
     read_bad bytes before after c.clear.new.self.items c.read_until.new.buf.items
     c.add_buffered.new.self (c.in_ok-add_buffered.ensures.gathered bytes has)
     c.clear.ensures.items c.in_ok-read_until.ensures.bytes c.in_ok-read_until.ensures.rest some
-    number bad.0
-    (subst (λ all. (what : _) → ¬ IsLine all what) c.deref.ensures.value bad.1))
+    number bad.0 bad.1)
 
 -- One more line was gathered.
 pub loop-preserved : goal.loop-preserved
 loop-preserved g c =
     let before = g.R.Read.remaining c.add_buffered.new.input in
     let after = g.R.Read.remaining c.read_until.new.self in
+    let line = c.read_until.new.buf.items in
+    let reads = subst (λ all. Reads c.parse_line.result (IsLine all)) c.deref.ensures.value
+    c.parse_line.ensures in
     let some : 0 < length c.read_until.new.buf.items = omega (
       arith,
       c.in_ok-read_until.ensures.ok,
@@ -139,5 +147,4 @@ loop-preserved g c =
     c.clear.ensures.items c.in_ok-read_until.ensures.bytes c.in_ok-read_until.ensures.rest some
     c.add_line.new.self
     (λ before other same are.
-    c.in_ok-add_line.ensures.gathered before other (same ∙ sym (ap content c.deref.ensures.value))
-    are))
+    c.in_ok-add_line.ensures.gathered line other before reads same are))

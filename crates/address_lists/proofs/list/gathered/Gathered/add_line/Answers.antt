@@ -3,9 +3,9 @@ use Rattle.address_lists.proofs.listing.Reading.{gathered_line, same_meaning}
 use Rattle.address_lists.proofs.list.gathered.Gathered.add_line.Goals as goal
 
 pub returns-clause-gathered : goal.returns-clause-gathered
-returns-clause-gathered g c = λ before same is has.
+returns-clause-gathered g c = λ line same before reads is has.
     let meaning = c.in-Some.meaning in
-    let means = same_meaning same c.args.line.now is meaning c.in-Some.ensures in
+    let means = same_meaning same line is meaning (rw c.in-Some.is at reads) in
     gathered_line before same meaning c.args.self.now
     (record { v4 = c.add.new.self.v4; v6 = c.add.new.self.v6; number = c.in_ok-self.field-0 })
     has means (omega (arith, c.in_ok-self.ensures.next, c.add.ensures.number))

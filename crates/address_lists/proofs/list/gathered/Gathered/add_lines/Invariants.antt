@@ -3,11 +3,11 @@ use Rattle.address_lists.specs.Gathering.{AreGatheredBefore}
 use Rattle.address_lists.proofs.list.gathered.Gathered.add_lines.Given as goal
 
 -- The lines before the rest were gathered.
-abbrev pub invariant-loop-end : goal.invariant-loop-end
-invariant-loop-end g l = (length l.rest ≤ length l.bytes)
+abbrev pub invariant-loop-first : goal.invariant-loop-first
+invariant-loop-first g l = (length l.rest ≤ length l.bytes)
     × (l.rest ≡ drop (length l.bytes - length l.rest) l.bytes)
     × ((all more : List ℕ) → AreGatheredBefore all (l.bytes ++ more) l.initial.self
     → AreGatheredBefore all (l.rest ++ more) l.self)
 
-abbrev pub decreases-loop-end : goal.decreases-loop-end
-decreases-loop-end g l = length l.rest
+abbrev pub decreases-loop-first : goal.decreases-loop-first
+decreases-loop-first g l = length l.rest
