@@ -1,6 +1,7 @@
-use Rattle.std.proofs.Common.{vec_len, ◌+◌, ◌≡◌, ◌∷◌, ◌++◌, [], ap, subst, ◌∙◌}
+use Rattle.std.proofs.Common.{vec_len, ◌+◌, ◌≡◌, ◌∷◌, ◌++◌, [], ap, subst, ◌∙◌, inr, length, refl}
 use Rattle.std.proofs.Math.Nat.{le_trans}
 use Rattle.std.proofs.lemmas.List.{map-append, take_all}
+use Rattle.std.proofs.lemmas.Option.{slice_get_read}
 use Rattle.rsb_integer.proofs.RangeLemmas.{one_place}
 use Rattle.rsb_commands.specs.Interpreter.{AreReplies, content_of, contents_of, no_members}
 use Rattle.rsb_commands.proofs.replying.OneReply.{replies_unique}
@@ -41,3 +42,12 @@ returns-clause-only g c = λ others are.
     replies_unique rank value_count
     (one_place rank value_count g.T.Ord.cmp laws.exact laws.in_order)
     no_members c.args.commands.now others found are all
+
+-- The allocation failed in the command at `at`.
+pub returns-in_default-run_command-clause-took_memory :
+    goal.returns-in_default-run_command-clause-took_memory
+returns-in_default-run_command-clause-took_memory g c =
+    let commands = c.args.commands.now in
+    inr (rw (slice_get_read commands (length commands) c.loop-at.at c.index-commands-at.result refl
+    c.loop-at-test.true c.index-commands-at.is)
+    c.in_default-run_command.ensures.took_memory)
