@@ -4,6 +4,7 @@ pub mod FirstLine
 pub mod Known
 pub mod LineEnds
 pub mod OneSelection
+pub mod Pairs
 pub mod Reading
 pub mod Selected
 pub mod WrittenLines

@@ -6,14 +6,14 @@ use Rattle.std.proofs.lemmas.List.Quantifiers.{Any-push}
 use Rattle.std.specs.Prelude.{Any, IsTrue, ◌&&◌, ◌||◌, nat_le, nat_lt}
 use Rattle.std.specs.Range.{range_inclusive_start, range_inclusive_end, range_inclusive_exhausted}
 use Rattle.std.specs.declared.ops.RangeInclusive.{RangeInclusive}
-use Rattle.range_set_blaze.specs.Rank.{interval_of, intervals_of}
-use Rattle.range_set_blaze.specs.Runs.{members}
+use Rattle.range_set_blaze.specs.Runs.{from_to, members}
 use Rattle.range_set_blaze.specs.Selection.{Selection, union}
 use Rattle.range_set_blaze.proofs.MembersLemmas.{members-append}
 use Rattle.address_lists.specs.declared.line.Line.{Line}
 use Rattle.address_lists.specs.declared.line.Line.TheVariants.{Nothing, V4, V6}
 use Rattle.address_lists.specs.AddressRange.{Spans, WritesOneOrBlock, WritesParts}
 use Rattle.address_lists.specs.Address.{IsV4, IsV6}
+use Rattle.address_lists.specs.Gathering.{spans_of}
 use Rattle.address_lists.specs.Line.{IsLine, MeansV4, MeansV6, content}
 use Rattle.address_lists.specs.LineParts.{parts}
 use Rattle.address_lists.specs.List.{AddsAddressesOf, AreAddressesOf, HasAddress}
@@ -154,9 +154,10 @@ V6_injective a b is = cc is
 
 -- The addresses of one range.
 single : (range : RangeInclusive ℕ) (number : ℕ) → range_inclusive_exhausted range ≡ false
-    → members (interval_of (λ address. address) range ∷ []) number ≡ ranks_of range number
+    → members (from_to (range_inclusive_start range) (range_inclusive_end range) ∷ []) number
+    ≡ ranks_of range number
 single range number fresh =
-    rw fresh (by (nat_le (range_inclusive_start range) number) (nat_le number (range_inclusive_end range)) refl)
+    by (nat_le (range_inclusive_start range) number) (nat_le number (range_inclusive_end range)) refl
   where
     by : (from to : Bool) → nat_le number (range_inclusive_end range) ≡ to
         → nat_lt 0 (cond (from && to) 1 0 + 0) ≡ (from && nat_lt number (range_inclusive_end range + 1))
@@ -164,18 +165,20 @@ single range number fresh =
     by true false is = grind (arith, nat_tests)
     by false to is = refl
 
--- One more range adds its addresses.
-pub pushed : (old new : List (RangeInclusive ℕ)) (range : RangeInclusive ℕ)
-    → range_inclusive_exhausted range ≡ false → new ≡ old ++ range ∷ [] → (number : ℕ)
-    → members (intervals_of (λ address. address) new) number
-    ≡ union (members (intervals_of (λ address. address) old)) (ranks_of range) number
-pushed old new range fresh is number =
-    let interval = interval_of (λ (address : ℕ). address) in
-    let before = intervals_of (λ (address : ℕ). address) old in
-    ap (λ ranges. members (intervals_of (λ (address : ℕ). address) ranges) number) is
-    ∙ ap (λ intervals. members intervals number) (map-append interval old (range ∷ []))
-    ∙ members-append before (interval range ∷ []) number
-    ∙ ap (λ last. members before number || last) (single range number fresh)
+-- One more pair adds the addresses of its range.
+pub pushed : (old new : List (ℕ × ℕ)) (pair : ℕ × ℕ) (range : RangeInclusive ℕ)
+    → range_inclusive_exhausted range ≡ false → pair.0 ≡ range_inclusive_start range
+    → pair.1 ≡ range_inclusive_end range → new ≡ old ++ pair ∷ [] → (number : ℕ)
+    → members (spans_of (λ address. address) new) number
+    ≡ union (members (spans_of (λ address. address) old)) (ranks_of range) number
+pushed old new pair range fresh starts ends is number =
+    let before = spans_of (λ (address : ℕ). address) old in
+    ap (λ pairs. members (spans_of (λ (address : ℕ). address) pairs) number) is
+    ∙ ap (λ spans. members spans number)
+    (map-append (λ (each : ℕ × ℕ). from_to each.0 each.1) old (pair ∷ []))
+    ∙ members-append before (from_to pair.0 pair.1 ∷ []) number
+    ∙ ap (λ last. members before number || last)
+    ((λ i. members (from_to (starts i) (ends i) ∷ []) number) ∙ single range number fresh)
 
 -- ---- what is added for a line
 

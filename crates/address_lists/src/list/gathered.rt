@@ -1,10 +1,9 @@
 //! The ranges that the lines of a list mean, gathered before the sets are built.
 
 ghost use Rattle.std.specs.Prelude.{◌≡◌, ◌≢◌, ℕ, ◌+◌, ◌≤◌, ◌++◌, [], ◌∷◌, Err, IfOk, List, OnOk, Some, drop, length};
-ghost use Rattle.range_set_blaze.specs.Rank.{intervals_of};
 ghost use Rattle.range_set_blaze.specs.Runs.{members};
 ghost use Rattle.range_set_blaze.specs.Set.{IsSetOf};
-ghost use Rattle.address_lists.specs.Gathering.{AreGathered, AreGatheredBefore, AreGatheredTo, gathered_v4, gathered_v6, range_count};
+ghost use Rattle.address_lists.specs.Gathering.{AreGathered, AreGatheredBefore, AreGatheredTo, gathered_v4, gathered_v6, range_count, range_of, spans_of};
 ghost use Rattle.address_lists.specs.Line.{IsLine, MeansV4, MeansV6, content};
 ghost use Rattle.address_lists.specs.LineParts.{Reads};
 ghost use Rattle.address_lists.specs.List.{AddsAddressesOf, IsBadLine, IsPastBadLine, LeavesPastBadLine};
@@ -17,11 +16,11 @@ use std::alloc::{AllocError, Allocator};
 use std::io::{self, BufRead, ErrorKind};
 use std::ops::RangeInclusive;
 
-/// The ranges that lines mean, in the order of the lines.
+/// The ranges that lines mean, in the order of the lines, each as its first and its last address.
 #[derive(Drop)]
 pub(crate) struct Gathered<A: Allocator> {
-    v4: Vec<RangeInclusive<u32>, A>,
-    v6: Vec<RangeInclusive<u128>, A>,
+    v4: Vec<(u32, u32), A>,
+    v6: Vec<(u128, u128), A>,
     // The number of the next line, counted from 1.
     number: u64,
 }
@@ -131,8 +130,8 @@ impl<A: Allocator> Gathered<A> {
     {
         match meaning {
             Line::Nothing => {}
-            Line::V4(range) => self.v4.push(range)?,
-            Line::V6(range) => self.v6.push(range)?,
+            Line::V4(range) => self.v4.push(range.into_inner())?,
+            Line::V6(range) => self.v6.push(range.into_inner())?,
         }
         Ok(())
     }
@@ -156,12 +155,22 @@ pub(crate) fn too_many_lines() -> ListFault
     ListFault::Io(io::Error::from(ErrorKind::FileTooLarge))
 }
 
-// Returns the set of the addresses of ranges in any order.
+// Returns the set of the values of ranges in any order, each given as a pair of its ends. They are
+// sorted here, since pairs take less time to sort than ranges.
 fn set_of<T: Integer, A: Allocator + Copy>(
     alloc: A,
-    ranges: Vec<RangeInclusive<T>, A>,
+    pairs: Vec<(T, T), A>,
 ) -> Result<RangeSetBlaze<T, A>, AllocError>
-    ensures { IfOk result (λ set. IsSetOf set (members (intervals_of T.rank ranges.items))) }
+    ensures { IfOk result (λ set. IsSetOf set (members (spans_of T.rank pairs.items))) }
 {
-    RangeSetBlaze::from_iter(alloc, ranges)
+    let mut sorted = pairs;
+    sorted.sort_unstable_by_key(|pair| pair.0);
+    RangeSetBlaze::from_iter(alloc, sorted.into_iter().map(range_of))
+}
+
+// Returns the range between the ends in a pair.
+fn range_of<T>(pair: (T, T)) -> RangeInclusive<T>
+    ensures { result ≡ range_of pair }
+{
+    pair.0..=pair.1
 }
