@@ -6,7 +6,7 @@ use Rattle.std.proofs.lemmas.List.Elements.{All-cons, All-nil}
 use Rattle.std.proofs.lemmas.Slice.Zip.{all_zipped_more}
 use Rattle.std.specs.Prelude.{Err, IfErr, IfSome, IsErrAnd, Ok, Result}
 use Rattle.address_lists.specs.List.{IsFirstBadLine}
-use Rattle.address_commands.specs.Files.{AreFilesOf, IsFaultOf, IsFileOf, IsFirstFault, IsFirstFile, IsGoodFile, Selected, selected}
+use Rattle.address_commands.specs.Files.{AreFilesOf, IsAfterReading, IsFaultOf, IsFileOf, IsFirstFault, IsFirstFile, IsGoodFile, Selected, selected}
 use Rattle.address_lists.specs.declared.list.AddressList.{AddressList}
 use Rattle.address_commands.specs.declared.fault.Fault.{Fault}
 use Rattle.address_commands.specs.declared.fault.Fault.TheVariants.{BadLine, CommandLine, NoMemory, NotRead, NotWritten}
@@ -38,6 +38,15 @@ module _ (bytes : List ℕ → Option (List ℕ)) where
   first-fault files before after name (NotWritten error) parts good is = absurd is
   first-fault files before after name NoMemory parts good is = tt
   first-fault files before after name (CommandLine misuse) parts good is = absurd is
+
+  -- A fault after all files were read as lists is the first one.
+  pub after-reading : (files : List (List ℕ)) (fault : Fault) → All (IsGoodFile bytes) files
+      → IsAfterReading fault → IsFirstFault bytes files fault
+  after-reading files (BadLine file line) good is = absurd is
+  after-reading files (NotRead file error) good is = absurd is
+  after-reading files (NotWritten error) good is = good
+  after-reading files NoMemory good is = tt
+  after-reading files (CommandLine misuse) good is = absurd is
 
 -- The text that a reference points to.
 abbrev pub name_of : Bor (List ℕ) → List ℕ

@@ -49,19 +49,27 @@ lays-item line old mid new waited between before waits items item lines room mor
     (lays-then mid new new between before waits [] (line item) room
     (lays-added new before waits (line item) more)))
 
--- If a text was laid on an empty page and the page was then written, the text was written.
-pub lays-sent : {E : Type 0} (IsText : List ℕ → Type 0) (result : Result (Unit {0}) E)
+-- If a text of some runs was laid on an empty page and the page was then written, the text was
+-- written.
+pub lays-sent : {E R : Type 0} (May : R → Type 0) (IsText : R → List ℕ → Type 0)
+    (result : Result (Unit {0}) E)
     (old mid new : Option (List ℕ)) (waited waits : List ℕ) → waited ≡ []
-    → (text : List ℕ) × IsText text × Lays old mid waited waits text
+    → (runs : R) × May runs × ((text : List ℕ) × IsText runs text × Lays old mid waited waits text)
     → OnOk result (Appends mid new waits)
-    → OnOk result ((text : List ℕ) × IsText text × Appends old new text)
-lays-sent IsText (Ok done) old mid new waited waits none laid sent =
-    let lays = laid.2 in
-    let parts : lays.front ++ waits ≡ laid.0 =
-    sym lays.parts ∙ ap (λ v. v ++ laid.0) none in (
+    → OnOk result ((runs : R) × May runs
+    × ((text : List ℕ) × IsText runs text × Appends old new text))
+lays-sent May IsText (Ok done) old mid new waited waits none laid sent =
+    let text = laid.2 in
+    let lays = text.2 in
+    let parts : lays.front ++ waits ≡ text.0 =
+    sym lays.parts ∙ ap (λ v. v ++ text.0) none in (
       laid.0,
       laid.1,
-      subst (Appends old new) parts
-          (Appends-then old mid new lays.front waits lays.written sent),
+      (
+        text.0,
+        text.1,
+        subst (Appends old new) parts
+            (Appends-then old mid new lays.front waits lays.written sent),
+      ),
     )
-lays-sent IsText (Err error) old mid new waited waits none laid sent = tt
+lays-sent May IsText (Err error) old mid new waited waits none laid sent = tt

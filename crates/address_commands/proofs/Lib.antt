@@ -10,4 +10,5 @@ pub mod OneAnswerLemmas
 pub mod ProgramLemmas
 pub mod ReadBackLemmas
 pub mod SameTextLemmas
+pub mod SelectionLemmas
 pub mod TextLemmas

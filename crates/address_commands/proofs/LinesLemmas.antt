@@ -1,11 +1,9 @@
 -- The lines of the ranges of a set.
-use Rattle.std.proofs.Common.{◌≡◌, ◌∙◌, ℕ, ◌+◌, ◌^◌, ◌<◌, ◌≤◌, Bool, true, false, cond, List, [], ◌∷◌, ◌++◌, length, suc, None, refl, sym, ap, subst, arith}
-use Rattle.std.specs.Iterator.{Yields, YieldsFirst}
-use Rattle.std.specs.List.{flat_map}
+use Rattle.std.proofs.Common.{◌≡◌, ◌∙◌, ℕ, ◌^◌, ◌<◌, ◌≤◌, Bool, true, false, cond, List, [], ◌∷◌, ◌++◌, length, suc, refl, sym, ap, subst, arith}
 use Rattle.std.specs.Range.{range_inclusive_start, range_inclusive_end, range_inclusive_exhausted}
 use Rattle.std.specs.declared.ops.RangeInclusive.{RangeInclusive}
-use Rattle.range_set_blaze.specs.Runs.{from_to, members, Interval, IsCanonicalFrom}
-use Rattle.rsb_integer.specs.Rank.{intervals_of}
+use Rattle.range_set_blaze.specs.Runs.{from_to, members, Interval}
+use Rattle.rsb_integer.specs.Rank.{interval_of}
 use Rattle.std.proofs.lemmas.List.{append-nil}
 use Rattle.std.proofs.lemmas.List.Elements.{All-nil}
 use Rattle.address_lists.specs.Address.{v4_text, v6_text}
@@ -15,18 +13,11 @@ use Rattle.address_lists.specs.declared.blocks.block.Block.{Block}
 use Rattle.std.specs.Io.KnownBytes.{Appends}
 use Rattle.std.specs.Prelude.{Err, Ok, OnOk, Option, Result}
 use Rattle.address_commands.proofs.AppendsLemmas.{Appends-then}
-use Rattle.address_commands.specs.Text.{IsListText, IsSetText, kept_v4, kept_v6, range_line, ranges_text}
+use Rattle.address_commands.specs.Text.{IsListText, IsSetText, kept_v4, kept_v6, range_line}
 use Rattle.address_commands.specs.declared.request.Families.{Families}
 use Rattle.address_commands.specs.declared.request.Families.TheVariants.{Both, V4, V6}
 use Rattle.address_commands.specs.declared.request.Form.{Form}
 use Rattle.address_commands.specs.declared.request.Form.TheVariants.{Blocks, Ranges}
-
--- What calls gave until `None` is what the iterator had.
-pub all-yielded : {S A : Type 0} (rest : S → List A) (items : List A) (s t u : S)
-    → Yields (YieldsFirst rest) s items t → YieldsFirst rest t None u → rest s ≡ items
-all-yielded rest [] s t u calls end = ap rest calls ∙ end.0
-all-yielded rest (item ∷ items) s t u calls end =
-    calls.1 ∙ ap (λ more. item ∷ more) (all-yielded rest items calls.0 t u calls.2 end)
 
 -- The ranks of a range that was not iterated.
 abbrev span : {T : Type 0} → (T → ℕ) → RangeInclusive T → Interval
@@ -39,39 +30,26 @@ line_of text rank range =
     range_line text (rank (range_inclusive_start range)) (rank (range_inclusive_end range))
 
 module _ {T : Type 0} (text : ℕ → List ℕ) (rank : T → ℕ) where
-  -- The line of a range that is not empty, and those of the ranges after it.
-  first-lines : (range : RangeInclusive T) (ranges : List (RangeInclusive T)) (low : ℕ)
-      (is_empty : Bool) → range_inclusive_exhausted range ≡ is_empty
-      → IsCanonicalFrom low (intervals_of rank (range ∷ ranges))
-      → ((next : ℕ) → IsCanonicalFrom next (intervals_of rank ranges)
-      → flat_map (line_of text rank) ranges ≡ ranges_text text (intervals_of rank ranges))
-      → flat_map (line_of text rank) (range ∷ ranges)
-      ≡ ranges_text text (intervals_of rank (range ∷ ranges))
-  first-lines range ranges low true is canonical others =
-      let Kept : Bool → Type 0 = λ test. IsCanonicalFrom low
-      (cond test (from_to 1 0) (span rank range) ∷ intervals_of rank ranges) in
-      let kept : Kept true = subst Kept is canonical in
-      let bad : 1 ≤ 0 = kept.1 in
+  -- The line of a range that is not empty is that of its ranks.
+  line-of-test : (range : RangeInclusive T) (is_empty : Bool)
+      → range_inclusive_exhausted range ≡ is_empty
+      → (interval_of rank range).first ≤ (interval_of rank range).last
+      → line_of text rank range
+      ≡ range_line text (interval_of rank range).first (interval_of rank range).last
+  line-of-test range true is ordered =
+      let bad : 1 ≤ 0 = subst (λ test. (cond test (from_to 1 0) (span rank range)).first
+      ≤ (cond test (from_to 1 0) (span rank range)).last) is ordered in
       absurd (omega (arith, bad))
-  first-lines range ranges low false is canonical others =
-      let Kept : Bool → Type 0 = λ test. IsCanonicalFrom low
-      (cond test (from_to 1 0) (span rank range) ∷ intervals_of rank ranges) in
-      let kept : Kept false = subst Kept is canonical in
-      let Same : Bool → Type 0 = λ test. flat_map (line_of text rank) (range ∷ ranges)
-      ≡ ranges_text text (cond test (from_to 1 0) (span rank range) ∷ intervals_of rank ranges) in
-      let same : Same false =
-      ap (λ more. line_of text rank range ++ more)
-      (others (rank (range_inclusive_end range) + 2) kept.2) in
-      subst Same (sym is) same
+  line-of-test range false is ordered =
+      ap (λ test. range_line text (cond test (from_to 1 0) (span rank range)).first
+      (cond test (from_to 1 0) (span rank range)).last) (sym is)
 
-  -- The lines of ranges are those of their ranks.
-  pub lines-of : (ranges : List (RangeInclusive T)) (low : ℕ)
-      → IsCanonicalFrom low (intervals_of rank ranges)
-      → flat_map (line_of text rank) ranges ≡ ranges_text text (intervals_of rank ranges)
-  lines-of [] low canonical = refl
-  lines-of (range ∷ ranges) low canonical =
-      first-lines range ranges low (range_inclusive_exhausted range) refl canonical
-      (λ next rest. lines-of ranges next rest)
+  pub line-of-run : (range : RangeInclusive T)
+      → (interval_of rank range).first ≤ (interval_of rank range).last
+      → line_of text rank range
+      ≡ range_line text (interval_of rank range).first (interval_of rank range).last
+  line-of-run range ordered =
+      line-of-test range (range_inclusive_exhausted range) refl ordered
 
 -- ---- sets and lists
 
@@ -181,6 +159,13 @@ module _ (form : Form) (families : Families) (v4 v6 : List Interval) where
       (last.0, v6-lines form v4 v6 [] last.0 last.1, last.2) in
       subst (λ which. Kept which old new) (sym is) whole
   v6-written (Err error) old new is last = tt
+
+-- What holds of the runs that a set gives holds of those of the set.
+pub of-set : {E : Type 0} (result : Result (Unit {0}) E) (Fact : List Interval → Type 0)
+    (given set : List Interval) → given ≡ set
+    → OnOk result ((runs : List Interval) × (runs ≡ given) × Fact runs) → OnOk result (Fact set)
+of-set (Ok done) Fact given set same found = subst Fact (found.1 ∙ same) found.2
+of-set (Err error) Fact given set same found = tt
 
 -- ---- counts
 

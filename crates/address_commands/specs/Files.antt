@@ -78,3 +78,11 @@ KeepsUnlessWriting (NotRead file error) old new = Keeps old new
 KeepsUnlessWriting (NotWritten error) old new = Unit {0}
 KeepsUnlessWriting NoMemory old new = Keeps old new
 KeepsUnlessWriting (CommandLine misuse) old new = Keeps old new
+
+-- Whether the fault can come after all files were read: a failed allocation or a failed write.
+abbrev pub IsAfterReading : Fault → Type 0
+IsAfterReading (BadLine file line) = ⊥
+IsAfterReading (NotRead file error) = ⊥
+IsAfterReading (NotWritten error) = Unit {0}
+IsAfterReading NoMemory = Unit {0}
+IsAfterReading (CommandLine misuse) = ⊥

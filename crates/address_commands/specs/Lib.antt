@@ -6,4 +6,5 @@ pub mod Page
 pub mod Program
 pub mod ReadBack
 pub mod Request
+pub mod Selection
 pub mod Text

@@ -9,6 +9,7 @@ mod laws;
 mod page;
 mod program;
 mod request;
+mod selection;
 mod system;
 mod text;
 mod writing;

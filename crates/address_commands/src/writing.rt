@@ -1,17 +1,21 @@
 //! Lists of addresses as text.
 
-ghost use Rattle.std.specs.Prelude.{◌≡◌, ℕ, ◌+◌, ◌≤◌, ◌++◌, [], ◌∷◌, List, OnOk, length};
+ghost use Rattle.std.specs.Prelude.{◌≡◌, ℕ, ◌+◌, ◌^◌, ◌≤◌, ◌++◌, [], ◌∷◌, List, OnOk, length};
 ghost use Rattle.std.specs.Io.KnownBytes.{Appends};
 ghost use Rattle.std.specs.Range.{range_inclusive_start, range_inclusive_end};
+ghost use Rattle.range_set_blaze.specs.Runs.{AreRuns, Interval};
+ghost use Rattle.range_set_blaze.specs.Selection.{Selection};
+ghost use Rattle.rsb_streams.specs.Stream.{◌⊆◌};
 ghost use Rattle.address_lists.specs.Address.{v4_text, v6_text};
 ghost use Rattle.address_commands.specs.Page.{Lays};
+ghost use Rattle.address_commands.specs.Selection.{WritesSelected};
 ghost use Rattle.address_commands.specs.Text.{IsListText, IsSetText, block_line, kept_v4, kept_v6, range_line};
 
 use crate::page::{PAGE, Page, ROOM, make_room, send};
-use crate::request::{Families, Form};
+use crate::request::{Combination, Families, Form};
 use crate::text::{LONGEST, lay_length, lay_v4, lay_v6};
 use address_lists::{Address, AddressList, Block, IntoBlocks};
-use range_set_blaze::RangeSetBlaze;
+use range_set_blaze::{Draw, DrawDisjoint};
 use std::alloc::Allocator;
 use std::io::{self, Write};
 use std::ops::RangeInclusive;
@@ -62,59 +66,90 @@ pub fn write_list<W: Write, A: Allocator>(
 {
     match families {
         Families::Both => {
-            write_set(output, &list.v4, form)?;
-            write_set(output, &list.v6, form)
+            write_ranges(output, list.v4.ranges(), form)?;
+            write_ranges(output, list.v6.ranges(), form)
         }
-        Families::V4 => write_set(output, &list.v4, form),
-        Families::V6 => write_set(output, &list.v6, form),
+        Families::V4 => write_ranges(output, list.v4.ranges(), form),
+        Families::V6 => write_ranges(output, list.v6.ranges(), form),
     }
 }
 
-// Writes the addresses of a set in a form.
-fn write_set<T: AddressText + 'static, W: Write, A: Allocator>(
+/// Writes the addresses of two ready streams in the form and of the families of a combination: IPv4
+/// and then IPv6, ascending, with a block or a range on each line. It does not allocate, unless the
+/// writer or a stream does. If a write fails, part of the text may have been written.
+pub(crate) fn write_streams<'a, W: Write, F: DrawDisjoint<u32>, S: DrawDisjoint<u128>>(
     output: &mut W,
-    set: &RangeSetBlaze<T, A>,
+    v4: F,
+    v6: S,
+    combination: Combination<'a>,
+) -> io::Result<()>
+    requires v4 { F.can_draw v4 }
+    requires v6 { S.can_draw v6 }
+    ensures { (these those : Selection) → F.may_give v4 ⊆ AreRuns (2 ^ 32) these
+        → S.may_give v6 ⊆ AreRuns (2 ^ 128) those
+        → OnOk result (WritesSelected combination.entry.form
+        combination.entry.families these those
+        (W.contents output.old) (W.contents output.new)) }
+{
+    let form = combination.form;
+    match combination.families {
+        Families::Both => {
+            write_ranges(output, v4, form)?;
+            write_ranges(output, v6, form)
+        }
+        Families::V4 => write_ranges(output, v4, form),
+        Families::V6 => write_ranges(output, v6, form),
+    }
+}
+
+// Writes the addresses of a ready stream in a form.
+fn write_ranges<T: AddressText, W: Write, I: DrawDisjoint<T>>(
+    output: &mut W,
+    ranges: I,
     form: Form,
 ) -> io::Result<()>
-    ensures { OnOk result ((text : List ℕ)
-        × IsSetText T.text T.rank T.width T.value_count form set.now text
-        × Appends (W.contents output.old) (W.contents output.new) text) }
+    requires { I.can_draw ranges }
+    ensures { OnOk result ((runs : List Interval) × I.may_give ranges runs × ((text : List ℕ)
+        × IsSetText T.text T.rank T.width T.value_count form runs text
+        × Appends (W.contents output.old) (W.contents output.new) text)) }
 {
     let mut page = Page::new();
-    lay_set(output, &mut page, set, form)?;
+    lay_stream(output, &mut page, ranges, form)?;
     send(output, &mut page)
 }
 
-// Adds the lines of a set in a form to a page, which is written whenever it is full.
-fn lay_set<T: AddressText + 'static, W: Write, A: Allocator>(
+// Adds the lines of a ready stream in a form to a page, which is written whenever it is full.
+fn lay_stream<T: AddressText, W: Write, I: DrawDisjoint<T>>(
     output: &mut W,
     page: &mut Page,
-    set: &RangeSetBlaze<T, A>,
+    ranges: I,
     form: Form,
 ) -> io::Result<()>
-    ensures { OnOk result ((text : List ℕ)
-        × IsSetText T.text T.rank T.width T.value_count form set.now text
+    requires { I.can_draw ranges }
+    ensures { OnOk result ((runs : List Interval) × I.may_give ranges runs × ((text : List ℕ)
+        × IsSetText T.text T.rank T.width T.value_count form runs text
         × Lays (W.contents output.old) (W.contents output.new)
-        page.old.items page.new.items text) }
+        page.old.items page.new.items text)) }
 {
     match form {
-        Form::Blocks => lay_blocks(output, page, set),
-        Form::Ranges => lay_ranges(output, page, set),
+        Form::Blocks => lay_blocks(output, page, ranges),
+        Form::Ranges => lay_ranges(output, page, ranges),
     }
 }
 
-// Adds the blocks of a set to a page, each as a line.
-fn lay_blocks<T: AddressText + 'static, W: Write, A: Allocator>(
+// Adds the blocks of a ready stream to a page, each as a line.
+fn lay_blocks<T: AddressText, W: Write, I: DrawDisjoint<T>>(
     output: &mut W,
     page: &mut Page,
-    set: &RangeSetBlaze<T, A>,
+    ranges: I,
 ) -> io::Result<()>
-    ensures { OnOk result ((text : List ℕ)
-        × IsSetText T.text T.rank T.width T.value_count Form.Blocks set.now text
+    requires { I.can_draw ranges }
+    ensures { OnOk result ((runs : List Interval) × I.may_give ranges runs × ((text : List ℕ)
+        × IsSetText T.text T.rank T.width T.value_count Form.Blocks runs text
         × Lays (W.contents output.old) (W.contents output.new)
-        page.old.items page.new.items text) }
+        page.old.items page.new.items text)) }
 {
-    for block in set.ranges().blocks() {
+    for block in ranges.blocks() {
         make_room(output, page)?;
         lay_block(page, block);
     }
@@ -137,18 +172,20 @@ fn lay_block<T: AddressText>(page: &mut Page, block: Block<T>)
     lay_length(page, length, b'\n');
 }
 
-// Adds the ranges of a set to a page, each as a line.
-fn lay_ranges<T: AddressText + 'static, W: Write, A: Allocator>(
+// Adds the ranges of a ready stream to a page, each as a line.
+fn lay_ranges<T: AddressText, W: Write, I: DrawDisjoint<T>>(
     output: &mut W,
     page: &mut Page,
-    set: &RangeSetBlaze<T, A>,
+    ranges: I,
 ) -> io::Result<()>
-    ensures { OnOk result ((text : List ℕ)
-        × IsSetText T.text T.rank T.width T.value_count Form.Ranges set.now text
+    requires { I.can_draw ranges }
+    ensures { OnOk result ((runs : List Interval) × I.may_give ranges runs × ((text : List ℕ)
+        × IsSetText T.text T.rank T.width T.value_count Form.Ranges runs text
         × Lays (W.contents output.old) (W.contents output.new)
-        page.old.items page.new.items text) }
+        page.old.items page.new.items text)) }
 {
-    for range in set.ranges() {
+    let mut ranges = ranges;
+    while let Some(range) = ranges.draw() {
         make_room(output, page)?;
         lay_range(page, range);
     }

@@ -1,17 +1,24 @@
 //! Operations on the lists of files.
 
-ghost use Rattle.std.specs.Prelude.{◌≡◌, ℕ, IfErr, List, OnOk, map};
+ghost use Rattle.std.specs.Prelude.{◌≡◌, ℕ, ◌^◌, IfErr, IfOk, List, OnOk, map};
 ghost use Rattle.std.specs.Io.KnownBytes.{Appends};
+ghost use Rattle.range_set_blaze.specs.Runs.{AreRuns, members};
+ghost use Rattle.range_set_blaze.specs.Selection.{Selection};
+ghost use Rattle.rsb_streams.specs.Stream.{◌⊆◌};
+ghost use Rattle.address_lists.specs.Operation.{selected_by};
 ghost use Rattle.address_commands.specs.Answer.{IsCombined};
-ghost use Rattle.address_commands.specs.Files.{IsFirstFault, KeepsUnlessWriting};
+ghost use Rattle.address_commands.specs.Files.{IsAfterReading, IsFirstFault, KeepsUnlessWriting};
+ghost use Rattle.address_commands.specs.Selection.{WritesSelected};
 
 use crate::commands::lists::read_lists;
 use crate::fault::Fault;
 use crate::inputs::Inputs;
 use crate::request::Combination;
-use crate::writing::write_list;
-use address_lists::combine;
-use std::alloc::Allocator;
+use crate::selection::{at_least, common, complement, except, odd, union, v4_ranges, v6_ranges};
+use crate::writing::write_streams;
+use address_lists::{AddressList, Operation};
+use range_set_blaze::{Draw, DrawDisjoint};
+use std::alloc::{AllocError, Allocator};
 use std::io::Write;
 
 /// Writes what an operation selects from the lists of files.
@@ -30,7 +37,70 @@ pub(crate) fn write_combination<'a, A: Allocator + Copy, I: Inputs, W: Write>(
         KeepsUnlessWriting fault (W.contents output.old) (W.contents output.new)) }
 {
     let lists = read_lists(alloc, inputs, combination.files)?;
-    let list = combine(alloc, combination.operation, &lists)?;
-    write_list(output, &list, combination.form, combination.families)?;
+    write_operation(alloc, output, &lists, combination)?;
+    Ok(())
+}
+
+// Writes what an operation selects from lists. Nothing was written if allocation fails, since all
+// that is needed is allocated before the first write.
+fn write_operation<'a, A: Allocator + Copy, W: Write>(
+    alloc: A,
+    output: &mut W,
+    lists: &[AddressList<A>],
+    combination: Combination<'a>,
+) -> Result<(), Fault<'a>>
+    ensures answer { OnOk result (WritesSelected combination.entry.form combination.entry.families
+        (selected_by combination.entry.operation (map members (map (λ list. list.v4) lists.now)))
+        (selected_by combination.entry.operation (map members (map (λ list. list.v6) lists.now)))
+        (W.contents output.old) (W.contents output.new)) }
+    ensures keeps { IfErr result (λ fault.
+        KeepsUnlessWriting fault (W.contents output.old) (W.contents output.new)) }
+    ensures fault { IfErr result IsAfterReading }
+{
+    let v4 = v4_ranges(alloc, lists)?;
+    let v6 = v6_ranges(alloc, lists)?;
+    match combination.operation {
+        Operation::Union => write_made(output, union(alloc, v4), union(alloc, v6), combination),
+        Operation::Common => write_made(output, common(alloc, v4), common(alloc, v6), combination),
+        Operation::Except => write_made(output, except(alloc, v4), except(alloc, v6), combination),
+        Operation::Odd => write_made(output, odd(alloc, v4), odd(alloc, v6), combination),
+        Operation::AtLeast(k) => {
+            write_made(
+                output,
+                at_least(alloc, v4, k),
+                at_least(alloc, v6, k),
+                combination,
+            )
+        }
+        Operation::Complement => {
+            write_made(
+                output,
+                complement(alloc, v4),
+                complement(alloc, v6),
+                combination,
+            )
+        }
+    }
+}
+
+// Writes the addresses of two ready streams, if both were made.
+fn write_made<'a, W: Write, F: DrawDisjoint<u32>, S: DrawDisjoint<u128>>(
+    output: &mut W,
+    v4: Result<F, AllocError>,
+    v6: Result<S, AllocError>,
+    combination: Combination<'a>,
+) -> Result<(), Fault<'a>>
+    requires v4 { IfOk v4 F.can_draw }
+    requires v6 { IfOk v6 S.can_draw }
+    ensures answer { (these those : Selection)
+        → IfOk v4 (λ stream. F.may_give stream ⊆ AreRuns (2 ^ 32) these)
+        → IfOk v6 (λ stream. S.may_give stream ⊆ AreRuns (2 ^ 128) those)
+        → OnOk result (WritesSelected combination.entry.form combination.entry.families
+        these those (W.contents output.old) (W.contents output.new)) }
+    ensures keeps { IfErr result (λ fault.
+        KeepsUnlessWriting fault (W.contents output.old) (W.contents output.new)) }
+    ensures fault { IfErr result IsAfterReading }
+{
+    write_streams(output, v4?, v6?, combination)?;
     Ok(())
 }

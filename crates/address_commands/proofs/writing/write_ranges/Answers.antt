@@ -1,10 +1,11 @@
 use Rattle.address_commands.specs.Text.{IsSetText}
 use Rattle.address_commands.proofs.LaidLemmas.{lays-sent}
-use Rattle.address_commands.proofs.writing.write_set.Goals as goal
+use Rattle.address_commands.proofs.writing.write_ranges.Goals as goal
 
 -- What waited on the page was written.
 pub returns : goal.returns
 returns g c =
-    lays-sent (IsSetText g.T.AddressText.text g.T.Integer.rank g.T.Address.width
-    g.T.Integer.value_count c.args.form c.args.set.now) c.send.result _ _ _ _ _
-    c.new-page.ensures c.in_ok-lay_set.ensures c.send.ensures.written
+    lays-sent (g.I.Draw.may_give c.args.ranges)
+    (IsSetText g.T.AddressText.text g.T.Integer.rank g.T.Address.width g.T.Integer.value_count
+    c.args.form) c.send.result _ _ _ _ _
+    c.new-page.ensures c.in_ok-lay_stream.ensures c.send.ensures.written
