@@ -18,7 +18,12 @@ impl<T: Integer, A: Allocator + Copy> RangeSetBlaze<T, A> {
     pub fn clone(&self) -> Result<Self, AllocError>
         ensures same { IfOk result (λ set. set ≡ self.now) }
     {
-        Self::from_sorted_disjoint(self.alloc, self.ranges())
+        let runs = self.runs.copied(self.alloc)?;
+        Ok(RangeSetBlaze {
+            runs,
+            length: self.length,
+            alloc: self.alloc,
+        })
     }
 
     /// Returns the union of two sets: the values in either of them. Takes one pass over both. The

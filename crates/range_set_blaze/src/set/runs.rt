@@ -186,6 +186,16 @@ impl<T: Integer, A: Allocator + Clone> Runs<T, A> {
         Ok(Runs { map })
     }
 
+    /// Returns a copy of the runs, built in one pass. If allocation fails, no copy is made.
+    pub(crate) fn copied(&self, alloc: A) -> Result<Self, AllocError>
+        ensures { IfOk result (λ runs. runs ≡ self.now) }
+    {
+        // This is faster than the map's own `clone`, which also compares its keys with each other.
+        let entries = self.map.iter().map(|(start, end)| (*start, *end));
+        let map = entries.collect(alloc)?;
+        Ok(Runs { map })
+    }
+
     /// Inserts a run, in place of any run with the same start. It does not allocate if there is
     /// such a run. If allocation fails, the runs are unchanged.
     pub(crate) fn put(&mut self, run: Run<T>) -> Result<(), AllocError>
