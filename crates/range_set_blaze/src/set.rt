@@ -19,6 +19,7 @@ mod fill;
 mod first_fit;
 mod gaps;
 pub(crate) mod hash;
+mod in_order;
 mod insert;
 mod keep;
 mod lengths;
