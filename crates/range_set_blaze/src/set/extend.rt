@@ -91,8 +91,9 @@ impl<T: Integer, A: Allocator + Copy> RangeSetBlaze<T, A> {
         Self::from_list(alloc, kept)
     }
 
-    /// Returns the set of the given values, which may come in any order. Sorts once and makes one
-    /// pass. If allocation fails, no set is made. (`FromIterator<T>` of `RangeSetBlaze`.)
+    /// Returns the set of the given values, which may come in any order. Sorts once unless they
+    /// come in order, and makes one pass. If allocation fails, no set is made. (`FromIterator<T>`
+    /// of `RangeSetBlaze`.)
     pub fn from_iter_values<J: IntoIterator<Item = T>>(
         alloc: A,
         values: J,

@@ -1,6 +1,6 @@
 //! The runs of a set, in a `BTreeMap`.
 
-ghost use Rattle.std.specs.Prelude.{◌≡◌, ◌↔◌, ◌+◌, ◌-◌, ◌^◌, ◌<◌, ◌≤◌, [], length, slice_get, Contains, IfOk, IfSome, IsNone, IsOk, IsTrue, MatchOption, OnErr, OnOk, Some};
+ghost use Rattle.std.specs.Prelude.{◌≡◌, ◌↔◌, ◌+◌, ◌-◌, ◌^◌, ◌<◌, ◌≤◌, [], ◌++◌, length, slice_get, Contains, IfOk, IfSome, IsNone, IsOk, IsTrue, MatchOption, OnErr, OnOk, Some};
 ghost use Rattle.rsb_integer.specs.Rank.{intervals_of};
 ghost use Rattle.rsb_integer.specs.Runs.{Interval, IsCanonicalIn};
 ghost use Rattle.range_set_blaze.specs.Kept.{run_of, runs_of};
@@ -204,8 +204,26 @@ impl<T: Integer, A: Allocator + Clone> Runs<T, A> {
     pub(crate) fn copied(&self, alloc: A) -> Result<Self, AllocError>
         ensures { IfOk result (λ runs. runs ≡ self.now) }
     {
-        // This is faster than the map's own `clone`, which also compares its keys with each other.
+        // The map's own `clone` says only that `T`'s `clone` made the values, and is no faster.
         let entries = self.map.iter().map(|(start, end)| (*start, *end));
+        let map = entries.collect(alloc)?;
+        Ok(Runs { map })
+    }
+
+    /// Returns the runs of two lists, one after the other, built in one pass.
+    pub(crate) fn chained<L: Allocator, H: Allocator>(
+        alloc: A,
+        low: &Runs<T, L>,
+        high: &Runs<T, H>,
+    ) -> Result<Self, AllocError>
+        requires { IsCanonicalIn T.value_count (low.now ++ high.now) }
+        ensures { IfOk result (λ runs. runs ≡ low.now ++ high.now) }
+    {
+        let entries = low
+            .map
+            .iter()
+            .chain(high.map.iter())
+            .map(|(start, end)| (*start, *end));
         let map = entries.collect(alloc)?;
         Ok(Runs { map })
     }

@@ -6,7 +6,7 @@ use Rattle.rsb_integer.specs.Rank.{intervals_of}
 use Rattle.rsb_integer.specs.Runs.{members}
 use Rattle.rsb_streams.specs.Stream.{HasSortedStarts}
 use Rattle.rsb_streams.proofs.sorting.Collected.{collects-end, collects-sorted, runs-sorted, Collects}
-use Rattle.rsb_streams.proofs.sorting.Sorted.{IsInOrder, StartsAscend}
+use Rattle.rsb_streams.proofs.sorting.Sorted.{IsInOrder}
 use Rattle.rsb_streams.proofs.sources.Vectors.{vec-calls, vec-sorted}
 use Rattle.range_set_blaze.specs.Kept.{IsKept}
 use Rattle.range_set_blaze.proofs.gathering.SetOperations.{set-of_runs}

@@ -1,4 +1,4 @@
-use Rattle.std.proofs.Common.{◌≡◌, ◌∙◌, ◌∷◌, ap, refl, subst, None, rules, sym}
+use Rattle.std.proofs.Common.{◌∙◌, ◌∷◌, ap, refl, subst, None, rules, sym}
 use Rattle.std.proofs.lemmas.List.{nil_from_length}
 use Rattle.std.specs.Slice.Iter.{iter_rest}
 use Rattle.rsb_integer.specs.Rank.{intervals_of}
