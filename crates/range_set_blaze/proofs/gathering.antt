@@ -1,5 +1,6 @@
 pub mod AskedValues
 pub mod Filled
+pub mod InOrder
 pub mod LentItems
 pub mod ManySets
 pub mod OneByOne

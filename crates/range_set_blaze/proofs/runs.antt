@@ -1,4 +1,5 @@
 pub mod Apart
+pub mod Appended
 pub mod Counts
 pub mod Found
 pub mod Kept

@@ -9,6 +9,7 @@ ghost use Rattle.rsb_integer.specs.Selection.{count, IsEmpty};
 ghost use Rattle.range_set_blaze.specs.Set.{IsGreatest, IsLeast};
 
 mod algebra;
+mod apart;
 mod assign;
 mod bulk;
 mod collect;
@@ -19,6 +20,7 @@ mod fill;
 mod first_fit;
 mod gaps;
 pub(crate) mod hash;
+mod in_order;
 mod insert;
 mod keep;
 mod lengths;

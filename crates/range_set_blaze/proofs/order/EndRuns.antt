@@ -16,7 +16,7 @@ use Rattle.range_set_blaze.specs.Starts.{StartsWith}
 use Rattle.range_set_blaze.specs.declared.set.run.Run.{Run}
 
 -- The last run of a canonical list ends at `low` or later, and no run ends after it.
-ends-last : (low i : ℕ) (runs : List Interval) (run : Interval) → IsCanonicalFrom low runs
+pub ends-last : (low i : ℕ) (runs : List Interval) (run : Interval) → IsCanonicalFrom low runs
     → i + 1 ≡ length runs
     → (low ≤ (get_or runs i run).last) × AllEndBelow ((get_or runs i run).last + 1) runs
 ends-last low i [] run canonical last = absurd (omega (arith, last))

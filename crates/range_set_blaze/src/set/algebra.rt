@@ -8,6 +8,7 @@ ghost use Rattle.rsb_streams.specs.RunCount.{HasFewerRunsThanBoth, HasOneRunMore
 ghost use Rattle.range_set_blaze.specs.Set.{IsSetOf};
 
 use crate::set::RangeSetBlaze;
+use crate::set::apart::{chained, lies_below};
 use rsb_integer::Integer;
 use rsb_streams::DrawDisjoint;
 use std::alloc::{AllocError, Allocator};
@@ -18,7 +19,12 @@ impl<T: Integer, A: Allocator + Copy> RangeSetBlaze<T, A> {
     pub fn clone(&self) -> Result<Self, AllocError>
         ensures same { IfOk result (λ set. set ≡ self.now) }
     {
-        Self::from_sorted_disjoint(self.alloc, self.ranges())
+        let runs = self.runs.copied(self.alloc)?;
+        Ok(RangeSetBlaze {
+            runs,
+            length: self.length,
+            alloc: self.alloc,
+        })
     }
 
     /// Returns the union of two sets: the values in either of them. Takes one pass over both. The
@@ -29,6 +35,12 @@ impl<T: Integer, A: Allocator + Copy> RangeSetBlaze<T, A> {
             IsSetOf set (union (members self.now) (members other.now))) }
         ensures run_count { IfOk result (λ set. HasRunsOfBothAtMost self.now other.now set) }
     {
+        if lies_below(self, other) {
+            return chained(self.alloc, self, other);
+        }
+        if lies_below(other, self) {
+            return chained(self.alloc, other, self);
+        }
         union_of(self.alloc, self.ranges(), other.ranges())
     }
 

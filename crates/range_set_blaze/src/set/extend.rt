@@ -12,7 +12,7 @@ use crate::set::RangeSetBlaze;
 use crate::set::run::{Run, known};
 use crate::set::singles::Singles;
 use rsb_integer::Integer;
-use rsb_streams::UnionIter;
+use rsb_streams::UnsortedDisjoint;
 use std::alloc::{AllocError, Allocator};
 use std::ops::RangeInclusive;
 
@@ -70,9 +70,9 @@ impl<T: Integer, A: Allocator + Clone> RangeSetBlaze<T, A> {
 
 impl<T: Integer, A: Allocator + Copy> RangeSetBlaze<T, A> {
     /// Returns the set of the values of the given ranges, which may come in any order and may be
-    /// empty. Sorts once and makes one pass. If allocation fails, no set is made. For values, write
-    /// `from_iter_values` or `values.collect(alloc)?`. (`FromIterator<RangeInclusive<T>>` of
-    /// `RangeSetBlaze`.)
+    /// empty. Sorts once unless they come in order, and makes one pass. If allocation fails, no set
+    /// is made. For values, write `from_iter_values` or `values.collect(alloc)?`.
+    /// (`FromIterator<RangeInclusive<T>>` of `RangeSetBlaze`.)
     pub fn from_iter<J: IntoIterator<Item = RangeInclusive<T>>>(
         alloc: A,
         ranges: J,
@@ -86,12 +86,14 @@ impl<T: Integer, A: Allocator + Copy> RangeSetBlaze<T, A> {
             GaveRun J.into_iter_gives J.IntoIter.next_gives ranges
             (λ items. IsSetOf set (members (intervals_of T.rank items)))) }
     {
-        let union = UnionIter::from_iter(alloc, ranges)?;
-        Self::from_sorted_disjoint(alloc, union)
+        let joined = UnsortedDisjoint::new(ranges.into_iter());
+        let kept = Vec::from_iter(alloc, joined)?;
+        Self::from_list(alloc, kept)
     }
 
-    /// Returns the set of the given values, which may come in any order. Sorts once and makes one
-    /// pass. If allocation fails, no set is made. (`FromIterator<T>` of `RangeSetBlaze`.)
+    /// Returns the set of the given values, which may come in any order. Sorts once unless they
+    /// come in order, and makes one pass. If allocation fails, no set is made. (`FromIterator<T>`
+    /// of `RangeSetBlaze`.)
     pub fn from_iter_values<J: IntoIterator<Item = T>>(
         alloc: A,
         values: J,

@@ -1,6 +1,7 @@
 //! The runs of a set, in a `BTreeMap`.
 
-ghost use Rattle.std.specs.Prelude.{◌≡◌, ◌↔◌, ◌+◌, ◌-◌, ◌^◌, ◌<◌, ◌≤◌, [], length, slice_get, Contains, IfOk, IfSome, IsNone, IsOk, IsTrue, MatchOption, OnErr, OnOk, Some};
+ghost use Rattle.std.specs.Prelude.{◌≡◌, ◌↔◌, ◌+◌, ◌-◌, ◌^◌, ◌<◌, ◌≤◌, [], ◌++◌, length, slice_get, Contains, IfOk, IfSome, IsNone, IsOk, IsTrue, MatchOption, OnErr, OnOk, Some};
+ghost use Rattle.rsb_integer.specs.Rank.{intervals_of};
 ghost use Rattle.rsb_integer.specs.Runs.{Interval, IsCanonicalIn};
 ghost use Rattle.range_set_blaze.specs.Kept.{run_of, runs_of};
 ghost use Rattle.range_set_blaze.specs.Starts.{below, past, starting_from, with_run, without_start, IsLastBelow, IsLastTwo, NoneBelow, StartsWith};
@@ -13,7 +14,7 @@ use std::alloc::{AllocError, Allocator};
 use std::collections::BTreeMap;
 use std::collections::btree_map::{IntoIter, Iter, Range};
 use std::marker::Model;
-use std::ops::Bound;
+use std::ops::{Bound, RangeInclusive};
 
 /// Runs with ascending starts. Contracts see them as the list of the intervals of their ranks.
 #[derive(Drop)]
@@ -183,6 +184,47 @@ impl<T: Integer, A: Allocator + Clone> Runs<T, A> {
         ensures { IfOk result (λ runs. runs ≡ runs_of T.rank entries.items) }
     {
         let map = BTreeMap::from_iter(alloc, entries)?;
+        Ok(Runs { map })
+    }
+
+    /// Returns the runs of a list of ranges, built in one pass.
+    pub(crate) fn from_ranges(
+        alloc: A,
+        ranges: Vec<RangeInclusive<T>, A>,
+    ) -> Result<Self, AllocError>
+        requires { IsCanonicalIn T.value_count (intervals_of T.rank ranges.items) }
+        ensures { IfOk result (λ runs. runs ≡ intervals_of T.rank ranges.items) }
+    {
+        let entries = ranges.into_iter().map(|range| range.into_inner());
+        let map = entries.collect(alloc)?;
+        Ok(Runs { map })
+    }
+
+    /// Returns a copy of the runs, built in one pass. If allocation fails, no copy is made.
+    pub(crate) fn copied(&self, alloc: A) -> Result<Self, AllocError>
+        ensures { IfOk result (λ runs. runs ≡ self.now) }
+    {
+        // The map's own `clone` says only that `T`'s `clone` made the values, and is no faster.
+        let entries = self.map.iter().map(|(start, end)| (*start, *end));
+        let map = entries.collect(alloc)?;
+        Ok(Runs { map })
+    }
+
+    /// Returns the runs of two lists, one after the other, built in one pass.
+    pub(crate) fn chained<L: Allocator, H: Allocator>(
+        alloc: A,
+        low: &Runs<T, L>,
+        high: &Runs<T, H>,
+    ) -> Result<Self, AllocError>
+        requires { IsCanonicalIn T.value_count (low.now ++ high.now) }
+        ensures { IfOk result (λ runs. runs ≡ low.now ++ high.now) }
+    {
+        let entries = low
+            .map
+            .iter()
+            .chain(high.map.iter())
+            .map(|(start, end)| (*start, *end));
+        let map = entries.collect(alloc)?;
         Ok(Runs { map })
     }
 
