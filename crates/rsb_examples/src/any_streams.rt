@@ -9,21 +9,42 @@ use std::io;
 
 /// Three sets and a range are combined in each way.
 pub fn show(alloc: Global, rt: &impl Print) -> io::Result<()> {
-    let one = RangeSetBlaze::<u32>::from_iter(alloc, [1..=6, 8..=8, 11..=15])?;
+    let one = RangeSetBlaze::from_iter(alloc, [1..=6, 8..=8, 11..=15])?;
     let other = RangeSetBlaze::from_iter(alloc, [5..=13, 18..=29])?;
-    let third = RangeSetBlaze::from_iter(alloc, [9..=20])?;
+    show_each(alloc, &one, &other, rt)
+}
+
+// Prints each combination of two sets, a third one and a range.
+fn show_each(
+    alloc: Global,
+    one: &RangeSetBlaze<u32>,
+    other: &RangeSetBlaze<u32>,
+    rt: &impl Print,
+) -> io::Result<()> {
     println!(rt;
         "outside of all: {} values",
-        outside_all(alloc, &[one.clone()?, other.clone()?])?
+        outside_both(alloc, one, other)?
     )?;
-    println!(rt; "in an odd number: {}", odd(alloc, &one, &other, &third)?)?;
-    println!(rt; "outside the long ranges: {}", outside_long(alloc, &one)?)?;
-    println!(rt;
-        "either: {}",
-        either(alloc, one.ranges(), RangeOnce::new(7..=8))?
-    )?;
+    show_set("in an odd number", odd_with_third(alloc, one, other)?, rt)?;
+    show_set("outside the long ranges", outside_long(alloc, one)?, rt)?;
+    let some = either(alloc, one.ranges(), RangeOnce::new(7..=8))?;
+    show_set("either", some, rt)?;
     let rest = either_without(alloc, one.ranges(), other.ranges(), RangeOnce::new(3..=20))?;
-    println!(rt; "either without 3..=20: {rest}")
+    show_set("either without 3..=20", rest, rt)
+}
+
+// Prints a set after what it is.
+fn show_set(what: &str, set: RangeSetBlaze<u32>, rt: &impl Print) -> io::Result<()> {
+    println!(rt; "{what}: {set}")
+}
+
+// Returns the number of values that neither set has.
+fn outside_both(
+    alloc: Global,
+    one: &RangeSetBlaze<u32>,
+    other: &RangeSetBlaze<u32>,
+) -> Result<u64, AllocError> {
+    outside_all(alloc, &[one.clone()?, other.clone()?])
 }
 
 // Returns the number of values that no set has.
@@ -41,6 +62,16 @@ pub fn none_len<T: Integer, I: DrawDisjoint<T>>(
     streams: Streams<T, I>,
 ) -> Result<T::SafeLen, AllocError> {
     Ok(streams.union(alloc)?.complement().members_len())
+}
+
+// Returns the values that are in an odd number of two sets, a third one and a range.
+fn odd_with_third(
+    alloc: Global,
+    one: &RangeSetBlaze<u32>,
+    other: &RangeSetBlaze<u32>,
+) -> Result<RangeSetBlaze<u32>, AllocError> {
+    let third = RangeSetBlaze::from_iter(alloc, [9..=20])?;
+    odd(alloc, one, other, &third)
 }
 
 // Returns the values that are in an odd number of four: three sets and the range 0..=2.

@@ -12,6 +12,11 @@ pub fn show(alloc: Global, rt: &impl Print) -> io::Result<()> {
     let (word, rest) = classes(alloc)?;
     println!(rt; "word: {word}")?;
     println!(rt; "rest: {rest}")?;
+    show_line(&word, rt)
+}
+
+// Prints a line, and below each character whether it is one of words.
+fn show_line(word: &RangeSetBlaze<char>, rt: &impl Print) -> io::Result<()> {
     let line = "let größe_2 = 7;";
     println!(rt; "{line}")?;
     for c in line.chars() {

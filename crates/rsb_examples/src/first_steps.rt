@@ -12,6 +12,14 @@ use std::io;
 /// operations.
 pub fn show(alloc: Global, rt: &impl Print) -> io::Result<()> {
     let open = opening_hours(alloc)?;
+    show_runs(&open, rt)?;
+    let busy = RangeSetBlaze::from(alloc, 10..=14)?;
+    show_hours("free", open.sub(&busy)?, rt)?;
+    show_hours("idle", idle_hours(alloc, &open, &busy)?, rt)
+}
+
+// Prints a set, how many hours it has, and its runs.
+fn show_runs(open: &RangeSetBlaze<u32>, rt: &impl Print) -> io::Result<()> {
     println!(rt;
         "{open}, {} hours, at 12: {}",
         open.len(),
@@ -20,9 +28,12 @@ pub fn show(alloc: Global, rt: &impl Print) -> io::Result<()> {
     for run in open.ranges() {
         println!(rt; "from {} to {}", run.start(), run.end())?;
     }
-    let busy = RangeSetBlaze::from(alloc, 10..=14)?;
-    println!(rt; "free: {}", open.sub(&busy)?)?;
-    println!(rt; "idle: {}", idle_hours(alloc, &open, &busy)?)
+    Ok(())
+}
+
+// Prints a set after what it is.
+fn show_hours(what: &str, hours: RangeSetBlaze<u32>, rt: &impl Print) -> io::Result<()> {
+    println!(rt; "{what}: {hours}")
 }
 
 // Returns a set of two runs and the two values between them.

@@ -15,13 +15,20 @@ pub fn show(alloc: Global, rt: &impl Print) -> io::Result<()> {
     taken.ranges_insert(12..=19)?;
     taken.ranges_insert(40..=65_535)?;
     for pages in [3, 2, 20] {
-        match take_block(&mut taken, pages)? {
-            Some(start) => println!(rt; "{pages} pages from {start} on; taken: {taken}")?,
-            None => println!(rt; "no room for {pages} pages; taken: {taken}")?,
-        }
+        show_block(&mut taken, pages, rt)?;
     }
     give_back(&mut taken, 12, 3)?;
     println!(rt; "12 to 14 are given back; taken: {taken}")
+}
+
+// Takes a block if there is room for it, and prints where it starts.
+fn show_block(taken: &mut RangeSetBlaze<u16>, pages: u16, rt: &impl Print) -> io::Result<()>
+    requires { 0 < pages }
+{
+    match take_block(taken, pages)? {
+        Some(start) => println!(rt; "{pages} pages from {start} on; taken: {taken}"),
+        None => println!(rt; "no room for {pages} pages; taken: {taken}"),
+    }
 }
 
 /// Takes the first free block of the given number of pages, and returns where it starts, or `None`

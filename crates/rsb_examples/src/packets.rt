@@ -22,16 +22,27 @@ pub fn show(alloc: Global, rt: &impl Print) -> io::Result<()> {
             println!(rt; "{number} came twice")?;
         }
     }
+    show_missing(alloc, &acked, rt)?;
+    show_gaps(&acked, rt)?;
+    show_reread(alloc, &acked, rt)
+}
+
+// Writes which packets have come, which one is wanted next, and which of ten are missing.
+fn show_missing(alloc: Global, acked: &RangeSetBlaze<u32>, rt: &impl Print) -> io::Result<()> {
     println!(rt; "acknowledged: {acked}")?;
-    if let Some(next) = next_wanted(&acked) {
+    if let Some(next) = next_wanted(acked) {
         println!(rt; "next wanted: {next}")?;
     }
     let sent = RangeSetBlaze::from(alloc, 0..=9)?;
-    println!(rt; "missing of {sent}: {}", missing(alloc, &sent, &acked)?)?;
-    for gap in missing_below(&acked, 10) {
+    println!(rt; "missing of {sent}: {}", missing(alloc, &sent, acked)?)
+}
+
+// Writes which packets are asked for again.
+fn show_gaps(acked: &RangeSetBlaze<u32>, rt: &impl Print) -> io::Result<()> {
+    for gap in missing_below(acked, 10) {
         println!(rt; "ask again for {} to {}", gap.start(), gap.end())?;
     }
-    show_reread(alloc, &acked, rt)
+    Ok(())
 }
 
 // Writes whether the text of a set is read as that set.
