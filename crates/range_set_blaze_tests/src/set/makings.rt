@@ -8,6 +8,7 @@ use range_set_blaze::{
 };
 use rsb_tables::{Operation, Table, operation_gives, set_of};
 use std::alloc::{AllocError, Global};
+use std::ops::RangeInclusive;
 use std::test::*;
 
 /// Two runs.
@@ -181,6 +182,25 @@ fn all_wide_numbers_but_one_are_counted(rt: HostRuntime) -> Result<(), Fail> {
     Ok(())
 }
 
+/// Whether a range and 7..=8 make the set of 7 and 8.
+fn makes_nothing(alloc: Global, range: RangeInclusive<u8>) -> Result<bool, AllocError> {
+    let set = RangeSetBlaze::from_iter(alloc, [range, 7..=8])?;
+    Ok(is_byte_run(&set, 7, 8))
+}
+
+/// Whether the list of a range is refused.
+fn is_refused(alloc: Global, range: RangeInclusive<u8>) -> Result<bool, AllocError> {
+    let refused = CheckSortedDisjoint::try_new(Vec::from_array(alloc, [range])?).err();
+    Ok(refused.is_some_and(|refused| refused.position == 0))
+}
+
+/// Whether a range adds nothing to the set of 9.
+fn adds_nothing(alloc: Global, range: RangeInclusive<u8>) -> Result<bool, AllocError> {
+    let mut nine = RangeSetBlaze::from(alloc, 9..=9_u8)?;
+    nine.extend([range])?;
+    Ok(is_byte_run(&nine, 9, 9))
+}
+
 #[test]
 fn a_range_iterated_to_its_end_has_no_members(rt: HostRuntime) -> Result<(), Fail> {
     let mut range = 1u8..=3;
@@ -188,13 +208,7 @@ fn a_range_iterated_to_its_end_has_no_members(rt: HostRuntime) -> Result<(), Fai
         assert!(rt; u8::range_next(&mut range) == wanted, "{wanted:?}");
     }
     assert!(rt; RangeOnce::new(range.clone()?).next() == None);
-    let set = RangeSetBlaze::from_iter(rt.alloc(), [range.clone()?, 7..=8])?;
-    assert!(rt; is_byte_run(&set, 7, 8));
-    let list = Vec::from_array(rt.alloc(), [range.clone()?])?;
-    let refused = CheckSortedDisjoint::try_new(list).err();
-    assert!(rt; refused.is_some_and(|refused| refused.position == 0));
-    let mut nine = RangeSetBlaze::from(rt.alloc(), 9..=9_u8)?;
-    nine.extend([range])?;
-    assert!(rt; is_byte_run(&nine, 9, 9));
+    assert!(rt; makes_nothing(rt.alloc(), range.clone()?)?);
+    assert!(rt; is_refused(rt.alloc(), range.clone()?)? && adds_nothing(rt.alloc(), range)?);
     Ok(())
 }

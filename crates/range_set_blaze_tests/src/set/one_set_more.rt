@@ -7,7 +7,7 @@ ghost use Rattle.range_set_blaze.specs.Set.{IsSetOf};
 
 use crate::set::rows::has;
 use range_set_blaze::{Integer, MultiwayRangeSetBlazeRef, RangeSetBlaze};
-use rsb_tables::set_of;
+use rsb_tables::{Table, set_of};
 use std::alloc::{AllocError, Allocator, Global};
 use std::test::*;
 
@@ -51,15 +51,31 @@ fn in_two_of_list<T: Integer, A: Allocator + Copy>(
     sets.at_least(alloc, 2)
 }
 
+/// The runs of three sets.
+static THREE: [Table<'static>; 3] = [&[(0, 9)], &[(5, 20)], &[(8, 9), (20, 30)]];
+
+/// Returns the three sets.
+fn three_sets(alloc: Global) -> Result<Vec<RangeSetBlaze<i32>>, AllocError> {
+    let mut sets = Vec::new(alloc);
+    for table in &THREE {
+        sets.push(set_of(alloc, table)?)?;
+    }
+    Ok(sets)
+}
+
+/// Whether the values in at least two of the sets of a list, all at once, are these.
+fn are_in_two(
+    alloc: Global,
+    sets: &Vec<RangeSetBlaze<i32>>,
+    twice: &RangeSetBlaze<i32>,
+) -> Result<bool, AllocError> {
+    Ok(in_two_of_list(alloc, sets)? == *twice && sets.at_least(alloc, 2)? == *twice)
+}
+
 #[test]
 fn what_two_of_three_have_is_found_set_by_set(rt: HostRuntime) -> Result<(), Fail> {
-    let alloc = rt.alloc();
-    let mut sets = Vec::new(alloc);
-    sets.push(set_of(alloc, &[(0, 9)])?)?;
-    sets.push(set_of(alloc, &[(5, 20)])?)?;
-    sets.push(set_of(alloc, &[(8, 9), (20, 30)])?)?;
-    let twice = in_two(alloc, &sets)?;
-    assert!(rt; has(&twice, &[(5, 9), (20, 20)]));
-    assert!(rt; in_two_of_list(alloc, &sets)? == twice && (&sets).at_least(alloc, 2)? == twice);
+    let sets = three_sets(rt.alloc())?;
+    let twice = in_two(rt.alloc(), &sets)?;
+    assert!(rt; has(&twice, &[(5, 9), (20, 20)]) && are_in_two(rt.alloc(), &sets, &twice)?);
     Ok(())
 }
